@@ -1,0 +1,5 @@
+//! To be written.
+
+#![tactic(auto)]
+
+fn main(rt: HostRuntime) {}
