@@ -1,0 +1,5 @@
+//! Request lines and their answers.
+
+mod grouping;
+mod plain;
+mod refusals;
