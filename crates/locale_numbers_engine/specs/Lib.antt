@@ -1,0 +1,2 @@
+pub mod ByteIo
+pub mod Tracking
