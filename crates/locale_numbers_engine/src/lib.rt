@@ -4,6 +4,7 @@
 
 mod byte_reader;
 mod byte_writer;
+pub mod laws;
 mod tracked;
 
 pub use byte_reader::{ByteReader, ReadFault};
