@@ -1,5 +1,5 @@
 ghost use Rattle.std.specs.Prelude.{◌≡◌, ℕ, List, [], ◌∷◌, ◌++◌, string_bytes, OnOk, OnErr};
-ghost use Rattle.locale_numbers_engine.specs.Progress.{Grows};
+ghost use Rattle.locale_numbers_engine.specs.Growth.{Grows};
 
 use std::alloc::AllocError;
 

@@ -1,6 +1,6 @@
 ghost use Rattle.std.specs.Prelude.{◌≡◌, ℕ, List, [], ◌∷◌, ◌++◌, string_bytes, OnOk, OnErr};
 ghost use Rattle.locale_numbers_engine.specs.Lines.{ended};
-ghost use Rattle.locale_numbers_engine.specs.Progress.{Grows};
+ghost use Rattle.locale_numbers_engine.specs.Growth.{Grows};
 
 use crate::answerer::Answerer;
 use std::alloc::AllocError;

@@ -88,8 +88,10 @@ fn stream<A: Answerer, R: ByteReader, W: ByteWriter>(
         match reader.read(piece) {
             Ok(0) => {
                 let count = finish(answerer, held.as_slice(), &mut ready, lines, writer)?;
-                writer.flush()?;
-                return Ok(count);
+                match writer.flush() {
+                    Ok(()) => return Ok(count),
+                    Err(_) => return Err(RunError::Write),
+                }
             }
             Ok(given) => lines = feed(
                 answerer,
@@ -105,7 +107,21 @@ fn stream<A: Answerer, R: ByteReader, W: ByteWriter>(
     Err(stop(writer))
 }
 
-/// Answers the lines that `reader` gives, each with a line feed after it, onto `writer`.
+/// Answers each line that `reader` gives, in order, onto `writer`, each answer with a line feed.
+///
+/// A line ends at a line feed; what stands after the last one is a line too, where it is not empty.
+/// With an answerer that turns letters to upper case the bytes `one`, line feed, `two` give `ONE`,
+/// line feed, `TWO`, line feed, and a report of 2 lines.
+///
+/// The bytes are read once, in pieces of 65,536. What is held meanwhile is one piece, the front of a
+/// line that goes on, and answers: these are written before the next piece is read, and whenever they
+/// come to 65,536 bytes. After the last answer the writer is flushed once.
+///
+/// - Read: a read failed, or the reader still gave bytes after 18,446,744,073,709,551,615 reads. The
+///   whole lines that it gave have been answered, and the writer has been flushed.
+/// - Write: a write or the flush failed, or a write took no byte. A front of the output is written.
+/// - Memory: a request for memory was refused, here or by the answerer. Some first lines have been
+///   answered, each whole.
 pub fn run_with<A: Answerer, R: ByteReader, W: ByteWriter>(
     alloc: Global,
     answerer: &mut A,
@@ -127,6 +143,9 @@ pub fn run_with<A: Answerer, R: ByteReader, W: ByteWriter>(
     ensures write { IsErrOf result RunError.Write →
         WritesPart (A.answer_of answerer.old) (R.remaining reader.old) (W.contents writer.old) (W.contents writer.new) }
     ensures writer_failed { IsErrOf result RunError.Write → W.failed writer.new ≡ true }
+
+    // The writer has failed just where the answer is Write.
+    ensures fault { W.failed writer.new ≡ ends_in_write result }
     ensures memory { IsErrOf result RunError.Memory →
         WritesFirst (A.answer_of answerer.old) (R.remaining reader.old) (W.contents writer.old) (W.contents writer.new) }
     ensures same { A.answer_of answerer.new ≡ A.answer_of answerer.old }
