@@ -1,3 +1,5 @@
 pub mod TenLemmas
 pub mod DigitsLemmas
 pub mod StoredLemmas
+pub mod TextPartsLemmas
+pub mod SpelledLemmas

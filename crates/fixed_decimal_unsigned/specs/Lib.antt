@@ -1,2 +1,5 @@
+pub mod ErrorNumbers
 pub mod Number
+pub mod NumberText
 pub mod Stored
+pub mod TextParts
