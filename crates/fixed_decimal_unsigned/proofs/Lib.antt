@@ -3,3 +3,4 @@ pub mod DigitsLemmas
 pub mod StoredLemmas
 pub mod TextPartsLemmas
 pub mod SpelledLemmas
+pub mod MantissaLemmas

@@ -1,3 +1,4 @@
+pub mod BorrowedParts
 pub mod ErrorNumbers
 pub mod Number
 pub mod NumberText

@@ -3,6 +3,8 @@ ghost use Rattle.std.specs.Prelude.{◌≡◌, false, ◌++◌, ◌∷◌, [], l
 ghost use Rattle.fixed_decimal_unsigned.specs.NumberText.{AreDigits, behind_point, SpellsExponent, Spells, IsNoText, minus_if};
 ghost use Rattle.fixed_decimal_unsigned.specs.TextParts.{StartsNoDigit, StartsNoPoint, IsNoFraction, IsNoExponent, StartsNoMinus, IsMark};
 
+ghost use Rattle.fixed_decimal_unsigned.specs.BorrowedParts.{parts_of};
+
 // The parts of a text, borrowed from it.
 #[derive(Clone, Copy)]
 pub struct TextParts<'a> {
@@ -79,7 +81,7 @@ fn is_mark(c: u8) -> bool
 impl<'a> TextParts<'a> {
     // The parts of a text.
     pub fn of(text: &'a [u8]) -> Option<TextParts<'a>>
-        ensures some { IfSome result (λ p. Spells text.now (record { integer = p.integer.now; fraction = p.fraction.now; negative = p.negative; exponent = p.exponent.now })) }
+        ensures some { IfSome result (λ p. Spells text.now (parts_of p)) }
         ensures none { IfNone result (IsNoText text.now) }
     {
         let (integer, rest) = split_digits(text);
