@@ -2,6 +2,10 @@
 
 #![tactic(auto)]
 
+mod error;
+mod json;
+mod key;
 mod tags;
 
+pub use error::BookError;
 pub use tags::{LocaleKey, Subtag, Tag};
