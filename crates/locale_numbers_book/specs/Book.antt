@@ -2,6 +2,7 @@
 -- Defined in docs/books.md, "The form"; names of systems after UTS 35, part 3 (numbers).
 -- Cited by `Book::from_json`.
 use Rattle.std.specs.Prelude.{◌≡◌, ℕ, ◌+◌, ◌==◌, Bool, true, false, not, ◌&&◌, ◌||◌, List, [], ◌∷◌, map, length, nat_le, nat_lt, chars, Option, Some, None, option_map, option_and_then, is_some, unwrap_or, if◌then◌else◌}
+use Rattle.std.specs.Option.{option_map_or}
 use Rattle.std.specs.List.{list_all, list_any}
 use Rattle.std.specs.Str.{bytes_eq}
 use Rattle.std.specs.Char.{is_ascii_lowercase, is_ascii_digit}
@@ -73,7 +74,7 @@ count_of_items no_items = 0
 count_of_items (item d ds) = 1 + count_of_items ds
 
 abbrev pub has_count : ℕ → Data → Bool
-has_count n value = is_some (option_and_then (λ ds. if count_of_items ds == n then Some ds else None) (as_array value))
+has_count n value = option_map_or (λ ds. count_of_items ds == n) (as_array value) false
 
 -- the field at a place of an entry, read; places are counted from 0
 abbrev pub field_at : {T : Type 0} → (Data → Option T) → ℕ → Data → Option T

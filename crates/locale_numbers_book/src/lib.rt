@@ -5,6 +5,7 @@
 mod error;
 mod json;
 mod key;
+mod table;
 mod tags;
 
 pub use error::BookError;

@@ -61,3 +61,44 @@ fn symbols(alloc: Global, entry: &Value) -> Result<DecimalSymbols, BookError>
         grouping_sizes,
     })
 }
+
+fn has_count(entry: &Value, count: usize) -> bool
+    ensures { result ≡ has_count count (view entry.now) }
+{
+    match entry.as_array() {
+        Some(fields) => fields.len() == count,
+        None => false,
+    }
+}
+
+/// The symbols of an entry, with their key.
+pub fn symbols_entry(alloc: Global, entry: &Value) -> Result<(SymbolsKey, DecimalSymbols), BookError>
+    ensures value { IfOk result (λ pair. symbols_entry (view entry.now) ≡ Some pair) }
+    ensures shape { IsErrOf result BookError.Shape → symbols_entry (view entry.now) ≡ None }
+    ensures only { IfErr result IsShapeOrMemory }
+{
+    if !has_count(entry, 12) {
+        return Err(BookError::Shape);
+    }
+    let Some(key) = key(entry) else {
+        return Err(BookError::Shape);
+    };
+    let symbols = symbols(alloc, entry)?;
+    Ok((key, symbols))
+}
+
+/// The digits of an entry, with their system.
+pub fn digits_entry(alloc: Global, entry: &Value) -> Result<(Subtag<8>, [char; 10]), BookError>
+    ensures value { IfOk result (λ pair. digits_entry (view entry.now) ≡ Some pair) }
+    ensures shape { IsErrOf result BookError.Shape → digits_entry (view entry.now) ≡ None }
+    ensures only { IfErr result IsShapeOrMemory }
+{
+    if !has_count(entry, 2) {
+        return Err(BookError::Shape);
+    }
+    let Some(system) = system(entry, 0) else {
+        return Err(BookError::Shape);
+    };
+    let digits = digits(alloc, entry, 1)?;
+    Ok((system, digits))
+}
