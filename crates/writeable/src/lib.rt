@@ -1,3 +1,21 @@
-//! To be written.
+//! Writing with named parts.
 
 #![tactic(auto)]
+
+mod compare_sink;
+mod error;
+mod format_sink;
+mod length_hint;
+mod part;
+mod sink;
+mod text_sink;
+mod write;
+
+pub use compare_sink::{CompareSink, strict_cmp};
+pub use error::Error;
+pub use format_sink::display;
+pub use length_hint::LengthHint;
+pub use part::Part;
+pub use sink::Sink;
+pub use text_sink::TextSink;
+pub use write::Writeable;

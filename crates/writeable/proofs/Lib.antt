@@ -1,0 +1,3 @@
+pub mod AnnotatedTextLemmas
+pub mod OrderLemmas
+pub mod WritingLemmas
