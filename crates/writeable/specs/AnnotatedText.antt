@@ -11,8 +11,16 @@ pub data Event : Type 0 where
   closed : Event
 
 -- a text without parts
-abbrev pub bytes : List ℕ → List Event
-bytes = map byte
+unfoldable pub bytes : List ℕ → List Event
+bytes text = map byte text
+
+-- a part opens
+unfoldable pub opening : PartName → List Event
+opening part = opened part ∷ []
+
+-- the part opened last ends
+unfoldable pub closing : List Event
+closing = closed ∷ []
 
 -- the bytes that were written
 abbrev pub text_of : List Event → List ℕ

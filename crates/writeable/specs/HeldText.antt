@@ -3,8 +3,7 @@
 -- Cited by the calls of `TextSink`.
 use Rattle.std.specs.Prelude.{ℕ, List, Bool}
 
--- the text held, how many bytes fit without new memory, and whether a call was refused
+-- the text held, and whether a call was refused
 pub record HeldText : Type 0 where
   pub text : List ℕ
-  pub capacity : ℕ
   pub refused : Bool

@@ -94,10 +94,12 @@ impl<'b> Sink for CompareSink<'b> {
         Ok(())
     }
 
+    #[tactic(auto, unfolding(crate::specs::AnnotatedText::opening))]
     fn open_part(&mut self, _part: Part) -> Result<(), Error> {
         Ok(())
     }
 
+    #[tactic(auto, unfolding(crate::specs::AnnotatedText::closing))]
     fn close_part(&mut self) -> Result<(), Error> {
         Ok(())
     }

@@ -47,10 +47,12 @@ impl<'f, W: fmt::Write> Sink for FormatSink<'f, W> {
         }
     }
 
+    #[tactic(auto, unfolding(crate::specs::AnnotatedText::opening))]
     fn open_part(&mut self, _part: Part) -> Result<(), Error> {
         Ok(())
     }
 
+    #[tactic(auto, unfolding(crate::specs::AnnotatedText::closing))]
     fn close_part(&mut self) -> Result<(), Error> {
         Ok(())
     }

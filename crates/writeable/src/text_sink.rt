@@ -1,4 +1,4 @@
-ghost use Rattle.std.specs.Prelude.{◌≡◌, ◌+◌, ◌<◌, ◌≤◌, false, [], length, IsOk, IfOk, OnOk, OnErr, is_err};
+ghost use Rattle.std.specs.Prelude.{◌≡◌, false, [], IfOk};
 ghost use Rattle.std.specs.String.{string_bytes};
 
 use crate::error::Error;
@@ -15,14 +15,13 @@ pub struct TextSink {
 }
 
 impl Model for TextSink {
-    ghost use Rattle.std.specs.String.{string_bytes, string_capacity};
+    ghost use Rattle.std.specs.String.{string_bytes};
     ghost use Rattle.writeable.specs.HeldText.{HeldText};
 
     ghost Value = { HeldText };
 
     ghost view = { λ s. record {
       text = string_bytes s.text;
-      capacity = string_capacity s.text;
       refused = s.refused;
     } };
 }
@@ -98,19 +97,13 @@ impl Sink for TextSink {
         }
     }
 
-    fn open_part(&mut self, _part: Part) -> Result<(), Error>
-        requires { self.old.refused ≡ false }
-        ensures succeeds { IsOk result }
-        ensures same { self.new ≡ self.old }
-    {
+    #[tactic(auto, unfolding(crate::specs::AnnotatedText::opening))]
+    fn open_part(&mut self, _part: Part) -> Result<(), Error> {
         Ok(())
     }
 
-    fn close_part(&mut self) -> Result<(), Error>
-        requires { self.old.refused ≡ false }
-        ensures succeeds { IsOk result }
-        ensures same { self.new ≡ self.old }
-    {
+    #[tactic(auto, unfolding(crate::specs::AnnotatedText::closing))]
+    fn close_part(&mut self) -> Result<(), Error> {
         Ok(())
     }
 }
