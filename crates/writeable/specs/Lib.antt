@@ -7,6 +7,7 @@ pub mod Order
 pub mod Shown
 -- what a contract sees of a type
 pub mod PartName
+pub mod HeldCount
 pub mod HeldText
 -- laws of the implementations
 pub mod SinkLaws

@@ -8,6 +8,7 @@ use Rattle.std.specs.Fmt.{WritesInCalls}
 use Rattle.std.specs.List.{FoldsTo, concat}
 use Rattle.std.specs.declared.fmt.Formatter.{Formatter}
 use Rattle.writeable.specs.AnnotatedText.{Event, byte, opened, closed, text_of, HasText}
+use Rattle.writeable.specs.HeldCount.{HeldCount, Counts, PassesLimit}
 use Rattle.writeable.specs.HeldText.{HeldText}
 use Rattle.writeable.specs.Order.{order_given, Comparison, Compares}
 use Rattle.writeable.specs.Shown.{ShowsText}
@@ -92,3 +93,20 @@ compared_joins s t u first second begun ended more =
     ended more ∙ begun (text_of second ++ more)
     ∙ ap (λ text. order_given s.so_far s.rest text)
     (sym (append_assoc (text_of first) (text_of second) more) ∙ ap (λ text. text ++ more) (sym (text_of_joined first second)))
+
+-- a count that would pass the limit, and more behind it
+pub passes_more : (s : HeldCount) (first second : List Event) → PassesLimit s first → PassesLimit s (first ++ second)
+passes_more s first second passes =
+    rw (text_of_joined first second, length-append (text_of first) (text_of second)) (omega arith)
+
+-- nothing was counted
+pub counts_nothing : (s : HeldCount) → Counts s [] s
+counts_nothing s = record { count = omega arith; fits = λ fitting. fitting }
+
+-- two texts were counted
+pub counts_joined : (s t u : HeldCount) (first second : List Event) → Counts s first t → Counts t second u
+    → Counts s (first ++ second) u
+counts_joined s t u first second begun ended = record {
+  count = rw (text_of_joined first second, length-append (text_of first) (text_of second)) (omega (arith, begun.count, ended.count));
+  fits = λ fitting. ended.fits (begun.fits fitting);
+}

@@ -3,6 +3,7 @@
 #![tactic(auto)]
 
 mod compare_sink;
+mod count_sink;
 mod error;
 mod format_sink;
 mod length_hint;
@@ -12,6 +13,7 @@ mod text_sink;
 mod write;
 
 pub use compare_sink::{CompareSink, strict_cmp};
+pub use count_sink::CountSink;
 pub use error::Error;
 pub use format_sink::display;
 pub use length_hint::LengthHint;
