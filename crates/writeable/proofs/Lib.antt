@@ -1,3 +1,7 @@
 pub mod AnnotatedTextLemmas
+pub mod EndsLemmas
+pub mod HeldLemmas
+pub mod HeldPartsLemmas
+pub mod ListedPartsLemmas
 pub mod OrderLemmas
 pub mod WritingLemmas

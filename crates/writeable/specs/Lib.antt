@@ -8,6 +8,8 @@ pub mod Shown
 -- what a contract sees of a type
 pub mod PartName
 pub mod HeldCount
+pub mod HeldParts
 pub mod HeldText
+pub mod ListedParts
 -- laws of the implementations
 pub mod SinkLaws

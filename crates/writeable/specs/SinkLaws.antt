@@ -9,6 +9,7 @@ use Rattle.std.specs.List.{FoldsTo, concat}
 use Rattle.std.specs.declared.fmt.Formatter.{Formatter}
 use Rattle.writeable.specs.AnnotatedText.{Event, byte, opened, closed, text_of, HasText}
 use Rattle.writeable.specs.HeldCount.{HeldCount, Counts, PassesLimit}
+use Rattle.writeable.specs.HeldParts.{HeldParts, held_after, HoldsThen, HasEvents}
 use Rattle.writeable.specs.HeldText.{HeldText}
 use Rattle.writeable.specs.Order.{order_given, Comparison, Compares}
 use Rattle.writeable.specs.Shown.{ShowsText}
@@ -110,3 +111,17 @@ counts_joined s t u first second begun ended = record {
   count = rw (text_of_joined first second, length-append (text_of first) (text_of second)) (omega (arith, begun.count, ended.count));
   fits = λ fitting. ended.fits (begun.fits fitting);
 }
+
+-- some events, and more behind them
+pub has_more_events : (first second : List Event) → HasEvents first → HasEvents (first ++ second)
+has_more_events first second some = rw (length-append first second) (omega arith)
+
+-- nothing was taken
+pub held_nothing : (s : HeldParts) → HoldsThen s [] s
+held_nothing s before is = is ∙ ap held_after (sym (append-nil before))
+
+-- two lists of events were taken
+pub held_joins : (s t u : HeldParts) (first second : List Event) → HoldsThen s first t → HoldsThen t second u
+    → HoldsThen s (first ++ second) u
+held_joins s t u first second begun ended before is =
+    ended (before ++ first) (begun before is) ∙ ap held_after (append_assoc before first second)

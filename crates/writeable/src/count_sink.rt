@@ -1,10 +1,9 @@
 ghost use Rattle.std.specs.Prelude.{◌≡◌, false};
 
-use std::marker::Model;
-
 use crate::error::Error;
 use crate::part::Part;
 use crate::sink::Sink;
+use std::marker::Model;
 
 /// A sink that counts the bytes of the text, in a `u64`, and keeps nothing else.
 ///
