@@ -13,3 +13,6 @@ pub mod HeldText
 pub mod ListedParts
 -- laws of the implementations
 pub mod SinkLaws
+
+-- statements of laws
+pub mod Laws

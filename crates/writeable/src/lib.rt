@@ -6,6 +6,7 @@ mod compare_sink;
 mod count_sink;
 mod error;
 mod format_sink;
+pub mod laws;
 mod length_hint;
 mod part;
 mod parts_sink;
