@@ -1,5 +1,5 @@
 -- Where parts end when events are followed by more.
-use Rattle.std.proofs.Common.{◌≡◌, ℕ, zero, suc, ◌+◌, ◌-◌, ◌≤◌, ◌<◌, List, [], ◌∷◌, ◌++◌, length, Bool, true, false, cond, Option, None, Some, refl, sym, ◌∙◌, ap, arith, ◌⊎◌, inl, inr, eqb}
+use Rattle.std.proofs.Common.{◌≡◌, ℕ, zero, suc, ◌+◌, ◌-◌, ◌≤◌, ◌<◌, List, [], ◌∷◌, ◌++◌, length, true, false, cond, Option, None, Some, refl, ◌∙◌, ap, arith, eqb}
 use Rattle.writeable.specs.AnnotatedText.{Event, byte, opened, closed, text_of, end_of}
 use Rattle.writeable.specs.HeldParts.{OpenInterval, if_open, open_from}
 use Rattle.writeable.specs.PartName.{PartName}

@@ -1,5 +1,5 @@
 -- What one call leaves in a `PartsSink`.
-use Rattle.std.proofs.Common.{◌≡◌, ℕ, ◌+◌, ◌-◌, List, [], ◌∷◌, ◌++◌, length, cond, refl, sym, ◌∙◌, ap, arith, eqb, insert}
+use Rattle.std.proofs.Common.{◌≡◌, ℕ, ◌+◌, List, [], ◌∷◌, ◌++◌, length, refl, sym, ◌∙◌, ap, arith}
 use Rattle.std.proofs.lemmas.List.{append_assoc, append-nil}
 use Rattle.writeable.specs.AnnotatedText.{Event, byte, opened, closed, bytes, opening, closing, text_of, Interval, intervals_from}
 use Rattle.writeable.specs.HeldParts.{OpenInterval, open_from, Held, held_after}

@@ -1,6 +1,6 @@
 -- What one more step leaves of the parts held.
-use Rattle.std.proofs.Common.{◌≡◌, ℕ, zero, suc, ◌+◌, ◌-◌, ◌≤◌, ◌<◌, List, [], ◌∷◌, ◌++◌, length, Bool, true, false, cond, Option, None, Some, refl, sym, ◌∙◌, ap, arith, eqb, insert, drop}
-use Rattle.std.proofs.lemmas.List.{append_assoc, append-nil, append_cancel_left, take_at, drop_at, nil_from_length, length_push}
+use Rattle.std.proofs.Common.{◌≡◌, ℕ, ◌+◌, ◌<◌, List, [], ◌∷◌, ◌++◌, length, Bool, true, false, cond, Option, None, Some, refl, sym, ◌∙◌, ap, arith, eqb, insert, drop}
+use Rattle.std.proofs.lemmas.List.{append_assoc, append_cancel_left, take_at, drop_at, nil_from_length, length_push}
 use Rattle.writeable.specs.AnnotatedText.{Event, byte, opened, closed, text_of, Interval, end_of, listed, intervals_from}
 use Rattle.writeable.specs.HeldParts.{OpenInterval, if_open, open_from}
 use Rattle.writeable.specs.PartName.{PartName}

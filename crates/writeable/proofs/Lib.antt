@@ -1,4 +1,5 @@
 pub mod AnnotatedTextLemmas
+pub mod BalancedLemmas
 pub mod EndsLemmas
 pub mod HeldLemmas
 pub mod HeldPartsLemmas

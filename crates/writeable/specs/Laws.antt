@@ -3,9 +3,8 @@
 -- Cited by the functions of `laws`.
 use Rattle.std.specs.Prelude.{◌≡◌, ℕ, ◌+◌, ◌<◌, ◌≤◌, ◌==◌, List, [], ◌∷◌, ◌++◌, length, map, cond, All, None}
 use Rattle.writeable.specs.AnnotatedText.{Event, bytes, opening, closing, text_of, Interval, end_of, AnnotatedText, annotated}
-use Rattle.writeable.specs.HeldParts.{Held, held_after}
+use Rattle.writeable.specs.HeldParts.{held_after}
 use Rattle.writeable.specs.HeldCount.{HeldCount, count_limit, Counts, PassesLimit}
-use Rattle.writeable.specs.LengthHint.{IsWithinHint}
 use Rattle.writeable.specs.PartName.{PartName}
 use Rattle.writeable.specs.Taking.{HasBegun}
 

@@ -1,7 +1,7 @@
 -- The fields of a `PartsSink` as intervals.
 -- Defined in docs/annotated-text.md, "The three sinks".
 -- Cited by `PartsSink::parts` and by what a contract sees of a `PartsSink`.
-use Rattle.std.specs.Prelude.{ℕ, ◌≤◌, List, length, All}
+use Rattle.std.specs.Prelude.{ℕ, ◌≤◌, List, All}
 use Rattle.writeable.specs.declared.part.Part.{Part}
 use Rattle.writeable.specs.declared.parts_sink.OpenPart.{OpenPart}
 use Rattle.writeable.specs.AnnotatedText.{Interval}

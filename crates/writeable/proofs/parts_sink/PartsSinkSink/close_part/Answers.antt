@@ -1,4 +1,4 @@
-use Rattle.std.proofs.Common.{◌≡◌, ◌-◌, length, map, take, [], Some, None, cond, eqb, insert, ◌∙◌, refl, sym, ap, subst}
+use Rattle.std.proofs.Common.{◌≡◌, ◌-◌, length, map, take, [], Some, cond, eqb, insert, ◌∙◌, refl, sym, ap, subst}
 use Rattle.std.proofs.lemmas.List.{map_push}
 use Rattle.std.specs.List.{slice_get}
 use Rattle.writeable.specs.AnnotatedText.{closing}

@@ -1,6 +1,5 @@
-use Rattle.std.proofs.Common.{length, map, [], ◌++◌, ◌∙◌, refl, sym, ap}
+use Rattle.std.proofs.Common.{map, [], ◌++◌, ◌∙◌, refl, sym, ap}
 use Rattle.std.proofs.lemmas.List.{map_push, length-map}
-use Rattle.std.specs.String.{string_bytes}
 use Rattle.writeable.specs.AnnotatedText.{opening}
 use Rattle.writeable.specs.HeldParts.{HeldParts}
 use Rattle.writeable.specs.ListedParts.{interval_of, open_interval}
