@@ -3,6 +3,7 @@ pub mod BalancedLemmas
 pub mod EndsLemmas
 pub mod HeldLemmas
 pub mod HeldPartsLemmas
+mod KnownValues
 pub mod LawsLemmas
 pub mod ListedPartsLemmas
 pub mod OrderLemmas
