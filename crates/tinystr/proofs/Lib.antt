@@ -1,0 +1,3 @@
+pub mod CaseLemmas
+pub mod ClassesLemmas
+pub mod SmallTextLemmas

@@ -1,0 +1,11 @@
+-- The numbers of the faults.
+-- Defined in docs/small-text.md, "Faults, in their order".
+-- Cited by `ParseError::number` and `UleError::number`.
+use Rattle.std.specs.Prelude.{ℕ}
+use Rattle.tinystr.specs.declared.error.ParseError.{ParseError}
+use Rattle.tinystr.specs.declared.error.ParseError.TheVariants.{TooLong, ContainsNull, NonAscii}
+
+abbrev pub parse_error_number : ParseError → ℕ
+parse_error_number (TooLong max len) = 1
+parse_error_number ContainsNull = 2
+parse_error_number NonAscii = 3

@@ -1,0 +1,6 @@
+-- What a reader must believe.
+pub mod SmallText
+pub mod Faults
+pub mod FaultNumbers
+pub mod Classes
+pub mod Case
