@@ -124,3 +124,7 @@ take-joined (suc q) [] text = sym (let e : min (length text) (suc q - 0) ≡ min
 take-joined (suc q) (b ∷ bs) text =
     let e : suc q - suc (length (take q bs)) ≡ q - length (take q bs) = omega arith in
     ap (λ l. b ∷ l) (take-joined q bs text ∙ ap (λ k. take q bs ++ take (min (length text) k) text) (sym e))
+
+pub front_gives_form : (n : ℕ) (text bytes : List ℕ) → bytes ≡ text ++ drop (length text) (replicate n NUL) → bytes ≡ padded n text
+unfolding padded
+front_gives_form n text bytes e = e ∙ ap (λ l. text ++ l) (drop-replicate (length text) n NUL)

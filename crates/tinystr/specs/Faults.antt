@@ -1,7 +1,7 @@
 -- Which fault refuses a list of units: too long first, then the least place that is wrong, then a NUL at the end.
 -- Defined in docs/small-text.md, "Faults, in their order".
 -- Cited by `try_from_str`, `try_from_utf8`, `try_from_utf16`, `try_from_raw`, `FromStr` and the unvalidated type.
-use Rattle.std.specs.Prelude.{◌≡◌, ℕ, suc, ◌<◌, ◌≤◌, Bool, true, ◌⊎◌, List, ◌∷◌, ◌++◌, length, replicate}
+use Rattle.std.specs.Prelude.{◌≡◌, ℕ, suc, ◌<◌, ◌≤◌, Bool, true, ◌⊎◌, List, ◌∷◌, ◌++◌, length, replicate, nat_lt}
 use Rattle.std.specs.List.{list_all}
 use Rattle.tinystr.specs.SmallText.{NUL, LAST_ASCII, is_text_byte}
 use Rattle.tinystr.specs.declared.error.ParseError.{ParseError}
@@ -37,6 +37,12 @@ pub record StopsBehindNul (units : List ℕ) : Type 0 where
 pub record EndsInNul (units : List ℕ) : Type 0 where
   pub nuls : ℕ
   pub clean : IsClean (suc nuls) units
+
+-- no place is wrong; NULs stand at the end where `ends_in_nul` says so
+pub record IsFaultless (ends_in_nul : Bool) (units : List ℕ) : Type 0 where
+  pub nuls : ℕ
+  pub clean : IsClean nuls units
+  pub seen : ends_in_nul ≡ nat_lt 0 nuls
 
 -- the fault of these units at a capacity; `strict` where a NUL at the end is one
 abbrev pub IsFault : Bool → ℕ → List ℕ → ParseError → Type 0

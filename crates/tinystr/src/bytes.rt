@@ -1,9 +1,9 @@
 //! What is computed from the bytes of a form or of a text.
 
-ghost use Rattle.std.specs.Prelude.{◌≡◌, ◌≤◌, ◌+◌, ◌++◌, length, take, drop, map};
+ghost use Rattle.std.specs.Prelude.{◌≡◌, ◌≤◌, ◌+◌, ◌++◌, length, take, drop, map, true};
 ghost use Rattle.std.specs.List.{list_all};
 ghost use Rattle.std.specs.Char.{is_ascii_alphabetic, is_ascii_alphanumeric, is_ascii_digit, is_ascii_uppercase, is_ascii_lowercase, to_ascii_lowercase, to_ascii_uppercase};
-ghost use Rattle.tinystr.specs.SmallText.{text_of};
+ghost use Rattle.tinystr.specs.SmallText.{text_of, is_text_byte};
 ghost use Rattle.tinystr.specs.Classes.{is_in_class, is_not_uppercase, is_not_lowercase};
 ghost use Rattle.tinystr.specs.Case.{lowercase, uppercase, titlecase};
 
@@ -122,5 +122,16 @@ pub(crate) fn make_title(bytes: &mut [u8])
     if let Some((first, rest)) = bytes.split_first_mut() {
         *first = first.to_ascii_uppercase();
         lower(rest);
+    }
+}
+
+/// Writes UTF-16 units that are a text over the first bytes.
+pub(crate) fn narrow(bytes: &mut [u8], units: &[u16])
+    requires fits { length units.now ≤ length bytes.old }
+    requires text { list_all is_text_byte units.now ≡ true }
+    ensures { bytes.new ≡ units.now ++ drop (length units.now) bytes.old }
+{
+    for (i, unit) in units.iter().enumerate() {
+        bytes[i] = *unit as u8;
     }
 }

@@ -10,7 +10,9 @@ mod case;
 mod classes;
 mod comparing;
 mod error;
+mod faults;
 mod joining;
+mod readers;
 
 pub use ascii::{TinyAsciiStr, TinyStr4, TinyStr8, TinyStr16};
 pub use error::ParseError;
