@@ -4,3 +4,5 @@ pub mod Faults
 pub mod FaultNumbers
 pub mod Classes
 pub mod Case
+pub mod Lossy
+pub mod Decimal

@@ -100,3 +100,8 @@ impl<const N: usize> TinyAsciiStr<N> {
         self.len() == 0
     }
 }
+
+impl TinyAsciiStr<3> {
+    /// The text `und`, which BCP 47 gives to a language that is not known.
+    pub const UND: Self = TinyAsciiStr { bytes: *b"und" };
+}

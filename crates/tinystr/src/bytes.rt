@@ -4,6 +4,7 @@ ghost use Rattle.std.specs.Prelude.{◌≡◌, ◌≤◌, ◌+◌, ◌++◌, len
 ghost use Rattle.std.specs.List.{list_all};
 ghost use Rattle.std.specs.Char.{is_ascii_alphabetic, is_ascii_alphanumeric, is_ascii_digit, is_ascii_uppercase, is_ascii_lowercase, to_ascii_lowercase, to_ascii_uppercase};
 ghost use Rattle.tinystr.specs.SmallText.{text_of, is_text_byte};
+ghost use Rattle.tinystr.specs.Lossy.{kept_or_replacement};
 ghost use Rattle.tinystr.specs.Classes.{is_in_class, is_not_uppercase, is_not_lowercase};
 ghost use Rattle.tinystr.specs.Case.{lowercase, uppercase, titlecase};
 
@@ -133,5 +134,36 @@ pub(crate) fn narrow(bytes: &mut [u8], units: &[u16])
 {
     for (i, unit) in units.iter().enumerate() {
         bytes[i] = *unit as u8;
+    }
+}
+
+/// The unit as a byte, or the replacement where it may not stand in a text.
+fn lossy_byte(unit: u16, replacement: u8) -> u8
+    ensures { result ≡ kept_or_replacement replacement unit }
+{
+    if unit == 0 || unit > 127 {
+        replacement
+    } else {
+        unit as u8
+    }
+}
+
+/// Writes bytes over the first ones, each that may not stand in a text replaced.
+pub(crate) fn put_lossy(bytes: &mut [u8], units: &[u8], replacement: u8)
+    requires { length units.now ≤ length bytes.old }
+    ensures { bytes.new ≡ map (kept_or_replacement replacement) units.now ++ drop (length units.now) bytes.old }
+{
+    for (i, unit) in units.iter().enumerate() {
+        bytes[i] = lossy_byte(u16::from(*unit), replacement);
+    }
+}
+
+/// The same of UTF-16 units.
+pub(crate) fn put_lossy_utf16(bytes: &mut [u8], units: &[u16], replacement: u8)
+    requires { length units.now ≤ length bytes.old }
+    ensures { bytes.new ≡ map (kept_or_replacement replacement) units.now ++ drop (length units.now) bytes.old }
+{
+    for (i, unit) in units.iter().enumerate() {
+        bytes[i] = lossy_byte(*unit, replacement);
     }
 }

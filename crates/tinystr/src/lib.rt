@@ -9,9 +9,11 @@ mod bytes;
 mod case;
 mod classes;
 mod comparing;
+mod decimal;
 mod error;
 mod faults;
 mod joining;
+mod lossy;
 mod readers;
 
 pub use ascii::{TinyAsciiStr, TinyStr4, TinyStr8, TinyStr16};
