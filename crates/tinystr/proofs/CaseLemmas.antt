@@ -1,13 +1,12 @@
 -- Case changes: what they do to a form, and that they keep texts.
-use Rattle.std.proofs.Common.{◌≡◌, ℕ, suc, zero, ◌-◌, Bool, true, List, [], ◌∷◌, ◌++◌, length, map, replicate, refl, sym, ap, arith, ◌∙◌}
+use Rattle.std.proofs.Common.{◌≡◌, ℕ, suc, zero, ◌-◌, true, List, [], ◌∷◌, ◌++◌, length, replicate, refl, ap, arith}
 use Rattle.std.specs.List.{list_all}
 use Rattle.std.specs.Char.{to_ascii_uppercase, to_ascii_lowercase}
 use Rattle.std.proofs.lemmas.Bool.{and_parts, and_from}
 use Rattle.std.proofs.lemmas.Bool.Decides.{nat_tests}
 use Rattle.std.proofs.lemmas.List.{map-append, length-map}
-use Rattle.tinystr.specs.SmallText.{NUL, is_text_byte, IsSmall, IsForm, padded, text_of}
+use Rattle.tinystr.specs.SmallText.{NUL, is_text_byte, IsSmall, padded}
 use Rattle.tinystr.specs.Case.{lowercase, uppercase, titlecase}
-use Rattle.tinystr.proofs.SmallTextLemmas.{IsForm-of, text_of-of}
 
 lower_text_byte : (b : ℕ) → is_text_byte b ≡ true → is_text_byte (to_ascii_lowercase b) ≡ true
 lower_text_byte b h = grind (arith, nat_tests)

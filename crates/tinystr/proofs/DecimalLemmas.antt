@@ -1,12 +1,12 @@
 -- Decimal texts: what std writes for a number is its shortest text; and one digit more at the front of those written.
-use Rattle.std.proofs.Common.{◌≡◌, ℕ, suc, zero, ◌+◌, ◌-◌, ◌*◌, ◌/◌, ◌%◌, ◌^◌, ◌<◌, ◌≤◌, Bool, true, false, List, [], ◌∷◌, ◌++◌, length, take, drop, get_or, set, refl, sym, ap, arith, ◌∙◌}
+use Rattle.std.proofs.Common.{◌≡◌, ℕ, suc, zero, ◌+◌, ◌/◌, ◌%◌, ◌^◌, ◌<◌, ◌≤◌, true, List, [], ◌∷◌, ◌++◌, length, drop, get_or, set, refl, sym, ap, arith, ◌∙◌}
 use Rattle.std.specs.List.{list_all}
 use Rattle.std.specs.Char.{is_ascii_digit}
 use Rattle.std.specs.Fmt.{decimal}
 use Rattle.std.proofs.lemmas.Bool.{and_from, and_parts}
 use Rattle.std.proofs.lemmas.Bool.Decides.{nat_tests}
-use Rattle.std.proofs.lemmas.Fmt.{decimal_nonempty, decimal_is_IsNumeral, decimal_by_steps, decimal_step, decimal_digit, first_decimal, length-decimal-le}
-use Rattle.std.proofs.lemmas.List.{append_assoc, append-nil, length-append, length_push, drop-set, drop_all}
+use Rattle.std.proofs.lemmas.Fmt.{decimal_nonempty, decimal_is_IsNumeral, decimal_by_steps, decimal_step, decimal_digit, first_decimal}
+use Rattle.std.proofs.lemmas.List.{append_assoc, length_push, drop-set}
 use Rattle.std.proofs.lemmas.List.Folds.{list_all-append}
 use Rattle.tinystr.specs.Decimal.{IsDecimalText}
 use Rattle.tinystr.specs.SmallText.{is_text_byte}

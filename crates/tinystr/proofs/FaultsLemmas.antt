@@ -1,14 +1,14 @@
 -- Units with no fault so far, one unit on; and that what has a fault is no text.
-use Rattle.std.proofs.Common.{◌≡◌, ℕ, suc, zero, ◌+◌, ◌-◌, ◌<◌, ◌≤◌, Bool, true, false, not, ◌⊎◌, inl, inr, ◌≢◌, List, [], ◌∷◌, ◌++◌, length, take, drop, get_or, replicate, refl, sym, ap, arith, nat_lt, ◌∙◌}
+use Rattle.std.proofs.Common.{◌≡◌, ℕ, suc, ◌+◌, ◌-◌, ◌<◌, ◌≤◌, Bool, true, false, inl, inr, ◌≢◌, List, [], ◌∷◌, ◌++◌, length, take, drop, get_or, replicate, refl, sym, ap, arith, nat_lt, ◌∙◌}
 use Rattle.std.specs.List.{list_all}
 use Rattle.std.proofs.lemmas.Bool.{and_parts, and_from}
 use Rattle.std.proofs.lemmas.Bool.Decides.{nat_tests}
 use Rattle.std.proofs.lemmas.List.{append-nil, append_assoc, take_more, take-append-drop, drop_more, replicate_more}
 use Rattle.std.proofs.lemmas.List.Folds.{list_all-append}
-use Rattle.tinystr.specs.SmallText.{NUL, LAST_ASCII, is_nul, is_text_byte, IsSmall}
+use Rattle.tinystr.specs.SmallText.{NUL, LAST_ASCII, is_text_byte, IsSmall}
 use Rattle.tinystr.specs.declared.error.ParseError.{ParseError}
 use Rattle.tinystr.specs.declared.error.ParseError.TheVariants.{TooLong, ContainsNull, NonAscii}
-use Rattle.tinystr.specs.Faults.{IsClean, IsFaultless, StopsAtNonAscii, StopsBehindNul, EndsInNul, IsFault}
+use Rattle.tinystr.specs.Faults.{IsFaultless, StopsAtNonAscii, StopsBehindNul, EndsInNul, IsFault}
 
 -- nothing read
 pub faultless_none : IsFaultless false []
@@ -136,10 +136,10 @@ fault_refuses strict n units NonAscii fault small =
     let stop = fault.1 in
     above_is_no_text stop.unit stop.above (text_at stop.front stop.unit stop.rest (rw stop.whole at small.ascii))
 fault_refuses strict n units ContainsNull fault small = elim fault.1 [
-  inl stop ↦
-    let e : units ≡ (stop.clean.text ++ replicate (suc stop.nuls) NUL) ++ stop.unit ∷ stop.rest = stop.whole ∙ ap (λ l. l ++ stop.unit ∷ stop.rest) stop.clean.whole in
-    nul_is_no_text stop.clean.text stop.nuls (stop.unit ∷ stop.rest) (rw e at small.ascii)
+  | inl stop ↦
+      let e : units ≡ (stop.clean.text ++ replicate (suc stop.nuls) NUL) ++ stop.unit ∷ stop.rest = stop.whole ∙ ap (λ l. l ++ stop.unit ∷ stop.rest) stop.clean.whole in
+      nul_is_no_text stop.clean.text stop.nuls (stop.unit ∷ stop.rest) (rw e at small.ascii)
   | inr ends ↦
-    let e : units ≡ (ends.1.clean.text ++ replicate (suc ends.1.nuls) NUL) ++ [] = ends.1.clean.whole ∙ sym (append-nil (ends.1.clean.text ++ replicate (suc ends.1.nuls) NUL)) in
-    nul_is_no_text ends.1.clean.text ends.1.nuls [] (rw e at small.ascii)
+      let e : units ≡ (ends.1.clean.text ++ replicate (suc ends.1.nuls) NUL) ++ [] = ends.1.clean.whole ∙ sym (append-nil (ends.1.clean.text ++ replicate (suc ends.1.nuls) NUL)) in
+      nul_is_no_text ends.1.clean.text ends.1.nuls [] (rw e at small.ascii)
 ]

@@ -2,6 +2,8 @@ pub mod CaseLemmas
 pub mod ClassesLemmas
 pub mod FaultsLemmas
 pub mod DecimalLemmas
+pub mod FormsLemmas
 pub mod LossyLemmas
 pub mod RawLemmas
+pub mod WordLemmas
 pub mod SmallTextLemmas

@@ -1,9 +1,9 @@
 -- Bytes written one at a time over the first of a list, each a function of a unit; and that a lossy text is a text.
-use Rattle.std.proofs.Common.{◌≡◌, ℕ, suc, zero, ◌+◌, ◌-◌, ◌<◌, ◌≤◌, Bool, true, false, List, [], ◌∷◌, ◌++◌, length, take, drop, get_or, set, map, min, cond, refl, sym, ap, arith, ◌∙◌}
+use Rattle.std.proofs.Common.{◌≡◌, ℕ, ◌+◌, ◌<◌, true, List, [], ◌∷◌, ◌++◌, length, take, drop, get_or, set, map, min, refl, sym, ap, arith, ◌∙◌}
 use Rattle.std.specs.List.{list_all}
-use Rattle.std.proofs.lemmas.Bool.{and_parts, and_from}
+use Rattle.std.proofs.lemmas.Bool.{and_from}
 use Rattle.std.proofs.lemmas.Bool.Decides.{nat_tests}
-use Rattle.std.proofs.lemmas.List.{append_assoc, drop_more, set_at, map_more, length-map, length-take, length-take-le, take_min}
+use Rattle.std.proofs.lemmas.List.{append_assoc, drop_more, set_at, map_more, map-id, length-map, length-take, length-take-le, take_min}
 use Rattle.tinystr.specs.SmallText.{is_text_byte, IsSmall}
 use Rattle.tinystr.specs.Lossy.{kept_or_replacement}
 
@@ -38,3 +38,11 @@ IsSmall-lossy n replacement units good = record {
 -- the least of the length and n units are the first n
 pub first_units : (n m : ℕ) (units : List ℕ) → m ≡ min (length units) n → take m units ≡ take n units
 first_units n m units e = let other : m ≡ min n (length units) = omega arith in ap (λ k. take k units) other ∙ take_min n units
+
+-- the same where each unit is written as it is
+pub put_same : (units old bytes : List ℕ) (i : ℕ) → i < length units → i < length old
+    → bytes ≡ take i units ++ drop i old → set bytes i (get_or units i 0) ≡ take (i + 1) units ++ drop (i + 1) old
+put_same units old bytes i within room e =
+    let front : map (λ (x : ℕ). x) (take i units) ≡ take i units = map-id (take i units) in
+    let more : map (λ (x : ℕ). x) (take (i + 1) units) ≡ take (i + 1) units = map-id (take (i + 1) units) in
+    put_more (λ x. x) units old bytes i within room (e ∙ ap (λ l. l ++ drop i old) (sym front)) ∙ ap (λ l. l ++ drop (i + 1) old) more

@@ -1,15 +1,15 @@
 -- N bytes: those with no fault but NULs at the end are the form of their text, and those with a fault are none.
-use Rattle.std.proofs.Common.{◌≡◌, ℕ, suc, zero, ◌+◌, ◌-◌, ◌<◌, ◌≤◌, Bool, true, false, ◌⊎◌, inl, inr, List, [], ◌∷◌, ◌++◌, length, replicate, refl, sym, ap, arith, ◌∙◌}
+use Rattle.std.proofs.Common.{◌≡◌, ℕ, suc, zero, ◌+◌, ◌-◌, ◌<◌, ◌≤◌, Bool, true, false, inl, inr, List, [], ◌∷◌, ◌++◌, length, replicate, refl, sym, ap, arith, ◌∙◌}
 use Rattle.std.specs.List.{list_all}
 use Rattle.std.specs.Int.{is_in_range}
 use Rattle.std.proofs.lemmas.Bool.{and_parts, and_from}
 use Rattle.std.proofs.lemmas.Bool.Decides.{nat_tests}
 use Rattle.std.proofs.lemmas.List.{append_assoc, length-append, length-replicate}
 use Rattle.std.proofs.lemmas.List.Folds.{list_all-append}
-use Rattle.tinystr.specs.SmallText.{NUL, LAST_ASCII, is_nul, is_text_byte, IsSmall, IsForm, padded, text_of}
+use Rattle.tinystr.specs.SmallText.{NUL, LAST_ASCII, is_nul, is_text_byte, IsForm, padded, text_of}
 use Rattle.tinystr.specs.declared.error.ParseError.{ParseError}
 use Rattle.tinystr.specs.declared.error.ParseError.TheVariants.{TooLong, ContainsNull, NonAscii}
-use Rattle.tinystr.specs.Faults.{IsClean, IsFaultless, StopsAtNonAscii, StopsBehindNul, IsFault}
+use Rattle.tinystr.specs.Faults.{IsClean, StopsAtNonAscii, StopsBehindNul, IsFault}
 use Rattle.tinystr.proofs.SmallTextLemmas.{IsForm-of}
 
 -- a text and NULs, n bytes in all, are a form
@@ -76,7 +76,7 @@ pub no_text_behind : (text front : List ℕ) (k nuls unit : ℕ) (rest : List �
     → text ++ replicate k NUL ≡ front ++ (replicate (suc nuls) NUL ++ unit ∷ rest) → ⊥
 no_text_behind [] front k nuls unit rest one two is e =
     let all : list_all is_nul ((front ++ replicate (suc nuls) NUL) ++ unit ∷ rest) ≡ true =
-        ap (list_all is_nul) (append_assoc front (replicate (suc nuls) NUL) (unit ∷ rest) ∙ sym e) ∙ nuls_are_nul k in
+    ap (list_all is_nul) (append_assoc front (replicate (suc nuls) NUL) (unit ∷ rest) ∙ sym e) ∙ nuls_are_nul k in
     text_byte_and_nul unit is (all_at is_nul (front ++ replicate (suc nuls) NUL) unit rest all)
 no_text_behind (b ∷ bs) [] k nuls unit rest one two is e =
     let both = and_parts (is_text_byte b) (list_all is_text_byte bs) one in
@@ -91,7 +91,7 @@ no_text_behind (b ∷ bs) (d ∷ ds) k nuls unit rest one two is e =
 pub clean_refuses_high : (k : ℕ) (units : List ℕ) → IsClean k units → StopsAtNonAscii units → ⊥
 clean_refuses_high k units clean stop =
     let low : list_all is_low (clean.text ++ replicate k NUL) ≡ true =
-        list_all-append is_low clean.text (replicate k NUL) ∙ and_from (list_all is_low clean.text) (list_all is_low (replicate k NUL)) (text_is_low clean.text clean.ascii) (nuls_are_low k) in
+    list_all-append is_low clean.text (replicate k NUL) ∙ and_from (list_all is_low clean.text) (list_all is_low (replicate k NUL)) (text_is_low clean.text clean.ascii) (nuls_are_low k) in
     let all : list_all is_low (stop.front ++ stop.unit ∷ stop.rest) ≡ true = ap (list_all is_low) (sym stop.whole ∙ clean.whole) ∙ low in
     high_is_not_low stop.unit stop.above (all_at is_low stop.front stop.unit stop.rest all)
 
@@ -110,6 +110,6 @@ pub fault_is_no_form : (n : ℕ) (units : List ℕ) (e : ParseError) → length 
 fault_is_no_form n units (TooLong max len) short fault form = omega (arith, fault.0)
 fault_is_no_form n units NonAscii short fault form = clean_refuses_high (n - length (text_of units)) units (form_is_clean n units form) fault.1
 fault_is_no_form n units ContainsNull short fault form = elim fault.1 [
-  inl stop ↦ clean_refuses_behind (n - length (text_of units)) units (form_is_clean n units form) stop
+  | inl stop ↦ clean_refuses_behind (n - length (text_of units)) units (form_is_clean n units form) stop
   | inr ends ↦ let e : false ≡ true = ends.0 in cc
 ]

@@ -1,14 +1,14 @@
 -- Texts and their forms: what stands before the first NUL of a text and NULs is the text.
-use Rattle.std.proofs.Common.{◌≡◌, ℕ, suc, zero, ◌+◌, ◌-◌, ◌<◌, ◌≤◌, min, Bool, true, false, not, List, [], ◌∷◌, ◌++◌, length, take, drop, get_or, replicate, refl, sym, ap, arith, one-add, ◌∙◌}
-use Rattle.std.specs.List.{list_all, prefix_len, position_or_len}
+use Rattle.std.proofs.Common.{◌≡◌, ℕ, suc, zero, ◌+◌, ◌-◌, ◌<◌, ◌≤◌, min, true, false, not, List, [], ◌∷◌, ◌++◌, length, take, drop, get_or, replicate, refl, sym, ap, arith, one-add, ◌∙◌}
+use Rattle.std.specs.List.{list_all, position_or_len}
 use Rattle.std.specs.Str.{IsAscii}
 use Rattle.std.proofs.lemmas.Bool.{and_parts, and_from}
 use Rattle.std.proofs.lemmas.Bool.Decides.{nat_tests}
-use Rattle.std.proofs.lemmas.List.{append-nil, append_assoc, length-append, length-replicate, length-take, drop-replicate, drop-drop, drop_at, take_at, take_all, take_min}
+use Rattle.std.proofs.lemmas.List.{append_assoc, length-append, length-take, drop-replicate, drop-drop, drop_at, take_at, take_min}
 use Rattle.std.proofs.lemmas.List.Folds.{length-prefix_len, list_all-append}
 use Rattle.std.proofs.lemmas.List.Sums.{position_or_len_is}
 use Rattle.std.proofs.lemmas.Str.Ascii.{IsAscii-cons, IsAscii-nil}
-use Rattle.tinystr.specs.SmallText.{NUL, LAST_ASCII, is_nul, is_text_byte, IsSmall, IsForm, padded, text_of}
+use Rattle.tinystr.specs.SmallText.{NUL, is_nul, is_text_byte, IsSmall, IsForm, padded, text_of}
 
 pub text_byte_is_no_nul : (b : ℕ) → is_text_byte b ≡ true → is_nul b ≡ false
 text_byte_is_no_nul b h = grind (arith, nat_tests)
@@ -78,12 +78,12 @@ put_gives_form n front text bytes fits e =
     let nuls = replicate (n - length front) NUL in
     let kept : take (length front) (front ++ nuls) ≡ front = take_at front nuls (length front) refl in
     let skipped : drop (length front + length text) (front ++ nuls) ≡ drop (length text) nuls =
-        sym (drop-drop (length text) (length front) (front ++ nuls)) ∙ ap (drop (length text)) (drop_at front nuls (length front) refl) in
+    sym (drop-drop (length text) (length front) (front ++ nuls)) ∙ ap (drop (length text)) (drop_at front nuls (length front) refl) in
     let left : drop (length text) nuls ≡ replicate (n - length front - length text) NUL = drop-replicate (length text) (n - length front) NUL in
     let long : length (front ++ text) ≡ length front + length text = length-append front text in
     let count : n - length front - length text ≡ n - length (front ++ text) = omega arith in
     let behind : drop (length front + length text) (front ++ nuls) ≡ replicate (n - length (front ++ text)) NUL =
-        skipped ∙ left ∙ ap (λ k. replicate k NUL) count in
+    skipped ∙ left ∙ ap (λ k. replicate k NUL) count in
     e ∙ ap (λ l. l ++ (text ++ drop (length front + length text) (front ++ nuls))) kept
     ∙ ap (λ l. front ++ (text ++ l)) behind
     ∙ sym (append_assoc front text (replicate (n - length (front ++ text)) NUL))

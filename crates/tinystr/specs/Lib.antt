@@ -6,3 +6,4 @@ pub mod Classes
 pub mod Case
 pub mod Lossy
 pub mod Decimal
+pub mod Forms

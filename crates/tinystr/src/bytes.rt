@@ -8,6 +8,8 @@ ghost use Rattle.tinystr.specs.Lossy.{kept_or_replacement};
 ghost use Rattle.tinystr.specs.Classes.{is_in_class, is_not_uppercase, is_not_lowercase};
 ghost use Rattle.tinystr.specs.Case.{lowercase, uppercase, titlecase};
 
+use crate::AsciiByte;
+
 /// How many bytes stand before the first NUL; all of them where there is none.
 pub(crate) fn text_len(bytes: &[u8]) -> usize
     ensures value { result ≡ length (text_of bytes.now) }
@@ -165,5 +167,15 @@ pub(crate) fn put_lossy_utf16(bytes: &mut [u8], units: &[u16], replacement: u8)
 {
     for (i, unit) in units.iter().enumerate() {
         bytes[i] = lossy_byte(*unit, replacement);
+    }
+}
+
+/// Writes ASCII bytes over the first ones.
+pub(crate) fn put_ascii(bytes: &mut [u8], src: &[AsciiByte])
+    requires { length src.now ≤ length bytes.old }
+    ensures { bytes.new ≡ src.now ++ drop (length src.now) bytes.old }
+{
+    for (i, b) in src.iter().enumerate() {
+        bytes[i] = b.value();
     }
 }

@@ -6,8 +6,7 @@ ghost use Rattle.std.specs.Char.{is_ascii_alphabetic, is_ascii_alphanumeric, is_
 ghost use Rattle.tinystr.specs.Classes.{is_in_class, is_not_uppercase, is_not_lowercase};
 ghost use Rattle.tinystr.specs.Case.{lowercase, uppercase, titlecase};
 
-use crate::TinyAsciiStr;
-use crate::bytes;
+use crate::{TinyAsciiStr, bytes};
 
 impl<const N: usize> TinyAsciiStr<N> {
     /// Whether every character is a letter: of `aB` and of the empty text, not of `a1`.
@@ -74,9 +73,7 @@ impl<const N: usize> TinyAsciiStr<N> {
     /// Whether every character is a letter, and title case leaves the text as it is.
     pub fn is_ascii_alphabetic_titlecase(&self) -> bool
         ensures value { result ≡ is_in_class is_ascii_uppercase is_ascii_lowercase self.now }
-        ensures both {
-            result ≡ (list_all is_ascii_alphabetic self.now && is_in_class is_not_lowercase is_not_uppercase self.now)
-        }
+        ensures both { result ≡ (list_all is_ascii_alphabetic self.now && is_in_class is_not_lowercase is_not_uppercase self.now) }
     {
         bytes::are_titlecase(self.as_utf8())
     }

@@ -11,10 +11,8 @@ impl<const N: usize> TinyAsciiStr<N> {
     /// 12345 at 8 is `Ok` of `12345`, at 4 it is `Err` of `1234`; 0 at 0 is `Err` of the empty text.
     /// From N = 10 on it is always `Ok`.
     pub fn new_unsigned_decimal(number: u32) -> Result<Self, Self>
-        ensures {
-            (text : List ℕ) × IsDecimalText number text
-            × MatchResult result (λ all. (length text ≤ N) × (all ≡ text)) (λ front. (N < length text) × (front ≡ take N text))
-        }
+        ensures { (text : List ℕ) × IsDecimalText number text
+            × MatchResult result (λ all. (length text ≤ N) × (all ≡ text)) (λ front. (N < length text) × (front ≡ take N text)) }
     {
         let mut digits = [0; 10];
         let start = put_digits(&mut digits, number);

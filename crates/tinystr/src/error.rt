@@ -1,7 +1,7 @@
-//! Why a list of units is no small text.
+//! Why units are no small text, and why bytes or a JSON value are no form of one.
 
 ghost use Rattle.std.specs.Prelude.{◌≡◌};
-ghost use Rattle.tinystr.specs.FaultNumbers.{parse_error_number};
+ghost use Rattle.tinystr.specs.FaultNumbers.{parse_error_number, ule_error_number};
 
 use thiserror::Error;
 
@@ -33,6 +33,29 @@ impl ParseError {
             ParseError::TooLong { .. } => 1,
             ParseError::ContainsNull => 2,
             ParseError::NonAscii => 3,
+        }
+    }
+}
+
+/// Why bytes or a JSON value are no form of a value.
+#[derive(Clone, Copy, Debug, Drop, PartialEq, Eq, Error)]
+pub enum UleError {
+    /// So many bytes are no form, whatever they hold; of a JSON value that is no text it is `Length(0)`.
+    #[error("{0} bytes are no form")]
+    Length(usize),
+    /// The count is right, and the bytes are no form; or the text in a JSON value is refused.
+    #[error("the bytes are no small text")]
+    Parse,
+}
+
+impl UleError {
+    /// The fault's number: 1 `Length`, 2 `Parse`.
+    pub fn number(&self) -> u8
+        ensures { result ≡ ule_error_number self.now }
+    {
+        match self {
+            UleError::Length(_) => 1,
+            UleError::Parse => 2,
         }
     }
 }

@@ -5,6 +5,7 @@
 #![tactic(auto)]
 
 mod ascii;
+mod asciibyte;
 mod bytes;
 mod case;
 mod classes;
@@ -12,9 +13,16 @@ mod comparing;
 mod decimal;
 mod error;
 mod faults;
+mod int_ops;
 mod joining;
+mod json;
 mod lossy;
 mod readers;
+mod ule;
+mod unvalidated;
 
 pub use ascii::{TinyAsciiStr, TinyStr4, TinyStr8, TinyStr16};
-pub use error::ParseError;
+pub use asciibyte::{AsciiByte, to_ascii_byte_array};
+pub use error::{ParseError, UleError};
+pub use int_ops::{Aligned4, Aligned8};
+pub use unvalidated::UnvalidatedTinyAsciiStr;

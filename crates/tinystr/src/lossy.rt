@@ -16,7 +16,11 @@ impl<const N: usize> TinyAsciiStr<N> {
         ensures { result ≡ map (kept_or_replacement replacement) (take N code_units.now) }
     {
         let mut bytes = [0; N];
-        put_lossy(&mut bytes, &code_units[..code_units.len().min(N)], replacement);
+        put_lossy(
+            &mut bytes,
+            &code_units[..code_units.len().min(N)],
+            replacement,
+        );
         Self::from_utf8_unchecked(bytes)
     }
 
@@ -28,7 +32,11 @@ impl<const N: usize> TinyAsciiStr<N> {
         ensures { result ≡ map (kept_or_replacement replacement) (take N code_units.now) }
     {
         let mut bytes = [0; N];
-        put_lossy_utf16(&mut bytes, &code_units[..code_units.len().min(N)], replacement);
+        put_lossy_utf16(
+            &mut bytes,
+            &code_units[..code_units.len().min(N)],
+            replacement,
+        );
         Self::from_utf8_unchecked(bytes)
     }
 }

@@ -1,4 +1,4 @@
-use Rattle.std.proofs.Common.{◌≡◌, ◌<◌, length, get_or, set, arith}
+use Rattle.std.proofs.Common.{◌<◌, length, arith}
 use Rattle.tinystr.specs.Lossy.{kept_or_replacement}
 use Rattle.tinystr.proofs.LossyLemmas.{put_more}
 use Rattle.tinystr.proofs.bytes.put_lossy_utf16.Goals as goal

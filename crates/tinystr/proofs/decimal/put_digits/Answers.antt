@@ -1,8 +1,7 @@
-use Rattle.std.proofs.Common.{◌≡◌, ℕ, ◌+◌, ◌-◌, ◌*◌, ◌/◌, ◌%◌, ◌^◌, ◌<◌, ◌≤◌, ◌++◌, List, [], length, drop, set, refl, sym, ap, arith, ◌∙◌}
+use Rattle.std.proofs.Common.{◌≡◌, ◌+◌, ◌-◌, ◌/◌, ◌%◌, ◌^◌, ◌<◌, ◌++◌, length, drop, set, ap, arith, ◌∙◌}
 use Rattle.std.specs.Fmt.{decimal}
 use Rattle.std.proofs.lemmas.Fmt.{decimal_nonempty, length-decimal-le}
 use Rattle.std.proofs.lemmas.List.{append-nil, drop_all, length-set}
-use Rattle.tinystr.specs.Decimal.{IsDecimalText}
 use Rattle.tinystr.proofs.DecimalLemmas.{IsDecimalText-decimal, longer, digit_before, digit_first}
 use Rattle.tinystr.proofs.decimal.put_digits.Goals as goal
 
@@ -39,7 +38,7 @@ loop-rest-preserved c =
       long = length-set c.loop-rest.digits start (48 + rest % 10) ∙ i.long;
       room = omega (arith, i.room, more, some);
       text = ap (λ k. decimal (rest / 10) ++ drop k (set c.loop-rest.digits start (48 + rest % 10))) back
-        ∙ digit_before rest start c.loop-rest.digits c.loop-rest-test.true small here ∙ i.text;
+          ∙ digit_before rest start c.loop-rest.digits c.loop-rest-test.true small here ∙ i.text;
     }
 
 pub returns-clause-text : goal.returns-clause-text
@@ -47,6 +46,6 @@ returns-clause-text c =
     let i = c.loop-rest.invariant in
     let here : c.loop-rest.start < length c.loop-rest.digits = omega (arith, i.long, i.within) in
     let text : drop c.loop-rest.start (set c.loop-rest.digits c.loop-rest.start (48 + c.loop-rest.rest)) ≡ decimal c.args.number =
-        digit_first c.loop-rest.rest c.loop-rest.start c.loop-rest.digits c.loop-rest-test.false here ∙ i.text in
+    digit_first c.loop-rest.rest c.loop-rest.start c.loop-rest.digits c.loop-rest-test.false here ∙ i.text in
     let small : c.args.number < 2 ^ 64 = omega (arith, c.ranges.number.fits) in
     rw text (IsDecimalText-decimal c.args.number small)

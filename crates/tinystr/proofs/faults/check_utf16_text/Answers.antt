@@ -1,5 +1,5 @@
 use Rattle.std.proofs.Common.{inr, refl}
-use Rattle.tinystr.proofs.FaultsLemmas.{ends_in_nul, no_nul_is_text}
+use Rattle.tinystr.proofs.FaultsLemmas.{ends_in_nul}
 use Rattle.tinystr.proofs.faults.check_utf16_text.Goals as goal
 
 pub returns-in-Ok-true : goal.returns-in-Ok-true

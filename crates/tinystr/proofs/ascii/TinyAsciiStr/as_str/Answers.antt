@@ -1,4 +1,3 @@
-use Rattle.std.proofs.Common.{rules}
 use Rattle.std.proofs.lemmas.Str.{IsUtf8-from_ascii}
 use Rattle.tinystr.proofs.SmallTextLemmas.{IsAscii-text}
 use Rattle.tinystr.proofs.ascii.TinyAsciiStr.as_str.Goals as goal
