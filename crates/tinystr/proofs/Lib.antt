@@ -3,6 +3,7 @@ pub mod ClassesLemmas
 pub mod FaultsLemmas
 pub mod DecimalLemmas
 pub mod FormsLemmas
+pub mod KnownValues
 pub mod LossyLemmas
 pub mod RawLemmas
 pub mod WordLemmas

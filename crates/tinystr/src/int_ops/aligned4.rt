@@ -12,6 +12,7 @@ use crate::{AsciiByte, TinyAsciiStr, to_ascii_byte_array};
 use std::marker::Model;
 
 /// A text of at most 4 bytes, held as one `u32` whose lowest byte is the first character.
+#[derive(Drop)]
 pub struct Aligned4 {
     word: u32,
 }
