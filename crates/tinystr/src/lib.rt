@@ -1,3 +1,28 @@
-//! To be written.
+//! Bounded ASCII texts, held in place: `TinyAsciiStr<N>` is one text of at most N bytes.
+//!
+//! `TinyAsciiStr::<4>::try_from_str("tEsT")` holds `tEsT`; its title case is `Test`.
 
 #![tactic(auto)]
+
+mod ascii;
+mod asciibyte;
+mod bytes;
+mod case;
+mod classes;
+mod comparing;
+mod decimal;
+mod error;
+mod faults;
+mod int_ops;
+mod joining;
+mod json;
+mod lossy;
+mod readers;
+mod ule;
+mod unvalidated;
+
+pub use ascii::{TinyAsciiStr, TinyStr4, TinyStr8, TinyStr16};
+pub use asciibyte::{AsciiByte, to_ascii_byte_array};
+pub use error::{ParseError, UleError};
+pub use int_ops::{Aligned4, Aligned8};
+pub use unvalidated::UnvalidatedTinyAsciiStr;

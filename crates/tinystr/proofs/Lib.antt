@@ -1,0 +1,10 @@
+pub mod CaseLemmas
+pub mod ClassesLemmas
+pub mod FaultsLemmas
+pub mod DecimalLemmas
+pub mod FormsLemmas
+pub mod KnownValues
+pub mod LossyLemmas
+pub mod RawLemmas
+pub mod WordLemmas
+pub mod SmallTextLemmas

@@ -1,0 +1,61 @@
+//! Why units are no small text, and why bytes or a JSON value are no form of one.
+
+ghost use Rattle.std.specs.Prelude.{◌≡◌};
+ghost use Rattle.tinystr.specs.FaultNumbers.{parse_error_number, ule_error_number};
+
+use thiserror::Error;
+
+/// Why units are no text of a `TinyAsciiStr`.
+#[derive(Clone, Copy, Debug, Drop, PartialEq, Eq, Error)]
+pub enum ParseError {
+    /// The units are more than the capacity: `hello` at 4 is `TooLong { max: 4, len: 5 }`.
+    #[error("at most {max} bytes fit, and there are {len}")]
+    TooLong {
+        /// The capacity.
+        max: usize,
+        /// How many units there are.
+        len: usize,
+    },
+    /// A NUL stands before another unit, or, for readers other than `try_from_raw`, at the end.
+    #[error("a NUL stands in the text")]
+    ContainsNull,
+    /// A unit is above 127, and nothing before it is wrong.
+    #[error("a unit is not ASCII")]
+    NonAscii,
+}
+
+impl ParseError {
+    /// The fault's number: 1 `TooLong`, 2 `ContainsNull`, 3 `NonAscii`.
+    pub fn number(&self) -> u8
+        ensures { result ≡ parse_error_number self.now }
+    {
+        match self {
+            ParseError::TooLong { .. } => 1,
+            ParseError::ContainsNull => 2,
+            ParseError::NonAscii => 3,
+        }
+    }
+}
+
+/// Why bytes or a JSON value are no form of a value.
+#[derive(Clone, Copy, Debug, Drop, PartialEq, Eq, Error)]
+pub enum UleError {
+    /// So many bytes are no form, whatever they hold; of a JSON value that is no text it is `Length(0)`.
+    #[error("{0} bytes are no form")]
+    Length(usize),
+    /// The count is right, and the bytes are no form; or the text in a JSON value is refused.
+    #[error("the bytes are no small text")]
+    Parse,
+}
+
+impl UleError {
+    /// The fault's number: 1 `Length`, 2 `Parse`.
+    pub fn number(&self) -> u8
+        ensures { result ≡ ule_error_number self.now }
+    {
+        match self {
+            UleError::Length(_) => 1,
+            UleError::Parse => 2,
+        }
+    }
+}
