@@ -1,0 +1,4 @@
+pub mod ByteIo
+pub mod Laws
+pub mod Lines
+pub mod Tracking

@@ -1,0 +1,35 @@
+ghost use Rattle.std.specs.Prelude.{◌≡◌, ℕ, ◌≤◌, Bool, ◌||◌, List, length, Option, IfOk, is_err};
+ghost use Rattle.std.specs.Io.KnownBytes.{ReadConsumes};
+
+use thiserror::Error;
+
+/// A read failed; the reader knows why.
+#[derive(Clone, Copy, Debug, PartialEq, Eq, Error)]
+#[error("a read failed")]
+pub struct ReadFault;
+
+/// Bytes that come piece by piece, from a reader that knows whether a read has failed.
+///
+/// An implementation states what its reader will give where it can: then a caller's contract can
+/// name those bytes. A reader of a file or a socket states nothing, and none is claimed.
+pub trait ByteReader {
+    // The bytes that it will give from here on, where it tells them.
+    ghost remaining: { Self → Option (List ℕ) };
+
+    // Whether a read has failed.
+    ghost failed: { Self → Bool };
+
+    /// Fills a front of `buffer`, and answers how many bytes that is.
+    ///
+    /// Of a buffer that has room, 0 is the end of the bytes. A failed read gives none.
+    fn read(&mut self, buffer: &mut [u8]) -> Result<usize, ReadFault>
+        ensures bound { IfOk result (λ count. count ≤ length buffer.new) }
+        ensures bytes { ReadConsumes (remaining self.old) (remaining self.new) result buffer.new }
+
+        // A failed read sets it for good, and nothing else does.
+        ensures fault { failed self.new ≡ (failed self.old || is_err result) };
+
+    /// Whether a read has failed.
+    fn has_failed(&self) -> bool
+        ensures value { result ≡ failed self.now };
+}
