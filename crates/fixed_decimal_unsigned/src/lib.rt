@@ -1,3 +1,12 @@
-//! To be written.
+//! Unsigned decimal numbers with a visible range of digits: the inner crate of `fixed_decimal`.
+//!
+//! `UnsignedDecimal` holds the digits of a number from the highest to the lowest nonzero one, and
+//! the range of magnitudes that its text shows.
 
 #![tactic(auto)]
+
+mod digits;
+mod places;
+mod unsigned_decimal;
+
+pub use unsigned_decimal::UnsignedDecimal;

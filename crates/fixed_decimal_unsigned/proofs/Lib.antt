@@ -1,0 +1,3 @@
+pub mod TenLemmas
+pub mod DigitsLemmas
+pub mod StoredLemmas

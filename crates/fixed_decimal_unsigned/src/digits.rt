@@ -1,0 +1,121 @@
+// The digits of a number: this file alone knows how they lie in memory.
+ghost use Rattle.std.specs.Prelude.{◌≡◌, ◌==◌, ◌+◌, ◌-◌, ◌<◌, ◌≤◌, [], ◌∷◌, ◌++◌, length, slice_index, slice_get, take, IsOk, OnOk, OnErr};
+
+use smallvec::SmallVec;
+use std::alloc::{AllocError, Global};
+use std::marker::Model;
+
+// How many digits lie inline, and so need no memory.
+const INLINE: usize = 8;
+
+// A list of digits below ten.
+#[derive(Drop)]
+pub struct Digits {
+    kept: SmallVec<u8, INLINE>,
+}
+
+impl Model for Digits {
+    ghost use Rattle.std.specs.Prelude.{◌≤◌};
+    ghost use Rattle.std.specs.Int.Digits.{AllBelowBase};
+    ghost use Rattle.fixed_decimal_unsigned.specs.Stored.{DigitList};
+
+    ghost Value = { DigitList };
+
+    ghost view = { λ a. record { items = a.kept.items; capacity = a.kept.capacity } };
+
+    ghost invariant = { λ a. AllBelowBase 10 a.kept.items × (8 ≤ a.kept.capacity) };
+}
+
+impl Digits {
+    // No digits.
+    pub fn new(alloc: Global) -> Digits
+        ensures items { result.items ≡ [] }
+        ensures capacity { 8 ≤ result.capacity }
+    {
+        Digits {
+            kept: SmallVec::new(alloc),
+        }
+    }
+
+    // How many digits there are.
+    pub fn len(&self) -> usize
+        ensures value { result ≡ length self.now.items }
+        ensures fits { result ≤ self.now.capacity }
+        ensures inline { 8 ≤ self.now.capacity }
+    {
+        self.kept.len()
+    }
+
+    // Whether there is no digit.
+    pub fn is_empty(&self) -> bool
+        ensures { result ≡ (length self.now.items == 0) }
+    {
+        self.kept.is_empty()
+    }
+
+    // The digit at an index, counted from the first.
+    pub fn get(&self, index: usize) -> u8
+        requires { index < length self.now.items }
+        ensures value { result ≡ slice_index self.now.items index }
+        ensures ten { result < 10 }
+    {
+        self.kept.as_slice()[index]
+    }
+
+    // Adds a digit behind the last.
+    pub fn push(&mut self, digit: u8) -> Result<(), AllocError>
+        requires { digit < 10 }
+        ensures ok { OnOk result (self.new.items ≡ self.old.items ++ digit ∷ []) }
+        ensures err { OnErr result (self.new ≡ self.old) }
+    {
+        match self.kept.push(digit) {
+            Ok(()) => Ok(()),
+            Err(failed) => Err(AllocError::from(failed)),
+        }
+    }
+
+    // Makes room for so many more digits.
+    pub fn reserve(&mut self, more: usize) -> Result<(), AllocError>
+        ensures items { self.new.items ≡ self.old.items }
+        ensures ok { OnOk result (length self.new.items + more ≤ self.new.capacity) }
+        ensures err { OnErr result (self.new ≡ self.old) }
+        ensures succeeds { length self.old.items + more ≤ self.old.capacity → IsOk result }
+    {
+        self.kept.reserve(more)
+    }
+
+    // Adds a digit for which there is room.
+    pub fn push_reserved(&mut self, digit: u8)
+        requires ten { digit < 10 }
+        requires room { length self.old.items < self.old.capacity }
+        ensures items { self.new.items ≡ self.old.items ++ digit ∷ [] }
+        ensures capacity { self.new.capacity ≡ self.old.capacity }
+    {
+        self.kept.push_reserved(digit);
+    }
+
+    // Takes the last digit away.
+    pub fn pop(&mut self) -> Option<u8>
+        ensures value { result ≡ slice_get self.old.items (length self.old.items - 1) }
+        ensures rest { self.new.items ≡ take (length self.old.items - 1) self.old.items }
+        ensures capacity { self.new.capacity ≡ self.old.capacity }
+    {
+        self.kept.pop()
+    }
+
+    // Keeps the first digits, so many as `len`.
+    pub fn truncate(&mut self, len: usize)
+        ensures items { self.new.items ≡ take len self.old.items }
+        ensures capacity { self.new.capacity ≡ self.old.capacity }
+    {
+        self.kept.truncate(len);
+    }
+
+    // Takes every digit away.
+    pub fn clear(&mut self)
+        ensures items { self.new.items ≡ [] }
+        ensures capacity { self.new.capacity ≡ self.old.capacity }
+    {
+        self.kept.clear();
+    }
+}

@@ -1,0 +1,81 @@
+ghost use Rattle.std.specs.Prelude.{◌≡◌, ◌==◌, ◌+◌, ◌<◌, ◌↔◌, IsTrue, false};
+ghost use Rattle.std.specs.Range.{range_inclusive_start, range_inclusive_end, range_inclusive_exhausted};
+ghost use Rattle.fixed_decimal_unsigned.specs.Number.{place, digit, IsNumber};
+
+use crate::digits::Digits;
+use crate::places::{ONES, magnitude_of, place_of};
+use std::alloc::Global;
+use std::marker::Model;
+use std::ops::RangeInclusive;
+
+/// A decimal number without a sign, with the range of magnitudes that its text shows.
+///
+/// Magnitudes are -32768 to 32767, and the range always holds 0, so `0.50` and `0.5` are two
+/// values of one number. Up to eight digits, counted from the highest to the lowest nonzero one,
+/// need no memory.
+#[derive(Drop)]
+pub struct UnsignedDecimal {
+    digits: Digits,
+    top: u16,
+    low: u16,
+    high: u16,
+}
+
+impl Model for UnsignedDecimal {
+    ghost use Rattle.fixed_decimal_unsigned.specs.Number.{Number};
+    ghost use Rattle.fixed_decimal_unsigned.specs.Stored.{count_of, IsStored};
+
+    ghost Value = { Number };
+
+    ghost view = { λ a. record { count = count_of a.digits.items a.top; low = a.low; high = a.high } };
+
+    ghost invariant = { λ a. IsStored a.digits.items a.top a.low a.high };
+}
+
+impl UnsignedDecimal {
+    /// The number zero, shown as `0`. It takes no memory.
+    pub fn zero(alloc: Global) -> UnsignedDecimal
+        ensures { result ≡ record { count = 0; low = 32768; high = 32768 } }
+    {
+        UnsignedDecimal {
+            digits: Digits::new(alloc),
+            top: ONES,
+            low: ONES,
+            high: ONES,
+        }
+    }
+
+    /// Whether the number is zero, whatever its range: true of `0` and of `0.00`.
+    pub fn is_zero(&self) -> bool
+        ensures { result ≡ (self.now.count == 0) }
+    {
+        self.digits.is_empty()
+    }
+
+    /// The digit at a magnitude, 0 outside of the range: of `12.3` it is 2 at 0 and 3 at -1.
+    pub fn digit_at(&self, magnitude: i16) -> u8
+        ensures value { result ≡ digit self.now.count (place magnitude) }
+        ensures ten { result < 10 }
+    {
+        let place = place_of(magnitude);
+        if place > self.top {
+            return 0;
+        }
+        let index = (self.top - place) as usize;
+        if index < self.digits.len() {
+            self.digits.get(index)
+        } else {
+            0
+        }
+    }
+
+    /// The magnitudes that are shown, from the lowest to the highest: -1 to 2 of `012.3`.
+    pub fn magnitude_range(&self) -> RangeInclusive<i16>
+        ensures low { place (range_inclusive_start result) ≡ self.now.low }
+        ensures high { place (range_inclusive_end result) ≡ self.now.high }
+        ensures whole { range_inclusive_exhausted result ≡ false }
+        ensures number { IsNumber self.now }
+    {
+        magnitude_of(self.low)..=magnitude_of(self.high)
+    }
+}
