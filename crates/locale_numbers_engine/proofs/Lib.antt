@@ -1,1 +1,3 @@
+pub mod FeedLemmas
 pub mod LinesLemmas
+pub mod WriteLemmas

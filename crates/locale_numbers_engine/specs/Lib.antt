@@ -1,4 +1,7 @@
 pub mod ByteIo
 pub mod Laws
 pub mod Lines
+pub mod Outcomes
+pub mod Progress
+pub mod Run
 pub mod Tracking

@@ -1,0 +1,18 @@
+-- The numbers of a run's refusals, and a fact for each of them.
+-- Defined in docs/requests.md, "What a run leaves".
+-- Cited by `RunError::number`, and by the private functions that a run is made of.
+use Rattle.std.specs.Prelude.{ℕ}
+use Rattle.locale_numbers_engine.specs.declared.run_error.RunError.{RunError}
+use Rattle.locale_numbers_engine.specs.declared.run_error.RunError.TheVariants.{Read, Write, Memory}
+
+-- Read is 1, Write 2, Memory 3
+abbrev pub run_error_number : RunError → ℕ
+run_error_number Read = 1
+run_error_number Write = 2
+run_error_number Memory = 3
+
+-- the fact for the refusal that it is
+abbrev pub MatchRun : RunError → Type 0 → Type 0 → Type 0 → Type 0
+MatchRun Read read write memory = read
+MatchRun Write read write memory = write
+MatchRun Memory read write memory = memory

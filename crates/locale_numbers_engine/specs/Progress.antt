@@ -1,0 +1,56 @@
+-- How far a run has come: which lines of the bytes so far were answered, and which answers are still to be written.
+-- Defined in docs/requests.md, "What a run leaves".
+-- Cited by the private functions that a run is made of, and by no public one.
+use Rattle.std.specs.Prelude.{ℕ, ◌≡◌, ◌+◌, ◌<◌, min, List, ◌∷◌, ◌++◌, length, take, drop, Option}
+use Rattle.std.specs.List.{flat_map}
+use Rattle.std.specs.Io.KnownBytes.{Appends}
+use Rattle.locale_numbers_engine.specs.Lines.{line_feed, ended, HasNoFeed, AreLines, answers_to}
+use Rattle.locale_numbers_engine.specs.Run.{most}
+
+-- these bytes stay in front of what is there now
+pub record Grows (old new : List ℕ) : Type 0 where
+  pub more : List ℕ
+  pub grew : new ≡ old ++ more
+
+-- the first line of these bytes ends at this place
+pub record EndsAt (bytes : List ℕ) (at : ℕ) : Type 0 where
+  pub inside : at < length bytes
+  pub whole : bytes ≡ take at bytes ++ line_feed ∷ drop (at + 1) bytes
+  pub cut : HasNoFeed (take at bytes)
+
+-- these lines were counted, and answered by the one whose count of made things looks ahead by `over`, and now by `next`
+pub record Counts (lines : List (List ℕ)) (old new : ℕ) (over next : List (List ℕ) → ℕ) : Type 0 where
+  pub counted : new ≡ min (old + length lines) most
+  pub made : (more : List (List ℕ)) → over (lines ++ more) ≡ next more
+
+module _ (answer : List ℕ → List ℕ) where
+  -- of these bytes the lines before `held` were answered and counted, `held` is the front of a line, and `left` was not looked at;
+  -- of the answers all were written but the ready ones
+  pub record Progress (bytes held left ready : List ℕ) (before after : Option (List ℕ)) (old new : ℕ) (over next : List (List ℕ) → ℕ) : Type 0 where
+    pub lines : List (List ℕ)
+    pub whole : bytes ≡ flat_map ended lines ++ (held ++ left)
+    pub each : AreLines lines
+    pub cut : HasNoFeed held
+    pub sent : List ℕ
+    pub wrote : Appends before after sent
+    pub kept : sent ++ ready ≡ answers_to answer lines
+    pub counts : Counts lines old new over next
+
+  -- some first lines of these bytes were answered, and of the answers all were written but the ready ones
+  pub record Answered (bytes ready : List ℕ) (before after : Option (List ℕ)) : Type 0 where
+    pub lines : List (List ℕ)
+    pub rest : List ℕ
+    pub whole : bytes ≡ flat_map ended lines ++ rest
+    pub each : AreLines lines
+    pub sent : List ℕ
+    pub wrote : Appends before after sent
+    pub kept : sent ++ ready ≡ answers_to answer lines
+
+  -- some first lines of these bytes were answered, and a front of the answers was written
+  pub record AnsweredPart (bytes : List ℕ) (before after : Option (List ℕ)) : Type 0 where
+    pub lines : List (List ℕ)
+    pub rest : List ℕ
+    pub whole : bytes ≡ flat_map ended lines ++ rest
+    pub each : AreLines lines
+    pub count : ℕ
+    pub wrote : Appends before after (take count (answers_to answer lines))

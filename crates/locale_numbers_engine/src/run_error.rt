@@ -1,0 +1,56 @@
+ghost use Rattle.std.specs.Prelude.{◌≡◌};
+
+use std::alloc::AllocError;
+
+use thiserror::Error;
+
+use crate::byte_writer::WriteFault;
+
+/// Why a run ended before it had answered all lines.
+#[derive(Clone, Copy, Debug, PartialEq, Eq, Error)]
+pub enum RunError {
+    /// The reader failed, or still gave bytes after 18,446,744,073,709,551,615 reads.
+    #[error("the reader failed")]
+    Read,
+    /// The writer failed, or took no byte of a piece that was not empty.
+    #[error("the writer failed")]
+    Write,
+    /// A request for memory was refused.
+    #[error("out of memory")]
+    Memory,
+}
+
+impl RunError {
+    ghost use Rattle.locale_numbers_engine.specs.Outcomes.{run_error_number};
+
+    /// Its number: 1 for Read, 2 for Write, 3 for Memory.
+    pub fn number(&self) -> u8
+        ensures value { result ≡ run_error_number self.now }
+    {
+        match self {
+            RunError::Read => 1,
+            RunError::Write => 2,
+            RunError::Memory => 3,
+        }
+    }
+}
+
+impl From<WriteFault> for RunError {
+    ghost use Rattle.locale_numbers_engine.specs.declared.run_error.RunError.TheVariants.{Write};
+
+    ghost from_gives = { λ _ refusal. refusal ≡ Write };
+
+    fn from(_fault: WriteFault) -> RunError {
+        RunError::Write
+    }
+}
+
+impl From<AllocError> for RunError {
+    ghost use Rattle.locale_numbers_engine.specs.declared.run_error.RunError.TheVariants.{Memory};
+
+    ghost from_gives = { λ _ refusal. refusal ≡ Memory };
+
+    fn from(_fault: AllocError) -> RunError {
+        RunError::Memory
+    }
+}

@@ -1,0 +1,38 @@
+ghost use Rattle.std.specs.Prelude.{◌≡◌, false, [], string_bytes, is_err, MatchResult};
+ghost use Rattle.std.specs.Io.KnownBytes.{Appends};
+ghost use Rattle.locale_numbers_engine.specs.Run.{WritesFront};
+
+use crate::byte_writer::{ByteWriter, WriteFault};
+
+// Writes all of these bytes; after a fault a front of them was written.
+pub fn write_whole<W: ByteWriter>(writer: &mut W, bytes: &[u8]) -> Result<(), WriteFault>
+    requires { W.failed writer.old ≡ false }
+    ensures wrote { MatchResult result
+        (λ _. Appends (W.contents writer.old) (W.contents writer.new) bytes.now)
+        (λ _. WritesFront bytes.now (W.contents writer.old) (W.contents writer.new)) }
+    ensures fault { W.failed writer.new ≡ is_err result }
+{
+    let mut rest = bytes;
+    'write: while !rest.is_empty() {
+        match writer.write(rest) {
+            Ok(0) => return Err(WriteFault),
+            Ok(count) => rest = &rest[count..],
+            Err(fault) => return Err(fault),
+        }
+    }
+    Ok(())
+}
+
+// Writes the ready answers, and lets them go.
+pub fn write_ready<W: ByteWriter>(writer: &mut W, ready: &mut String) -> Result<(), WriteFault>
+    requires { W.failed writer.old ≡ false }
+    ensures wrote { MatchResult result
+        (λ _. Appends (W.contents writer.old) (W.contents writer.new) (string_bytes ready.old))
+        (λ _. WritesFront (string_bytes ready.old) (W.contents writer.old) (W.contents writer.new)) }
+    ensures gone { MatchResult result (λ _. string_bytes ready.new ≡ []) (λ _. string_bytes ready.new ≡ string_bytes ready.old) }
+    ensures fault { W.failed writer.new ≡ is_err result }
+{
+    write_whole(writer, ready.as_bytes())?;
+    ready.clear();
+    Ok(())
+}
