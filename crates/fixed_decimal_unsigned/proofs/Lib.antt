@@ -1,3 +1,6 @@
 pub mod TenLemmas
 pub mod DigitsLemmas
 pub mod StoredLemmas
+pub mod TextPartsLemmas
+pub mod SpelledLemmas
+pub mod MantissaLemmas

@@ -51,7 +51,7 @@ stored_is_number ds top low high s h = record {
       omega arith;
 }
 
-positive_tested : (m n : ℕ) → 0 < m → 0 < n → (m == 0) ≡ (n == 0)
+pub positive_tested : (m n : ℕ) → 0 < m → 0 < n → (m == 0) ≡ (n == 0)
 positive_tested m n p q = grind (arith, nat_tests)
 
 pub zero_tested : (ds : List ℕ) (top : ℕ) → (0 < length ds → 0 < get_or ds 0 0) → (length ds == 0) ≡ (count_of ds top == 0)

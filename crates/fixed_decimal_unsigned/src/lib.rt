@@ -6,7 +6,11 @@
 #![tactic(auto)]
 
 mod digits;
+mod error;
 mod places;
+mod reading;
+mod text_parts;
 mod unsigned_decimal;
 
+pub use error::ParseError;
 pub use unsigned_decimal::UnsignedDecimal;

@@ -15,10 +15,10 @@ use std::ops::RangeInclusive;
 /// need no memory.
 #[derive(Drop)]
 pub struct UnsignedDecimal {
-    digits: Digits,
-    top: u16,
-    low: u16,
-    high: u16,
+    pub(crate) digits: Digits,
+    pub(crate) top: u16,
+    pub(crate) low: u16,
+    pub(crate) high: u16,
 }
 
 impl Model for UnsignedDecimal {

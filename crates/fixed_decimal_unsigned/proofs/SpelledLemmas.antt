@@ -1,0 +1,54 @@
+-- What digits spell: one more digit, zeros at the end, and the digits kept.
+use Rattle.std.proofs.Common.{◌≡◌, ℕ, zero, suc, ◌+◌, ◌-◌, ◌*◌, ◌%◌, ◌^◌, ◌<◌, ◌≤◌, min, List, [], ◌∷◌, ◌++◌, length, get_or, take, drop, refl, sym, ap, ◌∙◌, subst, arith, length-append, add-one, drop-cons}
+use Rattle.std.proofs.Math.Nat.{mul-add-mod_self_right}
+use Rattle.std.proofs.lemmas.Int.Digits.{digits_value_more, digits_value_push}
+use Rattle.std.proofs.lemmas.Nat.{mod-mul-add}
+use Rattle.std.proofs.lemmas.Bool.Decides.{nat_tests}
+use Rattle.std.specs.Char.{digit_value}
+use Rattle.std.specs.Str.Parse.{digits_value_after}
+use Rattle.fixed_decimal_unsigned.specs.NumberText.{AreDigits, spelled}
+use Rattle.fixed_decimal_unsigned.proofs.TenLemmas.{tens_next}
+
+pub digits_at : (text : List ℕ) (i : ℕ) → AreDigits text → i < length text → digit_value (get_or text i 0) < 10
+digits_at [] i h l = absurd (omega arith)
+digits_at (c ∷ cs) zero h l = h.0
+digits_at (c ∷ cs) (suc i) h l = digits_at cs i h.1 (omega arith)
+
+capped_step : (n d : ℕ) → min (min n 65536 * 10 + d) 65536 ≡ min (n * 10 + d) 65536
+capped_step n d = omega arith
+
+pub capped_more : (text : List ℕ) (i n : ℕ) → i < length text → n ≡ min (spelled (take i text)) 65536 → min (n * 10 + digit_value (get_or text i 0)) 65536 ≡ min (spelled (take (i + 1) text)) 65536
+capped_more text i n l h =
+    ap (λ k. min (k * 10 + digit_value (get_or text i 0)) 65536) h ∙ capped_step (spelled (take i text)) (digit_value (get_or text i 0))
+    ∙ ap (λ k. min k 65536) (sym (digits_value_more 10 text i l))
+
+pub digits_front : (front : List ℕ) (c : ℕ) → AreDigits (front ++ (c ∷ [])) → AreDigits front
+digits_front [] c h = tt
+digits_front (d ∷ ds) c h = (h.0, digits_front ds c h.1)
+
+pub digits_back : (front : List ℕ) (c : ℕ) → AreDigits (front ++ (c ∷ [])) → digit_value c < 10
+digits_back [] c h = h.0
+digits_back (d ∷ ds) c h = digits_back ds c h.1
+
+regroup : (n u t : ℕ) → t ≡ u * 10 → (n * 10 + 0) * u ≡ n * t
+regroup n u t h = omega (arith, ap (λ x. n * x) h)
+
+-- a zero at the end is a power of ten
+pub value_front : (front : List ℕ) (c k n : ℕ) → c ≡ 48 → n ≡ spelled (front ++ (c ∷ [])) * 10 ^ k → n ≡ spelled front * 10 ^ (k + 1)
+value_front front c k n e h =
+    h ∙ ap (λ x. x * 10 ^ k) (digits_value_push 10 front c ∙ ap (λ x. spelled front * 10 + digit_value x) e)
+    ∙ regroup (spelled front) (10 ^ k) (10 ^ (k + 1)) (tens_next k)
+
+digit_positive : (c : ℕ) → digit_value c < 10 → (c ≡ 48 → ⊥) → 0 < digit_value c
+digit_positive c h ne = grind (arith, nat_tests)
+
+-- another digit at the end is no multiple of ten
+pub value_last : (front : List ℕ) (c : ℕ) → AreDigits (front ++ (c ∷ [])) → (c ≡ 48 → ⊥) → 0 < spelled (front ++ (c ∷ [])) % 10
+value_last front c h ne =
+    let ten : digit_value c < 10 = digits_back front c h in
+    let value : spelled (front ++ (c ∷ [])) % 10 ≡ digit_value c = ap (λ x. x % 10) (digits_value_push 10 front c) ∙ mod-mul-add (spelled front) 10 (digit_value c) ten in
+    let some : 0 < digit_value c = digit_positive c ten ne in
+    omega arith
+
+pub value_after_drop : (text : List ℕ) (i n : ℕ) → i < length text → digits_value_after 10 n (drop i text) ≡ digits_value_after 10 (n * 10 + digit_value (get_or text i 0)) (drop (i + 1) text)
+value_after_drop text i n l = ap (digits_value_after 10 n) (drop-cons text i 0 l) ∙ ap (λ k. digits_value_after 10 (n * 10 + digit_value (get_or text i 0)) (drop k text)) (sym (add-one i))

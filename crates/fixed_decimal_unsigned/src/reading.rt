@@ -1,0 +1,246 @@
+// Reading a text: the range that its digits and its exponent name, and the digits kept.
+ghost use Rattle.std.specs.Prelude.{◌≡◌, ℕ, ◌+◌, ◌-◌, ◌*◌, ◌^◌, ◌%◌, ◌<◌, ◌≤◌, ◌==◌, ◌++◌, ◌||◌, min, max, cond, length, slice_index, IfOk, IfSome, IfNone, OnOk, IsErrOf};
+ghost use Rattle.std.specs.Int.Digits.{number_from_digits, number_from_digits_after, AllBelowBase};
+ghost use Rattle.std.specs.Char.{digit_value};
+ghost use Rattle.std.specs.Str.Parse.{digits_value_after};
+ghost use Rattle.fixed_decimal_unsigned.specs.NumberText.{AreDigits, spelled, AreEndsIn, IsWithin, number_of, Reads, IsBeyond, IsNoText};
+ghost use Rattle.fixed_decimal_unsigned.specs.BorrowedParts.{parts_of};
+
+use crate::digits::Digits;
+use crate::error::ParseError;
+use crate::places::ONES;
+use crate::text_parts::TextParts;
+use crate::unsigned_decimal::UnsignedDecimal;
+use std::alloc::{AllocError, Global};
+
+// No exponent in range reaches this; a larger one is read as this.
+const EXPONENT_CAP: usize = 65536;
+
+// The value of a digit's character.
+fn digit_of(c: u8) -> u8
+    requires { digit_value c < 10 }
+    ensures { result ≡ digit_value c }
+{
+    c - b'0'
+}
+
+// The number that digits spell, or the cap where it is larger.
+#[tactic(auto, using(crate::proofs::SpelledLemmas::digits_at, crate::proofs::SpelledLemmas::capped_more))]
+fn capped_number(text: &[u8]) -> usize
+    requires { AreDigits text.now }
+    ensures { result ≡ min (spelled text.now) 65536 }
+{
+    let mut number = 0usize;
+    for c in text {
+        number = (number * 10 + digit_of(*c) as usize).min(EXPONENT_CAP);
+    }
+    number
+}
+
+// The text without the zeros that it ends in.
+#[tactic(auto, using(crate::proofs::SpelledLemmas::digits_front, crate::proofs::SpelledLemmas::value_front, crate::proofs::SpelledLemmas::value_last))]
+fn without_end_zeros(text: &[u8]) -> &[u8]
+    requires { AreDigits text.now }
+    ensures digits { AreDigits result.now }
+    ensures length { length result.now ≤ length text.now }
+    ensures value { spelled text.now ≡ spelled result.now * 10 ^ (length text.now - length result.now) }
+    ensures last { 0 < length result.now → 0 < spelled result.now % 10 }
+{
+    let mut kept = text;
+    while let Some((last, front)) = kept.split_last() {
+        if *last != b'0' {
+            return kept;
+        }
+        kept = front;
+    }
+    kept
+}
+
+// Adds a digit behind those that are there, but no zero before the first other digit.
+#[tactic(auto, using(std::proofs::lemmas::Int::Digits::number_push))]
+fn push_kept(digits: &mut Digits, digit: u8) -> Result<(), AllocError>
+    requires ten { digit < 10 }
+    requires tens { AllBelowBase 10 digits.old.items }
+    requires first { 0 < length digits.old.items → 0 < slice_index digits.old.items 0 }
+    ensures value { OnOk result (number_from_digits 10 digits.new.items ≡ number_from_digits 10 digits.old.items * 10 + digit) }
+    ensures tens { AllBelowBase 10 digits.new.items }
+    ensures first { 0 < length digits.new.items → 0 < slice_index digits.new.items 0 }
+    ensures length { length digits.new.items ≤ length digits.old.items + 1 }
+{
+    if digit == 0 && digits.is_empty() {
+        return Ok(());
+    }
+    digits.push(digit)?;
+    Ok(())
+}
+
+// Adds the digits of a text behind those that are there, but no zero before the first other digit.
+#[tactic(auto, using(crate::proofs::SpelledLemmas::digits_at, crate::proofs::SpelledLemmas::value_after_drop))]
+fn gather(digits: &mut Digits, text: &[u8]) -> Result<(), AllocError>
+    requires text_digits { AreDigits text.now }
+    requires tens { AllBelowBase 10 digits.old.items }
+    requires first { 0 < length digits.old.items → 0 < slice_index digits.old.items 0 }
+    ensures value { OnOk result (number_from_digits 10 digits.new.items ≡ digits_value_after 10 (number_from_digits 10 digits.old.items) text.now) }
+    ensures tens { AllBelowBase 10 digits.new.items }
+    ensures first { 0 < length digits.new.items → 0 < slice_index digits.new.items 0 }
+    ensures length { length digits.new.items ≤ length digits.old.items + length text.now }
+{
+    for c in text {
+        push_kept(digits, digit_of(*c))?;
+    }
+    Ok(())
+}
+
+// The places of the first and the last digit of a mantissa.
+#[derive(Clone, Copy)]
+pub struct Ends {
+    pub first: u16,
+    pub last: u16,
+}
+
+// Both ends of so many digits above and below the point, moved up or down.
+fn moved_ends(above: usize, below: usize, up: usize, down: usize) -> Option<Ends>
+    requires some { 0 < above + below }
+    requires up { up ≤ 65536 }
+    requires down { down ≤ 65536 }
+    ensures within { IfSome result (λ e. AreEndsIn above below up down) }
+    ensures first { IfSome result (λ e. e.first + (down + 1) ≡ 32768 + up + above) }
+    ensures last { IfSome result (λ e. e.last + (below + down) ≡ 32768 + up) }
+    ensures beyond { IfNone result (¬ (AreEndsIn above below up down)) }
+{
+    if up > 32767 || down > 32768 || above > 65536 || below > 65536 {
+        return None;
+    }
+    if above + up > 32768 + down || below + down > 32768 + up {
+        return None;
+    }
+    let first = 32768 + up + above - down - 1;
+    let last = 32768 + up - below - down;
+    Some(Ends {
+        first: first as u16,
+        last: last as u16,
+    })
+}
+
+// Both parts of a mantissa without the zeros at its end.
+#[tactic(auto, using(crate::proofs::MantissaLemmas::mantissa_kept_both, crate::proofs::MantissaLemmas::mantissa_kept_integer, crate::proofs::MantissaLemmas::mantissa_last, crate::proofs::MantissaLemmas::spelled_front_only))]
+fn without_mantissa_zeros<'a>(integer: &'a [u8], fraction: &'a [u8]) -> (&'a [u8], &'a [u8])
+    requires integer_digits { AreDigits integer.now }
+    requires fraction_digits { AreDigits fraction.now }
+    ensures integer_digits { AreDigits result.0.now }
+    ensures fraction_digits { AreDigits result.1.now }
+    ensures integer_length { length result.0.now ≤ length integer.now }
+    ensures fraction_length { length result.1.now ≤ length fraction.now }
+    ensures value { spelled (integer.now ++ fraction.now) ≡ spelled (result.0.now ++ result.1.now) * 10 ^ (length integer.now + length fraction.now - (length result.0.now + length result.1.now)) }
+    ensures last { 0 < length result.0.now + length result.1.now → 0 < spelled (result.0.now ++ result.1.now) % 10 }
+{
+    let kept = without_end_zeros(fraction);
+    if kept.is_empty() {
+        (without_end_zeros(integer), kept)
+    } else {
+        (integer, kept)
+    }
+}
+
+// The digits that two texts spell one behind the other.
+#[tactic(auto, using(crate::proofs::MantissaLemmas::spelled_after))]
+fn gathered(alloc: Global, integer: &[u8], fraction: &[u8]) -> Result<Digits, AllocError>
+    requires integer_digits { AreDigits integer.now }
+    requires fraction_digits { AreDigits fraction.now }
+    ensures value { IfOk result (λ d. number_from_digits 10 d.items ≡ spelled (integer.now ++ fraction.now)) }
+    ensures tens { IfOk result (λ d. AllBelowBase 10 d.items) }
+    ensures first { IfOk result (λ d. 0 < length d.items → 0 < slice_index d.items 0) }
+    ensures length { IfOk result (λ d. length d.items ≤ length integer.now + length fraction.now) }
+{
+    let mut digits = Digits::new(alloc);
+    gather(&mut digits, integer)?;
+    gather(&mut digits, fraction)?;
+    Ok(digits)
+}
+
+// How far an exponent moves a mantissa up and down; that of zero does not move it.
+fn moves_of(is_zero: bool, negative: bool, exponent: &[u8]) -> (usize, usize)
+    requires { AreDigits exponent.now }
+    ensures up { result.0 ≡ min (cond (is_zero || negative) 0 (spelled exponent.now)) 65536 }
+    ensures down { result.1 ≡ min (cond is_zero 0 (cond negative (spelled exponent.now) 0)) 65536 }
+{
+    if is_zero {
+        return (0, 0);
+    }
+    let number = capped_number(exponent);
+    if negative { (0, number) } else { (number, 0) }
+}
+
+// The number of digits of which the last stands so many places above the end of its mantissa.
+fn assembled(digits: Digits, zeros: usize, ends: Ends) -> UnsignedDecimal
+    requires tens { AllBelowBase 10 digits.items }
+    requires first { 0 < length digits.items → 0 < slice_index digits.items 0 }
+    requires last { 0 < length digits.items → 0 < number_from_digits 10 digits.items % 10 }
+    requires room { ends.last + zeros + length digits.items ≤ ends.first + 1 }
+    ensures count { result.count ≡ number_from_digits 10 digits.items * 10 ^ (ends.last + zeros) }
+    ensures low { result.low ≡ min 32768 ends.last }
+    ensures high { result.high ≡ max 32768 ends.first }
+{
+    let top = if digits.is_empty() {
+        ONES
+    } else {
+        (ends.last as usize + zeros + digits.len() - 1) as u16
+    };
+    UnsignedDecimal {
+        digits,
+        top,
+        low: ends.last.min(ONES),
+        high: ends.first.max(ONES),
+    }
+}
+
+// Whether no digits are left of a mantissa.
+fn is_none(integer: &[u8], fraction: &[u8]) -> bool
+    ensures { result ≡ (length integer.now + length fraction.now == 0) }
+{
+    integer.is_empty() && fraction.is_empty()
+}
+
+// The number of a text's parts.
+fn number_from(alloc: Global, parts: &TextParts<'_>) -> Result<UnsignedDecimal, ParseError>
+    requires integer { AreDigits parts.now.integer.now }
+    requires fraction { AreDigits parts.now.fraction.now }
+    requires exponent { AreDigits parts.now.exponent.now }
+    requires some { 0 < length parts.now.integer.now + length parts.now.fraction.now }
+    ensures within { OnOk result (IsWithin (parts_of parts.now)) }
+    ensures value { IfOk result (λ v. v ≡ number_of (parts_of parts.now)) }
+    ensures limit { IsErrOf result ParseError.Limit → ¬ (IsWithin (parts_of parts.now)) }
+    ensures syntax { ¬ (IsErrOf result ParseError.Syntax) }
+{
+    let (integer, fraction) = without_mantissa_zeros(parts.integer, parts.fraction);
+    let (up, down) = moves_of(is_none(integer, fraction), parts.negative, parts.exponent);
+    let Some(ends) = moved_ends(parts.integer.len(), parts.fraction.len(), up, down) else {
+        return Err(ParseError::Limit);
+    };
+    let zeros = parts.integer.len() + parts.fraction.len() - integer.len() - fraction.len();
+    let digits = gathered(alloc, integer, fraction)?;
+    Ok(assembled(digits, zeros, ends))
+}
+
+impl UnsignedDecimal {
+    /// The number that a text spells.
+    pub fn try_from_utf8(alloc: Global, code_units: &[u8]) -> Result<UnsignedDecimal, ParseError>
+        ensures syntax { IsErrOf result ParseError.Syntax → IsNoText code_units.now }
+        ensures limit { IsErrOf result ParseError.Limit → IsBeyond code_units.now }
+        ensures value { IfOk result (λ v. Reads code_units.now v) }
+    {
+        let Some(parts) = TextParts::of(code_units) else {
+            return Err(ParseError::Syntax);
+        };
+        number_from(alloc, &parts)
+    }
+
+    /// The number that a text spells.
+    pub fn try_from_str(alloc: Global, text: &str) -> Result<UnsignedDecimal, ParseError>
+        ensures syntax { IsErrOf result ParseError.Syntax → IsNoText text.now }
+        ensures limit { IsErrOf result ParseError.Limit → IsBeyond text.now }
+        ensures value { IfOk result (λ v. Reads text.now v) }
+    {
+        UnsignedDecimal::try_from_utf8(alloc, text.as_bytes())
+    }
+}
