@@ -1,3 +1,5 @@
-//! To be written.
+//! Plain text of a number.
 
 #![tactic(auto)]
+
+pub mod grouper;
