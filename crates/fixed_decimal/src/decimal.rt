@@ -1,11 +1,25 @@
-ghost use Rattle.std.specs.Prelude.{◌≡◌};
+ghost use Rattle.std.specs.Prelude.{◌≡◌, ◌++◌, IfOk, IsErrOf};
+ghost use Rattle.fixed_decimal.specs.SignedText.{sign_text, ReadsSigned, IsBeyondSigned, IsNoSignedText, StartsNoSign};
 
 use crate::sign::Sign;
 use crate::signed::Signed;
-use fixed_decimal_unsigned::UnsignedDecimal;
+use fixed_decimal_unsigned::{ParseError, UnsignedDecimal};
+use std::alloc::Global;
 
 /// A decimal number with a sign, a visible range of magnitudes, and digits.
 pub type Decimal = Signed<UnsignedDecimal>;
+
+// The sign that a text begins with, and the rest.
+fn split_sign(code_units: &[u8]) -> (Sign, &[u8])
+    ensures whole { code_units.now ≡ sign_text result.0 ++ result.1.now }
+    ensures none { result.0 ≡ Sign.None → StartsNoSign result.1.now }
+{
+    match code_units.split_first() {
+        Some((first, rest)) if *first == b'-' => (Sign::Negative, rest),
+        Some((first, rest)) if *first == b'+' => (Sign::Positive, rest),
+        _ => (Sign::None, code_units),
+    }
+}
 
 impl Signed<UnsignedDecimal> {
     /// A decimal of its sign and its absolute value. It takes no memory.
@@ -14,5 +28,27 @@ impl Signed<UnsignedDecimal> {
         ensures value { result.absolute ≡ absolute }
     {
         Signed { sign, absolute }
+    }
+
+    /// The number that a text spells, with its sign.
+    pub fn try_from_utf8(alloc: Global, code_units: &[u8]) -> Result<Decimal, ParseError>
+        ensures syntax { IsErrOf result ParseError.Syntax → IsNoSignedText code_units.now }
+        ensures limit { IsErrOf result ParseError.Limit → IsBeyondSigned code_units.now }
+        ensures value { IfOk result (λ v. ReadsSigned code_units.now v) }
+    {
+        let (sign, rest) = split_sign(code_units);
+        match UnsignedDecimal::try_from_utf8(alloc, rest) {
+            Ok(absolute) => Ok(Signed { sign, absolute }),
+            Err(refused) => Err(refused),
+        }
+    }
+
+    /// The number that a text spells, with its sign.
+    pub fn try_from_str(alloc: Global, text: &str) -> Result<Decimal, ParseError>
+        ensures syntax { IsErrOf result ParseError.Syntax → IsNoSignedText text.now }
+        ensures limit { IsErrOf result ParseError.Limit → IsBeyondSigned text.now }
+        ensures value { IfOk result (λ v. ReadsSigned text.now v) }
+    {
+        Decimal::try_from_utf8(alloc, text.as_bytes())
     }
 }

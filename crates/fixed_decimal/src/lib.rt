@@ -7,6 +7,6 @@ mod sign;
 mod signed;
 
 pub use decimal::Decimal;
-pub use fixed_decimal_unsigned::UnsignedDecimal;
+pub use fixed_decimal_unsigned::{ParseError, UnsignedDecimal};
 pub use sign::Sign;
 pub use signed::Signed;

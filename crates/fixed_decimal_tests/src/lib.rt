@@ -1,3 +1,6 @@
-//! To be written.
+//! Rows of values over the public calls of `fixed_decimal`.
 
 #![tactic(auto)]
+
+#[cfg(test)]
+mod texts;

@@ -123,3 +123,20 @@ no_digits text integer fraction last e di df nd np no_integer no_fractions parts
 
 pub not_none : (n : ℕ) → false ≡ (n == 0) → n ≡ 0 → ⊥
 not_none n f e = grind (arith, nat_tests)
+
+sign_no_digit : (c : ℕ) → (c ≡ 43) ⊎ (c ≡ minus) → ¬ (digit_value c < 10)
+sign_no_digit c (inl e) lt = let h : digit_value 43 < 10 = subst (λ n. digit_value n < 10) e lt in absurd (omega arith)
+sign_no_digit c (inr e) lt = let h : digit_value 45 < 10 = subst (λ n. digit_value n < 10) e lt in absurd (omega arith)
+
+sign_no_point : (c : ℕ) → (c ≡ 43) ⊎ (c ≡ minus) → ¬ (c ≡ point)
+sign_no_point c (inl e) f = omega arith
+sign_no_point c (inr e) f = omega arith
+
+no_sign_in : (c : ℕ) (cs integer fraction last : List ℕ) → AreDigits integer → 0 < length integer + length fraction → c ∷ cs ≡ integer ++ (behind_point fraction ++ last) → (c ≡ 43) ⊎ (c ≡ minus) → ⊥
+no_sign_in c cs (i ∷ is) fraction last d some e s = sign_no_digit c s (subst (λ n. digit_value n < 10) (sym (cons_head c i cs (is ++ (behind_point fraction ++ last)) e)) d.0)
+no_sign_in c cs [] (f ∷ fs) last d some e s = sign_no_point c s (cons_head c point cs (f ∷ (fs ++ last)) e)
+no_sign_in c cs [] [] last d some e s = absurd (omega arith)
+
+-- no number's text begins with a sign
+pub no_sign : (c : ℕ) (cs : List ℕ) (parts : Parts) → Spells (c ∷ cs) parts → (c ≡ 43) ⊎ (c ≡ minus) → ⊥
+no_sign c cs parts h s = no_sign_in c cs parts.integer parts.fraction h.last h.integer_digits h.some h.whole s
