@@ -1,2 +1,3 @@
 pub mod GrouperLemmas
 pub mod KnownValues
+pub mod PlainTextLemmas

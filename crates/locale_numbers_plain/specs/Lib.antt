@@ -1,1 +1,2 @@
 pub mod Grouper
+pub mod PlainText

@@ -28,7 +28,7 @@ pub fn check(
 }
 
 // The test at whole magnitudes.
-fn is_group_end(
+pub(crate) fn is_group_end(
     upper: u16,
     magnitude: u16,
     strategy: GroupingStrategy,
