@@ -1,3 +1,7 @@
 //! To be written.
 
 #![tactic(auto)]
+
+mod tags;
+
+pub use tags::{LocaleKey, Subtag, Tag};

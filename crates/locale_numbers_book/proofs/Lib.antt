@@ -1,0 +1,3 @@
+pub mod SubtagLemmas
+pub mod PieceLemmas
+pub mod TagLemmas

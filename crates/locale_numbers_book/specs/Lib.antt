@@ -1,0 +1,3 @@
+pub mod Subtag
+pub mod Tags
+pub mod TagReading
