@@ -4,3 +4,5 @@ pub mod StoredLemmas
 pub mod TextPartsLemmas
 pub mod SpelledLemmas
 pub mod MantissaLemmas
+pub mod ReadOnceLemmas
+pub mod PrintedLemmas

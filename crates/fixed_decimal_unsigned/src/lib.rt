@@ -7,6 +7,7 @@
 
 mod digits;
 mod error;
+pub mod laws;
 mod places;
 mod reading;
 mod text_parts;
