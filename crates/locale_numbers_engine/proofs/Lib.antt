@@ -1,3 +1,7 @@
 pub mod FeedLemmas
+pub mod GrowsLemmas
 pub mod LinesLemmas
+pub mod OutcomeLemmas
+pub mod ProgressLemmas
+pub mod RefusalLemmas
 pub mod WriteLemmas

@@ -1,5 +1,5 @@
 -- What the lines of joined bytes are.
-use Rattle.std.proofs.Common.{◌≡◌, ℕ, Bool, true, false, ◌==◌, List, [], ◌∷◌, ◌++◌, refl, sym, ap, ◌∙◌, append_assoc, append-nil, ⊎_elim}
+use Rattle.std.proofs.Common.{◌≡◌, ℕ, false, ◌==◌, List, [], ◌∷◌, ◌++◌, refl, sym, ap, ◌∙◌, append_assoc, append-nil, ⊎_elim}
 use Rattle.std.proofs.lemmas.Bool.{cases_Bool, eqb-true}
 use Rattle.std.specs.List.{flat_map, onto_first}
 use Rattle.std.proofs.lemmas.List.Concat.{flat_map-append}
@@ -68,8 +68,7 @@ splits_of (byte ∷ bytes) =
 -- bytes that end with a feed are lines alone
 splits_ended : (first : List ℕ) → (lines : List (List ℕ)) × (ended first ≡ flat_map ended lines) × AreLines lines
 splits_ended first =
-    let (lines, rest, splits) = splits_of first in
-    (
+    let (lines, rest, splits) = splits_of first in (
       lines ++ rest ∷ [],
       ap (λ l. l ++ 10 ∷ []) splits.whole ∙ append_assoc (flat_map ended lines) rest (10 ∷ []) ∙ ap (λ l. flat_map ended lines ++ l) (sym (append-nil (ended rest))) ∙ sym (flat_map-append ended lines (rest ∷ [])),
       AreLines-push lines rest splits.each splits.cut,

@@ -1,7 +1,7 @@
 -- The numbers of a run's refusals, and a fact for each of them.
 -- Defined in docs/requests.md, "What a run leaves".
 -- Cited by `RunError::number`, and by the private functions that a run is made of.
-use Rattle.std.specs.Prelude.{ℕ}
+use Rattle.std.specs.Prelude.{ℕ, Bool, true, false, Result, Ok, Err}
 use Rattle.locale_numbers_engine.specs.declared.run_error.RunError.{RunError}
 use Rattle.locale_numbers_engine.specs.declared.run_error.RunError.TheVariants.{Read, Write, Memory}
 
@@ -16,3 +16,14 @@ abbrev pub MatchRun : RunError → Type 0 → Type 0 → Type 0 → Type 0
 MatchRun Read read write memory = read
 MatchRun Write read write memory = write
 MatchRun Memory read write memory = memory
+
+-- whether it is for the writer's sake
+abbrev pub is_write : RunError → Bool
+is_write Read = false
+is_write Write = true
+is_write Memory = false
+
+-- whether this ended for the writer's sake
+abbrev pub ends_in_write : {T : Type 0} → Result T RunError → Bool
+ends_in_write (Ok done) = false
+ends_in_write (Err refusal) = is_write refusal

@@ -1,22 +1,27 @@
 -- How far a run has come: which lines of the bytes so far were answered, and which answers are still to be written.
 -- Defined in docs/requests.md, "What a run leaves".
 -- Cited by the private functions that a run is made of, and by no public one.
-use Rattle.std.specs.Prelude.{ℕ, ◌≡◌, ◌+◌, ◌<◌, min, List, ◌∷◌, ◌++◌, length, take, drop, Option}
+use Rattle.std.specs.Prelude.{ℕ, ◌≡◌, ◌+◌, min, List, [], ◌∷◌, ◌++◌, length, take, Option}
 use Rattle.std.specs.List.{flat_map}
 use Rattle.std.specs.Io.KnownBytes.{Appends}
-use Rattle.locale_numbers_engine.specs.Lines.{line_feed, ended, HasNoFeed, AreLines, answers_to}
-use Rattle.locale_numbers_engine.specs.Run.{most}
+use Rattle.locale_numbers_engine.specs.Lines.{line_feed, ended, HasNoFeed, AreLines, last_line, answers_to}
+use Rattle.locale_numbers_engine.specs.Run.{most, WritesAll, CountsLines, CountsMade}
 
 -- these bytes stay in front of what is there now
 pub record Grows (old new : List ℕ) : Type 0 where
   pub more : List ℕ
   pub grew : new ≡ old ++ more
 
--- the first line of these bytes ends at this place
-pub record EndsAt (bytes : List ℕ) (at : ℕ) : Type 0 where
-  pub inside : at < length bytes
-  pub whole : bytes ≡ take at bytes ++ line_feed ∷ drop (at + 1) bytes
-  pub cut : HasNoFeed (take at bytes)
+-- the bytes are a line, its feed and what follows
+pub record FirstLine (bytes line rest : List ℕ) : Type 0 where
+  pub whole : bytes ≡ line ++ line_feed ∷ rest
+  pub cut : HasNoFeed line
+
+-- a front of the bytes that were there was written, and the rest is there now
+pub record Moves (had has : List ℕ) (before after : Option (List ℕ)) : Type 0 where
+  pub sent : List ℕ
+  pub whole : had ≡ sent ++ has
+  pub wrote : Appends before after sent
 
 -- these lines were counted, and answered by the one whose count of made things looks ahead by `over`, and now by `next`
 pub record Counts (lines : List (List ℕ)) (old new : ℕ) (over next : List (List ℕ) → ℕ) : Type 0 where
@@ -54,3 +59,14 @@ module _ (answer : List ℕ → List ℕ) where
     pub each : AreLines lines
     pub count : ℕ
     pub wrote : Appends before after (take count (answers_to answer lines))
+
+  -- the line after the last feed, where there is one, was answered and counted
+  pub record Finishes (held : List ℕ) (before after : Option (List ℕ)) (old new : ℕ) (over next : List (List ℕ) → ℕ) : Type 0 where
+    pub wrote : Appends before after (answers_to answer (last_line held))
+    pub counts : Counts (last_line held) old new over next
+
+  -- all lines of the input were answered and counted
+  pub record AnswersAll (had before after : Option (List ℕ)) (count : ℕ) (over next : List (List ℕ) → ℕ) : Type 0 where
+    pub wrote : WritesAll answer had before after
+    pub counted : CountsLines had count
+    pub made : CountsMade over had (next [])

@@ -3,12 +3,15 @@
 #![tactic(auto)]
 
 mod answerer;
+mod answering;
 mod byte_reader;
 mod byte_writer;
+mod feeding;
+mod first_line;
 pub mod laws;
-mod line_end;
 mod report;
 mod run_error;
+mod running;
 mod tracked;
 mod writing;
 
@@ -17,4 +20,5 @@ pub use byte_reader::{ByteReader, ReadFault};
 pub use byte_writer::{ByteWriter, WriteFault};
 pub use report::Report;
 pub use run_error::RunError;
+pub use running::run_with;
 pub use tracked::Tracked;

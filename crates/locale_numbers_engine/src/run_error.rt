@@ -1,10 +1,8 @@
 ghost use Rattle.std.specs.Prelude.{◌≡◌};
 
-use std::alloc::AllocError;
-
-use thiserror::Error;
-
 use crate::byte_writer::WriteFault;
+use std::alloc::AllocError;
+use thiserror::Error;
 
 /// Why a run ended before it had answered all lines.
 #[derive(Clone, Copy, Debug, PartialEq, Eq, Error)]

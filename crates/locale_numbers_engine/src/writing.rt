@@ -1,6 +1,7 @@
 ghost use Rattle.std.specs.Prelude.{◌≡◌, false, [], string_bytes, is_err, MatchResult};
 ghost use Rattle.std.specs.Io.KnownBytes.{Appends};
 ghost use Rattle.locale_numbers_engine.specs.Run.{WritesFront};
+ghost use Rattle.locale_numbers_engine.specs.Progress.{Moves};
 
 use crate::byte_writer::{ByteWriter, WriteFault};
 
@@ -35,4 +36,21 @@ pub fn write_ready<W: ByteWriter>(writer: &mut W, ready: &mut String) -> Result<
     write_whole(writer, ready.as_bytes())?;
     ready.clear();
     Ok(())
+}
+
+// How many bytes are read at once, and how many of the answers are kept back at most before more are read.
+pub const PIECE: usize = 65_536;
+
+// Writes the ready answers once they are as long as a piece.
+pub fn write_full<W: ByteWriter>(writer: &mut W, ready: &mut String) -> Result<(), WriteFault>
+    requires { W.failed writer.old ≡ false }
+    ensures moved { MatchResult result
+        (λ _. Moves (string_bytes ready.old) (string_bytes ready.new) (W.contents writer.old) (W.contents writer.new))
+        (λ _. WritesFront (string_bytes ready.old) (W.contents writer.old) (W.contents writer.new)) }
+    ensures fault { W.failed writer.new ≡ is_err result }
+{
+    if ready.len() < PIECE {
+        return Ok(());
+    }
+    write_ready(writer, ready)
 }
