@@ -1,3 +1,4 @@
 pub mod SubtagLemmas
 pub mod PieceLemmas
 pub mod TagLemmas
+pub mod BookLemmas

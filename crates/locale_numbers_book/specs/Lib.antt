@@ -1,3 +1,6 @@
 pub mod Subtag
 pub mod Tags
 pub mod TagReading
+pub mod BookError
+pub mod Json
+pub mod Book

@@ -1,0 +1,104 @@
+//! One entry of an array.
+ghost use Rattle.std.specs.Prelude.{◌≡◌, IfOk, IsErrOf, IfErr, Some, None, option_map};
+ghost use Rattle.serde_json.specs.View.{view};
+ghost use Rattle.locale_numbers_book.specs.BookError.{IsShapeOrMemory};
+ghost use Rattle.locale_numbers_book.specs.Book.{symbols_key, grouping_sizes_of, symbols_of, has_count, symbols_entry, digits_entry};
+
+use super::fields::{digits, locale, numsys, size, symbol, system, system_or_none};
+use crate::BookError;
+use crate::key::SymbolsKey;
+use crate::tags::Subtag;
+use locale_numbers_symbols::{DecimalSymbols, GroupingSizes};
+use serde_json::Value;
+use std::alloc::Global;
+
+fn key(entry: &Value) -> Option<SymbolsKey>
+    ensures { result ≡ symbols_key (view entry.now) }
+{
+    let locale = locale(entry, 0)?;
+    let system = system_or_none(entry, 1)?;
+    Some(SymbolsKey::new(locale, system))
+}
+
+fn grouping_sizes(entry: &Value) -> Option<GroupingSizes>
+    ensures { result ≡ grouping_sizes_of (view entry.now) }
+{
+    let primary = size(entry, 9)?;
+    let secondary = size(entry, 10)?;
+    let min_grouping = size(entry, 11)?;
+    Some(GroupingSizes {
+        primary,
+        secondary,
+        min_grouping,
+    })
+}
+
+fn symbols(alloc: Global, entry: &Value) -> Result<DecimalSymbols, BookError>
+    ensures value { IfOk result (λ symbols. symbols_of (view entry.now) ≡ Some symbols) }
+    ensures shape { IsErrOf result BookError.Shape → symbols_of (view entry.now) ≡ None }
+    ensures only { IfErr result IsShapeOrMemory }
+{
+    let Some(numsys) = numsys(entry, 2) else {
+        return Err(BookError::Shape);
+    };
+    let Some(grouping_sizes) = grouping_sizes(entry) else {
+        return Err(BookError::Shape);
+    };
+    let minus_sign_prefix = symbol(alloc, entry, 3)?;
+    let minus_sign_suffix = symbol(alloc, entry, 4)?;
+    let plus_sign_prefix = symbol(alloc, entry, 5)?;
+    let plus_sign_suffix = symbol(alloc, entry, 6)?;
+    let decimal_separator = symbol(alloc, entry, 7)?;
+    let grouping_separator = symbol(alloc, entry, 8)?;
+    Ok(DecimalSymbols {
+        minus_sign_prefix,
+        minus_sign_suffix,
+        plus_sign_prefix,
+        plus_sign_suffix,
+        decimal_separator,
+        grouping_separator,
+        numsys,
+        grouping_sizes,
+    })
+}
+
+fn has_count(entry: &Value, count: usize) -> bool
+    ensures { result ≡ has_count count (view entry.now) }
+{
+    match entry.as_array() {
+        Some(fields) => fields.len() == count,
+        None => false,
+    }
+}
+
+/// The symbols of an entry, with their key.
+pub fn symbols_entry(alloc: Global, entry: &Value) -> Result<(SymbolsKey, DecimalSymbols), BookError>
+    ensures value { IfOk result (λ pair. symbols_entry (view entry.now) ≡ Some pair) }
+    ensures shape { IsErrOf result BookError.Shape → symbols_entry (view entry.now) ≡ None }
+    ensures only { IfErr result IsShapeOrMemory }
+{
+    if !has_count(entry, 12) {
+        return Err(BookError::Shape);
+    }
+    let Some(key) = key(entry) else {
+        return Err(BookError::Shape);
+    };
+    let symbols = symbols(alloc, entry)?;
+    Ok((key, symbols))
+}
+
+/// The digits of an entry, with their system.
+pub fn digits_entry(alloc: Global, entry: &Value) -> Result<(Subtag<8>, [char; 10]), BookError>
+    ensures value { IfOk result (λ pair. digits_entry (view entry.now) ≡ Some pair) }
+    ensures shape { IsErrOf result BookError.Shape → digits_entry (view entry.now) ≡ None }
+    ensures only { IfErr result IsShapeOrMemory }
+{
+    if !has_count(entry, 2) {
+        return Err(BookError::Shape);
+    }
+    let Some(system) = system(entry, 0) else {
+        return Err(BookError::Shape);
+    };
+    let digits = digits(alloc, entry, 1)?;
+    Ok((system, digits))
+}

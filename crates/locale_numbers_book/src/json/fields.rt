@@ -1,0 +1,152 @@
+//! One field of an entry.
+ghost use Rattle.std.specs.Prelude.{◌≡◌, IfOk, IsErrOf, IfErr, Some, None, chars, option_map, string_bytes};
+ghost use Rattle.std.specs.List.{list_all};
+ghost use Rattle.serde_json.specs.View.{view};
+ghost use Rattle.locale_numbers_book.specs.BookError.{IsShapeOrMemory};
+ghost use Rattle.locale_numbers_book.specs.Book.{is_plain, is_small_letter_or_digit, is_system_name, plain_text_in, system_in, system_or_none_in, locale_in, size_in, digits_in, ten_characters, field_at};
+
+use crate::tags::{LocaleKey, Subtag};
+use crate::BookError;
+use arrayvec::ArrayString;
+use serde_json::Value;
+use std::alloc::{AllocError, Global};
+
+fn is_plain_text(text: &str) -> bool
+    ensures { result ≡ list_all is_plain (chars text.now) }
+{
+    text.chars().all(|c| c != '\t' && c != '\n')
+}
+
+/// The text at a place of an entry, where no tab and no line feed stands in it.
+fn plain_text(entry: &Value, place: usize) -> Option<&str>
+    ensures { option_map (λ text. chars text.now) result ≡ field_at plain_text_in place (view entry.now) }
+{
+    let text = entry.get(place)?.as_str()?;
+    if is_plain_text(text) { Some(text) } else { None }
+}
+
+/// The text at a place of an entry, as a `String`.
+pub fn symbol(alloc: Global, entry: &Value, place: usize) -> Result<String, BookError>
+    ensures value { IfOk result (λ text. field_at plain_text_in place (view entry.now) ≡ Some (chars (string_bytes text))) }
+    ensures shape { IsErrOf result BookError.Shape → field_at plain_text_in place (view entry.now) ≡ None }
+    ensures only { IfErr result IsShapeOrMemory }
+{
+    let Some(text) = plain_text(entry, place) else {
+        return Err(BookError::Shape);
+    };
+    match String::from_str(alloc, text) {
+        Ok(symbol) => Ok(symbol),
+        Err(_) => Err(BookError::Memory),
+    }
+}
+
+/// The number at a place of an entry, from 0 to 255.
+pub fn size(entry: &Value, place: usize) -> Option<u8>
+    ensures { result ≡ field_at size_in place (view entry.now) }
+{
+    let number = entry.get(place)?.as_u64()?;
+    if number < 256 { Some(number as u8) } else { None }
+}
+
+/// The locale at a place of an entry.
+pub fn locale(entry: &Value, place: usize) -> Option<LocaleKey>
+    ensures { result ≡ field_at locale_in place (view entry.now) }
+{
+    let text = entry.get(place)?.as_str()?;
+    LocaleKey::try_from_utf8(text.as_bytes())
+}
+
+fn is_system_name(text: &str) -> bool
+    ensures { result ≡ is_system_name text.now }
+{
+    let bytes = text.as_bytes();
+    bytes.len() >= 3 && bytes.len() <= 8 && is_small_alphanumeric(bytes)
+}
+
+fn is_small_alphanumeric(bytes: &[u8]) -> bool
+    ensures { result ≡ list_all is_small_letter_or_digit bytes.now }
+{
+    bytes.iter().all(|b| b.is_ascii_lowercase() || b.is_ascii_digit())
+}
+
+/// The name of a numbering system at a place of an entry.
+pub fn system_name(entry: &Value, place: usize) -> Option<&str>
+    ensures { option_map (λ text. text.now) result ≡ field_at system_in place (view entry.now) }
+{
+    let text = entry.get(place)?.as_str()?;
+    if is_system_name(text) { Some(text) } else { None }
+}
+
+/// The same name, kept in the value itself.
+pub fn numsys(entry: &Value, place: usize) -> Option<ArrayString<8>>
+    ensures { option_map (λ name. name.bytes) result ≡ field_at system_in place (view entry.now) }
+{
+    let name = system_name(entry, place)?;
+    match ArrayString::from(name) {
+        Ok(kept) => Some(kept),
+        Err(_) => None,
+    }
+}
+
+/// The name of a system as a key.
+pub fn system(entry: &Value, place: usize) -> Option<Subtag<8>>
+    ensures { result ≡ field_at system_in place (view entry.now) }
+{
+    let text = entry.get(place)?.as_str()?;
+    if is_system_name(text) {
+        Some(Subtag::of(text.as_bytes()))
+    } else {
+        None
+    }
+}
+
+/// The system at a place of an entry, which may be empty.
+pub fn system_or_none(entry: &Value, place: usize) -> Option<Option<Subtag<8>>>
+    ensures { result ≡ field_at system_or_none_in place (view entry.now) }
+{
+    let text = entry.get(place)?.as_str()?;
+    if text.is_empty() {
+        Some(None)
+    } else if is_system_name(text) {
+        Some(Some(Subtag::of(text.as_bytes())))
+    } else {
+        None
+    }
+}
+
+/// The characters of a text.
+fn characters(alloc: Global, text: &str) -> Result<Vec<char>, AllocError>
+    ensures { IfOk result (λ list. list.items ≡ chars text.now) }
+{
+    text.chars().collect(alloc)
+}
+
+/// The characters as an array, where they are ten.
+fn ten_of(characters: &[char]) -> Option<[char; 10]>
+    ensures { result ≡ ten_characters characters.now }
+{
+    if characters.len() != 10 {
+        return None;
+    }
+    let mut digits = ['0'; 10];
+    digits.copy_from_slice(characters);
+    Some(digits)
+}
+
+/// The ten characters at a place of an entry.
+pub fn digits(alloc: Global, entry: &Value, place: usize) -> Result<[char; 10], BookError>
+    ensures value { IfOk result (λ digits. field_at digits_in place (view entry.now) ≡ Some digits) }
+    ensures shape { IsErrOf result BookError.Shape → field_at digits_in place (view entry.now) ≡ None }
+    ensures only { IfErr result IsShapeOrMemory }
+{
+    let Some(text) = plain_text(entry, place) else {
+        return Err(BookError::Shape);
+    };
+    let Ok(list) = characters(alloc, text) else {
+        return Err(BookError::Memory);
+    };
+    match ten_of(list.as_slice()) {
+        Some(digits) => Ok(digits),
+        None => Err(BookError::Shape),
+    }
+}

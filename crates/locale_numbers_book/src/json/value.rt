@@ -1,0 +1,27 @@
+//! Bytes as a JSON value.
+ghost use Rattle.std.specs.Prelude.{◌≡◌, IfOk, IsErrOf, IfErr};
+ghost use Rattle.serde_json.specs.View.{view};
+ghost use Rattle.locale_numbers_book.specs.Json.{Reads, IsNoJson};
+ghost use Rattle.locale_numbers_book.specs.BookError.{IsJsonOrMemory};
+
+use crate::BookError;
+use serde_json::Value;
+use std::alloc::Global;
+
+/// The JSON value that bytes say.
+pub fn value_of(alloc: Global, bytes: &[u8]) -> Result<Value, BookError>
+    ensures value { IfOk result (λ value. Reads bytes.now (view value)) }
+    ensures json { IsErrOf result BookError.Json → IsNoJson bytes.now }
+    ensures only { IfErr result IsJsonOrMemory }
+{
+    match Value::from_slice(alloc, bytes) {
+        Ok(value) => Ok(value),
+        Err(fault) => {
+            if fault.is_memory() {
+                Err(BookError::Memory)
+            } else {
+                Err(BookError::Json)
+            }
+        }
+    }
+}

@@ -1,0 +1,24 @@
+//! A table that has no key twice.
+ghost use Rattle.std.specs.Prelude.{◌≡◌, ◌++◌, [], ◌∷◌, None, IsSome, OnOk, IsErrOf, IfErr};
+ghost use Rattle.indexmap.specs.IndexMap.{get};
+ghost use Rattle.locale_numbers_book.specs.BookError.{IsShapeOrMemory};
+
+use crate::BookError;
+use indexmap::IndexMap;
+use std::hash::Hash;
+
+/// Adds a table under a key that is not there yet.
+pub fn add<K: Eq + Hash + Drop, V: Drop>(table: &mut IndexMap<K, V>, key: K, value: V) -> Result<(), BookError>
+    ensures added { OnOk result (table.new.entries ≡ table.old.entries ++ (key, value) ∷ []) }
+    ensures fresh { OnOk result (get K.eq table.old key ≡ None) }
+    ensures shape { IsErrOf result BookError.Shape → IsSome (get K.eq table.old key) }
+    ensures only { IfErr result IsShapeOrMemory }
+{
+    if table.contains_key(&key) {
+        return Err(BookError::Shape);
+    }
+    match table.insert(key, value) {
+        Ok(_) => Ok(()),
+        Err(_) => Err(BookError::Memory),
+    }
+}
