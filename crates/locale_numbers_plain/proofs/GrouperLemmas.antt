@@ -1,6 +1,6 @@
 -- Groups cut from the right, and the separator after the digit where one ends.
 use Rattle.std.proofs.Common.{◌≡◌, ℕ, zero, suc, ◌+◌, ◌-◌, ◌*◌, ◌/◌, ◌%◌, ◌<◌, ◌≤◌, Bool, true, false, cond, not, ◌&&◌, ◌||◌, List, [], ◌∷◌, ◌++◌, length, take, drop, replicate, refl, sym, ap, ◌∙◌, append_assoc, arith, nat_le, ◌==◌, inl, inr, length-append, take-append-drop, length-drop}
-use Rattle.std.proofs.lemmas.Bool.{le-leb, lt-leb, eq-eqb, ne_eqb, or_from, or_left, and_left, and_right, and_from, and_parts, not-true, leb-true, eqb-false, cases_order, cond_both}
+use Rattle.std.proofs.lemmas.Bool.{false≢true, le-leb, lt-leb, eq-eqb, ne_eqb, or_from, or_left, and_left, and_right, and_from, and_parts, not-true, leb-true, eqb-false, cases_order, cond_both}
 use Rattle.std.proofs.lemmas.List.{append-nil, take_all, length-take-le}
 use Rattle.std.proofs.lemmas.Nat.{mod-mul-add, div-add-mod', mod_below}
 use Rattle.std.proofs.lemmas.List.Sums.{sum_by-cons}
@@ -9,6 +9,7 @@ use Rattle.std.specs.List.{sum}
 use Rattle.locale_numbers_symbols.specs.declared.GroupingSizes.{GroupingSizes}
 use Rattle.locale_numbers_symbols.specs.declared.GroupingStrategy.{GroupingStrategy}
 use Rattle.locale_numbers_symbols.specs.declared.GroupingStrategy.TheVariants.{Auto, Never, Always, Min2}
+use Rattle.locale_numbers_plain.specs.GroupLaws.{GroupsAreCut, GroupsAreSeparated, IsCutFromTheRight}
 use Rattle.locale_numbers_plain.specs.Grouper.{least_front, may_group, middle_size, is_grouped, cut_sizes, group_sizes, cut_by, groups, joined, ends_at, marked, separates}
 
 -- each size is above 0
@@ -207,3 +208,28 @@ pub joined_is_separated : {A : Type 0} (t : GroupingStrategy) (s : GroupingSizes
 joined_is_separated t s separator xs some =
     let sizes : AreSizes (group_sizes t s (length xs)) (length xs) = are_sizes t s (length xs) some in
     joined_is_marked (group_sizes t s (length xs)) separator xs sizes.above sizes.whole
+
+-- The laws of groups.
+
+cut_by_right : (g : Bool) (p q d : ℕ) → g ≡ true → 0 < q → p + 1 ≤ d → IsCutFromTheRight p q d (cond g (cut_sizes p q d) (d ∷ []))
+cut_by_right false p q d grouped middle enough = absurd (false≢true grouped)
+cut_by_right true p q d grouped middle enough =
+    let is_cut : IsCut p q d ((d - p - 1) / q) = cut p q d middle enough in
+    record {
+      first = d - p - (d - p - 1) / q * q;
+      middle = (d - p - 1) / q;
+      are = refl;
+      some = omega (arith, is_cut.some);
+      short = omega (arith, is_cut.short);
+      whole = omega (arith, is_cut.some);
+    }
+
+pub groups_are_cut : GroupsAreCut
+groups_are_cut t s d grouped =
+    let has = has_groups t s d grouped in
+    cut_by_right (is_grouped t s d) s.primary (middle_size s) d grouped has.middle has.enough
+
+pub groups_are_separated : GroupsAreSeparated
+groups_are_separated t s separator digits some =
+    joined_is_separated t s separator digits some
+    ∙ marked_agree (ends_at (group_sizes t s (length digits))) (separates t s (length digits)) separator digits (λ m near. ends_is_separated t s (length digits) m near)

@@ -4,7 +4,10 @@ use Rattle.std.specs.Prelude.{codes}
 use Rattle.locale_numbers_symbols.specs.declared.GroupingSizes.{GroupingSizes}
 use Rattle.locale_numbers_symbols.specs.declared.GroupingStrategy.{GroupingStrategy}
 use Rattle.locale_numbers_symbols.specs.declared.GroupingStrategy.TheVariants.{Auto, Never, Always, Min2}
+use Rattle.locale_numbers_symbols.specs.Symbols.{Marks}
+use Rattle.fixed_decimal.specs.declared.Sign.TheVariants.{None as NoSign, Negative, Positive}
 use Rattle.locale_numbers_plain.specs.Grouper.{groups, joined, group_sizes}
+use Rattle.locale_numbers_plain.specs.PlainText.{plain_text}
 
 abbrev sizes_of : ℕ → ℕ → ℕ → GroupingSizes
 sizes_of primary secondary least = record { primary = primary; secondary = secondary; min_grouping = least }
@@ -95,3 +98,68 @@ single_3 = refl
 -- the first group has what is left
 first_of_ten : group_sizes Auto (sizes_of 3 2 1) 10 ≡ 1 ∷ 2 ∷ 2 ∷ 2 ∷ 3 ∷ []
 first_of_ten = refl
+
+-- The text of a number.
+
+abbrev english : Marks
+english = record {
+  digits = codes "0123456789";
+  minus_prefix = codes "-";
+  minus_suffix = [];
+  plus_prefix = codes "+";
+  plus_suffix = [];
+  decimal = codes ".";
+  grouping = codes ",";
+}
+
+-- both signs written behind the number
+abbrev behind : Marks
+behind = record {
+  digits = codes "0123456789";
+  minus_prefix = [];
+  minus_suffix = codes "-";
+  plus_prefix = [];
+  plus_suffix = codes "+";
+  decimal = codes ",";
+  grouping = codes ".";
+}
+
+-- the Bengali digits, U+09E6 to U+09EF
+abbrev bengali : Marks
+bengali = record english { digits = 2534 ∷ 2535 ∷ 2536 ∷ 2537 ∷ 2538 ∷ 2539 ∷ 2540 ∷ 2541 ∷ 2542 ∷ 2543 ∷ [] }
+
+minus_text : plain_text Auto (sizes_of 3 3 1) english (record {
+  sign = Negative;
+  whole = 1 ∷ 2 ∷ 3 ∷ 4 ∷ [];
+  fraction = 5 ∷ 0 ∷ [];
+}) ≡ codes "-1,234.50"
+minus_text = refl
+
+plus_text : plain_text Auto (sizes_of 3 3 1) behind (record {
+  sign = Positive;
+  whole = 1 ∷ 2 ∷ 3 ∷ 4 ∷ [];
+  fraction = 5 ∷ [];
+}) ≡ codes "1.234,5+"
+plus_text = refl
+
+-- with no fraction digits there is no decimal separator
+whole_number : plain_text Auto (sizes_of 3 3 1) english (record {
+  sign = NoSign;
+  whole = 0 ∷ [];
+  fraction = [];
+}) ≡ codes "0"
+whole_number = refl
+
+zeros_text : plain_text Auto (sizes_of 3 3 1) english (record {
+  sign = NoSign;
+  whole = 0 ∷ 0 ∷ 0 ∷ 7 ∷ [];
+  fraction = [];
+}) ≡ codes "0,007"
+zeros_text = refl
+
+bengali_text : plain_text Auto (sizes_of 3 2 1) bengali (record {
+  sign = NoSign;
+  whole = 1 ∷ 0 ∷ 0 ∷ 0 ∷ 0 ∷ 0 ∷ 7 ∷ [];
+  fraction = [];
+}) ≡ 2535 ∷ 2534 ∷ 44 ∷ 2534 ∷ 2534 ∷ 44 ∷ 2534 ∷ 2534 ∷ 2541 ∷ []
+bengali_text = refl

@@ -1,2 +1,3 @@
 pub mod Grouper
 pub mod PlainText
+pub mod GroupLaws

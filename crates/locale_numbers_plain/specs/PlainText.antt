@@ -5,7 +5,7 @@ use Rattle.std.specs.Prelude.{◌≡◌, ℕ, ◌+◌, ◌≤◌, List, [], ◌�
 use Rattle.std.specs.declared.string.String.{String}
 use Rattle.locale_numbers_symbols.specs.declared.GroupingSizes.{GroupingSizes}
 use Rattle.locale_numbers_symbols.specs.declared.GroupingStrategy.{GroupingStrategy}
-use Rattle.locale_numbers_symbols.specs.Symbols.{Marks}
+use Rattle.locale_numbers_symbols.specs.Symbols.{Marks, Symbols, marks_of}
 use Rattle.fixed_decimal.specs.declared.Sign.{Sign}
 use Rattle.fixed_decimal.specs.declared.Sign.TheVariants.{None as NoSign, Negative, Positive}
 use Rattle.fixed_decimal.specs.Number.{Number, whole_digits, fraction_digits}
@@ -67,6 +67,16 @@ abbrev pub plain_text : GroupingStrategy → GroupingSizes → Marks → Shown �
 plain_text strategy sizes marks n =
     prefix_of marks n.sign
     ++ (digits_text strategy sizes marks n.whole n.fraction ++ suffix_of marks n.sign)
+
+-- the text of a decimal in a locale's symbols and ten digits
+abbrev pub decimal_text : GroupingStrategy → Symbols → List ℕ → SignedValue Number → List ℕ
+decimal_text strategy symbols digits number =
+    plain_text strategy symbols.grouping_sizes (marks_of symbols digits) (shown_of number)
+
+-- the text of a number without a sign in a locale's symbols and ten digits
+abbrev pub unsigned_text : GroupingStrategy → Symbols → List ℕ → Number → List ℕ
+unsigned_text strategy symbols digits v =
+    digits_text strategy symbols.grouping_sizes (marks_of symbols digits) (whole_digits v) (fraction_digits v)
 
 -- the second list has the first as its beginning
 pub record Begins (front all : List ℕ) : Type 0 where

@@ -1,15 +1,24 @@
-ghost use Rattle.std.specs.Prelude.{◌≡◌, ℕ, ◌+◌, ◌-◌, ◌<◌, ◌≤◌, ◌++◌, ◌∷◌, [], cond, OnOk, OnErr, chars, string_bytes, string_capacity, IsOk, encode_utf8_all, slice_index};
+ghost use Rattle.std.specs.Prelude.{◌≡◌, ℕ, ◌+◌, ◌-◌, ◌<◌, ◌≤◌, ◌++◌, ◌∷◌, [], cond, OnOk, OnErr, chars, string_bytes, string_capacity, IsOk, encode_utf8_all};
 ghost use Rattle.locale_numbers_symbols.specs.Symbols.{marks_of};
-ghost use Rattle.fixed_decimal.specs.Number.{IsNumber, fraction_digits, whole_digits, digit, digits_down};
+ghost use Rattle.fixed_decimal.specs.Number.{fraction_digits, whole_digits, digit};
 ghost use Rattle.locale_numbers_plain.specs.Grouper.{ends_at, group_sizes};
-ghost use Rattle.locale_numbers_plain.specs.PlainText.{Begins, HasRoom, affix_of, fraction_text, digits_text, plain_text, shown_of, whole_text, spelled_by};
+ghost use Rattle.locale_numbers_plain.specs.PlainText.{Begins, HasRoom, affix_of, fraction_text, decimal_text, unsigned_text, whole_text, spelled_by};
 
 use crate::grouper;
 use fixed_decimal::{Decimal, Sign, UnsignedDecimal};
-use locale_numbers_symbols::{DecimalSymbols, GroupingSizes, GroupingStrategy};
+use locale_numbers_symbols::{DecimalSymbols, GroupingStrategy};
 use std::alloc::AllocError;
 
-/// Appends the plain text of a number to `out`.
+/// Appends the plain text of a number to `out`, in the symbols of a locale and the digits of a
+/// numbering system.
+///
+/// `digits` are the characters of 0 to 9 in order. With the symbols of English and `Auto`,
+/// `-1234.50` appends `-1,234.50`. The text is UTF-8.
+///
+/// Memory is taken only where `out` has no room for the text. `AllocError` says that it could not
+/// be had; `out` then holds what it held, and perhaps a part of the text behind it.
+///
+/// The text follows UTS 35, part 3 (numbers), as `icu_decimal` writes it.
 pub fn push_plain(
     out: &mut String,
     number: &Decimal,
@@ -17,9 +26,9 @@ pub fn push_plain(
     digits: &[char; 10],
     strategy: GroupingStrategy,
 ) -> Result<(), AllocError>
-    ensures text { OnOk result (string_bytes out.new ≡ string_bytes out.old ++ encode_utf8_all (plain_text strategy symbols.now.grouping_sizes (marks_of symbols.now digits.now) (shown_of number.now))) }
+    ensures text { OnOk result (string_bytes out.new ≡ string_bytes out.old ++ encode_utf8_all (decimal_text strategy symbols.now digits.now number.now)) }
     ensures err { OnErr result (Begins (string_bytes out.old) (string_bytes out.new)) }
-    ensures room { HasRoom out.old (encode_utf8_all (plain_text strategy symbols.now.grouping_sizes (marks_of symbols.now digits.now) (shown_of number.now))) → IsOk result }
+    ensures room { HasRoom out.old (encode_utf8_all (decimal_text strategy symbols.now digits.now number.now)) → IsOk result }
     ensures capacity { string_capacity out.old ≤ string_capacity out.new }
 {
     push_text(out, prefix(symbols, number))?;
@@ -27,7 +36,14 @@ pub fn push_plain(
     push_text(out, suffix(symbols, number))
 }
 
-/// Appends the plain text of a number that has no sign to `out`.
+/// Appends the plain text of a number that has no sign to `out`, as [`push_plain`] does.
+///
+/// With the symbols of English and `Auto`, `1234.50` appends `1,234.50`, and no prefix or suffix.
+///
+/// Memory is taken only where `out` has no room for the text. `AllocError` says that it could not
+/// be had; `out` then holds what it held, and perhaps a part of the text behind it.
+///
+/// The text follows UTS 35, part 3 (numbers), as `icu_decimal` writes it.
 pub fn push_unsigned(
     out: &mut String,
     number: &UnsignedDecimal,
@@ -35,9 +51,9 @@ pub fn push_unsigned(
     digits: &[char; 10],
     strategy: GroupingStrategy,
 ) -> Result<(), AllocError>
-    ensures text { OnOk result (string_bytes out.new ≡ string_bytes out.old ++ encode_utf8_all (digits_text strategy symbols.now.grouping_sizes (marks_of symbols.now digits.now) (whole_digits number.now) (fraction_digits number.now))) }
+    ensures text { OnOk result (string_bytes out.new ≡ string_bytes out.old ++ encode_utf8_all (unsigned_text strategy symbols.now digits.now number.now)) }
     ensures err { OnErr result (Begins (string_bytes out.old) (string_bytes out.new)) }
-    ensures room { HasRoom out.old (encode_utf8_all (digits_text strategy symbols.now.grouping_sizes (marks_of symbols.now digits.now) (whole_digits number.now) (fraction_digits number.now))) → IsOk result }
+    ensures room { HasRoom out.old (encode_utf8_all (unsigned_text strategy symbols.now digits.now number.now)) → IsOk result }
     ensures capacity { string_capacity out.old ≤ string_capacity out.new }
 {
     push_whole(out, number, symbols, digits, strategy)?;
