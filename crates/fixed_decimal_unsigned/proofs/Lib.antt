@@ -6,3 +6,5 @@ pub mod SpelledLemmas
 pub mod MantissaLemmas
 pub mod ReadOnceLemmas
 pub mod PrintedLemmas
+pub mod RoundingStepLemmas
+pub mod LoopLemmas

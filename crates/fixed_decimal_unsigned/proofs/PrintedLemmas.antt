@@ -30,7 +30,7 @@ remainder_by : (a b d r s t : ℕ) → b * 10 + d ≡ a → b * (t * 10) + s ≡
 remainder_by a b d r s t e f = omega (arith, ap (λ x. x * t) e)
 
 -- a remainder by one more power has one more digit before it
-remainder_more : (n t : ℕ) → 0 < t → n % (t * 10) ≡ n / t % 10 * t + n % t
+pub remainder_more : (n t : ℕ) → 0 < t → n % (t * 10) ≡ n / t % 10 * t + n % t
 remainder_more n t p =
     let q : n / t / 10 ≡ n / (t * 10) = div-div-eq-div-mul n t 10 in
     let a : n / (t * 10) * (t * 10) + n % (t * 10) ≡ n = div-add-mod' n (t * 10) in

@@ -8,10 +8,16 @@
 mod digits;
 mod error;
 pub mod laws;
+mod modes;
 mod places;
 mod reading;
+mod rounding_digits;
+mod rounding_steps;
 mod text_parts;
+mod turns;
 mod unsigned_decimal;
 
 pub use error::ParseError;
+pub use modes::{RoundingIncrement, UnsignedRoundingMode};
+pub use turns::Turns;
 pub use unsigned_decimal::UnsignedDecimal;
