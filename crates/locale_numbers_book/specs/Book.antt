@@ -1,9 +1,9 @@
 -- When a JSON value is a book, and which symbols and digits are in it.
 -- Defined in docs/books.md, "The form"; names of systems after UTS 35, part 3 (numbers).
 -- Cited by `Book::from_json`.
-use Rattle.std.specs.Prelude.{◌≡◌, ℕ, ◌+◌, ◌==◌, Bool, true, false, not, ◌&&◌, ◌||◌, List, [], ◌∷◌, map, length, nat_le, nat_lt, chars, Option, Some, None, option_map, option_and_then, is_some, unwrap_or, if◌then◌else◌}
-use Rattle.std.specs.Option.{option_map_or}
-use Rattle.std.specs.List.{list_all, list_any}
+use Rattle.std.specs.Prelude.{◌≡◌, ℕ, ◌+◌, ◌==◌, Bool, true, false, not, ◌&&◌, ◌||◌, List, [], ◌∷◌, length, nat_lt, chars, Option, Some, None, option_map, option_and_then, is_some, unwrap_or, if◌then◌else◌}
+use Rattle.std.specs.Option.{option_map_or, option_eq}
+use Rattle.std.specs.List.{list_all}
 use Rattle.std.specs.Str.{bytes_eq}
 use Rattle.std.specs.Char.{is_ascii_lowercase, is_ascii_digit}
 use Rattle.serde_json.specs.Data.{Data, Items, no_items, item}
@@ -137,3 +137,65 @@ digits_entry entry =
     if has_count 2 entry
     then option_and_then (λ system. option_map {T = List ℕ} {U = Text × List ℕ} (λ digits. (system, digits)) (field_at digits_in 1 entry)) (field_at system_in 0 entry)
     else None
+
+-- ---- one table
+
+-- the entries of an array, read one by one; none where one of them is no entry
+abbrev pub all_of : {E : Type 0} → (Data → Option E) → Items → Option (List E)
+all_of read no_items = Some []
+all_of {E} read (item d ds) = option_and_then (λ e. option_map {T = List E} {U = List E} (λ es. e ∷ es) (all_of read ds)) (read d)
+
+-- two keys are one where each of their parts is
+abbrev pub same_locale : Locale → Locale → Bool
+same_locale a b = bytes_eq a.language b.language && (option_eq bytes_eq a.script b.script && option_eq bytes_eq a.region b.region)
+
+abbrev pub same_key : SymbolsKey → SymbolsKey → Bool
+same_key a b = same_locale a.locale b.locale && option_eq bytes_eq a.numbering_system b.numbering_system
+
+-- what stands with a key in a list of pairs
+abbrev pub table_at : {K V : Type 0} → (K → K → Bool) → K → List (K × V) → Option V
+table_at same key [] = None
+table_at same key (pair ∷ pairs) = if same key pair.0 then Some pair.1 else table_at same key pairs
+
+abbrev pub has_no_key_twice : {K V : Type 0} → (K → K → Bool) → List (K × V) → Bool
+has_no_key_twice same [] = true
+has_no_key_twice same (pair ∷ pairs) = not (is_some (table_at same pair.0 pairs)) && has_no_key_twice same pairs
+
+abbrev pub without_key_twice : {K V : Type 0} → (K → K → Bool) → List (K × V) → Option (List (K × V))
+without_key_twice same pairs = if has_no_key_twice same pairs then Some pairs else None
+
+-- a table of an array: its entries, with no key twice
+abbrev pub table_in : {K V : Type 0} → (K → K → Bool) → (Data → Option (K × V)) → Items → Option (List (K × V))
+table_in same read items = option_and_then (without_key_twice same) (all_of read items)
+
+-- ---- a book
+
+-- the tables of a book
+pub record BookTables : Type 0 where
+  pub symbols : List (SymbolsKey × Symbols)
+  pub digits : List (Text × List ℕ)
+
+abbrev pub is_array_at : ℕ → Data → Bool
+is_array_at place value = is_some (option_and_then as_array (at place value))
+
+-- five arrays
+abbrev pub has_form : Data → Bool
+has_form value =
+    has_count 5 value
+    && (is_array_at 0 value && (is_array_at 1 value && (is_array_at 2 value && (is_array_at 3 value && is_array_at 4 value))))
+
+abbrev pub symbols_in : Data → Option (List (SymbolsKey × Symbols))
+symbols_in value = option_and_then (table_in same_key symbols_entry) (option_and_then as_array (at 0 value))
+
+abbrev pub digits_tables_in : Data → Option (List (Text × List ℕ))
+digits_tables_in value = option_and_then (table_in bytes_eq digits_entry) (option_and_then as_array (at 1 value))
+
+-- a value is a book: five arrays, the first of symbols, the second of digits
+pub record IsBook (value : Data) (tables : BookTables) : Type 0 where
+  pub form : has_form value ≡ true
+  pub symbols : symbols_in value ≡ Some tables.symbols
+  pub digits : digits_tables_in value ≡ Some tables.digits
+
+-- a value is no book
+abbrev pub IsNoBook : Data → Type 0
+IsNoBook value = (tables : BookTables) → ¬ (IsBook value tables)

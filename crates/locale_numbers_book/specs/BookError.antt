@@ -62,3 +62,18 @@ IsJsonOrMemory Exponents = ⊥
 IsJsonOrMemory Duplicate = ⊥
 IsJsonOrMemory Cycle = ⊥
 IsJsonOrMemory Memory = Unit {0}
+
+-- the faults that come today
+abbrev pub IsJsonShapeOrMemory : BookError → Type 0
+IsJsonShapeOrMemory Json = Unit {0}
+IsJsonShapeOrMemory Shape = Unit {0}
+IsJsonShapeOrMemory Tag = ⊥
+IsJsonShapeOrMemory System = ⊥
+IsJsonShapeOrMemory Text = ⊥
+IsJsonShapeOrMemory Digits = ⊥
+IsJsonShapeOrMemory Condition = ⊥
+IsJsonShapeOrMemory Types = ⊥
+IsJsonShapeOrMemory Exponents = ⊥
+IsJsonShapeOrMemory Duplicate = ⊥
+IsJsonShapeOrMemory Cycle = ⊥
+IsJsonShapeOrMemory Memory = Unit {0}

@@ -4,3 +4,4 @@ pub mod TagReading
 pub mod BookError
 pub mod Json
 pub mod Book
+pub mod Choice

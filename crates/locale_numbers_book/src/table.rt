@@ -8,7 +8,11 @@ use indexmap::IndexMap;
 use std::hash::Hash;
 
 /// Adds a table under a key that is not there yet.
-pub fn add<K: Eq + Hash + Drop, V: Drop>(table: &mut IndexMap<K, V>, key: K, value: V) -> Result<(), BookError>
+pub fn add<K: Eq + Hash + Drop, V: Drop>(
+    table: &mut IndexMap<K, V>,
+    key: K,
+    value: V,
+) -> Result<(), BookError>
     ensures added { OnOk result (table.new.entries ≡ table.old.entries ++ (key, value) ∷ []) }
     ensures fresh { OnOk result (get K.eq table.old key ≡ None) }
     ensures shape { IsErrOf result BookError.Shape → IsSome (get K.eq table.old key) }

@@ -62,7 +62,8 @@ fn symbols(alloc: Global, entry: &Value) -> Result<DecimalSymbols, BookError>
     })
 }
 
-fn has_count(entry: &Value, count: usize) -> bool
+/// Whether a value is an array of so many items.
+pub fn has_count(entry: &Value, count: usize) -> bool
     ensures { result ≡ has_count count (view entry.now) }
 {
     match entry.as_array() {
@@ -72,7 +73,10 @@ fn has_count(entry: &Value, count: usize) -> bool
 }
 
 /// The symbols of an entry, with their key.
-pub fn symbols_entry(alloc: Global, entry: &Value) -> Result<(SymbolsKey, DecimalSymbols), BookError>
+pub fn symbols_entry(
+    alloc: Global,
+    entry: &Value,
+) -> Result<(SymbolsKey, DecimalSymbols), BookError>
     ensures value { IfOk result (λ pair. symbols_entry (view entry.now) ≡ Some pair) }
     ensures shape { IsErrOf result BookError.Shape → symbols_entry (view entry.now) ≡ None }
     ensures only { IfErr result IsShapeOrMemory }

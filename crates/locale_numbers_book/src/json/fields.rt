@@ -5,8 +5,8 @@ ghost use Rattle.serde_json.specs.View.{view};
 ghost use Rattle.locale_numbers_book.specs.BookError.{IsShapeOrMemory};
 ghost use Rattle.locale_numbers_book.specs.Book.{is_plain, is_small_letter_or_digit, is_system_name, plain_text_in, system_in, system_or_none_in, locale_in, size_in, digits_in, ten_characters, field_at};
 
-use crate::tags::{LocaleKey, Subtag};
 use crate::BookError;
+use crate::tags::{LocaleKey, Subtag};
 use arrayvec::ArrayString;
 use serde_json::Value;
 use std::alloc::{AllocError, Global};
@@ -22,7 +22,11 @@ fn plain_text(entry: &Value, place: usize) -> Option<&str>
     ensures { option_map (λ text. chars text.now) result ≡ field_at plain_text_in place (view entry.now) }
 {
     let text = entry.get(place)?.as_str()?;
-    if is_plain_text(text) { Some(text) } else { None }
+    if is_plain_text(text) {
+        Some(text)
+    } else {
+        None
+    }
 }
 
 /// The text at a place of an entry, as a `String`.
@@ -45,7 +49,11 @@ pub fn size(entry: &Value, place: usize) -> Option<u8>
     ensures { result ≡ field_at size_in place (view entry.now) }
 {
     let number = entry.get(place)?.as_u64()?;
-    if number < 256 { Some(number as u8) } else { None }
+    if number < 256 {
+        Some(number as u8)
+    } else {
+        None
+    }
 }
 
 /// The locale at a place of an entry.
@@ -66,7 +74,9 @@ fn is_system_name(text: &str) -> bool
 fn is_small_alphanumeric(bytes: &[u8]) -> bool
     ensures { result ≡ list_all is_small_letter_or_digit bytes.now }
 {
-    bytes.iter().all(|b| b.is_ascii_lowercase() || b.is_ascii_digit())
+    bytes
+        .iter()
+        .all(|b| b.is_ascii_lowercase() || b.is_ascii_digit())
 }
 
 /// The name of a numbering system at a place of an entry.
@@ -74,7 +84,11 @@ pub fn system_name(entry: &Value, place: usize) -> Option<&str>
     ensures { option_map (λ text. text.now) result ≡ field_at system_in place (view entry.now) }
 {
     let text = entry.get(place)?.as_str()?;
-    if is_system_name(text) { Some(text) } else { None }
+    if is_system_name(text) {
+        Some(text)
+    } else {
+        None
+    }
 }
 
 /// The same name, kept in the value itself.

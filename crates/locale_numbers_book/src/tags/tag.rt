@@ -123,4 +123,18 @@ impl Tag {
     {
         read_tag(text)
     }
+
+    /// The locale that is asked for.
+    pub fn locale(&self) -> LocaleKey
+        ensures { result ≡ self.now.locale }
+    {
+        self.locale
+    }
+
+    /// The numbering system that is asked for, or none.
+    pub fn numbering_system(&self) -> Option<Subtag<8>>
+        ensures { result ≡ self.now.numbering_system }
+    {
+        self.numbering_system
+    }
 }

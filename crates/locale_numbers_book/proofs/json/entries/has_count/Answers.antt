@@ -1,4 +1,4 @@
-use Rattle.std.proofs.Common.{sym, ap, nat_eq, ◌∙◌, rules}
+use Rattle.std.proofs.Common.{sym, rules}
 use Rattle.locale_numbers_book.proofs.BookLemmas.{count-items}
 use Rattle.locale_numbers_book.proofs.json.entries.has_count.Goals as goal
 

@@ -1,0 +1,97 @@
+//! A book of tables.
+ghost use Rattle.std.specs.Prelude.{◌≡◌, IfOk, IsErrOf, IfErr, Some, None};
+ghost use Rattle.std.specs.Option.{option_copied};
+ghost use Rattle.std.specs.Str.{bytes_eq};
+ghost use Rattle.serde_json.specs.View.{view};
+ghost use Rattle.serde_json.specs.Data.{Data};
+ghost use Rattle.locale_numbers_book.specs.Json.{Reads, IsNoJson};
+ghost use Rattle.locale_numbers_book.specs.BookError.{IsShapeOrMemory, IsJsonShapeOrMemory};
+ghost use Rattle.locale_numbers_book.specs.Book.{IsBook, IsNoBook, table_at, same_key};
+
+use crate::BookError;
+use crate::json::{array_at, digits_table, has_form, symbols_table, value_of};
+use crate::key::SymbolsKey;
+use crate::tags::{LocaleKey, Subtag};
+use indexmap::IndexMap;
+use locale_numbers_symbols::DecimalSymbols;
+use serde_json::Value;
+use std::alloc::Global;
+use std::marker::Model;
+
+/// Tables of symbols and of digits, as a JSON text names them.
+#[derive(Drop)]
+pub struct Book {
+    symbols: IndexMap<SymbolsKey, DecimalSymbols>,
+    digits: IndexMap<Subtag<8>, [char; 10]>,
+}
+
+impl Model for Book {
+    ghost use Rattle.locale_numbers_book.specs.Book.{BookTables};
+
+    ghost Value = { BookTables };
+
+    ghost view = { λ b. record { symbols = b.symbols.entries; digits = b.digits.entries } };
+}
+
+/// The book that a JSON value is.
+fn book_of(alloc: Global, value: &Value) -> Result<Book, BookError>
+    ensures value { IfOk result (IsBook (view value.now)) }
+    ensures shape { IsErrOf result BookError.Shape → IsNoBook (view value.now) }
+    ensures only { IfErr result IsShapeOrMemory }
+{
+    if !has_form(value) {
+        return Err(BookError::Shape);
+    }
+    let Some(symbols) = array_at(value, 0) else {
+        return Err(BookError::Shape);
+    };
+    let Some(digits) = array_at(value, 1) else {
+        return Err(BookError::Shape);
+    };
+    let symbols = symbols_table(alloc, symbols)?;
+    let digits = digits_table(alloc, digits)?;
+    Ok(Book { symbols, digits })
+}
+
+impl Book {
+    /// The book that a JSON text is.
+    ///
+    /// An array of five arrays: of symbols, of digits, and three more of which only that they are arrays is looked at.
+    /// `SAMPLE_BOOK` is one. Refused with `Json` where the bytes have no reading as JSON, with `Shape` where the value that
+    /// they say is no book, with `Memory` where memory is refused; no other error comes today. Takes memory.
+    pub fn from_json(alloc: Global, bytes: &[u8]) -> Result<Book, BookError>
+        ensures value { IfOk result (λ book. (value : Data) × Reads bytes.now value × IsBook value book) }
+        ensures json { IsErrOf result BookError.Json → IsNoJson bytes.now }
+        ensures shape { IsErrOf result BookError.Shape → (value : Data) × Reads bytes.now value × IsNoBook value }
+        ensures only { IfErr result IsJsonShapeOrMemory }
+    {
+        match value_of(alloc, bytes) {
+            Ok(value) => book_of(alloc, &value),
+            Err(fault) => Err(fault),
+        }
+    }
+
+    /// The symbols of the entry with this locale and this numbering system, or none.
+    ///
+    /// `None` where the book has no such entry. Takes no memory.
+    pub fn symbols(
+        &self,
+        locale: LocaleKey,
+        numbering_system: Option<Subtag<8>>,
+    ) -> Option<&DecimalSymbols>
+        ensures { option_copied result
+            ≡ table_at same_key (record { locale = locale; numbering_system = numbering_system }) self.now.symbols }
+    {
+        let key = SymbolsKey::new(locale, numbering_system);
+        self.symbols.get(&key)
+    }
+
+    /// The ten digits of the entry with this numbering system, from zero up.
+    ///
+    /// `None` where the book has no such entry. Takes no memory.
+    pub fn digits(&self, numbering_system: Subtag<8>) -> Option<&[char; 10]>
+        ensures { option_copied result ≡ table_at bytes_eq numbering_system self.now.digits }
+    {
+        self.digits.get(&numbering_system)
+    }
+}

@@ -1,0 +1,56 @@
+//! The arrays of a book as tables.
+ghost use Rattle.std.specs.Prelude.{◌≡◌, IfOk, IsErrOf, IfErr, Some, None};
+ghost use Rattle.std.specs.Str.{bytes_eq};
+ghost use Rattle.serde_json.specs.View.{items_view};
+ghost use Rattle.locale_numbers_book.specs.BookError.{IsShapeOrMemory};
+ghost use Rattle.locale_numbers_book.specs.Book.{table_in, same_key, symbols_entry, digits_entry};
+
+use super::entries::{digits_entry, symbols_entry};
+use crate::BookError;
+use crate::key::SymbolsKey;
+use crate::table::add;
+use crate::tags::Subtag;
+use indexmap::IndexMap;
+use locale_numbers_symbols::DecimalSymbols;
+use serde_json::Value;
+use std::alloc::Global;
+
+/// The table of symbols that the entries of an array make.
+pub fn symbols_table(
+    alloc: Global,
+    entries: &[Value],
+) -> Result<IndexMap<SymbolsKey, DecimalSymbols>, BookError>
+    ensures value { IfOk result (λ table. table_in same_key symbols_entry (items_view entries.now) ≡ Some table.entries) }
+    ensures shape { IsErrOf result BookError.Shape → table_in same_key symbols_entry (items_view entries.now) ≡ None }
+    ensures only { IfErr result IsShapeOrMemory }
+{
+    let mut table: IndexMap<SymbolsKey, DecimalSymbols> = IndexMap::new(alloc);
+    for entry in entries {
+        let (key, symbols) = symbols_entry(alloc, entry)?;
+        match add(&mut table, key, symbols) {
+            Ok(()) => {}
+            Err(fault) => return Err(fault),
+        }
+    }
+    Ok(table)
+}
+
+/// The table of digits that the entries of an array make.
+pub fn digits_table(
+    alloc: Global,
+    entries: &[Value],
+) -> Result<IndexMap<Subtag<8>, [char; 10]>, BookError>
+    ensures value { IfOk result (λ table. table_in bytes_eq digits_entry (items_view entries.now) ≡ Some table.entries) }
+    ensures shape { IsErrOf result BookError.Shape → table_in bytes_eq digits_entry (items_view entries.now) ≡ None }
+    ensures only { IfErr result IsShapeOrMemory }
+{
+    let mut table: IndexMap<Subtag<8>, [char; 10]> = IndexMap::new(alloc);
+    for entry in entries {
+        let (system, digits) = digits_entry(alloc, entry)?;
+        match add(&mut table, system, digits) {
+            Ok(()) => {}
+            Err(fault) => return Err(fault),
+        }
+    }
+    Ok(table)
+}
