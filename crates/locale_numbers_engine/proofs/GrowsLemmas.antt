@@ -4,7 +4,7 @@ use Rattle.std.proofs.Math.Seq.{take-append_seam}
 use Rattle.std.specs.Str.{IsUtf8}
 use Rattle.std.proofs.lemmas.Str.{IsCharBoundary-from_take}
 use Rattle.std.specs.String.Boundary.{IsSplitPoint}
-use Rattle.locale_numbers_engine.specs.Progress.{Grows}
+use Rattle.locale_numbers_engine.specs.Growth.{Grows}
 
 pub IsSplitPoint-grown : (old new : List ℕ) (n : ℕ) → IsUtf8 old → IsUtf8 new → Grows old new → n ≡ length old → IsSplitPoint new n
 IsSplitPoint-grown old new n text_old text_new grows at =

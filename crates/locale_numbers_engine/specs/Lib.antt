@@ -1,7 +1,9 @@
 pub mod ByteIo
+pub mod Growth
 pub mod Laws
 pub mod Lines
 pub mod Outcomes
 pub mod Progress
 pub mod Run
+pub mod Toy
 pub mod Tracking

@@ -7,11 +7,6 @@ use Rattle.std.specs.Io.KnownBytes.{Appends}
 use Rattle.locale_numbers_engine.specs.Lines.{line_feed, ended, HasNoFeed, AreLines, last_line, answers_to}
 use Rattle.locale_numbers_engine.specs.Run.{most, WritesAll, CountsLines, CountsMade}
 
--- these bytes stay in front of what is there now
-pub record Grows (old new : List ℕ) : Type 0 where
-  pub more : List ℕ
-  pub grew : new ≡ old ++ more
-
 -- the bytes are a line, its feed and what follows
 pub record FirstLine (bytes line rest : List ℕ) : Type 0 where
   pub whole : bytes ≡ line ++ line_feed ∷ rest

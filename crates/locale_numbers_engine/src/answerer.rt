@@ -1,5 +1,5 @@
 ghost use Rattle.std.specs.Prelude.{◌≡◌, ℕ, List, [], ◌∷◌, ◌++◌, string_bytes, OnOk, OnErr};
-ghost use Rattle.locale_numbers_engine.specs.Progress.{Grows};
+ghost use Rattle.locale_numbers_engine.specs.Growth.{Grows};
 
 use std::alloc::AllocError;
 
@@ -19,8 +19,10 @@ pub trait Answerer {
     /// It fails for want of memory alone; then a part of the answer may stand there.
     fn answer_onto(&mut self, line: &[u8], out: &mut String) -> Result<(), AllocError>
         requires { is_ready self.old }
-        ensures text { OnOk result (string_bytes out.new ≡ string_bytes out.old ++ answer_of self.old line.now) }
-        ensures made { OnOk result ((more : List (List ℕ)) → made_over self.old (line.now ∷ more) ≡ made_over self.new more) }
+        ensures text { OnOk result (
+            string_bytes out.new ≡ string_bytes out.old ++ answer_of self.old line.now) }
+        ensures made { OnOk result ((more : List (List ℕ)) →
+            made_over self.old (line.now ∷ more) ≡ made_over self.new more) }
         ensures same { answer_of self.new ≡ answer_of self.old }
         ensures ready { is_ready self.new }
         ensures err { OnErr result (Grows (string_bytes out.old) (string_bytes out.new)) };

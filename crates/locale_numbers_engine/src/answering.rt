@@ -1,6 +1,6 @@
 ghost use Rattle.std.specs.Prelude.{◌≡◌, ℕ, List, [], ◌∷◌, ◌++◌, string_bytes, OnOk, OnErr};
 ghost use Rattle.locale_numbers_engine.specs.Lines.{ended};
-ghost use Rattle.locale_numbers_engine.specs.Progress.{Grows};
+ghost use Rattle.locale_numbers_engine.specs.Growth.{Grows};
 
 use crate::answerer::Answerer;
 use std::alloc::AllocError;
@@ -12,8 +12,10 @@ fn push_answer<A: Answerer>(
     ready: &mut String,
 ) -> Result<(), AllocError>
     requires { A.is_ready answerer.old }
-    ensures text { OnOk result (string_bytes ready.new ≡ string_bytes ready.old ++ ended (A.answer_of answerer.old line.now)) }
-    ensures made { OnOk result ((more : List (List ℕ)) → A.made_over answerer.old (line.now ∷ more) ≡ A.made_over answerer.new more) }
+    ensures text { OnOk result (
+        string_bytes ready.new ≡ string_bytes ready.old ++ ended (A.answer_of answerer.old line.now)) }
+    ensures made { OnOk result ((more : List (List ℕ)) →
+        A.made_over answerer.old (line.now ∷ more) ≡ A.made_over answerer.new more) }
     ensures same { A.answer_of answerer.new ≡ A.answer_of answerer.old }
     ensures ready { A.is_ready answerer.new }
     ensures err { OnErr result (Grows (string_bytes ready.old) (string_bytes ready.new)) }
@@ -29,8 +31,10 @@ pub fn answer_line<A: Answerer>(
     ready: &mut String,
 ) -> Result<(), AllocError>
     requires { A.is_ready answerer.old }
-    ensures text { OnOk result (string_bytes ready.new ≡ string_bytes ready.old ++ ended (A.answer_of answerer.old line.now)) }
-    ensures made { OnOk result ((more : List (List ℕ)) → A.made_over answerer.old (line.now ∷ more) ≡ A.made_over answerer.new more) }
+    ensures text { OnOk result (
+        string_bytes ready.new ≡ string_bytes ready.old ++ ended (A.answer_of answerer.old line.now)) }
+    ensures made { OnOk result ((more : List (List ℕ)) →
+        A.made_over answerer.old (line.now ∷ more) ≡ A.made_over answerer.new more) }
     ensures same { A.answer_of answerer.new ≡ A.answer_of answerer.old }
     ensures ready { A.is_ready answerer.new }
     ensures err { OnErr result (string_bytes ready.new ≡ string_bytes ready.old) }
@@ -53,8 +57,10 @@ pub fn answer_held<A: Answerer>(
     ready: &mut String,
 ) -> Result<(), AllocError>
     requires { A.is_ready answerer.old }
-    ensures text { OnOk result (string_bytes ready.new ≡ string_bytes ready.old ++ ended (A.answer_of answerer.old (held.old.items ++ end.now))) }
-    ensures made { OnOk result ((more : List (List ℕ)) → A.made_over answerer.old ((held.old.items ++ end.now) ∷ more) ≡ A.made_over answerer.new more) }
+    ensures text { OnOk result (
+        string_bytes ready.new ≡ string_bytes ready.old ++ ended (A.answer_of answerer.old (held.old.items ++ end.now))) }
+    ensures made { OnOk result ((more : List (List ℕ)) →
+        A.made_over answerer.old ((held.old.items ++ end.now) ∷ more) ≡ A.made_over answerer.new more) }
     ensures gone { OnOk result (held.new.items ≡ []) }
     ensures same { A.answer_of answerer.new ≡ A.answer_of answerer.old }
     ensures ready { A.is_ready answerer.new }

@@ -24,12 +24,14 @@ fn gather<A: Answerer, W: ByteWriter>(
     requires cut { HasNoFeed held.old.items }
     requires nothing { string_bytes ready.old ≡ [] }
     requires writer_well { W.failed writer.old ≡ false }
-    ensures came { MatchResult result
-        (λ count. Progress (A.answer_of answerer.old) (held.old.items ++ piece.now) held.new.items [] (string_bytes ready.new)
-        (W.contents writer.old) (W.contents writer.new) lines count (A.made_over answerer.old) (A.made_over answerer.new))
-        (λ refusal. MatchRun refusal ⊥
-        (AnsweredPart (A.answer_of answerer.old) (held.old.items ++ piece.now) (W.contents writer.old) (W.contents writer.new))
-        (Answered (A.answer_of answerer.old) (held.old.items ++ piece.now) (string_bytes ready.new) (W.contents writer.old) (W.contents writer.new))) }
+    ensures came { let answer = A.answer_of answerer.old in
+        let bytes = held.old.items ++ piece.now in
+        let before = W.contents writer.old in
+        let after = W.contents writer.new in
+        MatchResult result
+        (λ count. Progress answer bytes held.new.items [] (string_bytes ready.new) before after lines count
+        (A.made_over answerer.old) (A.made_over answerer.new))
+        (λ refusal. MatchRun refusal ⊥ (AnsweredPart answer bytes before after) (Answered answer bytes (string_bytes ready.new) before after)) }
     ensures fault { W.failed writer.new ≡ ends_in_write result }
     ensures same { A.answer_of answerer.new ≡ A.answer_of answerer.old }
     ensures can_answer { A.is_ready answerer.new }
@@ -59,12 +61,14 @@ pub fn feed<A: Answerer, W: ByteWriter>(
     requires cut { HasNoFeed held.old.items }
     requires nothing { string_bytes ready.old ≡ [] }
     requires writer_well { W.failed writer.old ≡ false }
-    ensures came { MatchResult result
-        (λ count. Progress (A.answer_of answerer.old) (held.old.items ++ piece.now) held.new.items [] []
-        (W.contents writer.old) (W.contents writer.new) lines count (A.made_over answerer.old) (A.made_over answerer.new))
-        (λ refusal. MatchRun refusal ⊥
-        (AnsweredPart (A.answer_of answerer.old) (held.old.items ++ piece.now) (W.contents writer.old) (W.contents writer.new))
-        (Answered (A.answer_of answerer.old) (held.old.items ++ piece.now) [] (W.contents writer.old) (W.contents writer.new))) }
+    ensures came { let answer = A.answer_of answerer.old in
+        let bytes = held.old.items ++ piece.now in
+        let before = W.contents writer.old in
+        let after = W.contents writer.new in
+        MatchResult result
+        (λ count. Progress answer bytes held.new.items [] [] before after lines count
+        (A.made_over answerer.old) (A.made_over answerer.new))
+        (λ refusal. MatchRun refusal ⊥ (AnsweredPart answer bytes before after) (Answered answer bytes [] before after)) }
     ensures nothing { OnOk result (string_bytes ready.new ≡ []) }
     ensures fault { W.failed writer.new ≡ ends_in_write result }
     ensures same { A.answer_of answerer.new ≡ A.answer_of answerer.old }

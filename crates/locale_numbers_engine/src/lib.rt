@@ -1,4 +1,13 @@
-//! Bytes cut into lines, each answered by one and written out as soon as it is whole.
+//! Bytes cut into lines, each answered by one answerer and written out as soon as it is whole.
+//!
+//! The engine knows nothing of what is asked or answered: an [`Answerer`] does. [`run_with`] reads
+//! from a [`ByteReader`] and writes to a [`ByteWriter`]; [`Tracked`] makes these of std's own:
+//!
+//! ```text
+//! let mut reader = Tracked::new(rt.stdin());
+//! let mut writer = Tracked::new(rt.stdout());
+//! let report = run_with(rt.alloc(), &mut answerer, &mut reader, &mut writer)?;
+//! ```
 
 #![tactic(auto)]
 
@@ -12,6 +21,8 @@ pub mod laws;
 mod report;
 mod run_error;
 mod running;
+#[cfg(test)]
+mod tests;
 mod tracked;
 mod writing;
 

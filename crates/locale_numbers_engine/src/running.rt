@@ -3,7 +3,8 @@ ghost use Rattle.std.specs.Io.KnownBytes.{Keeps};
 ghost use Rattle.locale_numbers_engine.specs.Lines.{answers_to, last_line};
 ghost use Rattle.locale_numbers_engine.specs.Outcomes.{MatchRun, ends_in_write, is_write};
 ghost use Rattle.locale_numbers_engine.specs.Progress.{AnswersAll, Finishes};
-ghost use Rattle.locale_numbers_engine.specs.Run.{WritesAll, WritesTold, WritesPart, WritesFirst, WritesFront, CountsLines, CountsMade, GivesTooLong};
+ghost use Rattle.locale_numbers_engine.specs.Run.{WritesAll, WritesTold, WritesPart, WritesFirst, WritesFront};
+ghost use Rattle.locale_numbers_engine.specs.Run.{CountsLines, CountsMade, GivesTooLong};
 
 use crate::answerer::Answerer;
 use crate::answering::answer_line;
@@ -26,12 +27,12 @@ fn finish<A: Answerer, W: ByteWriter>(
     requires can_answer { A.is_ready answerer.old }
     requires nothing { string_bytes ready.old ≡ [] }
     requires writer_well { W.failed writer.old ≡ false }
-    ensures came { MatchResult result
-        (λ count. Finishes (A.answer_of answerer.old) held.now (W.contents writer.old) (W.contents writer.new) lines count
-        (A.made_over answerer.old) (A.made_over answerer.new))
-        (λ refusal. MatchRun refusal ⊥
-        (WritesFront (answers_to (A.answer_of answerer.old) (last_line held.now)) (W.contents writer.old) (W.contents writer.new))
-        (Keeps (W.contents writer.old) (W.contents writer.new))) }
+    ensures came { let answer = A.answer_of answerer.old in
+        let before = W.contents writer.old in
+        let after = W.contents writer.new in
+        MatchResult result
+        (λ count. Finishes answer held.now before after lines count (A.made_over answerer.old) (A.made_over answerer.new))
+        (λ refusal. MatchRun refusal ⊥ (WritesFront (answers_to answer (last_line held.now)) before after) (Keeps before after)) }
     ensures fault { W.failed writer.new ≡ ends_in_write result }
     ensures same { A.answer_of answerer.new ≡ A.answer_of answerer.old }
     ensures can_answer { A.is_ready answerer.new }
@@ -47,7 +48,8 @@ fn finish<A: Answerer, W: ByteWriter>(
 // Flushes after a read that failed: Read, or Write where that fails.
 fn stop<W: ByteWriter>(writer: &mut W) -> RunError
     requires { W.failed writer.old ≡ false }
-    ensures kept { MatchRun result (Keeps (W.contents writer.old) (W.contents writer.new)) (Keeps (W.contents writer.old) (W.contents writer.new)) ⊥ }
+    ensures kept { let kept = Keeps (W.contents writer.old) (W.contents writer.new) in
+        MatchRun result kept kept ⊥ }
     ensures fault { W.failed writer.new ≡ is_write result }
 {
     match writer.flush() {
@@ -68,15 +70,19 @@ fn stream<A: Answerer, R: ByteReader, W: ByteWriter>(
     requires room { 0 < length piece.old }
     requires reader_well { R.failed reader.old ≡ false }
     requires writer_well { W.failed writer.old ≡ false }
-    ensures outcome { MatchResult result
-        (λ count. AnswersAll (A.answer_of answerer.old) (R.remaining reader.old) (W.contents writer.old) (W.contents writer.new) count
-        (A.made_over answerer.old) (A.made_over answerer.new))
+    ensures outcome { let answer = A.answer_of answerer.old in
+        let had = R.remaining reader.old in
+        let held = W.contents writer.old in
+        let holds = W.contents writer.new in
+        MatchResult result
+        (λ count. AnswersAll answer had held holds count (A.made_over answerer.old) (A.made_over answerer.new))
         (λ refusal. MatchRun refusal
-        (WritesTold (A.answer_of answerer.old) (R.remaining reader.old) (R.remaining reader.new) (W.contents writer.old) (W.contents writer.new))
-        (WritesPart (A.answer_of answerer.old) (R.remaining reader.old) (W.contents writer.old) (W.contents writer.new))
-        (WritesFirst (A.answer_of answerer.old) (R.remaining reader.old) (W.contents writer.old) (W.contents writer.new))) }
+        (WritesTold answer had (R.remaining reader.new) held holds)
+        (WritesPart answer had held holds)
+        (WritesFirst answer had held holds)) }
     ensures reader_stays_well { OnOk result (R.failed reader.new ≡ false) }
-    ensures reader_failed { IsErrOf result RunError.Read → (R.failed reader.new ≡ true) ⊎ GivesTooLong (R.remaining reader.old) (R.remaining reader.new) }
+    ensures reader_failed { IsErrOf result RunError.Read →
+        (R.failed reader.new ≡ true) ⊎ GivesTooLong (R.remaining reader.old) (R.remaining reader.new) }
     ensures fault { W.failed writer.new ≡ ends_in_write result }
     ensures same { A.answer_of answerer.new ≡ A.answer_of answerer.old }
     ensures can_answer { A.is_ready answerer.new }
@@ -88,8 +94,10 @@ fn stream<A: Answerer, R: ByteReader, W: ByteWriter>(
         match reader.read(piece) {
             Ok(0) => {
                 let count = finish(answerer, held.as_slice(), &mut ready, lines, writer)?;
-                writer.flush()?;
-                return Ok(count);
+                match writer.flush() {
+                    Ok(()) => return Ok(count),
+                    Err(_) => return Err(RunError::Write),
+                }
             }
             Ok(given) => lines = feed(
                 answerer,
@@ -105,7 +113,21 @@ fn stream<A: Answerer, R: ByteReader, W: ByteWriter>(
     Err(stop(writer))
 }
 
-/// Answers the lines that `reader` gives, each with a line feed after it, onto `writer`.
+/// Answers each line that `reader` gives, in order, onto `writer`, each answer with a line feed.
+///
+/// A line ends at a line feed; what stands after the last one is a line too, where it is not empty.
+/// With an answerer that turns letters to upper case the bytes `one`, line feed, `two` give `ONE`,
+/// line feed, `TWO`, line feed, and a report of 2 lines.
+///
+/// The bytes are read once, in pieces of 65,536. What is held meanwhile is one piece, the front of a
+/// line that goes on, and answers: these are written before the next piece is read, and whenever they
+/// come to 65,536 bytes. After the last answer the writer is flushed once.
+///
+/// - Read: a read failed, or the reader still gave bytes after 18,446,744,073,709,551,615 reads. The
+///   whole lines that it gave have been answered, and the writer has been flushed.
+/// - Write: a write or the flush failed, or a write took no byte. A front of the output is written.
+/// - Memory: a request for memory was refused, here or by the answerer. Some first lines have been
+///   answered, each whole.
 pub fn run_with<A: Answerer, R: ByteReader, W: ByteWriter>(
     alloc: Global,
     answerer: &mut A,
@@ -115,20 +137,29 @@ pub fn run_with<A: Answerer, R: ByteReader, W: ByteWriter>(
     requires can_answer { A.is_ready answerer.old }
     requires reader_well { R.failed reader.old ≡ false }
     requires writer_well { W.failed writer.old ≡ false }
-    ensures output { OnOk result (WritesAll (A.answer_of answerer.old) (R.remaining reader.old) (W.contents writer.old) (W.contents writer.new)) }
+    ensures output { OnOk result (
+        WritesAll (A.answer_of answerer.old) (R.remaining reader.old)
+        (W.contents writer.old) (W.contents writer.new)) }
     ensures lines { IfOk result (λ report. CountsLines (R.remaining reader.old) report.lines) }
-    ensures made { IfOk result (λ report. CountsMade (A.made_over answerer.old) (R.remaining reader.old) report.made) }
+    ensures made { IfOk result (λ report.
+        CountsMade (A.made_over answerer.old) (R.remaining reader.old) report.made) }
     ensures reader_stays_well { OnOk result (R.failed reader.new ≡ false) }
     ensures writer_stays_well { OnOk result (W.failed writer.new ≡ false) }
     ensures read { IsErrOf result RunError.Read →
-        WritesTold (A.answer_of answerer.old) (R.remaining reader.old) (R.remaining reader.new) (W.contents writer.old) (W.contents writer.new) }
+        WritesTold (A.answer_of answerer.old) (R.remaining reader.old) (R.remaining reader.new)
+        (W.contents writer.old) (W.contents writer.new) }
     ensures reader_failed { IsErrOf result RunError.Read →
         (R.failed reader.new ≡ true) ⊎ GivesTooLong (R.remaining reader.old) (R.remaining reader.new) }
     ensures write { IsErrOf result RunError.Write →
-        WritesPart (A.answer_of answerer.old) (R.remaining reader.old) (W.contents writer.old) (W.contents writer.new) }
+        WritesPart (A.answer_of answerer.old) (R.remaining reader.old)
+        (W.contents writer.old) (W.contents writer.new) }
     ensures writer_failed { IsErrOf result RunError.Write → W.failed writer.new ≡ true }
+
+    // The writer has failed just where the answer is Write.
+    ensures fault { W.failed writer.new ≡ ends_in_write result }
     ensures memory { IsErrOf result RunError.Memory →
-        WritesFirst (A.answer_of answerer.old) (R.remaining reader.old) (W.contents writer.old) (W.contents writer.new) }
+        WritesFirst (A.answer_of answerer.old) (R.remaining reader.old)
+        (W.contents writer.old) (W.contents writer.new) }
     ensures same { A.answer_of answerer.new ≡ A.answer_of answerer.old }
     ensures can_answer { A.is_ready answerer.new }
 {

@@ -87,12 +87,11 @@ impl<W: io::Write> ByteWriter for Tracked<W> {
     }
 
     fn flush(&mut self) -> Result<(), WriteFault> {
-        match self.inner.flush() {
+        let flushed = self.inner.flush();
+        self.failed = self.failed || flushed.is_err();
+        match flushed {
             Ok(()) => Ok(()),
-            Err(_) => {
-                self.failed = true;
-                Err(WriteFault)
-            }
+            Err(_) => Err(WriteFault),
         }
     }
 

@@ -5,6 +5,9 @@ ghost use Rattle.locale_numbers_engine.specs.Progress.{Moves};
 
 use crate::byte_writer::{ByteWriter, WriteFault};
 
+// How many bytes are read at once, and how long the ready answers may grow before they are written.
+pub const PIECE: usize = 65_536;
+
 // Writes all of these bytes; after a fault a front of them was written.
 pub fn write_whole<W: ByteWriter>(writer: &mut W, bytes: &[u8]) -> Result<(), WriteFault>
     requires { W.failed writer.old ≡ false }
@@ -30,16 +33,15 @@ pub fn write_ready<W: ByteWriter>(writer: &mut W, ready: &mut String) -> Result<
     ensures wrote { MatchResult result
         (λ _. Appends (W.contents writer.old) (W.contents writer.new) (string_bytes ready.old))
         (λ _. WritesFront (string_bytes ready.old) (W.contents writer.old) (W.contents writer.new)) }
-    ensures gone { MatchResult result (λ _. string_bytes ready.new ≡ []) (λ _. string_bytes ready.new ≡ string_bytes ready.old) }
+    ensures gone { MatchResult result
+        (λ _. string_bytes ready.new ≡ [])
+        (λ _. string_bytes ready.new ≡ string_bytes ready.old) }
     ensures fault { W.failed writer.new ≡ is_err result }
 {
     write_whole(writer, ready.as_bytes())?;
     ready.clear();
     Ok(())
 }
-
-// How many bytes are read at once, and how many of the answers are kept back at most before more are read.
-pub const PIECE: usize = 65_536;
 
 // Writes the ready answers once they are as long as a piece.
 pub fn write_full<W: ByteWriter>(writer: &mut W, ready: &mut String) -> Result<(), WriteFault>

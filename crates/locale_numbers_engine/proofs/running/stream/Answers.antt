@@ -54,23 +54,21 @@ returns-in_err-count-in-Ok-eq0-clause-outcome g c =
     rw (p.1, p.2)
     (finish_refused _ _ _ _ _ _ _ _ _ _ _ _ _ _ _ so_far.came so_far.same (told_ended _ _ _ _ so_far.gave given.0) (given.1 refl room) (rw c.as_slice.ensures.value at c.in_err-count-in-Ok-eq0.ensures.came))
 
-pub returns-in_err-flush-in-Ok-eq0-clause-outcome : goal.returns-in_err-flush-in-Ok-eq0-clause-outcome
-returns-in_err-flush-in-Ok-eq0-clause-outcome g c =
+pub returns-in-Err-flush-clause-outcome : goal.returns-in-Err-flush-clause-outcome
+returns-in-Err-flush-clause-outcome g c =
     let so_far = c.read.invariant in
     let given = rw c.in-Ok-eq0.field-0-test at c.in-Ok-eq0.ensures.bytes in
     let room : 0 < length c.read-in-read.new.buffer = search rules in
-    let p = err_from_is_err_and (c.from_residual-in_err-flush-in-Ok-eq0).result (c.from_residual-in_err-flush-in-Ok-eq0).ensures.1 in
-    rw (p.1, p.2)
-    (all_part _ _ _ _ _ _ _ _ _ _ _ _ _ _ _ _ so_far.came so_far.same (rw c.as_slice.ensures.value at c.in_ok-count-in-Ok-eq0.ensures.came) (told_ended _ _ _ _ so_far.gave given.0) (given.1 refl room)
-    c.in_err-flush-in-Ok-eq0.ensures.bytes)
+    all_part _ _ _ _ _ _ _ _ _ _ _ _ _ _ _ _ so_far.came so_far.same (rw c.as_slice.ensures.value at c.in_ok-count-in-Ok-eq0.ensures.came) (told_ended _ _ _ _ so_far.gave given.0) (given.1 refl room)
+    c.in-Err-flush.ensures.bytes
 
-pub returns-in-Ok-eq0-clause-outcome : goal.returns-in-Ok-eq0-clause-outcome
-returns-in-Ok-eq0-clause-outcome g c =
+pub returns-in-Ok-flush-clause-outcome : goal.returns-in-Ok-flush-clause-outcome
+returns-in-Ok-flush-clause-outcome g c =
     let so_far = c.read.invariant in
     let given = rw c.in-Ok-eq0.field-0-test at c.in-Ok-eq0.ensures.bytes in
     let room : 0 < length c.read-in-read.new.buffer = search rules in
     all_answered _ _ _ _ _ _ _ _ _ _ _ _ _ _ _ so_far.came so_far.same (rw c.as_slice.ensures.value at c.in_ok-count-in-Ok-eq0.ensures.came) (told_ended _ _ _ _ so_far.gave given.0) (given.1 refl room)
-    c.in_ok-flush-in-Ok-eq0.ensures.bytes
+    c.in-Ok-flush.ensures.bytes
 
 pub returns-in-Err-clause-outcome : goal.returns-in-Err-clause-outcome
 returns-in-Err-clause-outcome g c =
