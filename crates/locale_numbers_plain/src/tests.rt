@@ -27,6 +27,12 @@ const WIDE: GroupingSizes = GroupingSizes {
     min_grouping: 3,
 };
 
+const FRONT_TWO: GroupingSizes = GroupingSizes {
+    primary: 3,
+    secondary: 3,
+    min_grouping: 2,
+};
+
 const PRIMARY: GroupingSizes = GroupingSizes {
     primary: 3,
     secondary: 0,
@@ -45,7 +51,7 @@ const NOWHERE: GroupingSizes = GroupingSizes {
     min_grouping: 0,
 };
 
-// The symbols of English, with a minus that stands round the number.
+// The symbols of English, with the sizes to try.
 fn english(alloc: Global, grouping_sizes: GroupingSizes) -> Result<DecimalSymbols, AllocError> {
     Ok(DecimalSymbols {
         minus_sign_prefix: String::from_str(alloc, "-")?,
@@ -88,6 +94,34 @@ fn groups_follow_the_sizes(rt: HostRuntime) -> Result<(), Fail> {
         push_plain(&mut out, &number, &symbols, &LATIN, strategy)?;
         assert_eq!(rt; out.as_str(), want, "{text}");
     }
+    Ok(())
+}
+
+// The examples of the documentation.
+#[test]
+fn examples(rt: HostRuntime) -> Result<(), Fail> {
+    for (sizes, text, want) in [
+        (WESTERN, "1234.5", "1,234.5"),
+        (WESTERN, "-1234567", "-1,234,567"),
+        (INDIC, "-1234567", "-12,34,567"),
+        (WESTERN, "-1234.50", "-1,234.50"),
+        (WESTERN, "1000000", "1,000,000"),
+        (INDIC, "1000000", "10,00,000"),
+        (FRONT_TWO, "1000", "1000"),
+        (FRONT_TWO, "10000", "10,000"),
+        (INDIC, "100000", "1,00,000"),
+    ] {
+        let number = Decimal::try_from_str(rt.alloc(), text)?;
+        let symbols = english(rt.alloc(), sizes)?;
+        let mut out = String::new(rt.alloc());
+        push_plain(&mut out, &number, &symbols, &LATIN, GroupingStrategy::Auto)?;
+        assert_eq!(rt; out.as_str(), want, "{text}");
+    }
+    let number = Decimal::try_from_str(rt.alloc(), "1234.50")?;
+    let symbols = english(rt.alloc(), WESTERN)?;
+    let mut out = String::new(rt.alloc());
+    push_unsigned(&mut out, &number, &symbols, &LATIN, GroupingStrategy::Auto)?;
+    assert_eq!(rt; out.as_str(), "1,234.50");
     Ok(())
 }
 
