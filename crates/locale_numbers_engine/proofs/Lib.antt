@@ -1,5 +1,6 @@
 pub mod FeedLemmas
 pub mod GrowsLemmas
+pub mod KnownValues
 pub mod LinesLemmas
 pub mod OutcomeLemmas
 pub mod ProgressLemmas

@@ -1,6 +1,6 @@
 -- The numbers of a run's refusals, and a fact for each of them.
 -- Defined in docs/requests.md, "What a run leaves".
--- Cited by `RunError::number`, and by the private functions that a run is made of.
+-- Cited by `RunError::number` and `run_with`, and by the private functions that a run is made of.
 use Rattle.std.specs.Prelude.{ℕ, Bool, true, false, Result, Ok, Err}
 use Rattle.locale_numbers_engine.specs.declared.run_error.RunError.{RunError}
 use Rattle.locale_numbers_engine.specs.declared.run_error.RunError.TheVariants.{Read, Write, Memory}
