@@ -143,8 +143,8 @@ pub record IsCut (p q d k : ℕ) : Type 0 where
   pub some : k * q + p < d
   pub short : d ≤ q + (k * q + p)
 
-cut : (p q d : ℕ) → 0 < q → p + 1 ≤ d → IsCut p q d ((d - p - 1) / q)
-cut p q d middle enough =
+cut_whole : (p q d : ℕ) → 0 < q → p + 1 ≤ d → IsCut p q d ((d - p - 1) / q)
+cut_whole p q d middle enough =
     let whole : (d - p - 1) / q * q + (d - p - 1) % q ≡ d - p - 1 = div-add-mod' (d - p - 1) q in
     let left : (d - p - 1) % q < q = mod_below (d - p - 1) q middle in
     record { some = omega (arith, whole, left, enough); short = omega (arith, whole, left, enough) }
@@ -177,7 +177,7 @@ ends_by : (g : Bool) (p q d m : ℕ) → (g ≡ true → (0 < p) × (0 < q) × (
 ends_by false p q d m facts near = refl
 ends_by true p q d m facts near =
     let fact = facts refl in
-    let is_cut : IsCut p q d ((d - p - 1) / q) = cut p q d fact.1 fact.2 in
+    let is_cut : IsCut p q d ((d - p - 1) / q) = cut_whole p q d fact.1 fact.2 in
     later_ends p q (d - p - (d - p - 1) / q * q) ((d - p - 1) / q) m fact.0 fact.1 (omega (arith, is_cut.short, near))
 
 -- A separator stands after the digit at a magnitude exactly where a group ends.
@@ -189,7 +189,7 @@ sizes_by : (g : Bool) (p q d : ℕ) → (g ≡ true → (0 < p) × (0 < q) × (p
 sizes_by false p q d facts some = ((some, tt), omega (arith, sum-cons d []))
 sizes_by true p q d facts some =
     let fact = facts refl in
-    let is_cut : IsCut p q d ((d - p - 1) / q) = cut p q d fact.1 fact.2 in
+    let is_cut : IsCut p q d ((d - p - 1) / q) = cut_whole p q d fact.1 fact.2 in
     let whole : sum (later p q ((d - p - 1) / q)) ≡ (d - p - 1) / q * q + p = sum-later p q ((d - p - 1) / q) in
     ((omega (arith, is_cut.some), above-later p q ((d - p - 1) / q) fact.0 fact.1), sum-cons (d - p - (d - p - 1) / q * q) (later p q ((d - p - 1) / q)) ∙ omega (arith, whole, is_cut.some))
 
@@ -214,11 +214,11 @@ joined_is_separated t s separator xs some =
 cut_by_right : (g : Bool) (p q d : ℕ) → g ≡ true → 0 < q → p + 1 ≤ d → IsCutFromTheRight p q d (cond g (cut_sizes p q d) (d ∷ []))
 cut_by_right false p q d grouped middle enough = absurd (false≢true grouped)
 cut_by_right true p q d grouped middle enough =
-    let is_cut : IsCut p q d ((d - p - 1) / q) = cut p q d middle enough in
+    let is_cut : IsCut p q d ((d - p - 1) / q) = cut_whole p q d middle enough in
     record {
       first = d - p - (d - p - 1) / q * q;
       middle = (d - p - 1) / q;
-      are = refl;
+      listed = refl;
       some = omega (arith, is_cut.some);
       short = omega (arith, is_cut.short);
       whole = omega (arith, is_cut.some);

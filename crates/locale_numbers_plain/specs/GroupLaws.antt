@@ -10,7 +10,7 @@ use Rattle.locale_numbers_plain.specs.Grouper.{group_sizes, groups, is_grouped, 
 pub record IsCutFromTheRight (p q d : ℕ) (sizes : List ℕ) : Type 0 where
   pub first : ℕ
   pub middle : ℕ
-  pub are : sizes ≡ first ∷ (replicate middle q ++ p ∷ [])
+  pub listed : sizes ≡ first ∷ (replicate middle q ++ p ∷ [])
   pub some : 0 < first
   pub short : first ≤ q
   pub whole : first + middle * q + p ≡ d

@@ -3,6 +3,6 @@ ghost use Rattle.locale_numbers_plain.specs.GroupLaws.{GroupsAreCut, GroupsAreSe
 /// A law: digits in several groups are cut from the right, and the groups joined are the digits
 /// with a separator after each one at which `grouper::check` says so.
 pub fn groups_law()
-    ensures cut { GroupsAreCut }
+    ensures sizes { GroupsAreCut }
     ensures separated { GroupsAreSeparated }
 {}
