@@ -8,3 +8,7 @@ pub mod ReadOnceLemmas
 pub mod PrintedLemmas
 pub mod RoundingStepLemmas
 pub mod LoopLemmas
+pub mod RoundingLemmas
+pub mod PairLemmas
+pub mod AppendLemmas
+pub mod RangeLemmas

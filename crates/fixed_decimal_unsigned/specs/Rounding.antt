@@ -52,8 +52,12 @@ IsRounded HalfEven unit n m = IsNearest unit n m (λ _. IsMultiple (2 * unit) m)
 unfoldable pub count_limit : ℕ
 count_limit = 10 ^ 65536
 
--- the count after a rounding: the multiple, or zero in its place where that reaches the limit
+-- a count itself, or zero in its place where it reaches the limit
+abbrev pub IsLimited : ℕ → ℕ → Type 0
+IsLimited count limited = ((count < count_limit) × (limited ≡ count)) ⊎ ((count_limit ≤ count) × (limited ≡ 0))
+
+-- the count after a rounding: the multiple that the mode names, or zero in its place
 pub record Takes (mode : UnsignedRoundingMode) (unit old new : ℕ) : Type 0 where
   pub multiple : ℕ
   pub rounded : IsRounded mode unit old multiple
-  pub is : ((multiple < count_limit) × (new ≡ multiple)) ⊎ ((count_limit ≤ multiple) × (new ≡ 0))
+  pub is : IsLimited multiple new
