@@ -4,14 +4,17 @@
 use Rattle.std.specs.Prelude.{◌==◌, ◌&&◌, ℕ, Bool, true, if◌then◌else◌, List, [], ◌∷◌, Option, Some, None, codes}
 use Rattle.std.specs.List.{slice_split}
 use Rattle.std.specs.Str.{bytes_eq, is_utf8}
-use Rattle.locale_numbers_symbols.specs.declared.options.GroupingStrategy.{GroupingStrategy}
-use Rattle.locale_numbers_symbols.specs.declared.options.GroupingStrategy.TheVariants.{Auto, Never, Always, Min2}
+use Rattle.locale_numbers_symbols.specs.declared.GroupingStrategy.{GroupingStrategy}
+use Rattle.locale_numbers_symbols.specs.declared.GroupingStrategy.TheVariants.{Auto, Never, Always, Min2}
 use Rattle.locale_numbers.specs.declared.request.Form.{Form}
 use Rattle.locale_numbers.specs.declared.request.Form.TheVariants.{Plain}
 
--- a tab
+-- the code of a tab
+abbrev pub tab : ℕ
+tab = 9
+
 abbrev pub is_tab : ℕ → Bool
-is_tab byte = byte == 9
+is_tab byte = byte == tab
 
 -- the fields of a line: the pieces between its tabs
 abbrev pub fields : List ℕ → List (List ℕ)
