@@ -1,1 +1,2 @@
 pub mod SignedTextLemmas
+pub use Rattle.fixed_decimal_unsigned.proofs.TextPartsLemmas

@@ -84,3 +84,7 @@ pub number_digit : (ds : List ℕ) (i : ℕ) → AllBelowBase 10 ds → i < leng
 number_digit ds i h l =
     ap (λ x. x % 10) (number_quotient (i + 1) ds h ∙ number_more 10 ds i l)
     ∙ mod-mul-add (number_from_digits 10 (take i ds)) 10 (get_or ds i 0) (below_at ds i h)
+
+pub below_push : (ds : List ℕ) (d : ℕ) → AllBelowBase 10 ds → d < 10 → AllBelowBase 10 (ds ++ (d ∷ []))
+below_push [] d h l = (l, tt)
+below_push (c ∷ cs) d h l = (h.0, below_push cs d h.1 l)

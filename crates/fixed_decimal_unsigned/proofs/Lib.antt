@@ -4,3 +4,11 @@ pub mod StoredLemmas
 pub mod TextPartsLemmas
 pub mod SpelledLemmas
 pub mod MantissaLemmas
+pub mod ReadOnceLemmas
+pub mod PrintedLemmas
+pub mod RoundingStepLemmas
+pub mod LoopLemmas
+pub mod RoundingLemmas
+pub mod PairLemmas
+pub mod AppendLemmas
+pub mod RangeLemmas

@@ -113,7 +113,7 @@ ends_uncapped above below up down h = record {
 abbrev pub number_made : ℕ → ℕ → ℕ → Number
 number_made a b c = record { count = a; low = b; high = c }
 
-same_number : (a b c d e f : ℕ) → a ≡ b → c ≡ d → e ≡ f → number_made a c e ≡ number_made b d f
+pub same_number : (a b c d e f : ℕ) → a ≡ b → c ≡ d → e ≡ f → number_made a c e ≡ number_made b d f
 same_number a b c d e f h i j = cc
 
 -- the number that is assembled is the one that the parts name

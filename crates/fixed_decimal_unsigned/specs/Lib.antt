@@ -1,6 +1,10 @@
 pub mod BorrowedParts
 pub mod ErrorNumbers
+pub mod Laws
 pub mod Number
 pub mod NumberText
+pub mod Range
+pub mod Rounding
+pub mod RoundingSteps
 pub mod Stored
 pub mod TextParts

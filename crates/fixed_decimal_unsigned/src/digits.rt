@@ -107,7 +107,10 @@ impl Digits {
     pub fn truncate(&mut self, len: usize)
         ensures items { self.new.items ≡ take len self.old.items }
         ensures capacity { self.new.capacity ≡ self.old.capacity }
+        ensures fits { length self.old.items ≤ self.old.capacity }
+        ensures inline { 8 ≤ self.new.capacity }
     {
+        let _fits = self.kept.len();
         self.kept.truncate(len);
     }
 
@@ -115,6 +118,7 @@ impl Digits {
     pub fn clear(&mut self)
         ensures items { self.new.items ≡ [] }
         ensures capacity { self.new.capacity ≡ self.old.capacity }
+        ensures inline { 8 ≤ self.new.capacity }
     {
         self.kept.clear();
     }

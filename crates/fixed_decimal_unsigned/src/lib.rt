@@ -7,10 +7,19 @@
 
 mod digits;
 mod error;
+pub mod laws;
+mod modes;
 mod places;
 mod reading;
+mod rounding;
+mod rounding_digits;
+mod rounding_pair;
+mod rounding_steps;
 mod text_parts;
+mod turns;
 mod unsigned_decimal;
 
 pub use error::ParseError;
+pub use modes::{RoundingIncrement, UnsignedRoundingMode};
+pub use turns::Turns;
 pub use unsigned_decimal::UnsignedDecimal;

@@ -2,3 +2,4 @@ pub mod SubtagLemmas
 pub mod PieceLemmas
 pub mod TagLemmas
 pub mod BookLemmas
+pub mod KnownValues

@@ -1,4 +1,7 @@
-//! To be written.
+//! Books: tables of symbols and digits as a JSON text names them, and the choice of tables for a tag.
+//!
+//! From `SAMPLE_BOOK` the tag `ar-EG-u-nu-thai` gets the Arabic separators of the entry `ar-EG` and the digits of the
+//! entry `thai`; the tag `en` gets `.`, `,` and the digits of `latn`, which its symbols name.
 
 #![tactic(auto)]
 
@@ -7,10 +10,15 @@ mod choosing;
 mod error;
 mod json;
 mod key;
+mod sample_book;
 mod table;
 mod tags;
 
 pub use book::Book;
 pub use choosing::Tables;
 pub use error::BookError;
+pub use sample_book::SAMPLE_BOOK;
 pub use tags::{LocaleKey, Subtag, Tag};
+
+#[cfg(test)]
+mod tests;

@@ -1,5 +1,20 @@
-//! To be written.
+//! Answers the request lines of standard input on standard output.
+//!
+//! The line `en`, `plain`, `auto`, `keep`, `-`, `-987654.321`, with tabs between, is answered by
+//! `ok`, a tab and `-987,654.321`.
 
 #![tactic(auto)]
 
-fn main(rt: HostRuntime) {}
+mod start;
+
+use std::process::ExitCode;
+
+fn main(rt: HostRuntime) -> ExitCode {
+    match start::answer_input(&rt) {
+        Ok(()) => ExitCode::SUCCESS,
+        Err(fault) => {
+            let _ = eprintln!(rt; "{fault}");
+            ExitCode::from(fault.status())
+        }
+    }
+}

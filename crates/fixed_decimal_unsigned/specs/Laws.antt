@@ -1,0 +1,22 @@
+-- Laws that join texts and numbers.
+-- Defined in docs/numbers.md, "Laws".
+-- Cited by the functions of the module `laws`.
+use Rattle.std.specs.Prelude.{◌≡◌, ℕ, List}
+use Rattle.fixed_decimal_unsigned.specs.Number.{Number, IsNumber}
+use Rattle.fixed_decimal_unsigned.specs.NumberText.{Reads, IsBeyond, text_of}
+
+-- a text has one reading, or one refusal
+pub record ReadsOnce (text : List ℕ) : Type 0 where
+  pub number : (a b : Number) → Reads text a → Reads text b → a ≡ b
+  pub limit : (a : Number) → Reads text a → ¬ (IsBeyond text)
+
+abbrev pub TextsReadOnce : Type 0
+TextsReadOnce = (text : List ℕ) → ReadsOnce text
+
+-- a number's printed text spells it
+abbrev pub PrintedTextsReadBack : Type 0
+PrintedTextsReadBack = (v : Number) → IsNumber v → Reads (text_of v) v
+
+-- texts tell numbers apart
+abbrev pub EqualTextsAreEqualNumbers : Type 0
+EqualTextsAreEqualNumbers = (a b : Number) → IsNumber a → IsNumber b → text_of a ≡ text_of b → a ≡ b

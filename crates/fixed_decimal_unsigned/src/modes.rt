@@ -1,0 +1,44 @@
+ghost use Rattle.std.specs.Prelude.{◌≡◌};
+ghost use Rattle.fixed_decimal_unsigned.specs.Rounding.{increment_number};
+
+/// Which multiple a rounding takes, by size alone.
+#[derive(Clone, Copy, Debug, Drop, PartialEq, Eq)]
+pub enum UnsignedRoundingMode {
+    /// The next multiple away from zero.
+    Expand,
+    /// The next multiple towards zero.
+    Trunc,
+    /// The nearest multiple; a tie goes away from zero.
+    HalfExpand,
+    /// The nearest multiple; a tie goes towards zero.
+    HalfTrunc,
+    /// The nearest multiple; a tie goes to the even count of the unit.
+    HalfEven,
+}
+
+/// The multiples that a rounding looks at, counted in the last place that it keeps.
+#[derive(Clone, Copy, Debug, Drop, PartialEq, Eq)]
+pub enum RoundingIncrement {
+    /// Every count: 1.1, 1.2, 1.3.
+    MultiplesOf1,
+    /// Every second count: 1.0, 1.2, 1.4.
+    MultiplesOf2,
+    /// Every fifth count: 1.0, 1.5, 2.0.
+    MultiplesOf5,
+    /// Every 25th count: 1.00, 1.25, 1.50.
+    MultiplesOf25,
+}
+
+impl RoundingIncrement {
+    // The number in the name of the increment.
+    pub(crate) fn step(self) -> u8
+        ensures { result ≡ increment_number self }
+    {
+        match self {
+            RoundingIncrement::MultiplesOf1 => 1,
+            RoundingIncrement::MultiplesOf2 => 2,
+            RoundingIncrement::MultiplesOf5 => 5,
+            RoundingIncrement::MultiplesOf25 => 25,
+        }
+    }
+}

@@ -1,0 +1,59 @@
+ghost use Rattle.std.specs.Prelude.{◌≡◌, ◌≢◌, ℕ, ◌+◌, ◌<◌, ◌≤◌, OnOk, OnErr, IsOk};
+ghost use Rattle.fixed_decimal_unsigned.specs.Number.{place};
+ghost use Rattle.fixed_decimal_unsigned.specs.Range.{Rounds, HoldsDigits};
+ghost use Rattle.fixed_decimal_unsigned.specs.Rounding.{IsLimited};
+ghost use Rattle.fixed_decimal_unsigned.specs.RoundingSteps.{IsTrimmed};
+ghost use Rattle.fixed_decimal_unsigned.specs.Stored.{count_of};
+
+use crate::digits::Digits;
+use crate::modes::{RoundingIncrement, UnsignedRoundingMode};
+use crate::places::{ONES, place_of};
+use crate::rounding_pair::round_digits;
+use crate::turns::Turns;
+use crate::unsigned_decimal::UnsignedDecimal;
+use std::alloc::AllocError;
+use std::sync::ledger::Ledger;
+
+impl UnsignedDecimal {
+    /// Rounds to a multiple of the increment at a position, and counts the turns of the loops over digits.
+    pub fn round_counted<L: Ledger>(
+        &mut self,
+        position: i16,
+        mode: UnsignedRoundingMode,
+        increment: RoundingIncrement,
+        turns: &mut Turns<L>,
+    ) -> Result<(), AllocError>
+        ensures succeeds { increment ≢ RoundingIncrement.MultiplesOf25 → IsOk result }
+        ensures value { OnOk result (Rounds mode increment (place position) self.old self.new) }
+        ensures same { OnErr result (self.new ≡ self.old) }
+        ensures turns { (low digits : ℕ) → HoldsDigits self.old.count low digits → turns.new ≤ turns.old + digits + 2 }
+    {
+        let place = place_of(position);
+        let top = round_digits(
+            &mut self.digits,
+            self.top as u32,
+            place as u32,
+            mode,
+            increment,
+            turns,
+        )?;
+        self.top = within_limit(&mut self.digits, top);
+        self.low = place.min(ONES);
+        self.high = self.high.max(place.saturating_sub(1)).max(self.top);
+        Ok(())
+    }
+}
+
+// The place of the first digit; no digits are left where it is past the last place.
+#[tactic(auto, using(crate::proofs::RangeLemmas::limited_same, crate::proofs::RangeLemmas::limited_zero))]
+fn within_limit(digits: &mut Digits, top: u32) -> u16
+    requires { IsTrimmed digits.old.items top }
+    ensures trimmed { IsTrimmed digits.new.items result }
+    ensures value { IsLimited (count_of digits.old.items top) (count_of digits.new.items result) }
+{
+    if top > u16::MAX as u32 {
+        digits.clear();
+        return ONES;
+    }
+    top as u16
+}

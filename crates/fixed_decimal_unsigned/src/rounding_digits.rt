@@ -1,0 +1,73 @@
+// The loops over digits that a rounding makes, each turn counted.
+ghost use Rattle.std.specs.Prelude.{◌≡◌, ℕ, ◌+◌, ◌-◌, ◌*◌, ◌/◌, ◌%◌, ◌^◌, ◌<◌, ◌≤◌, cond, length, slice_index, take};
+ghost use Rattle.std.specs.Int.Digits.{number_from_digits, AllBelowBase};
+
+use crate::digits::Digits;
+use crate::turns::Turns;
+use std::sync::ledger::Ledger;
+
+// Takes the zeros away that the digits end in.
+#[tactic(auto, using(crate::proofs::LoopLemmas::zeros_more, crate::proofs::LoopLemmas::front_last, crate::proofs::DigitsLemmas::below_take))]
+pub fn drop_zeros<L: Ledger>(digits: &mut Digits, turns: &mut Turns<L>)
+    requires tens { AllBelowBase 10 digits.old.items }
+    requires first { 0 < length digits.old.items → 0 < slice_index digits.old.items 0 }
+    ensures tens { AllBelowBase 10 digits.new.items }
+    ensures first { 0 < length digits.new.items → 0 < slice_index digits.new.items 0 }
+    ensures last { 0 < length digits.new.items → 0 < number_from_digits 10 digits.new.items % 10 }
+    ensures value { number_from_digits 10 digits.old.items ≡ number_from_digits 10 digits.new.items * 10 ^ (length digits.old.items - length digits.new.items) }
+    ensures length { length digits.new.items ≤ length digits.old.items }
+    ensures some { 0 < length digits.old.items → 0 < length digits.new.items }
+    ensures capacity { digits.new.capacity ≡ digits.old.capacity }
+    ensures turns { turns.new ≤ turns.old + length digits.old.items }
+{
+    let mut count = digits.len();
+    while count > 0 && digits.get(count - 1) == 0 {
+        turns.turn();
+        count -= 1;
+    }
+    digits.truncate(count);
+}
+
+// How many digits stand before the nines that the digits end in.
+#[tactic(auto, using(crate::proofs::LoopLemmas::nines_more))]
+fn count_before_nines<L: Ledger>(digits: &Digits, turns: &mut Turns<L>) -> usize
+    ensures within { result ≤ length digits.now.items }
+    ensures value { number_from_digits 10 digits.now.items + 1 ≡ (number_from_digits 10 (take result digits.now.items) + 1) * 10 ^ (length digits.now.items - result) }
+    ensures last { 0 < result → ¬ (slice_index digits.now.items (result - 1) ≡ 9) }
+    ensures turns { turns.new + result ≤ turns.old + length digits.now.items }
+{
+    let mut count = digits.len();
+    while count > 0 {
+        if digits.get(count - 1) != 9 {
+            return count;
+        }
+        turns.turn();
+        count -= 1;
+    }
+    count
+}
+
+// Adds one at the last digit. The answer is whether the number has a digit more before its first.
+#[tactic(auto, using(crate::proofs::LoopLemmas::raised_value, crate::proofs::LoopLemmas::raised_last, crate::proofs::LoopLemmas::raised_below, crate::proofs::LoopLemmas::raised_first, crate::proofs::LoopLemmas::raised_length))]
+pub fn add_one<L: Ledger>(digits: &mut Digits, turns: &mut Turns<L>) -> bool
+    requires tens { AllBelowBase 10 digits.old.items }
+    requires first { 0 < length digits.old.items → 0 < slice_index digits.old.items 0 }
+    ensures tens { AllBelowBase 10 digits.new.items }
+    ensures first { 0 < slice_index digits.new.items 0 }
+    ensures last { 0 < number_from_digits 10 digits.new.items % 10 }
+    ensures value { number_from_digits 10 digits.old.items + 1 ≡ number_from_digits 10 digits.new.items * 10 ^ (length digits.old.items + cond result 1 0 - length digits.new.items) }
+    ensures length { length digits.new.items ≤ length digits.old.items + cond result 1 0 }
+    ensures some { 0 < length digits.new.items }
+    ensures turns { turns.new ≤ turns.old + length digits.old.items }
+{
+    let count = count_before_nines(digits, turns);
+    if count == 0 {
+        digits.clear();
+        digits.push_reserved(1);
+        return true;
+    }
+    let last = digits.get(count - 1);
+    digits.truncate(count - 1);
+    digits.push_reserved(last + 1);
+    false
+}

@@ -1,0 +1,85 @@
+-- Known values of the definitions: lines taken apart, texts of numbers, words of refusals, lines of the program.
+use Rattle.std.proofs.Common.{◌≡◌, ℕ, List, [], ◌∷◌, ◌++◌, codes, Bool, true, false, Option, Some, None, refl}
+use Rattle.fixed_decimal.specs.declared.Sign.{Sign}
+use Rattle.fixed_decimal.specs.declared.Sign.TheVariants.{None as Unsigned, Positive, Negative}
+use Rattle.fixed_decimal.specs.NumberText.{Parts}
+use Rattle.locale_numbers_symbols.specs.declared.GroupingStrategy.TheVariants.{Auto, Never, Always, Min2}
+use Rattle.locale_numbers_book.specs.Tags.{pieces}
+use Rattle.locale_numbers_book.specs.TagReading.{tag_of}
+use Rattle.locale_numbers_engine.specs.declared.RunError.TheVariants as run
+use Rattle.locale_numbers_book.specs.declared.BookError.TheVariants as book
+use Rattle.locale_numbers.specs.declared.request.Form.TheVariants.{Plain}
+use Rattle.locale_numbers.specs.declared.fault.ProgramFault.TheVariants.{Usage, File, Book, Run}
+use Rattle.locale_numbers.specs.Answer.{answer_of, answer_to}
+use Rattle.locale_numbers.specs.Fault.{status_of, line_of}
+use Rattle.locale_numbers.specs.NumberReading.{reading_of, parts_of, nothing, beyond}
+use Rattle.locale_numbers.specs.Request.{tab, fields, request_in, grouping_named}
+
+-- ---- request lines
+
+-- two tabs in a row hold an empty field
+empty_field : fields (codes "a" ++ tab ∷ tab ∷ codes "b") ≡ codes "a" ∷ [] ∷ codes "b" ∷ []
+empty_field = refl
+
+plain_line : request_in (codes "en" ∷ codes "plain" ∷ codes "min2" ∷ codes "keep" ∷ codes "-" ∷ codes "1000" ∷ [])
+    ≡ Some (record { tag = codes "en"; form = Plain; grouping = Min2; text = codes "1000" })
+plain_line = refl
+
+five_fields : request_in (codes "en" ∷ codes "plain" ∷ codes "auto" ∷ codes "keep" ∷ codes "-" ∷ []) ≡ None
+five_fields = refl
+
+seven_fields : request_in (codes "en" ∷ codes "plain" ∷ codes "auto" ∷ codes "keep" ∷ codes "-" ∷ codes "1" ∷ [] ∷ []) ≡ None
+seven_fields = refl
+
+-- words are told apart by case, and a part of one is none
+capital_word : grouping_named (codes "Auto") ≡ None
+capital_word = refl
+
+short_word : grouping_named (codes "min") ≡ None
+short_word = refl
+
+-- ---- texts of numbers
+
+parts_of_point : parts_of (codes "0012.50") ≡ Some (record { integer = codes "0012"; fraction = codes "50"; negative = false; exponent = [] })
+parts_of_point = refl
+
+parts_of_exponent : parts_of (codes ".5E-3") ≡ Some (record { integer = []; fraction = codes "5"; negative = true; exponent = codes "3" })
+parts_of_exponent = refl
+
+no_digit_behind : reading_of (codes "5.") ≡ nothing
+no_digit_behind = refl
+
+no_exponent : reading_of (codes "1e") ≡ nothing
+no_exponent = refl
+
+two_signs : reading_of (codes "+-1") ≡ nothing
+two_signs = refl
+
+sign_alone : reading_of (codes "-") ≡ nothing
+sign_alone = refl
+
+carriage_return : reading_of (codes "1" ++ 13 ∷ []) ≡ nothing
+carriage_return = refl
+
+too_high : reading_of (codes "10e32767") ≡ beyond
+too_high = refl
+
+-- ---- the program
+
+usage_line : line_of Usage ≡ codes "fault: usage"
+usage_line = refl
+
+book_line : line_of (Book book.Shape) ≡ codes "fault: book shape"
+book_line = refl
+
+memory_lines : line_of (Book book.Memory) ≡ line_of (Run run.Memory)
+memory_lines = refl
+
+write_line : line_of (Run run.Write) ≡ codes "fault: write"
+write_line = refl
+
+read_status : status_of (Run run.Read) ≡ 5
+read_status = refl
+
+memory_status : status_of (Book book.Memory) ≡ 6
+memory_status = refl

@@ -1,0 +1,103 @@
+// The answer of a book to a line.
+ghost use Rattle.std.specs.Prelude.{◌≡◌, ◌++◌, IfOk, OnOk, OnErr, IsErrOf, string_bytes};
+ghost use Rattle.fixed_decimal.specs.Number.{Number};
+ghost use Rattle.locale_numbers_engine.specs.Growth.{Grows};
+ghost use Rattle.locale_numbers_book.specs.Choice.{chosen};
+ghost use Rattle.locale_numbers.specs.Answer.{refused, answer_with, answer_to, answer_of};
+ghost use Rattle.locale_numbers.specs.NumberReading.{number, beyond, nothing, reading_of};
+
+use std::alloc::{AllocError, Global};
+
+use fixed_decimal::{Decimal, ParseError};
+use locale_numbers_book::{Book, Tag};
+use locale_numbers_plain::push_plain;
+use locale_numbers_symbols::GroupingStrategy;
+
+use crate::refusal::Refusal;
+use crate::request::{Form, read_request};
+
+// The number that a text says.
+fn read_number(alloc: Global, text: &[u8]) -> Result<Decimal, ParseError>
+    ensures value { IfOk result (λ value. reading_of text.now ≡ number value) }
+    ensures limit { IsErrOf result ParseError.Limit → reading_of text.now ≡ beyond }
+    ensures syntax { IsErrOf result ParseError.Syntax → reading_of text.now ≡ nothing }
+{
+    Decimal::try_from_utf8(alloc, text)
+}
+
+// Puts a refusal behind what `out` holds.
+fn push_refusal(out: &mut String, cause: Refusal) -> Result<(), AllocError>
+    ensures text { OnOk result (string_bytes out.new ≡ string_bytes out.old ++ refused cause) }
+    ensures err { OnErr result (Grows (string_bytes out.old) (string_bytes out.new)) }
+{
+    out.push_str("err\t")?;
+    out.push_str(cause.word())
+}
+
+// Puts a number, with the tables that a tag asks for, behind what `out` holds.
+fn push_number(
+    book: &Book,
+    tag: &Tag,
+    grouping: GroupingStrategy,
+    value: &Decimal,
+    out: &mut String,
+) -> Result<(), AllocError>
+    ensures text { OnOk result (string_bytes out.new ≡ string_bytes out.old ++ answer_with (chosen book.now tag.now) grouping value.now) }
+    ensures err { OnErr result (Grows (string_bytes out.old) (string_bytes out.new)) }
+{
+    let Some(tables) = book.tables_for(tag) else {
+        return push_refusal(out, Refusal::Table);
+    };
+    out.push_str("ok\t")?;
+    push_plain(out, value, tables.symbols, tables.digits, grouping)
+}
+
+// Puts the answer to a tag, a grouping and a number's text behind what `out` holds.
+fn push_text(
+    alloc: Global,
+    book: &Book,
+    tag: &Tag,
+    grouping: GroupingStrategy,
+    text: &[u8],
+    out: &mut String,
+) -> Result<(), AllocError>
+    ensures text { OnOk result (string_bytes out.new ≡ string_bytes out.old ++ answer_to book.now tag.now grouping (reading_of text.now)) }
+    ensures err { OnErr result (Grows (string_bytes out.old) (string_bytes out.new)) }
+{
+    match read_number(alloc, text) {
+        Ok(value) => push_number(book, tag, grouping, &value, out),
+        Err(ParseError::Syntax) => push_refusal(out, Refusal::Number),
+        Err(ParseError::Limit) => push_refusal(out, Refusal::Limit),
+        Err(ParseError::Memory) => Err(AllocError),
+    }
+}
+
+/// Puts the answer to a line behind what `out` holds.
+pub(crate) fn answer_onto(
+    alloc: Global,
+    book: &Book,
+    line: &[u8],
+    out: &mut String,
+) -> Result<(), AllocError>
+    ensures text { OnOk result (string_bytes out.new ≡ string_bytes out.old ++ answer_of book.now line.now) }
+    ensures err { OnErr result (Grows (string_bytes out.old) (string_bytes out.new)) }
+{
+    let Some(request) = read_request(line) else {
+        return push_refusal(out, Refusal::Shape);
+    };
+    let Some(tag) = Tag::try_from_utf8(request.tag) else {
+        return push_refusal(out, Refusal::Tag);
+    };
+    match request.form {
+        Form::Plain => push_text(alloc, book, &tag, request.grouping, request.text, out),
+    }
+}
+
+/// The answer of `book` to a line, without its line feed.
+pub fn answer(alloc: Global, book: &Book, line: &[u8]) -> Result<Vec<u8>, AllocError>
+    ensures text { IfOk result (λ text. text.items ≡ answer_of book.now line.now) }
+{
+    let mut out = String::new(alloc);
+    answer_onto(alloc, book, line, &mut out)?;
+    Ok(out.into_bytes())
+}

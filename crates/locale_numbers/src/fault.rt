@@ -1,0 +1,70 @@
+ghost use Rattle.std.specs.Prelude.{◌≡◌, Some};
+
+use std::error::Error;
+use std::fmt;
+
+use locale_numbers_book::BookError;
+use locale_numbers_engine::RunError;
+
+/// Why the program ended before it had answered all lines.
+///
+/// `{}` writes the line that the program puts on standard error: `fault: usage`, `fault: file`,
+/// `fault: book WORD` with the word of the refusal, `fault: read`, `fault: write` or
+/// `fault: memory`.
+#[derive(Clone, Copy, Debug, PartialEq, Eq)]
+pub enum ProgramFault {
+    /// The words that the program was started with are not known.
+    Usage,
+    /// The file of the book can't be opened, or not be read to its end.
+    File,
+    /// The book is refused, or memory was wanting while it was read.
+    Book(BookError),
+    /// The reader or the writer failed, or memory was wanting while lines were answered.
+    Run(RunError),
+}
+
+impl ProgramFault {
+    ghost use Rattle.locale_numbers.specs.Fault.{status_of};
+
+    /// The status with which the program ends: 2 for usage, 3 for the file, 4 for the book, 5 for
+    /// a failed read or write, 6 for want of memory, wherever it arose.
+    pub fn status(&self) -> u8
+        ensures value { result ≡ status_of self.now }
+    {
+        match self {
+            ProgramFault::Usage => 2,
+            ProgramFault::File => 3,
+            ProgramFault::Book(BookError::Memory) | ProgramFault::Run(RunError::Memory) => 6,
+            ProgramFault::Book(_) => 4,
+            ProgramFault::Run(_) => 5,
+        }
+    }
+
+    /// Its number, which is its status.
+    pub fn number(&self) -> u8
+        ensures value { result ≡ status_of self.now }
+    {
+        self.status()
+    }
+}
+
+impl fmt::Display for ProgramFault {
+    ghost use Rattle.locale_numbers.specs.Fault.{line_of};
+
+    ghost output = { λ fault. Some (line_of fault) };
+
+    fn fmt<W: fmt::Write>(&self, f: &mut fmt::Formatter<W>) -> fmt::Result {
+        match self {
+            ProgramFault::Usage => write!(f, "fault: usage"),
+            ProgramFault::File => write!(f, "fault: file"),
+            ProgramFault::Book(BookError::Memory) | ProgramFault::Run(RunError::Memory) => {
+                write!(f, "fault: memory")
+            }
+            ProgramFault::Book(refusal) => write!(f, "fault: book {}", refusal.word()),
+            ProgramFault::Run(RunError::Read) => write!(f, "fault: read"),
+            ProgramFault::Run(RunError::Write) => write!(f, "fault: write"),
+        }
+    }
+}
+
+impl Error for ProgramFault {}
