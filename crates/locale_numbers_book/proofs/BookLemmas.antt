@@ -9,7 +9,7 @@ use Rattle.locale_numbers_book.specs.Tags.{Text, Locale}
 use Rattle.serde_json.specs.Data.{Data, Items}
 use Rattle.serde_json.specs.View.{items_view, view}
 use Rattle.serde_json.specs.declared.value.Value.{Value}
-use Rattle.locale_numbers_book.specs.Book.{count_of_items, all_of, table_at, has_no_key_twice, table_in, SymbolsKey, same_locale, same_key}
+use Rattle.locale_numbers_book.specs.Book.{count_of_items, all_of, table_at, has_no_key_twice, table_in, SymbolsKey, same_locale, same_key, BookTables, IsBook}
 
 pub count-items : (fields : List Value) → count_of_items (items_view fields) ≡ length fields
 count-items [] = refl
@@ -131,3 +131,12 @@ bytes_eq_symmetric a b = same_from_decides (bytes_eq a b) (bytes_eq b a) (bytes_
 -- an error is the same error at another type of answers
 pub err_at : {T U E : Type 0} (e f : E) → IsErrOf {T = T} (Err e) f → IsErrOf {T = U} (Err e) f
 err_at e f h = cc
+
+some_same : {A : Type 0} (x y : A) → Some x ≡ Some y → x ≡ y
+some_same x y h = cc
+
+pub one_book : (value : Data) (book other : BookTables) → IsBook value book → IsBook value other → book ≡ other
+one_book value book other m n =
+    let symbols = some_same book.symbols other.symbols (sym m.symbols ∙ n.symbols) in
+    let digits = some_same book.digits other.digits (sym m.digits ∙ n.digits) in
+    λ i. record { symbols = symbols i; digits = digits i }

@@ -1,9 +1,10 @@
--- Worked rows of `specs/Tags.antt`, `specs/TagReading.antt` and `specs/Book.antt`: what known texts and fields say.
+-- Worked rows of `specs/Tags.antt`, `specs/TagReading.antt`, `specs/Fields.antt` and `specs/Book.antt`: what known texts and fields say.
 use Rattle.std.proofs.Common.{◌≡◌, ◌∷◌, [], true, codes, Some, None, refl}
 use Rattle.serde_json.specs.Data.{number, string, unsigned, array, no_items}
 use Rattle.locale_numbers_book.specs.Tags.{pieces}
 use Rattle.locale_numbers_book.specs.TagReading.{tag_of, locale_of}
-use Rattle.locale_numbers_book.specs.Book.{size_in, system_in, system_or_none_in, digits_in, plain_text_in, has_count}
+use Rattle.locale_numbers_book.specs.Fields.{size_in, system_in, system_or_none_in, digits_in, plain_text_in}
+use Rattle.locale_numbers_book.specs.Book.{has_count}
 use Rattle.std.specs.Str.{chars}
 
 -- `en-` is two pieces, the second empty

@@ -247,3 +247,6 @@ tag_means list (Some tag) h = tag_of-means list tag (sym h)
 pub tag_none : (list : List Text) (r : Option TagMeaning) → r ≡ tag_of list → IfNone r ((tag : TagMeaning) → ¬ (MeansTag list tag))
 tag_none list None h = λ tag m. let no : None ≡ Some tag = h ∙ tag_of-spelled list tag m in cc
 tag_none list (Some tag) h = tt
+
+pub means_one : (list : List Text) (tag other : TagMeaning) → MeansTag list tag → MeansTag list other → tag ≡ other
+means_one list tag other m n = from_some tag other (sym (tag_of-spelled list tag m) ∙ tag_of-spelled list other n)

@@ -3,5 +3,7 @@ pub mod Tags
 pub mod TagReading
 pub mod BookError
 pub mod Json
+pub mod Fields
 pub mod Book
+pub mod Laws
 pub mod Choice

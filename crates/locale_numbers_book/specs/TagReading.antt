@@ -1,6 +1,6 @@
 -- The meaning of a list of pieces as a function: read from the front, each piece by its kind.
--- Defined in docs/books.md, "Tags"; `Tags.antt` says what it means, and the laws of `laws.rt` that both agree.
--- Cited by the private steps of `LocaleKey::try_from_utf8` and `Tag::try_from_utf8`, and by `Book.antt`.
+-- Defined in docs/books.md, "Tags"; that it finds exactly the meanings of `Tags.antt` is said by the clauses `value` and `none`.
+-- Cited by `LocaleKey::try_from_utf8`, `Tag::try_from_utf8` and their steps, and by `Fields.antt`.
 use Rattle.std.specs.Prelude.{Bool, true, false, ◌&&◌, List, [], ◌∷◌, codes, Option, Some, None, option_map, option_and_then, if◌then◌else◌}
 use Rattle.std.specs.Option.{option_map_or}
 use Rattle.locale_numbers_book.specs.Tags.{Text, pieces, is_language, is_script, is_region, is_value, is_word, lower, upper, title, Locale, TagMeaning}

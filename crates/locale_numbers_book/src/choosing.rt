@@ -17,6 +17,7 @@ pub struct Tables<'b> {
 }
 
 impl Book {
+    /// The symbols under the first key that the book has.
     fn symbols_for(&self, tag: &Tag) -> Option<&DecimalSymbols>
         ensures { option_copied result ≡ symbols_chosen self.now tag.now }
     {
@@ -28,6 +29,7 @@ impl Book {
         self.symbols(tag.locale(), None)
     }
 
+    /// The digits under the first key that the book has.
     fn digits_for(&self, tag: &Tag, symbols: &DecimalSymbols) -> Option<&[char; 10]>
         ensures { option_copied result ≡ digits_chosen self.now tag.now symbols.now }
     {
@@ -39,7 +41,12 @@ impl Book {
         self.digits(Subtag::of(symbols.numsys.as_str().as_bytes()))
     }
 
-    /// The tables that a tag is written with.
+    /// The tables that a tag is written with: those of the first key that the book has.
+    ///
+    /// Symbols are looked for under the tag's locale with its numbering system, where it asks for one, then under the locale
+    /// with none; digits under the numbering system, where one is asked for, then under that which the symbols name. With
+    /// `SAMPLE_BOOK`, `en-u-nu-thai` gets the symbols of `en` and Thai digits, `en-u-nu-wxyz` those of `en` and Latin digits.
+    /// `None` where symbols or digits are not found, as for `xx`. Takes no memory.
     pub fn tables_for(&self, tag: &Tag) -> Option<Tables<'_>>
         ensures { option_map (λ tables. record { symbols = tables.symbols.now; digits = tables.digits.now }) result
             ≡ chosen self.now tag.now }

@@ -1,3 +1,4 @@
+//! Why a text is no book.
 ghost use Rattle.std.specs.Prelude.{◌≡◌, codes};
 ghost use Rattle.locale_numbers_book.specs.BookError.{number_of, word_of};
 

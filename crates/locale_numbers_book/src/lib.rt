@@ -10,6 +10,7 @@ mod choosing;
 mod error;
 mod json;
 mod key;
+pub mod laws;
 mod sample_book;
 mod table;
 mod tags;

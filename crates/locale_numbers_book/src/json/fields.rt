@@ -3,7 +3,8 @@ ghost use Rattle.std.specs.Prelude.{◌≡◌, IfOk, IsErrOf, IfErr, Some, None,
 ghost use Rattle.std.specs.List.{list_all};
 ghost use Rattle.serde_json.specs.View.{view};
 ghost use Rattle.locale_numbers_book.specs.BookError.{IsShapeOrMemory};
-ghost use Rattle.locale_numbers_book.specs.Book.{is_plain, is_small_letter_or_digit, is_system_name, plain_text_in, system_in, system_or_none_in, locale_in, size_in, digits_in, ten_characters, field_at};
+ghost use Rattle.locale_numbers_book.specs.Book.{field_at};
+ghost use Rattle.locale_numbers_book.specs.Fields.{is_plain, is_small_letter_or_digit, is_system_name, plain_text_in, system_in, system_or_none_in, locale_in, size_in, digits_in, ten_characters};
 
 use crate::BookError;
 use crate::tags::{LocaleKey, Subtag};
