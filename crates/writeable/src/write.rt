@@ -48,7 +48,9 @@ pub trait Writeable {
 }
 
 impl<'a> Writeable for &'a str {
-    ghost use Rattle.writeable.specs.AnnotatedText.{bytes};
+    ghost use Rattle.std.specs.Prelude.{Some};
+    ghost use Rattle.writeable.specs.AnnotatedText.{bytes, text_of};
+    ghost use Rattle.writeable.specs.LengthHint.{IsWithinHint};
 
     ghost events = { λ text. bytes text.now };
 
@@ -57,7 +59,11 @@ impl<'a> Writeable for &'a str {
     }
 
     #[tactic(auto, using(crate::proofs::AnnotatedTextLemmas::text_of_bytes))]
-    fn writeable_length_hint(&self) -> LengthHint {
+    fn writeable_length_hint(&self) -> LengthHint
+        ensures within { IsWithinHint result (length (text_of (bytes self.now.now))) }
+        ensures low { result.low ≡ length self.now.now }
+        ensures high { result.high ≡ Some (length self.now.now) }
+    {
         LengthHint::exact(self.len())
     }
 }
