@@ -1,10 +1,8 @@
 //! Which parts a `PartsSink` lists, and where.
+use crate::fakes::{INNER, OUTER};
 use std::alloc::{AllocError, Global};
 use std::test::Fail;
-
 use writeable::{Error, PartsSink, Sink};
-
-use crate::fakes::{INNER, OUTER};
 
 // Takes a script: `(` opens A, `[` opens B, `)` and `]` close, all else is text.
 fn written(alloc: Global, script: &str) -> Result<PartsSink, Error> {
