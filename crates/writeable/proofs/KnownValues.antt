@@ -1,8 +1,8 @@
 -- Known values of the definitions, row by row.
-use Rattle.std.proofs.Common.{◌≡◌, ℕ, List, [], ◌∷◌, ◌++◌, None, Some, refl}
+use Rattle.std.proofs.Common.{◌≡◌, [], ◌∷◌, ◌++◌, refl}
 use Rattle.std.specs.Prelude.{codes}
 use Rattle.std.specs.declared.cmp.Ordering.TheVariants.{Less, Equal, Greater}
-use Rattle.writeable.specs.AnnotatedText.{Event, bytes, opening, closing, text_of, end_of, Interval, annotated}
+use Rattle.writeable.specs.AnnotatedText.{bytes, opening, closing, annotated}
 use Rattle.writeable.specs.HeldParts.{held_after}
 use Rattle.writeable.specs.Order.{byte_order}
 use Rattle.writeable.specs.PartName.{PartName}

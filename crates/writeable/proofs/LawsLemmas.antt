@@ -31,7 +31,7 @@ listed_later : (n d : ℕ) (end : Option ℕ) (p : PartName) (inner inner_later 
 listed_later n d None p inner inner_later same = same
 listed_later n d (Some m) p inner inner_later same = rw (eqb_later n m d)
     (elim (eqb n m) as (λ b. cond b inner_later (record { start = n + d; end = m + d; part = p } ∷ inner_later) ≡ map (shifted d) (cond b inner (record { start = n; end = m; part = p } ∷ inner)))
-      [ true ↦ same | false ↦ ap (λ xs. record { start = n + d; end = m + d; part = p } ∷ xs) same ])
+    [ true ↦ same | false ↦ ap (λ xs. record { start = n + d; end = m + d; part = p } ∷ xs) same ])
 
 intervals_later : (n d : ℕ) (es : List Event) → intervals_from (n + d) es ≡ map (shifted d) (intervals_from n es)
 intervals_later n d [] = refl
@@ -61,16 +61,16 @@ intervals_append n (opened p ∷ es) second none =
     let inside = closed_inside (strays es) (unclosed es) none in
     let found = end_of_some n 0 es inside.0 in
     rw (found.1, end_of_kept n 0 es second found.0 found.1)
-      (listed_append n found.0 p (intervals_from n es) (intervals_from (n + length (text_of es)) second) (intervals_from n (es ++ second))
-        (intervals_append n es second inside.1))
+    (listed_append n found.0 p (intervals_from n es) (intervals_from (n + length (text_of es)) second) (intervals_from n (es ++ second))
+    (intervals_append n es second inside.1))
 intervals_append n (closed ∷ es) second none = intervals_append n es second none
 
 pub joining : (first second : List Event) → IsClosed first → annotated (first ++ second) ≡ joined (annotated first) (annotated second)
 joining first second whole =
     let none = sym (length-open_from 0 0 first) ∙ ap length whole in
     let parts = intervals_append 0 first second none
-        ∙ ap (λ start. intervals_from 0 first ++ intervals_from start second) (omega arith)
-        ∙ ap (λ rest. intervals_from 0 first ++ rest) (intervals_later 0 (length (text_of first)) second) in
+    ∙ ap (λ start. intervals_from 0 first ++ intervals_from start second) (omega arith)
+    ∙ ap (λ rest. intervals_from 0 first ++ rest) (intervals_later 0 (length (text_of first)) second) in
     λ i. record { text = text_of_joined first second i; parts = parts i }
 
 intervals_bytes_alone : (n : ℕ) (text : List ℕ) → intervals_from n (bytes text) ≡ []
@@ -89,7 +89,7 @@ counted s t es fitting counts = rw (sym counts.count) (counts.fits fitting)
 pub count_refused : (s t : HeldCount) (es : List Event) → HasBegun Counts PassesLimit s es t → count_limit ≤ s.count + length (annotated es).text
 count_refused s t es begun =
     let whole = ap (λ events. length (text_of events)) begun.whole ∙ ap length (text_of_joined begun.front begun.rest)
-        ∙ length-append (text_of begun.front) (text_of begun.rest) in
+    ∙ length-append (text_of begun.front) (text_of begun.rest) in
     omega (arith, whole, begun.taken.count, begun.short)
 
 -- where a part ends, a bound on what is left
@@ -119,7 +119,7 @@ parts_within_from n e [] fits = All-nil (IsWithin e)
 parts_within_from n e (byte b ∷ es) fits = parts_within_from (n + 1) e es (omega arith)
 parts_within_from n e (opened p ∷ es) fits =
     listed_within n e (end_of n 0 es) p (intervals_from n es)
-      (λ m found. let bounds = end_of_within n 0 m es found in (bounds.0, omega arith)) (parts_within_from n e es fits)
+    (λ m found. let bounds = end_of_within n 0 m es found in (bounds.0, omega arith)) (parts_within_from n e es fits)
 parts_within_from n e (closed ∷ es) fits = parts_within_from n e es fits
 
 pub parts_within : (es : List Event) → All (IsWithin (length (annotated es).text)) (annotated es).parts

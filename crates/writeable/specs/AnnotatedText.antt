@@ -1,5 +1,5 @@
 -- A text with named parts: its bytes, and the intervals of its closed parts in order of opening.
--- Defined in docs/annotated-text.md.
+-- Defined in docs/annotated-text.md, "Parts".
 -- Cited by every call of `Sink` and `Writeable`, and by `PartsSink`.
 use Rattle.std.specs.Prelude.{ℕ, zero, suc, ◌+◌, ◌==◌, ◌<◌, List, [], ◌∷◌, length, map, cond, Option, None, Some}
 use Rattle.writeable.specs.PartName.{PartName}

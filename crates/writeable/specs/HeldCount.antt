@@ -1,5 +1,5 @@
 -- What a contract sees of a `CountSink`, and what counting is.
--- Defined in docs/annotated-text.md, "The three sinks".
+-- Defined in docs/annotated-text.md, "Sinks".
 -- Cited by the calls of `CountSink`.
 use Rattle.std.specs.Prelude.{◌≡◌, ℕ, ◌+◌, ◌^◌, ◌<◌, ◌≤◌, List, length, Bool}
 use Rattle.writeable.specs.AnnotatedText.{Event, text_of}

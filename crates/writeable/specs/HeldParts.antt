@@ -1,5 +1,5 @@
 -- What a contract sees of a `PartsSink`: what any events leave there.
--- Defined in docs/annotated-text.md, "The three sinks".
+-- Defined in docs/annotated-text.md, "Sinks".
 -- Cited by the calls of `PartsSink`.
 use Rattle.std.specs.Prelude.{◌≡◌, ℕ, ◌+◌, ◌==◌, ◌<◌, List, [], ◌∷◌, ◌++◌, length, Bool, cond, Option, None, Some}
 use Rattle.writeable.specs.AnnotatedText.{Event, byte, opened, closed, text_of, Interval, end_of, intervals_from}

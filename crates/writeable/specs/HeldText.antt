@@ -1,5 +1,5 @@
 -- What a contract sees of a `TextSink`.
--- Defined in docs/annotated-text.md, "The three sinks".
+-- Defined in docs/annotated-text.md, "Sinks".
 -- Cited by the calls of `TextSink`.
 use Rattle.std.specs.Prelude.{ℕ, List, Bool}
 

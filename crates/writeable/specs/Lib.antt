@@ -13,6 +13,5 @@ pub mod HeldText
 pub mod ListedParts
 -- laws of the implementations
 pub mod SinkLaws
-
 -- statements of laws
 pub mod Laws

@@ -1,5 +1,5 @@
 -- The fields of a `PartsSink` as intervals.
--- Defined in docs/annotated-text.md, "The three sinks".
+-- Defined in docs/annotated-text.md, "Sinks".
 -- Cited by `PartsSink::parts` and by what a contract sees of a `PartsSink`.
 use Rattle.std.specs.Prelude.{ℕ, ◌≤◌, List, All}
 use Rattle.writeable.specs.declared.part.Part.{Part}

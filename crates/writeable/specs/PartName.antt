@@ -1,5 +1,5 @@
 -- What a part is called: its category and its value, as texts.
--- Defined in docs/annotated-text.md; the two texts are those of ICU4X's `Part`.
+-- Defined in docs/annotated-text.md, "Parts"; the two texts are those of ICU4X's `Part`.
 -- Cited by `Sink::open_part` and by `PartsSink::parts`.
 use Rattle.std.specs.Prelude.{ℕ, List}
 use Rattle.writeable.specs.declared.part.Part.{Part}

@@ -10,7 +10,9 @@ use crate::write::Writeable;
 use std::cmp::Ordering;
 use std::marker::Model;
 
-/// A sink that compares the text with given bytes, byte by byte, and keeps neither. It never fails.
+/// A sink that compares the text with given bytes, byte by byte, and keeps neither.
+///
+/// It never refuses and takes no memory.
 #[derive(Drop)]
 pub struct CompareSink<'b> {
     rest: &'b [u8],
@@ -38,7 +40,7 @@ impl<'b> CompareSink<'b> {
         }
     }
 
-    /// The order of the text so far against the bytes.
+    /// The order of the text so far against the bytes: `a,` against `a,b` is `Less`.
     pub fn verdict(&self) -> Ordering
         ensures { result ≡ order_given self.now.so_far self.now.rest [] }
     {
@@ -107,7 +109,8 @@ impl<'b> Sink for CompareSink<'b> {
 
 /// The byte order of the text of `value` against `other`, without the text being built.
 ///
-/// The first byte that differs decides; else the shorter one is less. It takes no memory.
+/// The first byte that differs decides; else the shorter one is less: `a,b` against `a,` is
+/// `Greater`. It takes no memory.
 pub fn strict_cmp<T: Writeable>(value: &T, other: &[u8]) -> Ordering
     ensures { result ≡ byte_order (text_of (T.events value.now)) other.now }
 {

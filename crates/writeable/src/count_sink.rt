@@ -7,7 +7,8 @@ use std::marker::Model;
 
 /// A sink that counts the bytes of the text, in a `u64`, and keeps nothing else.
 ///
-/// A call fails exactly where the count would pass the greatest `u64`; the count stays then.
+/// A call is refused exactly where the count would pass the greatest `u64`; the count stays then.
+/// It takes no memory.
 #[derive(Clone, Copy, Debug)]
 pub struct CountSink {
     count: u64,
@@ -35,7 +36,7 @@ impl CountSink {
         }
     }
 
-    /// How many bytes were written.
+    /// How many bytes were written: 3 after `a,b`.
     pub fn count(&self) -> u64
         ensures { result ≡ self.now.count }
     {

@@ -4,6 +4,9 @@ ghost use Rattle.writeable.specs.Numbers.{refused_number};
 use std::fmt;
 
 /// A sink refused; it has taken a beginning of what was to be written.
+///
+/// It is answered only where `has_refused` of the sink is true afterwards. Shown as
+/// `the sink refused`.
 #[derive(Clone, Copy, Debug, PartialEq, Eq)]
 pub struct Error;
 

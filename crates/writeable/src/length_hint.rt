@@ -1,6 +1,8 @@
 ghost use Rattle.std.specs.Prelude.{◌≡◌, None, Some};
 
 /// How long a text is, in bytes: at least `low`, and at most `high` where that is known.
+///
+/// The length of the text lies between the two. After ICU4X's `writeable::LengthHint`.
 #[derive(Clone, Copy, Debug, PartialEq, Eq)]
 pub struct LengthHint {
     /// The text has at least so many bytes.
@@ -10,7 +12,7 @@ pub struct LengthHint {
 }
 
 impl LengthHint {
-    /// The text has exactly `length` bytes.
+    /// The text has exactly `length` bytes: `exact(3)` is from 3 to 3.
     pub fn exact(length: usize) -> Self
         ensures low { result.low ≡ length }
         ensures high { result.high ≡ Some length }
@@ -21,7 +23,7 @@ impl LengthHint {
         }
     }
 
-    /// The text has `length` bytes or more.
+    /// The text has `length` bytes or more: `at_least(2)` is from 2 on.
     pub fn at_least(length: usize) -> Self
         ensures low { result.low ≡ length }
         ensures high { result.high ≡ None }

@@ -1,4 +1,15 @@
-//! Writing with named parts.
+//! Writing texts with named parts, and comparing or showing them without building them.
+//!
+//! A value that can be written is [`Writeable`]; a place that takes its text is a [`Sink`]. The
+//! value `a,b` with the part A around all of it and B around the comma, written into a
+//! [`PartsSink`], gives the text `a,b` and the parts (0, 3, A), (1, 2, B):
+//!
+//! ```
+//! let mut sink = PartsSink::new(alloc);
+//! pair.write_to(&mut sink)?;
+//! sink.text();
+//! sink.parts();
+//! ```
 
 #![tactic(auto)]
 

@@ -15,7 +15,7 @@ struct OpenPart {
     part: Part,
 }
 
-/// A sink that holds the text and the intervals of its parts. It fails only for memory.
+/// A sink that holds the text and the intervals of its parts. It refuses only for memory.
 #[derive(Drop)]
 pub struct PartsSink {
     text: String,
@@ -69,7 +69,8 @@ impl PartsSink {
 
     /// The parts that were closed, as start, end and name, in order of opening.
     ///
-    /// Start and end count bytes. A part without bytes is not listed, nor is one that is still open.
+    /// Start and end count bytes. A part without bytes is not listed, nor is one that is still open:
+    /// open A, `a`, open B, `,`, close, `b`, close gives (0, 3, A), (1, 2, B).
     pub fn parts(&self) -> &[(usize, usize, Part)]
         ensures { map interval_of result.now ≡ self.now.held.parts }
     {

@@ -6,7 +6,8 @@ use crate::part::Part;
 /// A place that takes a text with parts.
 ///
 /// Each call is made where `has_refused` is false. It answers `Ok` exactly where `has_refused` is
-/// false after it too, and has then taken all that it was given; else it has taken a beginning.
+/// false after it too, and has then taken all that it was given. Else it answers [`Error`], has
+/// taken a beginning, and has no room for the rest.
 pub trait Sink {
     ghost use Rattle.writeable.specs.AnnotatedText.{Event, bytes, opening, closing};
     ghost use Rattle.writeable.specs.PartName.{name_of};
@@ -23,18 +24,18 @@ pub trait Sink {
     // whether a call was refused
     ghost refused: { Self → Bool };
 
-    /// Whether a call was refused, which is for good.
+    /// Whether a call was refused. It is set for good by a refused call, and by nothing else.
     fn has_refused(&self) -> bool
         ensures { result ≡ refused self.now };
 
-    /// Takes the bytes of `text`.
+    /// Takes the bytes of `text`, or answers [`Error`] where it has no room for them.
     fn write_str(&mut self, text: &str) -> Result<(), Error>
         requires { refused self.old ≡ false }
         ensures ok { OnOk result (takes self.old (bytes text.now) self.new) }
         ensures refused { refused self.new ≡ is_err result }
         ensures begun { OnErr result (HasBegun takes lacks_room self.old (bytes text.now) self.new) };
 
-    /// Takes the bytes of `character` in UTF-8.
+    /// Takes the bytes of `character` in UTF-8, one to four; [`Error`] as for `write_str`.
     fn write_char(&mut self, character: char) -> Result<(), Error>
         requires { refused self.old ≡ false }
         ensures ok { OnOk result (takes self.old (bytes (encode_utf8 character)) self.new) }
@@ -47,6 +48,8 @@ pub trait Sink {
     }
 
     /// Opens `part` at the end of the text so far, inside the parts that are open.
+    ///
+    /// [`Error`] where the sink has no room for it.
     fn open_part(&mut self, part: Part) -> Result<(), Error>
         requires { refused self.old ≡ false }
         ensures ok { OnOk result (takes self.old (opening (name_of part)) self.new) }
@@ -55,6 +58,8 @@ pub trait Sink {
             (HasBegun takes lacks_room self.old (opening (name_of part)) self.new) };
 
     /// Closes the part that was opened last and is still open. Where none is open it does nothing.
+    ///
+    /// [`Error`] where the sink has no room to list it.
     fn close_part(&mut self) -> Result<(), Error>
         requires { refused self.old ≡ false }
         ensures ok { OnOk result (takes self.old closing self.new) }

@@ -7,7 +7,9 @@ use crate::sink::Sink;
 use std::alloc::{AllocError, Global};
 use std::marker::Model;
 
-/// A sink that holds the text and leaves out the parts. It fails only for memory.
+/// A sink that holds the text and leaves out the parts.
+///
+/// It refuses only bytes, and only for memory; it never refuses a part.
 #[derive(Drop)]
 pub struct TextSink {
     text: String,
@@ -56,7 +58,7 @@ impl TextSink {
         self.text
     }
 
-    /// The text that was written.
+    /// The text that was written: `a,b` after `write_str("a,")` and `write_char('b')`.
     pub fn text(&self) -> &str
         ensures { result.now ≡ self.now.text }
     {

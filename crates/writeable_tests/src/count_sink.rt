@@ -1,9 +1,7 @@
 //! What a `CountSink` counts.
-use std::test::Fail;
-
-use writeable::{CountSink, Sink, Writeable};
-
 use crate::fakes::OUTER;
+use std::test::Fail;
+use writeable::{CountSink, Sink, Writeable};
 
 #[test]
 fn counts_bytes(rt: HostRuntime) -> Result<(), Fail> {

@@ -1,14 +1,12 @@
 //! The example of each public item.
+use crate::fakes::{INNER, OUTER, Pair};
 use std::cmp::Ordering;
 use std::fmt;
 use std::test::Fail;
-
 use writeable::{
     CompareSink, CountSink, Error, LengthHint, Part, PartsSink, Sink, TextSink, Writeable, display,
     strict_cmp,
 };
-
-use crate::fakes::{INNER, OUTER, Pair};
 
 #[derive(Drop)]
 struct Shown(Pair);

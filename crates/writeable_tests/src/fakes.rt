@@ -1,6 +1,4 @@
 //! Values and sinks that the rows use.
-ghost use Rattle.std.specs.Prelude.{◌++◌};
-
 use writeable::{Error, Part, Sink, Writeable};
 
 pub const OUTER: Part = Part {
@@ -20,10 +18,9 @@ pub struct Pair;
 impl Writeable for Pair {
     ghost use Rattle.std.specs.Prelude.{◌++◌, codes};
     ghost use Rattle.writeable.specs.AnnotatedText.{bytes, opening, closing};
-    ghost use Rattle.writeable.specs.PartName.{name_of};
-    ghost use Rattle.writeable_tests.specs.declared.fakes.TheConstants.{OUTER, INNER};
+    ghost use Rattle.writeable_tests.specs.Names.{outer, inner};
 
-    ghost events = { λ _. opening (name_of OUTER) ++ (bytes (codes "a") ++ (opening (name_of INNER)
+    ghost events = { λ _. opening outer ++ (bytes (codes "a") ++ (opening inner
         ++ (bytes (codes ",") ++ (closing ++ (bytes (codes "b") ++ closing))))) };
 
     fn write_to<S: Sink>(&self, sink: &mut S) -> Result<(), Error> {

@@ -1,62 +1,53 @@
 //! Which parts a `PartsSink` lists, and where.
-use std::test::Fail;
-
-use writeable::{Error, Part, PartsSink, Sink};
-
 use crate::fakes::{INNER, OUTER};
+use std::alloc::{AllocError, Global};
+use std::test::Fail;
+use writeable::{Error, PartsSink, Sink};
 
-#[derive(Clone, Copy)]
-enum Step {
-    Text(&'static str),
-    Open(Part),
-    Close,
-}
-
-use Step::{Close, Open, Text};
-
-fn take(sink: &mut PartsSink, steps: &[Step]) -> Result<(), Error>
-    requires { sink.old.refused ≡ false }
-{
-    for step in steps {
-        match *step {
-            Text(text) => sink.write_str(text)?,
-            Open(part) => sink.open_part(part)?,
-            Close => sink.close_part()?,
+// Takes a script: `(` opens A, `[` opens B, `)` and `]` close, all else is text.
+fn written(alloc: Global, script: &str) -> Result<PartsSink, Error> {
+    let mut sink = PartsSink::new(alloc);
+    for character in script.chars() {
+        match character {
+            '(' => sink.open_part(OUTER)?,
+            '[' => sink.open_part(INNER)?,
+            ')' | ']' => sink.close_part()?,
+            _ => sink.write_char(character)?,
         }
     }
-    Ok(())
+    Ok(sink)
+}
+
+// The parts as `start-end value`, each behind a blank.
+fn listing(alloc: Global, sink: &PartsSink) -> Result<String, AllocError> {
+    let mut text = String::new(alloc);
+    for (start, end, part) in sink.parts() {
+        write!(text, " {start}-{end}{}", part.value)?;
+    }
+    Ok(text)
 }
 
 #[test]
 fn lists_closed_parts_with_bytes(rt: HostRuntime) -> Result<(), Fail> {
-    let rows: [(&[Step], &str, &[(usize, usize, Part)]); 9] = [
-        (
-            &[Open(OUTER), Text("a"), Open(INNER), Text(","), Close, Text("b"), Close],
-            "a,b",
-            &[(0, 3, OUTER), (1, 2, INNER)],
-        ),
+    for (script, text, parts) in [
+        ("(a[,]b)", "a,b", " 0-3A 1-2B"),
         // a part without bytes
-        (&[Open(OUTER), Close, Text("a")], "a", &[]),
-        // an empty text is no byte
-        (&[Open(OUTER), Text(""), Close], "", &[]),
-        // one without bytes inside one with bytes
-        (&[Open(OUTER), Text("a"), Open(INNER), Close, Close], "a", &[(0, 1, OUTER)]),
-        // a part that is still open
-        (&[Open(OUTER), Text("a")], "a", &[]),
-        // the closed part inside it is listed
-        (&[Open(OUTER), Text("a"), Open(INNER), Text("b"), Close], "ab", &[(1, 2, INNER)]),
+        ("()a", "a", ""),
+        ("(a[])", "a", " 0-1A"),
+        // a part that is still open, and a closed one inside it
+        ("(a", "a", ""),
+        ("(a[b]", "ab", " 1-2B"),
         // a close alone does nothing
-        (&[Close, Open(OUTER), Text("a"), Close, Close, Text("b")], "ab", &[(0, 1, OUTER)]),
+        (")(a))b", "ab", " 0-1A"),
         // two parts at one start, in order of opening
-        (&[Open(OUTER), Open(INNER), Text("a"), Close, Close], "a", &[(0, 1, OUTER), (0, 1, INNER)]),
+        ("([a])", "a", " 0-1A 0-1B"),
+        ("(a[b])(c)[d]", "abcd", " 0-2A 1-2B 2-3A 3-4B"),
         // bytes, not characters
-        (&[Text("١"), Open(INNER), Text("٬"), Close], "١٬", &[(2, 4, INNER)]),
-    ];
-    for (steps, text, parts) in rows {
-        let mut sink = PartsSink::new(rt.alloc());
-        take(&mut sink, steps)?;
-        assert_eq!(rt; sink.text(), text);
-        assert_eq!(rt; sink.parts(), parts, "in {text}");
+        ("١[٬]", "١٬", " 2-4B"),
+    ] {
+        let sink = written(rt.alloc(), script)?;
+        assert_eq!(rt; sink.text(), text, "{script}");
+        assert_eq!(rt; listing(rt.alloc(), &sink)?.as_str(), parts, "{script}");
         assert!(rt; !sink.has_refused());
     }
     Ok(())
@@ -65,9 +56,10 @@ fn lists_closed_parts_with_bytes(rt: HostRuntime) -> Result<(), Fail> {
 #[test]
 fn lists_a_part_once_it_is_closed(rt: HostRuntime) -> Result<(), Fail> {
     let mut sink = PartsSink::new(rt.alloc());
-    take(&mut sink, &[Open(OUTER), Text("a")])?;
+    sink.open_part(OUTER)?;
+    sink.write_str("a")?;
     assert_eq!(rt; sink.parts().len(), 0);
     sink.close_part()?;
-    assert_eq!(rt; sink.parts(), [(0, 1, OUTER)].as_slice());
+    assert_eq!(rt; listing(rt.alloc(), &sink)?.as_str(), " 0-1A");
     Ok(())
 }
