@@ -126,7 +126,7 @@ nul_is_no_text text nuls rest all =
     let here : is_text_byte NUL ≡ true = text_at text NUL (replicate nuls NUL ++ rest) (rw e at all) in
     absurd (grind (arith, nat_tests))
 
-above_is_no_text : (unit : ℕ) → LAST_ASCII < unit → is_text_byte unit ≡ true → ⊥
+pub above_is_no_text : (unit : ℕ) → LAST_ASCII < unit → is_text_byte unit ≡ true → ⊥
 above_is_no_text unit above is = grind (arith, nat_tests)
 
 -- what has a fault is no text

@@ -4,6 +4,7 @@ pub mod FaultsLemmas
 pub mod DecimalLemmas
 pub mod FormsLemmas
 pub mod KnownValues
+pub mod LawLemmas
 pub mod LossyLemmas
 pub mod RawLemmas
 pub mod WordLemmas

@@ -7,3 +7,4 @@ pub mod Case
 pub mod Lossy
 pub mod Decimal
 pub mod Forms
+pub mod Laws

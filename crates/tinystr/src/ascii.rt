@@ -1,6 +1,7 @@
 //! `TinyAsciiStr`: the value, and what borrows or counts it.
 
-ghost use Rattle.std.specs.Prelude.{◌≡◌, ◌≤◌, length, ◌==◌};
+ghost use Rattle.std.specs.Prelude.{◌≡◌, ◌≤◌, ◌<◌, length, ◌==◌};
+ghost use Rattle.std.specs.List.{All};
 ghost use Rattle.tinystr.specs.SmallText.{IsSmall, IsForm, padded, text_of};
 
 use crate::bytes::{put_at, text_len};
@@ -81,6 +82,8 @@ impl<const N: usize> TinyAsciiStr<N> {
     pub fn all_bytes(&self) -> &[u8; N]
         ensures value { result.now ≡ padded N self.now }
         ensures small { IsSmall N self.now }
+        ensures form { IsForm N result.now }
+        ensures ascii { All (λ b. b < 128) result.now }
     {
         &self.bytes
     }

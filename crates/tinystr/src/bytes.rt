@@ -128,19 +128,8 @@ pub(crate) fn make_title(bytes: &mut [u8])
     }
 }
 
-/// Writes UTF-16 units that are a text over the first bytes.
-pub(crate) fn narrow(bytes: &mut [u8], units: &[u16])
-    requires fits { length units.now ≤ length bytes.old }
-    requires text { list_all is_text_byte units.now ≡ true }
-    ensures { bytes.new ≡ units.now ++ drop (length units.now) bytes.old }
-{
-    for (i, unit) in units.iter().enumerate() {
-        bytes[i] = *unit as u8;
-    }
-}
-
 /// The unit as a byte, or the replacement where it may not stand in a text.
-fn lossy_byte(unit: u16, replacement: u8) -> u8
+pub(crate) fn lossy_byte(unit: u16, replacement: u8) -> u8
     ensures { result ≡ kept_or_replacement replacement unit }
 {
     if unit == 0 || unit > 127 {
@@ -157,16 +146,6 @@ pub(crate) fn put_lossy(bytes: &mut [u8], units: &[u8], replacement: u8)
 {
     for (i, unit) in units.iter().enumerate() {
         bytes[i] = lossy_byte(u16::from(*unit), replacement);
-    }
-}
-
-/// The same of UTF-16 units.
-pub(crate) fn put_lossy_utf16(bytes: &mut [u8], units: &[u16], replacement: u8)
-    requires { length units.now ≤ length bytes.old }
-    ensures { bytes.new ≡ map (kept_or_replacement replacement) units.now ++ drop (length units.now) bytes.old }
-{
-    for (i, unit) in units.iter().enumerate() {
-        bytes[i] = lossy_byte(*unit, replacement);
     }
 }
 

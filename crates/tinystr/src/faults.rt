@@ -30,46 +30,11 @@ pub(crate) fn check_bytes(units: &[u8], max: usize) -> Result<bool, ParseError>
     Ok(nul_seen)
 }
 
-/// The same of UTF-16 units.
-pub(crate) fn check_utf16(units: &[u16], max: usize) -> Result<bool, ParseError>
-    ensures { MatchResult result (λ nul. (length units.now ≤ max) × IsFaultless nul units.now) (λ e. IsFault false max units.now e) }
-{
-    if units.len() > max {
-        return Err(ParseError::TooLong {
-            max,
-            len: units.len(),
-        });
-    }
-    let mut nul_seen = false;
-    for unit in units {
-        if *unit > 127 {
-            return Err(ParseError::NonAscii);
-        }
-        if *unit == 0 {
-            nul_seen = true;
-        } else if nul_seen {
-            return Err(ParseError::ContainsNull);
-        }
-    }
-    Ok(nul_seen)
-}
-
 /// Whether units are a text of at most `max`, where a NUL at the end is a fault too.
 pub(crate) fn check_text(units: &[u8], max: usize) -> Result<(), ParseError>
     ensures { MatchResult result (λ _. IsSmall max units.now) (λ e. IsFault true max units.now e) }
 {
     match check_bytes(units, max) {
-        Ok(true) => Err(ParseError::ContainsNull),
-        Ok(false) => Ok(()),
-        Err(fault) => Err(fault),
-    }
-}
-
-/// The same of UTF-16 units.
-pub(crate) fn check_utf16_text(units: &[u16], max: usize) -> Result<(), ParseError>
-    ensures { MatchResult result (λ _. IsSmall max units.now) (λ e. IsFault true max units.now e) }
-{
-    match check_utf16(units, max) {
         Ok(true) => Err(ParseError::ContainsNull),
         Ok(false) => Ok(()),
         Err(fault) => Err(fault),

@@ -16,10 +16,12 @@ mod faults;
 mod int_ops;
 mod joining;
 mod json;
+pub mod laws;
 mod lossy;
 mod readers;
 mod ule;
 mod unvalidated;
+mod utf16;
 
 pub use ascii::{TinyAsciiStr, TinyStr4, TinyStr8, TinyStr16};
 pub use asciibyte::{AsciiByte, to_ascii_byte_array};

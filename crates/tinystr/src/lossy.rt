@@ -5,7 +5,8 @@ ghost use Rattle.tinystr.specs.SmallText.{is_text_byte};
 ghost use Rattle.tinystr.specs.Lossy.{kept_or_replacement};
 
 use crate::TinyAsciiStr;
-use crate::bytes::{put_lossy, put_lossy_utf16};
+use crate::bytes::put_lossy;
+use crate::utf16::put_lossy_utf16;
 
 impl<const N: usize> TinyAsciiStr<N> {
     /// The first N bytes, each NUL and each byte above 127 replaced.

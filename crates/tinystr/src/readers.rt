@@ -4,8 +4,8 @@ ghost use Rattle.std.specs.Prelude.{◌≡◌, ◌↔◌, true, false, IsOk, IfO
 ghost use Rattle.tinystr.specs.SmallText.{IsSmall, IsForm, text_of};
 ghost use Rattle.tinystr.specs.Faults.{IsFault};
 
-use crate::bytes::narrow;
-use crate::faults::{check_bytes, check_text, check_utf16_text};
+use crate::faults::{check_bytes, check_text};
+use crate::utf16::{check_utf16_text, narrow};
 use crate::{ParseError, TinyAsciiStr};
 use std::str::FromStr;
 

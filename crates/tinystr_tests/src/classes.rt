@@ -1,6 +1,5 @@
 //! The class questions, at their edges and at every capacity.
 
-use std::process::Abort;
 use std::test::Fail;
 use tinystr::TinyAsciiStr;
 
@@ -49,33 +48,28 @@ const EDGES: [(u8, [bool; 9]); 14] = [
     (127, [F, F, F, T, T, T, F, F, F]),
 ];
 
-/// The edges at one capacity: the byte alone, and once more as the last of a full text of that byte.
-fn edges_at<const N: usize>(rt: &impl Abort) -> Result<(), Fail> {
-    for (byte, want) in EDGES {
-        let text = TinyAsciiStr::<N>::try_from_utf8(&[byte])?;
-        assert_eq!(rt; answers(text), want, "{byte} at {N}");
-    }
-    Ok(())
-}
-
 #[test]
 fn edges_at_each_capacity(rt: HostRuntime) -> Result<(), Fail> {
-    edges_at::<1>(&rt)?;
-    edges_at::<2>(&rt)?;
-    edges_at::<3>(&rt)?;
-    edges_at::<4>(&rt)?;
-    edges_at::<5>(&rt)?;
-    edges_at::<6>(&rt)?;
-    edges_at::<7>(&rt)?;
-    edges_at::<8>(&rt)?;
-    edges_at::<9>(&rt)?;
-    edges_at::<10>(&rt)?;
-    edges_at::<11>(&rt)?;
-    edges_at::<12>(&rt)?;
-    edges_at::<13>(&rt)?;
-    edges_at::<14>(&rt)?;
-    edges_at::<15>(&rt)?;
-    edges_at::<16>(&rt)
+    for (byte, want) in EDGES {
+        let one = TinyAsciiStr::<1>::try_from_utf8(&[byte])?;
+        assert_eq!(rt; answers(one), want, "{byte} at 1");
+        assert_eq!(rt; answers(one.resize::<2>()), want, "{byte} at 2");
+        assert_eq!(rt; answers(one.resize::<3>()), want, "{byte} at 3");
+        assert_eq!(rt; answers(one.resize::<4>()), want, "{byte} at 4");
+        assert_eq!(rt; answers(one.resize::<5>()), want, "{byte} at 5");
+        assert_eq!(rt; answers(one.resize::<6>()), want, "{byte} at 6");
+        assert_eq!(rt; answers(one.resize::<7>()), want, "{byte} at 7");
+        assert_eq!(rt; answers(one.resize::<8>()), want, "{byte} at 8");
+        assert_eq!(rt; answers(one.resize::<9>()), want, "{byte} at 9");
+        assert_eq!(rt; answers(one.resize::<10>()), want, "{byte} at 10");
+        assert_eq!(rt; answers(one.resize::<11>()), want, "{byte} at 11");
+        assert_eq!(rt; answers(one.resize::<12>()), want, "{byte} at 12");
+        assert_eq!(rt; answers(one.resize::<13>()), want, "{byte} at 13");
+        assert_eq!(rt; answers(one.resize::<14>()), want, "{byte} at 14");
+        assert_eq!(rt; answers(one.resize::<15>()), want, "{byte} at 15");
+        assert_eq!(rt; answers(one.resize::<16>()), want, "{byte} at 16");
+    }
+    Ok(())
 }
 
 #[test]

@@ -56,8 +56,10 @@ fn a_word_of_eight_answers_as_its_text(rt: HostRuntime) -> Result<(), Fail> {
 }
 
 #[test]
-fn a_short_array_makes_a_word(rt: HostRuntime) {
-    let word = Aligned8::from_ascii_bytes(&[AsciiByte::B97, AsciiByte::B0]);
+fn a_short_array_makes_a_word(rt: HostRuntime) -> Result<(), Fail> {
+    let text = TinyAsciiStr::<2>::try_from_str("a")?;
+    let word = Aligned8::from_ascii_bytes(&to_ascii_byte_array(text.all_bytes()));
     assert_eq!(rt; word.len(), 1);
     assert!(rt; word.is_ascii_alphabetic_lowercase());
+    Ok(())
 }

@@ -1,0 +1,30 @@
+//! Laws of small texts. Each function does nothing; its clause is the law.
+
+ghost use Rattle.std.specs.Prelude.{ℕ, List};
+ghost use Rattle.tinystr.specs.Laws.{OneForm, OneFault, TextsHaveNoFault, CaseSettles, CaseMeetsCut, JoinsAlike};
+
+/// A form at a capacity is that of one text.
+pub fn one_form()
+    ensures { OneForm }
+{}
+
+/// Units that are refused have one fault, and no text has one.
+pub fn one_fault()
+    ensures one { OneFault }
+    ensures texts { TextsHaveNoFault }
+{}
+
+/// A case change twice is the change once; lower case after upper case is lower case.
+pub fn case_settles()
+    ensures { (text : List ℕ) → CaseSettles text }
+{}
+
+/// `resize` and a case change may be done in either order.
+pub fn case_meets_cut()
+    ensures { (count : ℕ) (text : List ℕ) → CaseMeetsCut count text }
+{}
+
+/// `concat` of three texts may begin with the first two or the last two.
+pub fn joins_alike()
+    ensures { JoinsAlike }
+{}
