@@ -16,7 +16,9 @@ mod words;
 pub use answering::answer;
 pub use fault::ProgramFault;
 pub use locale_numbers_book::{Book, BookError, SAMPLE_BOOK};
-pub use locale_numbers_engine::{ByteReader, ByteWriter, Report, RunError, Tracked};
+pub use locale_numbers_engine::{
+    ByteReader, ByteWriter, ReadFault, Report, RunError, Tracked, WriteFault,
+};
 pub use program_run::program;
 pub use running::run;
 pub use words::{Words, read_words};
