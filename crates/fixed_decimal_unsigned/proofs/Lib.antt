@@ -12,3 +12,4 @@ pub mod RoundingLemmas
 pub mod PairLemmas
 pub mod AppendLemmas
 pub mod RangeLemmas
+pub mod ShiftLemmas

@@ -6,5 +6,6 @@ pub mod NumberText
 pub mod Range
 pub mod Rounding
 pub mod RoundingSteps
+pub mod Shifts
 pub mod Stored
 pub mod TextParts

@@ -12,10 +12,13 @@ mod modes;
 mod places;
 mod reading;
 mod rounding;
+mod rounding_calls;
 mod rounding_digits;
 mod rounding_pair;
 mod rounding_steps;
+mod shifting;
 mod text_parts;
+mod trimming;
 mod turns;
 mod unsigned_decimal;
 
