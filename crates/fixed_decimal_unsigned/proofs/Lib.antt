@@ -13,3 +13,5 @@ pub mod PairLemmas
 pub mod AppendLemmas
 pub mod RangeLemmas
 pub mod ShiftLemmas
+pub mod CutLemmas
+pub mod IntegerLemmas

@@ -1,5 +1,6 @@
 pub mod BorrowedParts
 pub mod ErrorNumbers
+pub mod Integers
 pub mod Laws
 pub mod Number
 pub mod NumberText

@@ -5,8 +5,10 @@
 
 #![tactic(auto)]
 
+mod cutting;
 mod digits;
 mod error;
+mod integers;
 pub mod laws;
 mod modes;
 mod places;
