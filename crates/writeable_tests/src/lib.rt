@@ -1,3 +1,12 @@
-//! To be written.
+//! Rows of values over the public calls of `writeable`.
 
 #![tactic(auto)]
+
+#[cfg(test)]
+mod count_sink;
+#[cfg(test)]
+mod examples;
+#[cfg(test)]
+mod fakes;
+#[cfg(test)]
+mod parts_sink;

@@ -1,0 +1,10 @@
+pub mod AnnotatedTextLemmas
+pub mod BalancedLemmas
+pub mod EndsLemmas
+pub mod HeldLemmas
+pub mod HeldPartsLemmas
+mod KnownValues
+pub mod LawsLemmas
+pub mod ListedPartsLemmas
+pub mod OrderLemmas
+pub mod WritingLemmas

@@ -1,0 +1,17 @@
+-- what a reader must believe
+pub mod AnnotatedText
+pub mod Taking
+pub mod LengthHint
+pub mod Numbers
+pub mod Order
+pub mod Shown
+-- what a contract sees of a type
+pub mod PartName
+pub mod HeldCount
+pub mod HeldParts
+pub mod HeldText
+pub mod ListedParts
+-- laws of the implementations
+pub mod SinkLaws
+-- statements of laws
+pub mod Laws

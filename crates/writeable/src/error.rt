@@ -1,0 +1,30 @@
+ghost use Rattle.std.specs.Prelude.{◌≡◌, codes, Some};
+ghost use Rattle.writeable.specs.Numbers.{refused_number};
+
+use std::fmt;
+
+/// A sink refused; it has taken a beginning of what was to be written.
+///
+/// It is answered only where `has_refused` of the sink is true afterwards. Shown as
+/// `the sink refused`.
+#[derive(Clone, Copy, Debug, PartialEq, Eq)]
+pub struct Error;
+
+impl Error {
+    /// The number of the error, 1.
+    pub fn number(&self) -> u8
+        ensures { result ≡ refused_number }
+    {
+        1
+    }
+}
+
+impl fmt::Display for Error {
+    ghost output = { λ _. Some (codes "the sink refused") };
+
+    fn fmt<W: fmt::Write>(&self, f: &mut fmt::Formatter<W>) -> fmt::Result {
+        write!(f, "the sink refused")
+    }
+}
+
+impl std::error::Error for Error {}

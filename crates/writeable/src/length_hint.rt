@@ -1,0 +1,36 @@
+ghost use Rattle.std.specs.Prelude.{◌≡◌, None, Some};
+
+/// How long a text is, in bytes: at least `low`, and at most `high` where that is known.
+///
+/// The length of the text lies between the two. After ICU4X's `writeable::LengthHint`.
+#[derive(Clone, Copy, Debug, PartialEq, Eq)]
+pub struct LengthHint {
+    /// The text has at least so many bytes.
+    pub low: usize,
+    /// The text has at most so many bytes; `None` where nothing is known.
+    pub high: Option<usize>,
+}
+
+impl LengthHint {
+    /// The text has exactly `length` bytes: `exact(3)` is from 3 to 3.
+    pub fn exact(length: usize) -> Self
+        ensures low { result.low ≡ length }
+        ensures high { result.high ≡ Some length }
+    {
+        LengthHint {
+            low: length,
+            high: Some(length),
+        }
+    }
+
+    /// The text has `length` bytes or more: `at_least(2)` is from 2 on.
+    pub fn at_least(length: usize) -> Self
+        ensures low { result.low ≡ length }
+        ensures high { result.high ≡ None }
+    {
+        LengthHint {
+            low: length,
+            high: None,
+        }
+    }
+}

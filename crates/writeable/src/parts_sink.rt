@@ -1,0 +1,162 @@
+ghost use Rattle.std.specs.Prelude.{◌≡◌, ◌≤◌, false, [], map, insert, vec_len, cond, is_ok, if◌then◌else◌, ◌==◌, OnOk, OnErr};
+ghost use Rattle.writeable.specs.HeldParts.{held_after};
+
+use crate::error::Error;
+use crate::part::Part;
+use crate::sink::Sink;
+use std::alloc::{AllocError, Global};
+use std::marker::Model;
+
+// A part that is open: where it began, and its place in the list once it is closed.
+#[derive(Clone, Copy)]
+struct OpenPart {
+    start: usize,
+    place: usize,
+    part: Part,
+}
+
+/// A sink that holds the text and the intervals of its parts. It refuses only for memory.
+#[derive(Drop)]
+pub struct PartsSink {
+    text: String,
+    parts: Vec<(usize, usize, Part)>,
+    open_parts: Vec<OpenPart>,
+    refused: bool,
+}
+
+impl Model for PartsSink {
+    ghost use Rattle.std.specs.Prelude.{length, map};
+    ghost use Rattle.std.specs.String.{string_bytes};
+    ghost use Rattle.writeable.specs.HeldParts.{HeldParts};
+
+    ghost Value = { HeldParts };
+
+    ghost use Rattle.writeable.specs.ListedParts.{interval_of, open_interval, HavePlaces};
+
+    ghost view = { λ s. record {
+      held = record {
+        text = string_bytes s.text;
+        parts = map interval_of s.parts.items;
+        open_parts = map open_interval s.open_parts.items;
+      };
+      refused = s.refused;
+    } };
+
+    ghost invariant = { λ s. HavePlaces s.open_parts.items (length s.parts.items) };
+}
+
+impl PartsSink {
+    ghost use Rattle.writeable.specs.ListedParts.{interval_of};
+
+    /// An empty sink. It takes no memory.
+    pub fn new(alloc: Global) -> Self
+        ensures { result ≡ record { held = held_after []; refused = false } }
+    {
+        PartsSink {
+            text: String::new(alloc),
+            parts: Vec::new(alloc),
+            open_parts: Vec::new(alloc),
+            refused: false,
+        }
+    }
+
+    /// The text that was written.
+    pub fn text(&self) -> &str
+        ensures { result.now ≡ self.now.held.text }
+    {
+        self.text.as_str()
+    }
+
+    /// The parts that were closed, as start, end and name, in order of opening.
+    ///
+    /// Start and end count bytes. A part without bytes is not listed, nor is one that is still open:
+    /// open A, `a`, open B, `,`, close, `b`, close gives (0, 3, A), (1, 2, B).
+    pub fn parts(&self) -> &[(usize, usize, Part)]
+        ensures { map interval_of result.now ≡ self.now.held.parts }
+    {
+        self.parts.as_slice()
+    }
+}
+
+// Lists `last` at its place, where it ends at `end`, unless it has no bytes.
+fn list_closed(
+    parts: &mut Vec<(usize, usize, Part)>,
+    last: OpenPart,
+    end: usize,
+) -> Result<(), AllocError>
+    requires { last.place ≤ vec_len parts.old }
+    ensures ok { OnOk result (parts.new.items ≡ (if last.start == end then parts.old.items
+        else insert parts.old.items last.place (last.start, end, last.part))) }
+    ensures err { OnErr result (parts.new.items ≡ parts.old.items) }
+{
+    if last.start == end {
+        return Ok(());
+    }
+    match parts.insert(last.place, (last.start, end, last.part)) {
+        Ok(()) => Ok(()),
+        Err(_) => Err(AllocError),
+    }
+}
+
+impl Sink for PartsSink {
+    ghost use Rattle.std.specs.Prelude.{Bool};
+    ghost use Rattle.writeable.specs.HeldParts.{HoldsThen, HasEvents};
+    ghost use Rattle.writeable.specs.SinkLaws.{has_more_events, held_nothing, held_joins};
+
+    ghost takes = { HoldsThen };
+
+    ghost lacks_room = { λ _ es. HasEvents es };
+
+    ghost refused = { λ s. s.refused };
+
+    ghost lacks_more = { λ _ first second lacking. has_more_events first second lacking };
+
+    ghost nothing = { held_nothing };
+
+    ghost joins = { λ s t u first second begun _ ended. held_joins s t u first second begun ended };
+
+    fn has_refused(&self) -> bool {
+        self.refused
+    }
+
+    fn write_str(&mut self, text: &str) -> Result<(), Error> {
+        match self.text.push_str(text) {
+            Ok(()) => Ok(()),
+            Err(_) => {
+                self.refused = true;
+                Err(Error)
+            }
+        }
+    }
+
+    fn open_part(&mut self, part: Part) -> Result<(), Error> {
+        let begun = OpenPart {
+            start: self.text.len(),
+            place: self.parts.len(),
+            part,
+        };
+        match self.open_parts.push(begun) {
+            Ok(()) => Ok(()),
+            Err(_) => {
+                self.refused = true;
+                Err(Error)
+            }
+        }
+    }
+
+    fn close_part(&mut self) -> Result<(), Error> {
+        let Some(last) = self.open_parts.last().copied() else {
+            return Ok(());
+        };
+        match list_closed(&mut self.parts, last, self.text.len()) {
+            Ok(()) => {
+                self.open_parts.pop();
+                Ok(())
+            }
+            Err(_) => {
+                self.refused = true;
+                Err(Error)
+            }
+        }
+    }
+}

@@ -1,0 +1,111 @@
+ghost use Rattle.std.specs.Prelude.{◌≡◌, false, [], IfOk};
+ghost use Rattle.std.specs.String.{string_bytes};
+
+use crate::error::Error;
+use crate::part::Part;
+use crate::sink::Sink;
+use std::alloc::{AllocError, Global};
+use std::marker::Model;
+
+/// A sink that holds the text and leaves out the parts.
+///
+/// It refuses only bytes, and only for memory; it never refuses a part.
+#[derive(Drop)]
+pub struct TextSink {
+    text: String,
+    refused: bool,
+}
+
+impl Model for TextSink {
+    ghost use Rattle.std.specs.String.{string_bytes};
+    ghost use Rattle.writeable.specs.HeldText.{HeldText};
+
+    ghost Value = { HeldText };
+
+    ghost view = { λ s. record {
+      text = string_bytes s.text;
+      refused = s.refused;
+    } };
+}
+
+impl TextSink {
+    /// An empty sink. It takes no memory.
+    pub fn new(alloc: Global) -> Self
+        ensures text { result.text ≡ [] }
+        ensures refused { result.refused ≡ false }
+    {
+        TextSink {
+            text: String::new(alloc),
+            refused: false,
+        }
+    }
+
+    // An empty sink that has room for `capacity` bytes.
+    pub(crate) fn with_capacity(alloc: Global, capacity: usize) -> Result<Self, AllocError>
+        ensures text { IfOk result (λ sink. sink.text ≡ []) }
+        ensures refused { IfOk result (λ sink. sink.refused ≡ false) }
+    {
+        Ok(TextSink {
+            text: String::with_capacity(alloc, capacity)?,
+            refused: false,
+        })
+    }
+
+    // The text, moved out.
+    pub(crate) fn into_text(self) -> String
+        ensures { string_bytes result ≡ self.text }
+    {
+        self.text
+    }
+
+    /// The text that was written: `a,b` after `write_str("a,")` and `write_char('b')`.
+    pub fn text(&self) -> &str
+        ensures { result.now ≡ self.now.text }
+    {
+        self.text.as_str()
+    }
+}
+
+impl Sink for TextSink {
+    ghost use Rattle.std.specs.Prelude.{◌≡◌, ◌++◌, Bool};
+    ghost use Rattle.writeable.specs.AnnotatedText.{text_of, HasText};
+    ghost use Rattle.writeable.specs.HeldText.{HeldText};
+    ghost use Rattle.writeable.specs.SinkLaws.{has_text_joined, text_nothing, text_joins};
+
+    ghost takes = { λ s es t. t.text ≡ s.text ++ text_of es };
+
+    ghost lacks_room = { λ _ es. HasText es };
+
+    ghost refused = { λ s. s.refused };
+
+    ghost lacks_more = { λ _ first second lacking. has_text_joined first second lacking };
+
+    ghost nothing = { text_nothing };
+
+    ghost joins = { text_joins };
+
+    fn has_refused(&self) -> bool {
+        self.refused
+    }
+
+    #[tactic(auto, using(crate::proofs::AnnotatedTextLemmas::text_of_bytes))]
+    fn write_str(&mut self, text: &str) -> Result<(), Error> {
+        match self.text.push_str(text) {
+            Ok(()) => Ok(()),
+            Err(_) => {
+                self.refused = true;
+                Err(Error)
+            }
+        }
+    }
+
+    #[tactic(auto, unfolding(crate::specs::AnnotatedText::opening))]
+    fn open_part(&mut self, _part: Part) -> Result<(), Error> {
+        Ok(())
+    }
+
+    #[tactic(auto, unfolding(crate::specs::AnnotatedText::closing))]
+    fn close_part(&mut self) -> Result<(), Error> {
+        Ok(())
+    }
+}

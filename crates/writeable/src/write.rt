@@ -1,0 +1,69 @@
+ghost use Rattle.std.specs.Prelude.{◌≡◌, false, List, length, OnOk, OnErr, IfOk, is_err};
+
+use crate::error::Error;
+use crate::length_hint::LengthHint;
+use crate::sink::Sink;
+use crate::text_sink::TextSink;
+use std::alloc::{AllocError, Global};
+
+/// A value that can be written as a text with parts. A `&str` is one, without parts.
+///
+/// After ICU4X's `writeable::Writeable`.
+pub trait Writeable {
+    ghost use Rattle.std.specs.String.{string_bytes};
+    ghost use Rattle.writeable.specs.AnnotatedText.{Event, text_of};
+    ghost use Rattle.writeable.specs.Taking.{HasBegun};
+    ghost use Rattle.writeable.specs.LengthHint.{IsWithinHint};
+
+    // what the value writes
+    ghost events: { Self → List Event };
+
+    /// Writes the value into `sink`, which has not refused yet.
+    ///
+    /// `Ok`: the sink took the whole value behind what it held. [`Error`], only where the sink
+    /// refused: it took a beginning. It takes no memory but the sink's.
+    fn write_to<S: Sink>(&self, sink: &mut S) -> Result<(), Error>
+        requires { S.refused sink.old ≡ false }
+        ensures ok { OnOk result (S.takes sink.old (events self.now) sink.new) }
+        ensures refused { S.refused sink.new ≡ is_err result }
+        ensures begun { OnErr result (HasBegun S.takes S.lacks_room sink.old (events self.now) sink.new) };
+
+    /// How many bytes the text has: for `"a,b"` exactly 3. It takes no memory.
+    fn writeable_length_hint(&self) -> LengthHint
+        ensures { IsWithinHint result (length (text_of (events self.now))) }
+    {
+        LengthHint::at_least(0)
+    }
+
+    /// The text of the value, without its parts. `AllocError` is answered for memory alone.
+    final fn write_to_string(&self, alloc: Global) -> Result<String, AllocError>
+        ensures { IfOk result (λ text. string_bytes text ≡ text_of (events self.now)) }
+    {
+        let mut sink = TextSink::with_capacity(alloc, self.writeable_length_hint().low)?;
+        match self.write_to(&mut sink) {
+            Ok(()) => Ok(sink.into_text()),
+            Err(_) => Err(AllocError),
+        }
+    }
+}
+
+impl<'a> Writeable for &'a str {
+    ghost use Rattle.std.specs.Prelude.{Some};
+    ghost use Rattle.writeable.specs.AnnotatedText.{bytes, text_of};
+    ghost use Rattle.writeable.specs.LengthHint.{IsWithinHint};
+
+    ghost events = { λ text. bytes text.now };
+
+    fn write_to<S: Sink>(&self, sink: &mut S) -> Result<(), Error> {
+        sink.write_str(self)
+    }
+
+    #[tactic(auto, using(crate::proofs::AnnotatedTextLemmas::text_of_bytes))]
+    fn writeable_length_hint(&self) -> LengthHint
+        ensures within { IsWithinHint result (length (text_of (bytes self.now.now))) }
+        ensures low { result.low ≡ length self.now.now }
+        ensures high { result.high ≡ Some (length self.now.now) }
+    {
+        LengthHint::exact(self.len())
+    }
+}

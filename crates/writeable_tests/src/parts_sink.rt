@@ -1,0 +1,65 @@
+//! Which parts a `PartsSink` lists, and where.
+use crate::fakes::{INNER, OUTER};
+use std::alloc::{AllocError, Global};
+use std::test::Fail;
+use writeable::{Error, PartsSink, Sink};
+
+// Takes a script: `(` opens A, `[` opens B, `)` and `]` close, all else is text.
+fn written(alloc: Global, script: &str) -> Result<PartsSink, Error> {
+    let mut sink = PartsSink::new(alloc);
+    for character in script.chars() {
+        match character {
+            '(' => sink.open_part(OUTER)?,
+            '[' => sink.open_part(INNER)?,
+            ')' | ']' => sink.close_part()?,
+            _ => sink.write_char(character)?,
+        }
+    }
+    Ok(sink)
+}
+
+// The parts as `start-end value`, each behind a blank.
+fn listing(alloc: Global, sink: &PartsSink) -> Result<String, AllocError> {
+    let mut text = String::new(alloc);
+    for (start, end, part) in sink.parts() {
+        write!(text, " {start}-{end}{}", part.value)?;
+    }
+    Ok(text)
+}
+
+#[test]
+fn lists_closed_parts_with_bytes(rt: HostRuntime) -> Result<(), Fail> {
+    for (script, text, parts) in [
+        ("(a[,]b)", "a,b", " 0-3A 1-2B"),
+        // a part without bytes
+        ("()a", "a", ""),
+        ("(a[])", "a", " 0-1A"),
+        // a part that is still open, and a closed one inside it
+        ("(a", "a", ""),
+        ("(a[b]", "ab", " 1-2B"),
+        // a close alone does nothing
+        (")(a))b", "ab", " 0-1A"),
+        // two parts at one start, in order of opening
+        ("([a])", "a", " 0-1A 0-1B"),
+        ("(a[b])(c)[d]", "abcd", " 0-2A 1-2B 2-3A 3-4B"),
+        // bytes, not characters
+        ("١[٬]", "١٬", " 2-4B"),
+    ] {
+        let sink = written(rt.alloc(), script)?;
+        assert_eq!(rt; sink.text(), text, "{script}");
+        assert_eq!(rt; listing(rt.alloc(), &sink)?.as_str(), parts, "{script}");
+        assert!(rt; !sink.has_refused());
+    }
+    Ok(())
+}
+
+#[test]
+fn lists_a_part_once_it_is_closed(rt: HostRuntime) -> Result<(), Fail> {
+    let mut sink = PartsSink::new(rt.alloc());
+    sink.open_part(OUTER)?;
+    sink.write_str("a")?;
+    assert_eq!(rt; sink.parts().len(), 0);
+    sink.close_part()?;
+    assert_eq!(rt; listing(rt.alloc(), &sink)?.as_str(), " 0-1A");
+    Ok(())
+}
