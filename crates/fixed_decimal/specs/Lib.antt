@@ -1,5 +1,11 @@
+pub mod SignedRounding
 pub mod SignedText
 pub mod SignedValue
+pub mod SignChoice
+pub use Rattle.fixed_decimal_unsigned.specs.ErrorNumbers
 pub use Rattle.fixed_decimal_unsigned.specs.Number
 pub use Rattle.fixed_decimal_unsigned.specs.NumberText
 pub use Rattle.fixed_decimal_unsigned.specs.TextParts
+pub use Rattle.fixed_decimal_unsigned.specs.Range
+pub use Rattle.fixed_decimal_unsigned.specs.Rounding
+pub use Rattle.fixed_decimal_unsigned.specs.Shifts

@@ -3,10 +3,16 @@
 #![tactic(auto)]
 
 mod decimal;
+mod modes;
+mod rounding;
 mod sign;
+mod sign_choice;
 mod signed;
 
 pub use decimal::Decimal;
-pub use fixed_decimal_unsigned::{ParseError, UnsignedDecimal};
-pub use sign::Sign;
+pub use fixed_decimal_unsigned::{
+    ParseError, RoundingIncrement, Turns, UnsignedDecimal, UnsignedRoundingMode,
+};
+pub use modes::SignedRoundingMode;
+pub use sign::{Sign, SignDisplay};
 pub use signed::Signed;

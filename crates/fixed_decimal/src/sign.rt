@@ -8,3 +8,18 @@ pub enum Sign {
     /// A plus, as in `+1729`.
     Positive,
 }
+
+/// Which sign a number is shown with.
+#[derive(Clone, Copy, Debug, Drop, PartialEq, Eq)]
+pub enum SignDisplay {
+    /// A minus where the number has one; a plus is left out.
+    Auto,
+    /// No sign.
+    Never,
+    /// A sign always: a plus where the number has none.
+    Always,
+    /// No sign at zero, and else as `Always`.
+    ExceptZero,
+    /// A minus on a number that is not zero, and else no sign.
+    Negative,
+}

@@ -1,8 +1,10 @@
 ghost use Rattle.std.specs.Prelude.{◌≡◌};
+ghost use Rattle.std.specs.Borrow.{Lends, sem};
+ghost use Rattle.fixed_decimal.specs.contracts.signed.Signed.{the_row};
 
 use crate::sign::Sign;
 use std::marker::Model;
-use std::ops::Deref;
+use std::ops::{Deref, DerefMut};
 
 /// A value with a sign: `-12.3` is `Negative` and the unsigned `12.3`.
 #[derive(Drop)]
@@ -35,6 +37,14 @@ impl<T> Signed<T> {
     {
         self.sign = sign;
     }
+
+    /// The value with another sign.
+    pub fn with_sign(self, sign: Sign) -> Signed<T>
+        ensures { result ≡ record { sign = sign; absolute = self.absolute } }
+    {
+        let Signed { sign: _, absolute } = self;
+        Signed { sign, absolute }
+    }
 }
 
 impl<T> Deref for Signed<T> {
@@ -44,5 +54,16 @@ impl<T> Deref for Signed<T> {
 
     fn deref(&self) -> &T {
         &self.absolute
+    }
+}
+
+impl<T> DerefMut for Signed<T> {
+    ghost deref_mut_gives = { λ s t. t ≡ s.absolute };
+
+    fn deref_mut(&mut self) -> &mut T
+        ensures* writes_back { sem 𝓛 (Lends (the_row T.row) T.row self.entry result (λ w. record { sign = self.old.sign; absolute = w })) }
+        ensures value { result.now ≡ self.old.absolute }
+    {
+        &mut self.absolute
     }
 }

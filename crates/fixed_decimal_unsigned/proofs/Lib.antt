@@ -12,3 +12,6 @@ pub mod RoundingLemmas
 pub mod PairLemmas
 pub mod AppendLemmas
 pub mod RangeLemmas
+pub mod ShiftLemmas
+pub mod CutLemmas
+pub mod IntegerLemmas

@@ -1,10 +1,12 @@
 pub mod BorrowedParts
 pub mod ErrorNumbers
+pub mod Integers
 pub mod Laws
 pub mod Number
 pub mod NumberText
 pub mod Range
 pub mod Rounding
 pub mod RoundingSteps
+pub mod Shifts
 pub mod Stored
 pub mod TextParts

@@ -1,5 +1,5 @@
 // The digits of a number: this file alone knows how they lie in memory.
-ghost use Rattle.std.specs.Prelude.{◌≡◌, ◌==◌, ◌+◌, ◌-◌, ◌<◌, ◌≤◌, [], ◌∷◌, ◌++◌, length, slice_index, slice_get, take, IsOk, OnOk, OnErr};
+ghost use Rattle.std.specs.Prelude.{◌≡◌, ◌==◌, ◌+◌, ◌-◌, ◌<◌, ◌≤◌, [], ◌∷◌, ◌++◌, length, slice_index, slice_get, take, drop, IsOk, IfOk, OnOk, OnErr};
 
 use smallvec::SmallVec;
 use std::alloc::{AllocError, Global};
@@ -9,7 +9,7 @@ use std::marker::Model;
 const INLINE: usize = 8;
 
 // A list of digits below ten.
-#[derive(Drop)]
+#[derive(Debug, Drop)]
 pub struct Digits {
     kept: SmallVec<u8, INLINE>,
 }
@@ -112,6 +112,25 @@ impl Digits {
     {
         let _fits = self.kept.len();
         self.kept.truncate(len);
+    }
+
+    // Takes the first digits away, so many as `count`.
+    pub fn drop_front(&mut self, count: usize)
+        requires { count ≤ length self.old.items }
+        ensures items { self.new.items ≡ drop count self.old.items }
+        ensures capacity { self.new.capacity ≡ self.old.capacity }
+    {
+        let left = self.kept.len() - count;
+        self.kept.as_mut_slice().rotate_left(count);
+        self.kept.truncate(left);
+    }
+
+    // The same digits in a list of their own.
+    pub fn try_clone(&self) -> Result<Digits, AllocError>
+        ensures { IfOk result (λ d. d.items ≡ self.now.items) }
+    {
+        let kept = SmallVec::from_slice(*self.kept.allocator(), self.kept.as_slice())?;
+        Ok(Digits { kept })
     }
 
     // Takes every digit away.

@@ -5,17 +5,22 @@
 
 #![tactic(auto)]
 
+mod cutting;
 mod digits;
 mod error;
+mod integers;
 pub mod laws;
 mod modes;
 mod places;
 mod reading;
 mod rounding;
+mod rounding_calls;
 mod rounding_digits;
 mod rounding_pair;
 mod rounding_steps;
+mod shifting;
 mod text_parts;
+mod trimming;
 mod turns;
 mod unsigned_decimal;
 

@@ -172,7 +172,7 @@ fn moves_of(is_zero: bool, negative: bool, exponent: &[u8]) -> (usize, usize)
 }
 
 // The number of digits of which the last stands so many places above the end of its mantissa.
-fn assembled(digits: Digits, zeros: usize, ends: Ends) -> UnsignedDecimal
+pub fn assembled(digits: Digits, zeros: usize, ends: Ends) -> UnsignedDecimal
     requires tens { AllBelowBase 10 digits.items }
     requires first { 0 < length digits.items → 0 < slice_index digits.items 0 }
     requires last { 0 < length digits.items → 0 < number_from_digits 10 digits.items % 10 }

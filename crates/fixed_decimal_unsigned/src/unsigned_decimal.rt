@@ -1,10 +1,10 @@
-ghost use Rattle.std.specs.Prelude.{◌≡◌, ◌==◌, ◌+◌, ◌<◌, ◌↔◌, IsTrue, false};
+ghost use Rattle.std.specs.Prelude.{◌≡◌, ◌==◌, ◌+◌, ◌<◌, ◌↔◌, IsTrue, IfOk, false};
 ghost use Rattle.std.specs.Range.{range_inclusive_start, range_inclusive_end, range_inclusive_exhausted};
 ghost use Rattle.fixed_decimal_unsigned.specs.Number.{place, digit, IsNumber};
 
 use crate::digits::Digits;
 use crate::places::{ONES, magnitude_of, place_of};
-use std::alloc::Global;
+use std::alloc::{AllocError, Global};
 use std::marker::Model;
 use std::ops::RangeInclusive;
 
@@ -13,7 +13,7 @@ use std::ops::RangeInclusive;
 /// Magnitudes are -32768 to 32767, and the range always holds 0, so `0.50` and `0.5` are two
 /// values of one number. Up to eight digits, counted from the highest to the lowest nonzero one,
 /// need no memory.
-#[derive(Drop)]
+#[derive(Debug, Drop)]
 pub struct UnsignedDecimal {
     pub(crate) digits: Digits,
     pub(crate) top: u16,
@@ -77,5 +77,18 @@ impl UnsignedDecimal {
         ensures number { IsNumber self.now }
     {
         magnitude_of(self.low)..=magnitude_of(self.high)
+    }
+
+    /// The same number in a value of its own. Memory is taken where the number has more than eight digits.
+    pub fn try_clone(&self) -> Result<UnsignedDecimal, AllocError>
+        ensures { IfOk result (λ v. v ≡ self.now) }
+    {
+        let digits = self.digits.try_clone()?;
+        Ok(UnsignedDecimal {
+            digits,
+            top: self.top,
+            low: self.low,
+            high: self.high,
+        })
     }
 }

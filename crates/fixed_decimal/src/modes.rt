@@ -1,0 +1,47 @@
+ghost use Rattle.std.specs.Prelude.{◌≡◌};
+ghost use Rattle.fixed_decimal.specs.SignedRounding.{size_mode};
+
+use crate::sign::Sign;
+use fixed_decimal_unsigned::UnsignedRoundingMode;
+
+/// Which multiple a rounding takes, by size or by order.
+#[derive(Clone, Copy, Debug, Drop, PartialEq, Eq)]
+pub enum SignedRoundingMode {
+    /// By size alone, whatever the sign.
+    Unsigned(UnsignedRoundingMode),
+    /// The next multiple that is not smaller.
+    Ceil,
+    /// The next multiple that is not larger.
+    Floor,
+    /// The nearest multiple; a tie goes upwards.
+    HalfCeil,
+    /// The nearest multiple; a tie goes downwards.
+    HalfFloor,
+}
+
+impl SignedRoundingMode {
+    // What the mode does to the size of a number with this sign.
+    pub(crate) fn by_size(self, sign: Sign) -> UnsignedRoundingMode
+        ensures { result ≡ size_mode sign self }
+    {
+        match self {
+            SignedRoundingMode::Unsigned(mode) => mode,
+            SignedRoundingMode::Ceil => match sign {
+                Sign::Negative => UnsignedRoundingMode::Trunc,
+                _ => UnsignedRoundingMode::Expand,
+            },
+            SignedRoundingMode::Floor => match sign {
+                Sign::Negative => UnsignedRoundingMode::Expand,
+                _ => UnsignedRoundingMode::Trunc,
+            },
+            SignedRoundingMode::HalfCeil => match sign {
+                Sign::Negative => UnsignedRoundingMode::HalfTrunc,
+                _ => UnsignedRoundingMode::HalfExpand,
+            },
+            SignedRoundingMode::HalfFloor => match sign {
+                Sign::Negative => UnsignedRoundingMode::HalfExpand,
+                _ => UnsignedRoundingMode::HalfTrunc,
+            },
+        }
+    }
+}

@@ -1,0 +1,153 @@
+ghost use Rattle.std.specs.Prelude.{◌≡◌, ◌≢◌, ℕ, ◌+◌, ◌<◌, ◌≤◌, OnOk, OnErr, IfOk, IfErr, IsOk};
+ghost use Rattle.fixed_decimal_unsigned.specs.Number.{place};
+ghost use Rattle.fixed_decimal_unsigned.specs.Range.{HoldsDigits};
+ghost use Rattle.fixed_decimal.specs.SignedRounding.{RoundsSigned};
+
+use crate::decimal::Decimal;
+use crate::modes::SignedRoundingMode;
+use crate::signed::Signed;
+use fixed_decimal_unsigned::{RoundingIncrement, Turns, UnsignedDecimal, UnsignedRoundingMode};
+use std::alloc::{AllocError, AllocFailed};
+use std::sync::ledger::Ledger;
+
+impl Signed<UnsignedDecimal> {
+    /// Rounds to a multiple of the increment at a position, and counts the turns of the loops over digits.
+    pub fn round_counted<L: Ledger>(
+        &mut self,
+        position: i16,
+        mode: SignedRoundingMode,
+        increment: RoundingIncrement,
+        turns: &mut Turns<L>,
+    ) -> Result<(), AllocError>
+        ensures succeeds { increment ≢ RoundingIncrement.MultiplesOf25 → IsOk result }
+        ensures value { OnOk result (RoundsSigned mode increment (place position) self.old self.new) }
+        ensures same { OnErr result (self.new ≡ self.old) }
+        ensures turns { (low digits : ℕ) → HoldsDigits self.old.absolute.count low digits → turns.new ≤ turns.old + digits + 2 }
+    {
+        let by_size = mode.by_size(self.sign);
+        self.absolute.round_counted(position, by_size, increment, turns)
+    }
+
+    /// Rounds to a multiple of the increment at a position.
+    pub fn round_with_mode_and_increment(
+        &mut self,
+        position: i16,
+        mode: SignedRoundingMode,
+        increment: RoundingIncrement,
+    ) -> Result<(), AllocError>
+        ensures succeeds { increment ≢ RoundingIncrement.MultiplesOf25 → IsOk result }
+        ensures value { OnOk result (RoundsSigned mode increment (place position) self.old self.new) }
+        ensures same { OnErr result (self.new ≡ self.old) }
+    {
+        let by_size = mode.by_size(self.sign);
+        self.absolute.round_with_mode_and_increment(position, by_size, increment)
+    }
+
+    /// Rounds at a position as the mode says.
+    pub fn round_with_mode(&mut self, position: i16, mode: SignedRoundingMode)
+        ensures { RoundsSigned mode RoundingIncrement.MultiplesOf1 (place position) self.old self.new }
+    {
+        let by_size = mode.by_size(self.sign);
+        self.absolute.round_with_mode(position, by_size);
+    }
+
+    /// Rounds at a position to the nearest multiple, a tie to the even one.
+    pub fn round(&mut self, position: i16)
+        ensures { RoundsSigned (SignedRoundingMode.Unsigned UnsignedRoundingMode.HalfEven) RoundingIncrement.MultiplesOf1 (place position) self.old self.new }
+    {
+        self.round_with_mode(position, SignedRoundingMode::Unsigned(UnsignedRoundingMode::HalfEven));
+    }
+
+    /// Rounds at a position away from zero.
+    pub fn expand(&mut self, position: i16)
+        ensures { RoundsSigned (SignedRoundingMode.Unsigned UnsignedRoundingMode.Expand) RoundingIncrement.MultiplesOf1 (place position) self.old self.new }
+    {
+        self.round_with_mode(position, SignedRoundingMode::Unsigned(UnsignedRoundingMode::Expand));
+    }
+
+    /// Rounds at a position towards zero.
+    pub fn trunc(&mut self, position: i16)
+        ensures { RoundsSigned (SignedRoundingMode.Unsigned UnsignedRoundingMode.Trunc) RoundingIncrement.MultiplesOf1 (place position) self.old self.new }
+    {
+        self.round_with_mode(position, SignedRoundingMode::Unsigned(UnsignedRoundingMode::Trunc));
+    }
+
+    /// Rounds at a position upwards.
+    pub fn ceil(&mut self, position: i16)
+        ensures { RoundsSigned SignedRoundingMode.Ceil RoundingIncrement.MultiplesOf1 (place position) self.old self.new }
+    {
+        self.round_with_mode(position, SignedRoundingMode::Ceil);
+    }
+
+    /// Rounds at a position downwards.
+    pub fn floor(&mut self, position: i16)
+        ensures { RoundsSigned SignedRoundingMode.Floor RoundingIncrement.MultiplesOf1 (place position) self.old self.new }
+    {
+        self.round_with_mode(position, SignedRoundingMode::Floor);
+    }
+
+    /// The number rounded to a multiple of the increment, or the number itself where memory was refused.
+    pub fn rounded_with_mode_and_increment(
+        mut self,
+        position: i16,
+        mode: SignedRoundingMode,
+        increment: RoundingIncrement,
+    ) -> Result<Decimal, AllocFailed<Decimal>>
+        ensures succeeds { increment ≢ RoundingIncrement.MultiplesOf25 → IsOk result }
+        ensures value { IfOk result (λ v. RoundsSigned mode increment (place position) self v) }
+        ensures same { IfErr result (λ e. e.value ≡ self) }
+    {
+        match self.round_with_mode_and_increment(position, mode, increment) {
+            Ok(()) => Ok(self),
+            Err(_) => Err(AllocFailed { value: self }),
+        }
+    }
+
+    /// The number rounded at a position as the mode says.
+    pub fn rounded_with_mode(mut self, position: i16, mode: SignedRoundingMode) -> Decimal
+        ensures { RoundsSigned mode RoundingIncrement.MultiplesOf1 (place position) self result }
+    {
+        self.round_with_mode(position, mode);
+        self
+    }
+
+    /// The number rounded at a position to the nearest multiple, a tie to the even one.
+    pub fn rounded(mut self, position: i16) -> Decimal
+        ensures { RoundsSigned (SignedRoundingMode.Unsigned UnsignedRoundingMode.HalfEven) RoundingIncrement.MultiplesOf1 (place position) self result }
+    {
+        self.round(position);
+        self
+    }
+
+    /// The number rounded at a position away from zero.
+    pub fn expanded(mut self, position: i16) -> Decimal
+        ensures { RoundsSigned (SignedRoundingMode.Unsigned UnsignedRoundingMode.Expand) RoundingIncrement.MultiplesOf1 (place position) self result }
+    {
+        self.expand(position);
+        self
+    }
+
+    /// The number rounded at a position towards zero.
+    pub fn trunced(mut self, position: i16) -> Decimal
+        ensures { RoundsSigned (SignedRoundingMode.Unsigned UnsignedRoundingMode.Trunc) RoundingIncrement.MultiplesOf1 (place position) self result }
+    {
+        self.trunc(position);
+        self
+    }
+
+    /// The number rounded at a position upwards.
+    pub fn ceiled(mut self, position: i16) -> Decimal
+        ensures { RoundsSigned SignedRoundingMode.Ceil RoundingIncrement.MultiplesOf1 (place position) self result }
+    {
+        self.ceil(position);
+        self
+    }
+
+    /// The number rounded at a position downwards.
+    pub fn floored(mut self, position: i16) -> Decimal
+        ensures { RoundsSigned SignedRoundingMode.Floor RoundingIncrement.MultiplesOf1 (place position) self result }
+    {
+        self.floor(position);
+        self
+    }
+}

@@ -1,0 +1,60 @@
+-- A whole number: its zeros at the end, and how many digits it has.
+use Rattle.std.proofs.Common.{◌≡◌, ℕ, zero, suc, ◌+◌, ◌-◌, ◌*◌, ◌/◌, ◌%◌, ◌^◌, ◌<◌, ◌≤◌, ◌⊎◌, max, min, List, [], ◌∷◌, length, get_or, refl, sym, ap, ◌∙◌, subst, arith, ⊎_elim}
+use Rattle.std.proofs.Math.Nat.{le-mul_of_pos_right, mul-le-mul_right, div-add-mod'}
+use Rattle.std.proofs.lemmas.Bool.{cases_lt}
+use Rattle.std.specs.Int.Digits.{number_from_digits, AllBelowBase}
+use Rattle.fixed_decimal_unsigned.specs.Integers.{IsInteger}
+use Rattle.fixed_decimal_unsigned.specs.Range.{IsHighest}
+use Rattle.fixed_decimal_unsigned.specs.RoundingSteps.{IsTrimmed}
+use Rattle.fixed_decimal_unsigned.specs.Stored.{count_of}
+use Rattle.fixed_decimal_unsigned.proofs.MantissaLemmas.{number_made}
+use Rattle.fixed_decimal_unsigned.proofs.RangeLemmas.{highest_is}
+use Rattle.fixed_decimal_unsigned.proofs.TenLemmas.{tens_apart, tens_next, tens_positive, tens_split}
+use Rattle.fixed_decimal_unsigned.proofs.DigitsLemmas.{number_reaches}
+
+tenfold : (q t u : ℕ) → u ≡ t * 10 → q * 10 * t ≡ q * u
+tenfold q t u e = omega (arith, ap (λ x. q * x) e)
+
+pub zero_stripped : (n left zeros : ℕ) → left % 10 ≡ 0 → n ≡ left * 10 ^ zeros → n ≡ left / 10 * 10 ^ (zeros + 1)
+zero_stripped n left zeros z e =
+    let tens : left ≡ left / 10 * 10 = omega arith in
+    e ∙ ap (λ x. x * 10 ^ zeros) tens ∙ tenfold (left / 10) (10 ^ zeros) (10 ^ (zeros + 1)) (tens_next zeros)
+
+power_under : (left zeros : ℕ) → 0 < left → 10 ^ zeros ≤ left * 10 ^ zeros
+power_under left zeros p = let h : 1 * 10 ^ zeros ≤ left * 10 ^ zeros = mul-le-mul_right (10 ^ zeros) p in omega arith
+
+pub zeros_few : (n left zeros : ℕ) → 0 < left → n < 2 ^ 128 → n ≡ left * 10 ^ zeros → zeros < 39
+zeros_few n left zeros p l e =
+    ⊎_elim (λ a. a) (λ a. let up = tens_apart 39 zeros a in let under = power_under left zeros p in absurd (omega arith)) (cases_lt zeros 39)
+
+pub digits_few : (ds : List ℕ) (n : ℕ) → number_from_digits 10 ds ≡ n → n < 2 ^ 128 → (0 < length ds → 0 < get_or ds 0 0) → length ds < 40
+digits_few ds n e l f =
+    ⊎_elim (λ a. a) (λ a.
+      let up = tens_apart 39 (length ds - 1) (omega arith) in let reach = number_reaches ds (omega arith) (f (omega arith)) in absurd (omega arith)) (cases_lt (length ds) 40)
+
+pub left_few : (ds : List ℕ) (number left zeros : ℕ) → number_from_digits 10 ds ≡ left → number ≡ left * 10 ^ zeros → number < 2 ^ 128 → (0 < length ds → 0 < get_or ds 0 0) → length ds < 40
+left_few ds number left zeros e n l f =
+    let under : left ≤ left * 10 ^ zeros = le-mul_of_pos_right left (tens_positive zeros) in
+    digits_few ds left e (omega arith) f
+
+shared : (n z t u : ℕ) → u ≡ z * t → n * u ≡ n * z * t
+shared n z t u e = omega (arith, ap (λ x. n * x) e)
+
+highest_same : (top high : ℕ) → high ≡ max 32768 top → max (max 32768 (0 - 1)) top ≡ high
+highest_same top high e = omega arith
+
+pub integer_made : (ds : List ℕ) (number left zeros count low high top : ℕ) → 0 < number → number_from_digits 10 ds ≡ left → number ≡ left * 10 ^ zeros → 0 < left % 10 → AllBelowBase 10 ds → (0 < length ds → 0 < get_or ds 0 0)
+    → count ≡ number_from_digits 10 ds * 10 ^ (32768 + zeros) → low ≡ min 32768 32768 → high ≡ max 32768 top → 0 < length ds → top ≡ 32768 + zeros + length ds - 1
+    → IsInteger number (number_made count low high)
+integer_made ds number left zeros count low high top pos e n last tens first ec el eh some et =
+    let at : 32768 + zeros ≡ top + 1 - length ds = omega arith in
+    let same : count ≡ count_of ds top = ec ∙ ap (λ k. number_from_digits 10 ds * 10 ^ k) at in
+    let trimmed : IsTrimmed ds top = record { tens = tens; first = first; last = λ _. subst (λ x. 0 < x % 10) (sym e) last; room = omega arith; zero_top = λ z. absurd (omega arith) } in
+    record {
+      count = ec ∙ ap (λ x. x * 10 ^ (32768 + zeros)) e ∙ shared left (10 ^ zeros) (10 ^ 32768) (10 ^ (32768 + zeros)) (tens_split zeros 32768 (32768 + zeros) (omega arith)) ∙ ap (λ x. x * 10 ^ 32768) (sym n);
+      low = omega arith;
+      high = subst (λ c. IsHighest 32768 0 c high) (sym same) (subst (IsHighest 32768 0 (count_of ds top)) (highest_same top high eh) (highest_is ds top 32768 0 trimmed (omega arith))) }
+
+pub some_digits : (ds : List ℕ) (left : ℕ) → number_from_digits 10 ds ≡ left → 0 < left % 10 → 0 < length ds
+some_digits [] left e l = let z : 0 ≡ left = e in absurd (omega arith)
+some_digits (c ∷ cs) left e l = omega arith

@@ -1,0 +1,104 @@
+ghost use Rattle.std.specs.Prelude.{◌≡◌, ◌+◌, ◌*◌, ◌%◌, ◌^◌, ◌<◌, ◌≤◌, [], length, slice_index, IfOk, OnOk};
+ghost use Rattle.std.specs.Int.Digits.{number_from_digits, AllBelowBase};
+ghost use Rattle.fixed_decimal_unsigned.specs.Integers.{IsInteger};
+
+use crate::digits::Digits;
+use crate::places::ONES;
+use crate::reading::{Ends, assembled};
+use crate::unsigned_decimal::UnsignedDecimal;
+use std::alloc::{AllocError, Global};
+
+// Pushes the digits of a number onto none.
+#[tactic(auto, using(std::proofs::lemmas::Int::Digits::number_push))]
+fn push_number(digits: &mut Digits, number: u128) -> Result<(), AllocError>
+    requires { digits.old.items ≡ [] }
+    ensures value { OnOk result (number_from_digits 10 digits.new.items ≡ number) }
+    ensures tens { OnOk result (AllBelowBase 10 digits.new.items) }
+    ensures none { OnOk result (number ≡ 0 → digits.new.items ≡ []) }
+    ensures first { OnOk result (0 < length digits.new.items → 0 < slice_index digits.new.items 0) }
+{
+    if number == 0 {
+        return Ok(());
+    }
+    push_number(digits, number / 10)?;
+    digits.push((number % 10) as u8)?;
+    Ok(())
+}
+
+// A number without the zeros that it ends in, and how many these are.
+#[tactic(auto, using(crate::proofs::IntegerLemmas::zero_stripped, crate::proofs::IntegerLemmas::zeros_few))]
+fn strip_zeros(number: u128) -> (u128, usize)
+    requires { 0 < number }
+    ensures value { number ≡ result.0 * 10 ^ result.1 }
+    ensures last { 0 < result.0 % 10 }
+    ensures few { result.1 < 39 }
+{
+    let mut left = number;
+    let mut zeros = 0usize;
+    while left % 10 == 0 {
+        left /= 10;
+        zeros += 1;
+    }
+    (left, zeros)
+}
+
+// The whole number as a decimal.
+fn from_whole(alloc: Global, number: u128) -> Result<UnsignedDecimal, AllocError>
+    ensures { IfOk result (λ v. IsInteger number v) }
+{
+    if number == 0 {
+        return Ok(UnsignedDecimal::zero(alloc));
+    }
+    let (left, zeros) = strip_zeros(number);
+    let mut digits = Digits::new(alloc);
+    push_number(&mut digits, left)?;
+    let ends = Ends {
+        first: (ONES as usize + zeros + digits.len() - 1) as u16,
+        last: ONES,
+    };
+    Ok(assembled(digits, zeros, ends))
+}
+
+impl UnsignedDecimal {
+    /// The whole number `integer`: 250 is shown as `250`. Memory is taken where it has more than eight digits.
+    pub fn from_u8(alloc: Global, integer: u8) -> Result<UnsignedDecimal, AllocError>
+        ensures { IfOk result (λ v. IsInteger integer v) }
+    {
+        from_whole(alloc, integer as u128)
+    }
+
+    /// The whole number `integer`: 1729 is shown as `1729`. Memory is taken where it has more than eight digits.
+    pub fn from_u16(alloc: Global, integer: u16) -> Result<UnsignedDecimal, AllocError>
+        ensures { IfOk result (λ v. IsInteger integer v) }
+    {
+        from_whole(alloc, integer as u128)
+    }
+
+    /// The whole number `integer`: 100000 is shown as `100000`. Memory is taken where it has more than eight digits.
+    pub fn from_u32(alloc: Global, integer: u32) -> Result<UnsignedDecimal, AllocError>
+        ensures { IfOk result (λ v. IsInteger integer v) }
+    {
+        from_whole(alloc, integer as u128)
+    }
+
+    /// The whole number `integer`: 1729 is shown as `1729`. Memory is taken where it has more than eight digits.
+    pub fn from_u64(alloc: Global, integer: u64) -> Result<UnsignedDecimal, AllocError>
+        ensures { IfOk result (λ v. IsInteger integer v) }
+    {
+        from_whole(alloc, integer as u128)
+    }
+
+    /// The whole number `integer`: 1729 is shown as `1729`. Memory is taken where it has more than eight digits.
+    pub fn from_usize(alloc: Global, integer: usize) -> Result<UnsignedDecimal, AllocError>
+        ensures { IfOk result (λ v. IsInteger integer v) }
+    {
+        from_whole(alloc, integer as u128)
+    }
+
+    /// The whole number `integer`: 1729 is shown as `1729`. Memory is taken where it has more than eight digits.
+    pub fn from_u128(alloc: Global, integer: u128) -> Result<UnsignedDecimal, AllocError>
+        ensures { IfOk result (λ v. IsInteger integer v) }
+    {
+        from_whole(alloc, integer)
+    }
+}
