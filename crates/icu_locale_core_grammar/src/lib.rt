@@ -1,0 +1,3 @@
+//! To be written.
+
+#![tactic(auto)]
