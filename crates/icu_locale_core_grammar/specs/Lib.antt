@@ -1,0 +1,14 @@
+-- What a reader must believe.
+pub mod Subtags
+pub mod Pieces
+pub mod Collections
+pub mod LanguagePart
+pub mod Extensions
+pub mod Meaning
+pub mod FaultyPiece
+pub mod NormalText
+
+-- What the readers follow, piece by piece.
+pub mod Stepping
+pub mod TagStages
+pub mod KnownRows
