@@ -13,9 +13,9 @@ use Rattle.icu_locale_core_grammar.specs.Collections.{Entry, Each, AreApart, map
 abbrev pub spelled_entry : Entry → List Text
 spelled_entry e = e.0 ∷ e.1
 
--- in lower case, without `true`
+-- without `true`, and in lower case
 abbrev pub value_meaning : List Text → List Text
-value_meaning vs = filter (λ v. not (is_true v)) (map lower vs)
+value_meaning vs = map lower (filter (λ v. not (is_true v)) vs)
 
 abbrev pub entry_meaning : Entry → Entry
 entry_meaning e = (lower e.0, value_meaning e.1)
