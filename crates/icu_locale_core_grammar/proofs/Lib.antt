@@ -4,3 +4,6 @@ pub mod Runs
 pub mod FaultyPieceLemmas
 pub mod HeadedFound
 pub mod HeadedReader
+pub mod CollectionLemmas
+pub mod WholeParts
+pub mod WholeFound
