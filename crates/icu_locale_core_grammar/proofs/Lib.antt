@@ -7,3 +7,4 @@ pub mod HeadedReader
 pub mod CollectionLemmas
 pub mod WholeParts
 pub mod WholeFound
+pub mod WholeReader
