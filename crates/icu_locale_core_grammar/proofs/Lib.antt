@@ -8,3 +8,4 @@ pub mod CollectionLemmas
 pub mod WholeParts
 pub mod WholeFound
 pub mod WholeReader
+pub mod WholeNames
