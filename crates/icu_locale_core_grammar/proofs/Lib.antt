@@ -2,8 +2,11 @@ pub mod KnownValues
 pub mod ListLemmas
 pub mod Runs
 pub mod FaultyPieceLemmas
+pub mod SetLemmas
+pub mod LanguageReader
 pub mod HeadedFound
 pub mod HeadedReader
+pub mod SubtagLemmas
 pub mod CollectionLemmas
 pub mod WholeParts
 pub mod WholeFound
