@@ -2,11 +2,12 @@
 use Rattle.std.proofs.Common.{◌≡◌, Bool, true, false, not, ◌&&◌, List, [], ◌∷◌, ◌++◌, Option, None, Some, map, fold, flat_map, option_map, codes, sym, refl, ap, ◌∙◌, subst, append_assoc, append-nil}
 use Rattle.std.specs.Prelude.{if◌then◌else◌}
 use Rattle.std.specs.List.{AllByRecursion}
-use Rattle.icu_locale_core_grammar.specs.Subtags.{Text, is_value, is_true, lower}
+use Rattle.icu_locale_core_grammar.specs.Subtags.{Text, is_single, is_value, is_true, lower}
 use Rattle.icu_locale_core_grammar.specs.Collections.{Entry, Each, put_first, map_of}
 use Rattle.icu_locale_core_grammar.specs.Extensions.{spelled_entry, value_meaning, entry_meaning, has_enough, IsEntry, Headed, MeansHeaded}
 use Rattle.icu_locale_core_grammar.specs.Stepping.{run, CanEnd, IsReader, HeadedStage, InHead, InEntry, with_value, after_head, headed_after, headed_ends}
 use Rattle.icu_locale_core_grammar.proofs.Runs.{run_joined, run_begun, first_step}
+use Rattle.icu_locale_core_grammar.proofs.SubtagLemmas.{single_no_value}
 use Rattle.icu_locale_core_grammar.proofs.HeadedFound.{with_value_meant, headed_found}
 
 -- whether an entry may end behind these pieces
@@ -37,7 +38,7 @@ module _ {S H : Type 0} (step : S → Text → Option S) (start : S) (ends : S �
   unfolding headed_after
   head_steps s u p e = ap (λ o. after_head step ends is_key needs o (ends s) p) e
 
-  key_opens : (s : S) (h : H) (p : Text) → ends s ≡ Some h → is_key p ≡ true → after (InHead s) p ≡ Some (InEntry h [] (lower p, []) (not needs))
+  pub key_opens : (s : S) (h : H) (p : Text) → ends s ≡ Some h → is_key p ≡ true → after (InHead s) p ≡ Some (InEntry h [] (lower p, []) (not needs))
   unfolding headed_after
   key_opens s h p e g =
       ap (λ o. after_head step ends is_key needs o (ends s) p) (key_closed s p g)
@@ -134,3 +135,21 @@ module _ {S H : Type 0} (step : S → Text → Option S) (start : S) (ends : S �
 
   pub headed_reader : IsReader after (InHead start) (headed_ends ends) (MeansHeaded MeansHead is_key needs)
   headed_reader = record { found = headed_found step start ends MeansHead is_key needs right; only = only; goes_on = goes_on }
+
+-- where the head takes no piece of one character and no key is one, the whole takes none
+module _ {S H : Type 0} (step : S → Text → Option S) (ends : S → Option H) (is_key : Text → Bool) (needs : Bool)
+    (closed : (s : S) (p : Text) → is_single p ≡ true → step s p ≡ None) (no_key : (p : Text) → is_single p ≡ true → is_key p ≡ false) where
+  no_entry : (h : Option H) (p : Text) → is_key p ≡ false → after_head step ends is_key needs None h p ≡ None
+  no_entry None p f = refl
+  no_entry (Some h) p f = ap (λ b. if b then Some (InEntry h [] (lower p, []) (not needs)) else None) f
+
+  none_with : (b : Bool) → (b && false) ≡ false
+  none_with true = refl
+  none_with false = refl
+
+  pub headed_closed : (s : HeadedStage S H) (p : Text) → is_single p ≡ true → headed_after step ends is_key needs s p ≡ None
+  unfolding headed_after
+  headed_closed (InHead s) p g = ap (λ o. after_head step ends is_key needs o (ends s) p) (closed s p g) ∙ no_entry (ends s) p (no_key p g)
+  headed_closed (InEntry h es e full) p g =
+      ap (λ b. if b then Some (InEntry h es (with_value e p) true) else (if full && is_key p then Some (InEntry h (put_first e es) (lower p, []) (not needs)) else None)) (single_no_value p g)
+      ∙ ap (λ b. if b then Some (InEntry h (put_first e es) (lower p, []) (not needs)) else None) (ap (λ b. full && b) (no_key p g) ∙ none_with full)

@@ -6,6 +6,8 @@ pub mod SetLemmas
 pub mod LanguageReader
 pub mod HeadedFound
 pub mod HeadedReader
+pub mod Embedded
+pub mod SingletonLemmas
 pub mod SubtagLemmas
 pub mod CollectionLemmas
 pub mod WholeParts
