@@ -8,6 +8,8 @@ pub mod HeadedFound
 pub mod HeadedReader
 pub mod Embedded
 pub mod SingletonLemmas
+pub mod BodyReaders
+pub mod TagReader
 pub mod SubtagLemmas
 pub mod CollectionLemmas
 pub mod WholeParts
