@@ -1,5 +1,5 @@
 -- The stages of each kind of extension are a right reader, and so among all kinds.
-use Rattle.std.proofs.Common.{◌≡◌, Bool, true, false, not, ◌&&◌, List, [], ◌∷◌, ◌++◌, Option, None, Some, map, fold, option_map, codes, sym, refl, ap, ◌∙◌, subst}
+use Rattle.std.proofs.Common.{◌≡◌, Bool, true, false, not, ◌&&◌, List, [], ◌∷◌, ◌++◌, Option, None, Some, map, fold, option_map, codes, sym, refl, ap, ◌∙◌, subst, append_assoc, append-nil}
 use Rattle.std.specs.Prelude.{if◌then◌else◌, is_none}
 use Rattle.std.specs.List.{AllByRecursion}
 use Rattle.std.proofs.lemmas.List.{map-append}
@@ -8,7 +8,7 @@ use Rattle.icu_locale_core_grammar.specs.Collections.{Each, contains_text, inser
 use Rattle.icu_locale_core_grammar.specs.LanguagePart.{LanguageId, MeansInner}
 use Rattle.icu_locale_core_grammar.specs.Meaning.{MeansAttributes, MeansOther, MeansUnicode, MeansTransform, UnicodeMeaning, TransformMeaning, Part, unicode, transform, other, MeansPart}
 use Rattle.icu_locale_core_grammar.specs.Stepping.{run, CanEnd, IsReader, InHead, InEntry, headed_after}
-use Rattle.icu_locale_core_grammar.specs.TagStages.{has_none, fits_script, fits_region, fits_variant, with_script, with_region, with_variant, with_piece, language_after, inner_ends, attributes_after, attributes_end, UnicodeStage, unicode_after, unicode_ends, TransformStage, transform_after, transform_ends, other_after, other_ends, BodyStage, InUnicode, InTransform, InOther, body_after, body_ends, opens}
+use Rattle.icu_locale_core_grammar.specs.TagStages.{only_language, has_none, fits_script, fits_region, fits_variant, with_script, with_region, with_variant, with_piece, language_after, inner_ends, attributes_after, attributes_end, UnicodeStage, unicode_after, unicode_ends, TransformStage, transform_after, transform_ends, other_after, other_ends, BodyStage, InUnicode, InTransform, InOther, body_after, body_ends, opens}
 use Rattle.icu_locale_core_grammar.proofs.ListLemmas.{fold-append, each-append}
 use Rattle.icu_locale_core_grammar.proofs.SubtagLemmas.{single_no_language, single_no_script, single_no_region, single_no_variant, single_no_value, single_no_other_piece, single_no_key, single_no_field_key, key_no_value, field_key_no_value, field_key_no_language, field_key_no_script, field_key_no_region, field_key_no_variant}
 use Rattle.icu_locale_core_grammar.proofs.SingletonLemmas.{unicode_no_transform, unicode_no_other, transform_no_unicode, transform_no_other, unicode_opens, transform_opens, other_opens, Opening, by_unicode, by_transform, by_other, opening}
@@ -45,19 +45,8 @@ fold-lower put m [] = refl
 fold-lower put m (p ∷ ps) = fold-lower put (put m (lower p)) ps
 
 fold-pushed : (before ps : List Text) → fold (λ ws p. ws ++ lower p ∷ []) before ps ≡ before ++ map lower ps
-fold-pushed before ps = by_list before ps
-  where
-    by_list : (before ps : List Text) → fold (λ ws p. ws ++ lower p ∷ []) before ps ≡ before ++ map lower ps
-    by_list before [] = sym (append_nil before)
-      where
-        append_nil : (l : List Text) → l ++ [] ≡ l
-        append_nil [] = refl
-        append_nil (x ∷ xs) = ap (λ t. x ∷ t) (append_nil xs)
-    by_list before (p ∷ ps) = by_list (before ++ lower p ∷ []) ps ∙ assoc before
-      where
-        assoc : (l : List Text) → (l ++ lower p ∷ []) ++ map lower ps ≡ l ++ (lower p ∷ map lower ps)
-        assoc [] = refl
-        assoc (x ∷ xs) = ap (λ t. x ∷ t) (assoc xs)
+fold-pushed before [] = sym (append-nil before)
+fold-pushed before (p ∷ ps) = fold-pushed (before ++ lower p ∷ []) ps ∙ append_assoc before (lower p ∷ []) (map lower ps)
 
 attributes_found : (ps : List Text) (s m : List Text) → run attributes_after (Some []) ps ≡ Some s → attributes_end s ≡ Some m → MeansAttributes ps m
 attributes_found ps s m e f =
@@ -94,10 +83,7 @@ none_with false = refl
 
 language_refused : (s : Option LanguageId) (p : Text) → is_language p ≡ false → is_script p ≡ false → is_region p ≡ false → is_variant p ≡ false → language_after s p ≡ None
 unfolding with_piece
-language_refused None p l e f g = ap (λ b. if b then Some (Some (language_only p)) else None) l
-  where
-    language_only : Text → LanguageId
-    language_only p = record { language = lower p; script = None; region = None; variants = [] }
+language_refused None p l e f g = ap (λ b. if b then Some (Some (only_language p)) else None) l
 language_refused (Some id) p l e f g =
     ap (λ b. option_map Some (if b then Some (with_script id p) else (if fits_region id p then Some (with_region id p) else (if fits_variant id p then Some (with_variant id p) else None))))
       (ap (λ b. (is_none id.script && (is_none id.region && has_none id.variants)) && b) e ∙ none_with (is_none id.script && (is_none id.region && has_none id.variants)))

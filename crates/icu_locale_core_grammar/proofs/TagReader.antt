@@ -8,6 +8,7 @@ use Rattle.icu_locale_core_grammar.specs.Meaning.{Part, ExtensionMeanings, put_p
 use Rattle.icu_locale_core_grammar.specs.FaultyPiece.{IsAccepted, IsNamed, HasFault}
 use Rattle.icu_locale_core_grammar.specs.Stepping.{run, IsReader}
 use Rattle.icu_locale_core_grammar.specs.TagStages.{has_none, language_after, language_ends, body_after, body_ends, opens, TagStage, tag_start, tag_after, tag_ends, tag_fault}
+use Rattle.icu_locale_core_grammar.specs.TagLaws.{IsStuckAt, StagesNameFaults}
 use Rattle.icu_locale_core_grammar.proofs.SubtagLemmas.{singleton_single}
 use Rattle.icu_locale_core_grammar.proofs.SingletonLemmas.{private_single, opens_single, opens_no_private, any_opens, any_own}
 use Rattle.icu_locale_core_grammar.proofs.LanguageReader.{language_reader, language_stands}
@@ -34,11 +35,18 @@ fresh_is taken s e = by_stage s (language_stands taken s e)
     by_stage None m = sym (ap has_none m)
     by_stage (Some id) m = ap has_none m.parts
 
-pub tag_named : (taken : List Text) (s : TagStage) (place : Option Text) → run tag_after (Some tag_start) taken ≡ Some s → IsStuck tag_reader s place → IsNamed MeansTag (tag_fault s place) taken place
+tag_named : (taken : List Text) (s : TagStage) (place : Option Text) → run tag_after (Some tag_start) taken ≡ Some s → IsStuck tag_reader s place → IsNamed MeansTag (tag_fault s place) taken place
 tag_named taken s None r stuck =
     named language_after None language_ends MeansLanguage body_after body_ends opens MeansPart put_part no_extensions is_private is_private_piece tag_parts is_none fresh_is any_opens any_own singleton_single taken s None r stuck
 tag_named taken s (Some p) r stuck =
     named language_after None language_ends MeansLanguage body_after body_ends opens MeansPart put_part no_extensions is_private is_private_piece tag_parts is_none fresh_is any_opens any_own singleton_single taken s (Some p) r stuck
+
+stages_stuck : (s : TagStage) (place : Option Text) → IsStuckAt s place → IsStuck tag_reader s place
+stages_stuck s None e = e
+stages_stuck s (Some p) e = e
+
+pub stages_named : StagesNameFaults
+stages_named taken s place r stuck = tag_named taken s place r (stages_stuck s place stuck)
 
 -- each list of pieces has a meaning or a fault
 pub tag_answered : (ps : List Text) → IsAccepted MeansTag ps ⊎ ((e : ParseError) × HasFault MeansTag ps e)

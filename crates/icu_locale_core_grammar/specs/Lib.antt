@@ -12,3 +12,6 @@ pub mod NormalText
 pub mod Stepping
 pub mod TagStages
 pub mod KnownRows
+
+-- Statements of laws.
+pub mod TagLaws

@@ -13,5 +13,6 @@
 #![tactic(auto)]
 
 mod error;
+pub mod laws;
 
 pub use crate::error::ParseError;
