@@ -10,6 +10,8 @@ pub mod Embedded
 pub mod SingletonLemmas
 pub mod BodyReaders
 pub mod TagReader
+pub mod CaseLemmas
+pub mod CaseSteps
 pub mod SubtagLemmas
 pub mod CollectionLemmas
 pub mod WholeParts
