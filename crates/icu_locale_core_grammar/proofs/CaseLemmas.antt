@@ -85,6 +85,9 @@ module _ (f : ℕ → ℕ) (keeps : KeepsKinds f) where
   field_key_changed (a ∷ b ∷ []) = λ i. keeps.letters a i && keeps.digits b i
   field_key_changed (a ∷ b ∷ c ∷ rest) = refl
 
+pub characters_kept : (p : Text) → list_all is_ascii_alphanumeric (lower p) ≡ list_all is_ascii_alphanumeric p
+characters_kept p = all_kept is_ascii_alphanumeric to_ascii_lowercase lower_character p
+
 -- ---- cases changed twice
 
 uppercase-lowercase : (c : ℕ) → to_ascii_uppercase (to_ascii_lowercase c) ≡ to_ascii_uppercase c

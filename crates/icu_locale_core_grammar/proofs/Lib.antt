@@ -12,6 +12,8 @@ pub mod BodyReaders
 pub mod TagReader
 pub mod CaseLemmas
 pub mod CaseSteps
+pub mod PlainSubtags
+pub mod PlainPieces
 pub mod SubtagLemmas
 pub mod CollectionLemmas
 pub mod WholeParts

@@ -11,9 +11,13 @@ use Rattle.std.specs.Cmp.Lexicographic.{pointwise}
 abbrev pub Text : Type 0
 Text = List ℕ
 
+-- letters and digits alone
+abbrev pub is_plain : Text → Bool
+is_plain p = list_all is_ascii_alphanumeric p
+
 -- between `least` and `most` letters and digits
 abbrev pub has_characters : ℕ → ℕ → Text → Bool
-has_characters least most p = is_in_range least most (length p) && list_all is_ascii_alphanumeric p
+has_characters least most p = is_in_range least most (length p) && is_plain p
 
 -- ---- the language part
 
