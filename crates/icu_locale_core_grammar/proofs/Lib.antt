@@ -14,6 +14,8 @@ pub mod CaseLemmas
 pub mod CaseSteps
 pub mod PlainSubtags
 pub mod PlainPieces
+pub mod MapLemmas
+pub mod MeaningsAreNormal
 pub mod SubtagLemmas
 pub mod CollectionLemmas
 pub mod WholeParts

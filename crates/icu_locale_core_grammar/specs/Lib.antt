@@ -7,6 +7,7 @@ pub mod Extensions
 pub mod Meaning
 pub mod FaultyPiece
 pub mod NormalText
+pub mod WellFormed
 
 -- What the readers follow, piece by piece.
 pub mod Stepping
