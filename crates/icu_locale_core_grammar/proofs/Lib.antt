@@ -16,6 +16,8 @@ pub mod PlainSubtags
 pub mod PlainPieces
 pub mod MapLemmas
 pub mod MeaningsAreNormal
+pub mod NormalBodies
+pub mod NormalBlocks
 pub mod SubtagLemmas
 pub mod CollectionLemmas
 pub mod WholeParts
