@@ -18,6 +18,8 @@ pub mod MapLemmas
 pub mod MeaningsAreNormal
 pub mod NormalBodies
 pub mod NormalBlocks
+pub mod NormalOrder
+pub mod NormalTags
 pub mod SubtagLemmas
 pub mod CollectionLemmas
 pub mod WholeParts
