@@ -20,6 +20,7 @@ pub mod NormalBodies
 pub mod NormalBlocks
 pub mod NormalOrder
 pub mod NormalTags
+pub mod AnswerLemmas
 pub mod SubtagLemmas
 pub mod CollectionLemmas
 pub mod WholeParts
