@@ -13,6 +13,7 @@
 #![tactic(auto)]
 
 mod error;
+pub mod known_rows;
 pub mod laws;
 
 pub use crate::error::ParseError;
