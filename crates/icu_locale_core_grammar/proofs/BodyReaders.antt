@@ -14,39 +14,11 @@ use Rattle.icu_locale_core_grammar.proofs.SubtagLemmas.{single_no_language, sing
 use Rattle.icu_locale_core_grammar.proofs.SingletonLemmas.{unicode_no_transform, unicode_no_other, transform_no_unicode, transform_no_other, unicode_opens, transform_opens, other_opens, Opening, by_unicode, by_transform, by_other, opening}
 use Rattle.icu_locale_core_grammar.proofs.SetLemmas.{put_text}
 use Rattle.icu_locale_core_grammar.proofs.LanguageReader.{inner_reader}
-use Rattle.icu_locale_core_grammar.proofs.Runs.{run_begun, run_keeps}
+use Rattle.icu_locale_core_grammar.proofs.ListReaders.{pieces_run, pieces_stand, fold-lower, fold-pushed}
 use Rattle.icu_locale_core_grammar.proofs.HeadedReader.{headed_reader, headed_closed, key_opens}
 use Rattle.icu_locale_core_grammar.proofs.Embedded.{embedded_goes_on, embedded_reader}
 
--- ---- pieces of one class, put together one by one
-
-module _ {M : Type 0} (test : Text → Bool) (put : M → Text → M) where
-  abbrev pieces_after : M → Text → Option M
-  pieces_after m p = if test p then Some (put m p) else None
-
-  pieces_run : (m : M) (ps : List Text) → Each test ps → run pieces_after (Some m) ps ≡ Some (fold put m ps)
-  pieces_run m [] each = refl
-  pieces_run m (p ∷ ps) each = run_begun pieces_after m (put m p) _ p ps (ap (λ b. if b then Some (put m p) else None) each.0) (pieces_run (put m p) ps each.1)
-
-  one_more : (m : M) (p : Text) (t : M) (b : Bool) → test p ≡ b → (if b then Some (put m p) else None) ≡ Some t → (test p ≡ true) × (put m p ≡ t)
-  one_more m p t true e q = (e, cc)
-  one_more m p t false e q = cc
-
-  pieces_stand : (start : M) (ps : List Text) (m : M) → run pieces_after (Some start) ps ≡ Some m → Each test ps × (fold put start ps ≡ m)
-  pieces_stand start ps m e = run_keeps pieces_after (λ taken s. Each test taken × (fold put start taken ≡ s)) adds ps [] start m (tt, refl) e
-    where
-      adds : (taken : List Text) (s : M) (p : Text) (t : M) → Each test taken × (fold put start taken ≡ s) → pieces_after s p ≡ Some t → Each test (taken ++ p ∷ []) × (fold put start (taken ++ p ∷ []) ≡ t)
-      adds taken s p t stands q =
-          let f = one_more s p t (test p) refl q in
-          (each-append (λ x. test x ≡ true) taken (p ∷ []) stands.0 (f.0, tt), fold-append put start taken (p ∷ []) ∙ ap (λ x. put x p) stands.1 ∙ f.1)
-
-fold-lower : {M : Type 0} (put : M → Text → M) (m : M) (ps : List Text) → fold (λ x p. put x (lower p)) m ps ≡ fold put m (map lower ps)
-fold-lower put m [] = refl
-fold-lower put m (p ∷ ps) = fold-lower put (put m (lower p)) ps
-
-fold-pushed : (before ps : List Text) → fold (λ ws p. ws ++ lower p ∷ []) before ps ≡ before ++ map lower ps
-fold-pushed before [] = sym (append-nil before)
-fold-pushed before (p ∷ ps) = fold-pushed (before ++ lower p ∷ []) ps ∙ append_assoc before (lower p ∷ []) (map lower ps)
+-- ---- attributes, and the pieces of other extensions
 
 attributes_found : (ps : List Text) (s m : List Text) → run attributes_after (Some []) ps ≡ Some s → attributes_end s ≡ Some m → MeansAttributes ps m
 attributes_found ps s m e f =

@@ -33,7 +33,7 @@ fold_filled : (set ts : List Text) → has_none set ≡ false → has_none (fold
 fold_filled set [] e = e
 fold_filled set (t ∷ ts) e = fold_filled (insert_text t set) ts (insert_filled t set)
 
-set_filled : (t : Text) (ts : List Text) → has_none (set_of (t ∷ ts)) ≡ false
+pub set_filled : (t : Text) (ts : List Text) → has_none (set_of (t ∷ ts)) ≡ false
 set_filled t ts = fold_filled (t ∷ []) ts refl
 
 apart_none : AreApart []

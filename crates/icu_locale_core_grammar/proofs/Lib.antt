@@ -8,7 +8,10 @@ pub mod HeadedFound
 pub mod HeadedReader
 pub mod Embedded
 pub mod SingletonLemmas
+pub mod ListReaders
 pub mod BodyReaders
+pub mod PartReaders
+pub mod PartialReadingLemmas
 pub mod TagReader
 pub mod CaseLemmas
 pub mod CaseSteps

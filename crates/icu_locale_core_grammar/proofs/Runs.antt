@@ -130,3 +130,12 @@ module _ {S M : Type 0} {step : S → Text → Option S} {start : S} {ends : S �
   -- each list has a meaning, or stops somewhere
   pub answered : (ps : List Text) → IsAccepted Means ps ⊎ Stop ps
   answered ps = answered_from ps [] start refl
+
+  -- where it is stuck, nothing is meant
+  pub stuck_unmeant : (taken : List Text) (s : S) (p : Text) (rest : List Text) (m : M) → run step (Some start) taken ≡ Some s → step s p ≡ None → Means (taken ++ p ∷ rest) m → ⊥
+  stuck_unmeant taken s p rest m e none a =
+      let stop = stops_at_piece taken s p rest e none in
+      stop.stops (rest, (m, subst (λ l. Means l m) (sym (append_assoc taken (p ∷ []) rest)) a))
+
+  pub unended_unmeant : (taken : List Text) (s : S) (m : M) → run step (Some start) taken ≡ Some s → ends s ≡ None → Means taken m → ⊥
+  unended_unmeant taken s m e none a = (stops_at_end taken s e none).stops (m, a)

@@ -8,6 +8,8 @@ pub mod Meaning
 pub mod FaultyPiece
 pub mod NormalText
 pub mod WellFormed
+pub mod PartReaders
+pub mod PartialReading
 
 -- What the readers follow, piece by piece.
 pub mod Stepping
