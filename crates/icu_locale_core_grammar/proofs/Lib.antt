@@ -24,6 +24,7 @@ pub mod NormalBlocks
 pub mod NormalOrder
 pub mod NormalTags
 pub mod AnswerLemmas
+pub mod PreferenceLemmas
 pub mod SubtagLemmas
 pub mod CollectionLemmas
 pub mod WholeParts

@@ -10,6 +10,9 @@ pub mod NormalText
 pub mod WellFormed
 pub mod PartReaders
 pub mod PartialReading
+pub mod Preferences
+pub mod DataTags
+pub mod SingleVariant
 
 -- What the readers follow, piece by piece.
 pub mod Stepping
