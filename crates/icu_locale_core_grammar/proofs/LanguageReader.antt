@@ -116,7 +116,7 @@ first_adds p t true e q =
     subst (MeansInner (p ∷ [])) same (record { written = written_of p None None []; sound = record { language = e; script = tt; region = tt; variants = tt; apart = apart_none }; parts = refl; meant = refl })
 first_adds p t false e q = cc
 
-language_adds : (taken : List Text) (s : Option LanguageId) (p : Text) (t : Option LanguageId) → MeansInner taken s → language_after s p ≡ Some t → MeansInner (taken ++ p ∷ []) t
+pub language_adds : (taken : List Text) (s : Option LanguageId) (p : Text) (t : Option LanguageId) → MeansInner taken s → language_after s p ≡ Some t → MeansInner (taken ++ p ∷ []) t
 language_adds taken None p t means q = subst (λ l. MeansInner (l ++ p ∷ []) t) (sym means) (first_adds p t (is_language p) refl q)
 language_adds taken (Some id) p t means q =
     let f = mapped_some Some (with_piece id p) t q in

@@ -25,6 +25,7 @@ pub mod NormalOrder
 pub mod NormalTags
 pub mod AnswerLemmas
 pub mod PreferenceLemmas
+pub mod SingleReader
 pub mod SubtagLemmas
 pub mod CollectionLemmas
 pub mod WholeParts

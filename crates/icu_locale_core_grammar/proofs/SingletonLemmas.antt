@@ -30,6 +30,9 @@ spelled_other w v p e f = ap (same_text v) (spelled_lower w p e) ∙ f
 pub private_single : (p : Text) → is_private p ≡ true → is_single p ≡ true
 private_single p e = spelled_single private_text p e refl
 
+pub unicode_single : (p : Text) → is_unicode p ≡ true → is_single p ≡ true
+unicode_single p e = spelled_single unicode_text p e refl
+
 pub unicode_no_transform : (p : Text) → is_unicode p ≡ true → is_transform p ≡ false
 unicode_no_transform p e = spelled_other unicode_text transform_text p e refl
 

@@ -2,12 +2,14 @@
 -- size that is known before it is read.
 -- Defined in docs/tags.md, "One variant and one keyword".
 -- Cited by the readers that take no memory.
-use Rattle.std.specs.Prelude.{◌≡◌, ◌≢◌, Bool, true, false, not, ◌&&◌, List, [], ◌∷◌, ◌++◌, Option, None, Some, option_map, option_to_list, if◌then◌else◌}
+use Rattle.std.specs.Prelude.{◌≡◌, Bool, true, false, ◌||◌, List, [], ◌∷◌, ◌++◌, Option, None, Some, option_to_list, if◌then◌else◌}
 use Rattle.std.specs.List.{list_any}
 use Rattle.icu_locale_core_grammar.specs.declared.error.ParseError.{ParseError}
 use Rattle.icu_locale_core_grammar.specs.declared.error.ParseError.TheVariants.{InvalidLanguage, InvalidSubtag, InvalidExtension}
-use Rattle.icu_locale_core_grammar.specs.Subtags.{Text, is_single, is_value, is_key, is_true, is_unicode, lower}
+use Rattle.icu_locale_core_grammar.specs.Subtags.{Text, is_single, is_singleton, is_value, is_key, is_true, is_unicode, lower}
 use Rattle.icu_locale_core_grammar.specs.LanguagePart.{LanguageId, MeansLanguage}
+use Rattle.icu_locale_core_grammar.specs.Collections.{Entry}
+use Rattle.icu_locale_core_grammar.specs.Meaning.{TagMeaning, no_transform}
 use Rattle.icu_locale_core_grammar.specs.FaultyPiece.{StopsAt}
 use Rattle.icu_locale_core_grammar.specs.TagStages.{language_after}
 
@@ -39,19 +41,35 @@ pub record MeansSingle (ps : List Text) (m : SingleMeaning) : Type 0 where
   pub language : MeansLanguage front (record { language = m.language; script = m.script; region = m.region; variants = option_to_list m.variant })
   pub keyword : MeansKeyword last m.keyword
 
+-- the meaning as that of a tag
+abbrev pub keyword_entries : Option (Text × Option Text) → List Entry
+keyword_entries None = []
+keyword_entries (Some k) = (k.0, option_to_list k.1) ∷ []
+
+abbrev pub single_tag : SingleMeaning → TagMeaning
+single_tag m = record {
+    front = record { language = m.language; script = m.script; region = m.region; variants = option_to_list m.variant };
+    blocks = record { unicode = record { head = []; entries = keyword_entries m.keyword }; transform = no_transform; others = [] };
+    own = [] }
+
 -- ---- faults
 
--- the name by the place alone
-abbrev pub place_fault : List Text → ParseError
-place_fault [] = InvalidLanguage
-place_fault (p ∷ ps) = if list_any is_single (p ∷ ps) then InvalidExtension else InvalidSubtag
+-- the piece at the place would begin an extension
+abbrev pub begins_extension : Option Text → Bool
+begins_extension None = false
+begins_extension (Some p) = is_singleton p
 
--- the list has no meaning, and its fault is e
-pub record HasPlainFault {M : Type 0} (Means : List Text → M → Type 0) (ps : List Text) (e : ParseError) : Type 0 where
+-- the name of the fault: within `u`, or at the singleton of another extension, it is one of the extension
+abbrev pub single_name : List Text → Option Text → ParseError
+single_name [] place = InvalidLanguage
+single_name (p ∷ ps) place = if list_any is_single (p ∷ ps) || begins_extension place then InvalidExtension else InvalidSubtag
+
+-- the list has no such meaning, and its fault is e
+pub record HasSingleFault (ps : List Text) (e : ParseError) : Type 0 where
   pub front : List Text
   pub place : Option Text
-  pub stops : StopsAt Means ps front place
-  pub named : place_fault front ≡ e
+  pub stops : StopsAt MeansSingle ps front place
+  pub named : single_name front place ≡ e
 
 -- ---- stages
 
@@ -96,9 +114,9 @@ single_ends (BehindUnicode id) = None
 single_ends (BehindKey id k) = Some (single_of id (Some (k, None)))
 single_ends (BehindValue id k v) = Some (single_of id (Some (k, v)))
 
-abbrev pub single_fault : SingleStage → ParseError
-single_fault (InLanguage None) = InvalidLanguage
-single_fault (InLanguage (Some id)) = InvalidSubtag
-single_fault (BehindUnicode id) = InvalidExtension
-single_fault (BehindKey id k) = InvalidExtension
-single_fault (BehindValue id k v) = InvalidExtension
+abbrev pub single_fault : SingleStage → Option Text → ParseError
+single_fault (InLanguage None) place = InvalidLanguage
+single_fault (InLanguage (Some id)) place = if begins_extension place then InvalidExtension else InvalidSubtag
+single_fault (BehindUnicode id) place = InvalidExtension
+single_fault (BehindKey id k) place = InvalidExtension
+single_fault (BehindValue id k v) place = InvalidExtension
