@@ -26,6 +26,8 @@ pub mod NormalTags
 pub mod AnswerLemmas
 pub mod PreferenceLemmas
 pub mod SingleReader
+pub mod SingleTags
+pub mod LanguageFaults
 pub mod SubtagLemmas
 pub mod CollectionLemmas
 pub mod WholeParts

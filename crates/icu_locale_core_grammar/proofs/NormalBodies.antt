@@ -58,7 +58,7 @@ language_means id n =
       parts = refl;
       meant = λ i. record { language = n.language.same i; script = script_stays id.script n.script i; region = region_stays id.region n.region i; variants = set i } }
 
-inner_means : (id : Option LanguageId) → IfSome id IsNormalLanguage → MeansInner (inner_pieces id) id
+pub inner_means : (id : Option LanguageId) → IfSome id IsNormalLanguage → MeansInner (inner_pieces id) id
 inner_means None n = refl
 inner_means (Some id) n = language_lower (language_pieces id) id (language_means id n)
 
@@ -69,7 +69,7 @@ values_stay [] each = refl
 values_stay (v ∷ vs) each =
     ap (λ b. map lower (cond (not b) (v ∷ filter (λ w. not (is_true w)) vs) (filter (λ w. not (is_true w)) vs))) each.0.shown ∙ (λ i. each.0.piece.same i ∷ values_stay vs each.1 i)
 
-values_pass : (vs : List Text) → AllByRecursion IsNormalValue vs → Each is_value vs
+pub values_pass : (vs : List Text) → AllByRecursion IsNormalValue vs → Each is_value vs
 values_pass [] each = tt
 values_pass (v ∷ vs) each = (each.0.piece.is, values_pass vs each.1)
 
@@ -93,17 +93,17 @@ pub entries_mean : (test : Text → Bool) (needs : Bool) (es : List Entry) → A
 entries_mean test needs [] each = refl
 entries_mean test needs (e ∷ es) each = λ i. (each.0.key.same i, shown_values needs e.1 each.0.values i) ∷ entries_mean test needs es each.1 i
 
-entries_are : (test : Text → Bool) (needs : Bool) (es : List Entry) → AllByRecursion (IsNormalEntry test) es → AllByRecursion (IsEntry test needs) (map (shown_entry needs) es)
+pub entries_are : (test : Text → Bool) (needs : Bool) (es : List Entry) → AllByRecursion (IsNormalEntry test) es → AllByRecursion (IsEntry test needs) (map (shown_entry needs) es)
 entries_are test needs [] each = tt
 entries_are test needs (e ∷ es) each =
     (record { key = each.0.key.is; values = shown_pass needs e.1 each.0.values; enough = shown_enough needs e.1 }, entries_are test needs es each.1)
 
-entries_keyed : (test : Text → Bool) (needs : Bool) (es : List Entry) → AreNormalEntries test es → map_of (map entry_meaning (map (shown_entry needs) es)) ≡ es
+pub entries_keyed : (test : Text → Bool) (needs : Bool) (es : List Entry) → AreNormalEntries test es → map_of (map entry_meaning (map (shown_entry needs) es)) ≡ es
 entries_keyed test needs es n = ap map_of (entries_mean test needs es n.each) ∙ map_of_rising es n.rises
 
 -- ---- bodies
 
-attributes_mean : (set : List Text) → AreLower is_attribute set → Rises set → MeansAttributes set set
+pub attributes_mean : (set : List Text) → AreLower is_attribute set → Rises set → MeansAttributes set set
 attributes_mean set n rises = record { each = pieces_pass is_attribute set n; meant = ap set_of (pieces_stay is_attribute set n) ∙ set_of_rising set rises }
 
 pub unicode_means : (u : UnicodeMeaning) → IsNormalUnicode u → MeansUnicode (unicode_pieces u) u

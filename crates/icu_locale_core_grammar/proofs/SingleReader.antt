@@ -77,7 +77,7 @@ run_short (p ∷ ps) l m e short =
     step_short l p f.0 f.1 (run_short ps f.0 m f.2 short)
 
 -- a step of the language part gives one
-step_there : (l : Option LanguageId) (p : Text) (m : Option LanguageId) → language_after l p ≡ Some m → (id : LanguageId) × (m ≡ Some id)
+pub step_there : (l : Option LanguageId) (p : Text) (m : Option LanguageId) → language_after l p ≡ Some m → (id : LanguageId) × (m ≡ Some id)
 step_there None p None e = absurd (none_there (only_language p) _ e)
   where
     none_there : (id : LanguageId) (b : Bool) → (if b then Some (Some id) else None) ≡ Some None → ⊥
@@ -226,7 +226,7 @@ single_reader = record { found = λ ps s m e f. ends_well ps s m (stands ps s e)
 -- ---- names
 
 -- a language part has no piece of one character
-language_plain : (ps : List Text) (l m : Option LanguageId) → run language_after (Some l) ps ≡ Some m → list_any is_single ps ≡ false
+pub language_plain : (ps : List Text) (l m : Option LanguageId) → run language_after (Some l) ps ≡ Some m → list_any is_single ps ≡ false
 language_plain [] l m e = refl
 language_plain (p ∷ ps) l m e =
     let f = first_step language_after l m p ps e in

@@ -3,6 +3,7 @@
 -- Cited by the functions that read tags, and by the law that these stages read tags and no more.
 use Rattle.std.specs.Prelude.{ℕ, Bool, true, false, not, ◌&&◌, List, [], ◌∷◌, ◌++◌, Option, None, Some, is_none, option_map, if◌then◌else◌}
 use Rattle.icu_locale_core_grammar.specs.declared.error.ParseError.{ParseError}
+use Rattle.icu_locale_core_grammar.specs.declared.error.ParseError.TheVariants.{InvalidLanguage, InvalidSubtag}
 use Rattle.icu_locale_core_grammar.specs.Subtags.{Text, is_language, is_script, is_region, is_variant, is_attribute, is_key, is_field_key, is_other_piece, is_private_piece, is_unicode, is_transform, is_other, is_private, lower, title, upper}
 use Rattle.icu_locale_core_grammar.specs.Collections.{contains_text, insert_text}
 use Rattle.icu_locale_core_grammar.specs.LanguagePart.{LanguageId}
@@ -54,6 +55,11 @@ language_ends id = id
 
 abbrev pub inner_ends : Option LanguageId → Option (Option LanguageId)
 inner_ends id = Some id
+
+-- the name of the fault of a language identifier that does not go on
+abbrev pub language_fault : Option LanguageId → ParseError
+language_fault None = InvalidLanguage
+language_fault (Some id) = InvalidSubtag
 
 -- ---- extensions
 
