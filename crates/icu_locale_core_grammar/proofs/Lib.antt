@@ -28,6 +28,7 @@ pub mod PreferenceLemmas
 pub mod SingleReader
 pub mod SingleTags
 pub mod LanguageFaults
+pub mod PartPlain
 pub mod SubtagLemmas
 pub mod CollectionLemmas
 pub mod WholeParts

@@ -12,7 +12,7 @@ use Rattle.icu_locale_core_grammar.specs.Pieces.{hyphen, is_hyphen, pieces, hyph
 use Rattle.icu_locale_core_grammar.specs.Collections.{Entry, Each, put_first, contains_text, insert_text}
 use Rattle.icu_locale_core_grammar.specs.LanguagePart.{LanguageId}
 use Rattle.icu_locale_core_grammar.specs.Meaning.{TagMeaning, MeansTag, ExtensionMeanings, Part, put_part, no_extensions}
-use Rattle.icu_locale_core_grammar.specs.Stepping.{run, HeadedStage, InHead, InEntry, with_value, after_head, headed_after, WholeStage, InFront, AtBlock, InBlock, InPrivate, opened, next_part, after_front, at_block, after_block, whole_after}
+use Rattle.icu_locale_core_grammar.specs.Stepping.{run, IsReader, HeadedStage, InHead, InEntry, with_value, after_head, headed_after, WholeStage, InFront, AtBlock, InBlock, InPrivate, opened, next_part, after_front, at_block, after_block, whole_after}
 use Rattle.icu_locale_core_grammar.specs.TagStages.{only_language, has_none, fits_script, fits_region, fits_variant, with_script, with_region, with_variant, with_piece, language_after, language_ends, inner_ends, attributes_after, attributes_end, unicode_after, transform_after, other_after, BodyStage, InUnicode, InTransform, InOther, body_after, body_ends, opens, TagStage, tag_start, tag_after}
 use Rattle.icu_locale_core_grammar.proofs.ListLemmas.{mapped_some}
 use Rattle.icu_locale_core_grammar.proofs.PlainSubtags.{characters_plain, language_plain, script_plain, region_plain, variant_plain, key_plain, field_key_plain, private_plain, opens_plain}
@@ -22,7 +22,7 @@ use Rattle.icu_locale_core_grammar.proofs.TagReader.{tag_reader}
 -- ---- a step takes letters and digits alone
 
 -- a test that was passed on the way
-passed : {A : Type 0} (b : Bool) (x t : A) → (if b then Some x else None) ≡ Some t → b ≡ true
+pub passed : {A : Type 0} (b : Bool) (x t : A) → (if b then Some x else None) ≡ Some t → b ≡ true
 passed true x t e = refl
 passed false x t e = cc
 
@@ -37,7 +37,7 @@ piece_takes id p t e = by_tests (fits_script id p) (fits_region id p) (fits_vari
     by_tests false false true f g h q = variant_plain p (and_parts (is_variant p) (not (contains_text (lower p) id.variants)) h).0
     by_tests false false false f g h q = cc
 
-language_takes : (s : Option LanguageId) (p : Text) (t : Option LanguageId) → language_after s p ≡ Some t → is_plain p ≡ true
+pub language_takes : (s : Option LanguageId) (p : Text) (t : Option LanguageId) → language_after s p ≡ Some t → is_plain p ≡ true
 language_takes None p t e = language_plain p (passed (is_language p) (Some (only_language p)) t e)
 language_takes (Some id) p t e = let f = mapped_some Some (with_piece id p) t e in piece_takes id p f.0 f.1
 
@@ -53,12 +53,12 @@ module _ {S H : Type 0} (step : S → Text → Option S) (ends : S → Option H)
   entry_takes h es e full p t true f q = characters_plain 3 8 p f
   entry_takes h es e full p t false f q = plain_key p (and_parts full (is_key p) (passed (full && is_key p) (InEntry h (put_first e es) (lower p, []) (not needs)) t q)).1
 
-  headed_takes : (s : HeadedStage S H) (p : Text) (t : HeadedStage S H) → headed_after step ends is_key needs s p ≡ Some t → is_plain p ≡ true
+  pub headed_takes : (s : HeadedStage S H) (p : Text) (t : HeadedStage S H) → headed_after step ends is_key needs s p ≡ Some t → is_plain p ≡ true
   unfolding headed_after
   headed_takes (InHead s) p t e = head_takes s p t (step s p) (ends s) refl e
   headed_takes (InEntry h es e full) p t q = entry_takes h es e full p t (is_value p) refl q
 
-attributes_take : (set : List Text) (p : Text) (t : List Text) → attributes_after set p ≡ Some t → is_plain p ≡ true
+pub attributes_take : (set : List Text) (p : Text) (t : List Text) → attributes_after set p ≡ Some t → is_plain p ≡ true
 attributes_take set p t e = characters_plain 3 8 p (passed (is_attribute p) (insert_text (lower p) set) t e)
 
 body_takes : (b : BodyStage) (p : Text) (t : BodyStage) → body_after b p ≡ Some t → is_plain p ≡ true
@@ -104,14 +104,17 @@ tag_takes (AtBlock id seen e k b) p t q = first_takes id seen e k b p t (body_af
 tag_takes (InBlock id seen e k b) p t q = block_takes id seen e k b p t (body_after b p) (body_ends b) refl q
 tag_takes (InPrivate id e own) p t q = characters_plain 1 8 p (passed (is_private_piece p) (InPrivate id e (own ++ lower p ∷ [])) t q)
 
-run_takes : (ps : List Text) (s t : TagStage) → run tag_after (Some s) ps ≡ Some t → Each is_plain ps
-run_takes [] s t e = tt
-run_takes (p ∷ ps) s t e =
-    let f = first_step tag_after s t p ps e in
-    (tag_takes s p f.0 f.1, run_takes ps f.0 t f.2)
+-- what a reader accepts, then, is letters and digits
+pub plain_read : {S M : Type 0} {step : S → Text → Option S} {start : S} {ends : S → Option M} {Means : List Text → M → Type 0} → IsReader step start ends Means
+    → ((s : S) (p : Text) (t : S) → step s p ≡ Some t → is_plain p ≡ true) → (ps : List Text) (m : M) → Means ps m → Each is_plain ps
+plain_read {S} {M} {step} {start} {ends} {Means} right takes ps m a = let r = right.only ps m a in along ps start r.0 r.1
+  where
+    along : (ps : List Text) (s t : S) → run step (Some s) ps ≡ Some t → Each is_plain ps
+    along [] s t e = tt
+    along (p ∷ ps) s t e = let f = first_step step s t p ps e in (takes s p f.0 f.1, along ps f.0 t f.2)
 
 pub tag_plain : (ps : List Text) (m : TagMeaning) → MeansTag ps m → Each is_plain ps
-tag_plain ps m a = let r = tag_reader.only ps m a in run_takes ps tag_start r.0 r.1
+tag_plain = plain_read tag_reader tag_takes
 
 -- ---- texts
 

@@ -21,3 +21,4 @@ pub mod KnownRows
 
 -- Statements of laws.
 pub mod TagLaws
+pub mod PartLaws

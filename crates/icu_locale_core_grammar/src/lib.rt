@@ -15,5 +15,6 @@
 mod error;
 pub mod known_rows;
 pub mod laws;
+pub mod part_laws;
 
 pub use crate::error::ParseError;
