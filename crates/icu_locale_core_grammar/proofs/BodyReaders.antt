@@ -1,15 +1,12 @@
 -- The stages of each kind of extension are a right reader, and so among all kinds.
-use Rattle.std.proofs.Common.{◌≡◌, Bool, true, false, not, ◌&&◌, List, [], ◌∷◌, ◌++◌, Option, None, Some, map, fold, option_map, codes, sym, refl, ap, ◌∙◌, subst, append_assoc, append-nil}
+use Rattle.std.proofs.Common.{◌≡◌, Bool, true, false, not, ◌&&◌, List, [], ◌∷◌, ◌++◌, Option, None, Some, option_map, codes, sym, refl, ap, ◌∙◌, subst}
 use Rattle.std.specs.Prelude.{if◌then◌else◌, is_none}
-use Rattle.std.specs.List.{AllByRecursion}
-use Rattle.std.proofs.lemmas.List.{map-append}
 use Rattle.icu_locale_core_grammar.specs.Subtags.{Text, is_single, is_language, is_script, is_region, is_variant, is_attribute, is_key, is_field_key, is_other_piece, is_unicode, is_transform, is_other, lower}
-use Rattle.icu_locale_core_grammar.specs.Collections.{Each, contains_text, insert_text, set_of}
+use Rattle.icu_locale_core_grammar.specs.Collections.{contains_text, insert_text}
 use Rattle.icu_locale_core_grammar.specs.LanguagePart.{LanguageId, MeansInner}
 use Rattle.icu_locale_core_grammar.specs.Meaning.{MeansAttributes, MeansOther, MeansUnicode, MeansTransform, UnicodeMeaning, TransformMeaning, Part, unicode, transform, other, MeansPart}
 use Rattle.icu_locale_core_grammar.specs.Stepping.{run, CanEnd, IsReader, InHead, InEntry, headed_after}
-use Rattle.icu_locale_core_grammar.specs.TagStages.{only_language, has_none, fits_script, fits_region, fits_variant, with_script, with_region, with_variant, with_piece, language_after, inner_ends, attributes_after, attributes_end, UnicodeStage, unicode_after, unicode_ends, TransformStage, transform_after, transform_ends, other_after, other_ends, BodyStage, InUnicode, InTransform, InOther, body_after, body_ends, opens}
-use Rattle.icu_locale_core_grammar.proofs.ListLemmas.{fold-append, each-append}
+use Rattle.icu_locale_core_grammar.specs.TagStages.{only_language, has_none, fits_region, fits_variant, with_script, with_region, with_variant, with_piece, language_after, inner_ends, attributes_after, attributes_end, UnicodeStage, unicode_after, unicode_ends, TransformStage, transform_after, transform_ends, other_after, other_ends, BodyStage, InUnicode, InTransform, InOther, body_after, body_ends, opens}
 use Rattle.icu_locale_core_grammar.proofs.SubtagLemmas.{single_no_language, single_no_script, single_no_region, single_no_variant, single_no_value, single_no_other_piece, single_no_key, single_no_field_key, key_no_value, field_key_no_value, field_key_no_language, field_key_no_script, field_key_no_region, field_key_no_variant}
 use Rattle.icu_locale_core_grammar.proofs.SingletonLemmas.{unicode_no_transform, unicode_no_other, transform_no_unicode, transform_no_other, unicode_opens, transform_opens, other_opens, Opening, by_unicode, by_transform, by_other, opening}
 use Rattle.icu_locale_core_grammar.proofs.SetLemmas.{put_text}
@@ -58,9 +55,9 @@ unfolding with_piece
 language_refused None p l e f g = ap (λ b. if b then Some (Some (only_language p)) else None) l
 language_refused (Some id) p l e f g =
     ap (λ b. option_map Some (if b then Some (with_script id p) else (if fits_region id p then Some (with_region id p) else (if fits_variant id p then Some (with_variant id p) else None))))
-      (ap (λ b. (is_none id.script && (is_none id.region && has_none id.variants)) && b) e ∙ none_with (is_none id.script && (is_none id.region && has_none id.variants)))
+    (ap (λ b. (is_none id.script && (is_none id.region && has_none id.variants)) && b) e ∙ none_with (is_none id.script && (is_none id.region && has_none id.variants)))
     ∙ ap (λ b. option_map Some (if b then Some (with_region id p) else (if fits_variant id p then Some (with_variant id p) else None)))
-      (ap (λ b. (is_none id.region && has_none id.variants) && b) f ∙ none_with (is_none id.region && has_none id.variants))
+    (ap (λ b. (is_none id.region && has_none id.variants) && b) f ∙ none_with (is_none id.region && has_none id.variants))
     ∙ ap (λ b. option_map Some (if b then Some (with_variant id p) else None)) (ap (λ b. b && not (contains_text (lower p) id.variants)) g)
 
 pub language_closed : (s : Option LanguageId) (p : Text) → is_single p ≡ true → language_after s p ≡ None
@@ -127,13 +124,13 @@ body_reader s b e = by_opening (opening s b e)
     by_opening : Opening s b → IsReader body_after b body_ends (MeansPart s)
     by_opening (by_unicode f g) =
         subst (λ c. IsReader body_after c body_ends (MeansPart s)) (sym g)
-          (embedded_reader unicode_after unicode_ends body_after body_ends InUnicode unicode unicode_steps (λ t. refl) (InHead []) MeansUnicode unicode_reader (MeansPart s) (λ ps m a. (f, a)) (unicode_back s f) body_goes_on)
+        (embedded_reader unicode_after unicode_ends body_after body_ends InUnicode unicode unicode_steps (λ t. refl) (InHead []) MeansUnicode unicode_reader (MeansPart s) (λ ps m a. (f, a)) (unicode_back s f) body_goes_on)
     by_opening (by_transform f g) =
         subst (λ c. IsReader body_after c body_ends (MeansPart s)) (sym g)
-          (embedded_reader transform_after transform_ends body_after body_ends InTransform transform transform_steps (λ t. refl) (InHead None) MeansTransform transform_reader (MeansPart s) (λ ps m a. (f, a)) (transform_back s f) body_goes_on)
+        (embedded_reader transform_after transform_ends body_after body_ends InTransform transform transform_steps (λ t. refl) (InHead None) MeansTransform transform_reader (MeansPart s) (λ ps m a. (f, a)) (transform_back s f) body_goes_on)
     by_opening (by_other f g) =
         subst (λ c. IsReader body_after c body_ends (MeansPart s)) (sym g)
-          (embedded_reader other_after other_ends body_after body_ends InOther other other_steps (λ t. refl) [] MeansOther other_reader (MeansPart s) (λ ps m a. (f, a)) (other_back s f) body_goes_on)
+        (embedded_reader other_after other_ends body_after body_ends InOther other other_steps (λ t. refl) [] MeansOther other_reader (MeansPart s) (λ ps m a. (f, a)) (other_back s f) body_goes_on)
 
 pub body_closed : (b : BodyStage) (p : Text) → is_single p ≡ true → body_after b p ≡ None
 body_closed (InUnicode s) p e = unicode_steps s p ∙ ap (option_map InUnicode) (unicode_closed s p e)

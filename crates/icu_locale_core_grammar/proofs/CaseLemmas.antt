@@ -1,12 +1,12 @@
 -- A change of case leaves the class of a subtag, and cases that are changed twice.
-use Rattle.std.proofs.Common.{◌≡◌, ℕ, Bool, true, false, not, ◌&&◌, ◌||◌, List, [], ◌∷◌, length, map, eqb, sym, refl, ap, ◌∙◌, arith}
+use Rattle.std.proofs.Common.{◌≡◌, ℕ, Bool, not, ◌&&◌, ◌||◌, [], ◌∷◌, length, map, eqb, sym, refl, ap, ◌∙◌, arith}
 use Rattle.std.specs.List.{list_all}
 use Rattle.std.specs.Char.{is_ascii_alphabetic, is_ascii_alphanumeric, is_ascii_digit, to_ascii_lowercase, to_ascii_uppercase}
 use Rattle.std.specs.Int.{is_in_range}
 use Rattle.std.proofs.lemmas.List.{length-map}
 use Rattle.std.proofs.lemmas.Str.Ascii.{lowercase-lowercase, uppercase-uppercase, lowercase-uppercase}
 use Rattle.std.proofs.lemmas.Bool.Decides.{nat_tests}
-use Rattle.icu_locale_core_grammar.specs.Subtags.{Text, has_characters, is_language, is_script, is_region, is_variant, begins_with_digit, is_singleton, is_single, is_key, is_field_key, is_other, is_unicode, is_transform, is_private, spells, same_text, lower, upper, title, unicode_text, transform_text, private_text}
+use Rattle.icu_locale_core_grammar.specs.Subtags.{Text, has_characters, is_language, is_script, is_region, is_variant, begins_with_digit, is_singleton, is_single, is_key, is_field_key, is_other, spells, same_text, lower, upper, title, unicode_text, transform_text, private_text}
 
 -- a change of each character that leaves its kind
 pub record KeepsKinds (f : ℕ → ℕ) : Type 0 where

@@ -1,13 +1,13 @@
 -- Case is ignored: a step takes a piece in lower case just as the piece itself, so a tag in any case means the same.
-use Rattle.std.proofs.Common.{◌≡◌, Bool, true, false, not, ◌&&◌, List, [], ◌∷◌, ◌++◌, Option, None, Some, map, option_map, sym, refl, ap, ◌∙◌, subst}
+use Rattle.std.proofs.Common.{◌≡◌, Bool, true, false, not, ◌&&◌, List, [], ◌∷◌, ◌++◌, Option, None, Some, map, option_map, sym, refl, ap, ◌∙◌}
 use Rattle.std.specs.Prelude.{if◌then◌else◌, is_none}
 use Rattle.std.specs.Char.{to_ascii_lowercase}
-use Rattle.icu_locale_core_grammar.specs.Subtags.{Text, is_value, is_true, is_private, is_private_piece, is_unicode, is_transform, is_other, is_language, is_script, is_region, is_variant, is_attribute, is_key, is_field_key, is_other_piece, true_text, private_text, unicode_text, transform_text, lower, title, upper}
+use Rattle.icu_locale_core_grammar.specs.Subtags.{Text, is_private, is_private_piece, is_key, is_field_key, true_text, private_text, unicode_text, transform_text, lower}
 use Rattle.icu_locale_core_grammar.specs.Collections.{Entry, contains_text, insert_text, put_first}
 use Rattle.icu_locale_core_grammar.specs.LanguagePart.{LanguageId, MeansLanguage}
-use Rattle.icu_locale_core_grammar.specs.Meaning.{TagMeaning, MeansTag, MeansUnicode, UnicodeMeaning, ExtensionMeanings, Part, put_part, no_extensions}
-use Rattle.icu_locale_core_grammar.specs.Stepping.{run, IsReader, HeadedStage, InHead, InEntry, with_value, after_head, headed_after, WholeStage, InFront, AtBlock, InBlock, InPrivate, opened, next_part, after_front, at_block, after_block, whole_after}
-use Rattle.icu_locale_core_grammar.specs.TagStages.{only_language, has_none, fits_script, fits_region, fits_variant, with_script, with_region, with_variant, with_piece, language_after, language_ends, inner_ends, attributes_after, attributes_end, unicode_after, transform_after, other_after, BodyStage, InUnicode, InTransform, InOther, body_after, body_ends, opens, TagStage, tag_start, tag_after}
+use Rattle.icu_locale_core_grammar.specs.Meaning.{TagMeaning, MeansTag, ExtensionMeanings, Part, put_part, no_extensions}
+use Rattle.icu_locale_core_grammar.specs.Stepping.{run, IsReader, HeadedStage, InHead, InEntry, with_value, after_head, headed_after, InFront, AtBlock, InBlock, InPrivate, opened, next_part, after_front, at_block, after_block, whole_after}
+use Rattle.icu_locale_core_grammar.specs.TagStages.{has_none, with_piece, language_after, language_ends, inner_ends, attributes_after, attributes_end, other_after, BodyStage, InUnicode, InTransform, InOther, body_after, body_ends, opens, TagStage, tag_start, tag_after}
 use Rattle.icu_locale_core_grammar.proofs.CaseLemmas.{lower_keeps, characters_changed, language_changed, script_changed, region_changed, variant_changed, key_changed, field_key_changed, lower-lower, title-lower, upper-lower, spells_lower, other_lower}
 use Rattle.icu_locale_core_grammar.proofs.LanguageReader.{language_reader}
 use Rattle.icu_locale_core_grammar.proofs.TagReader.{tag_reader}

@@ -1,5 +1,5 @@
 -- A right reader of one kind is a right reader of that kind among all kinds.
-use Rattle.std.proofs.Common.{◌≡◌, List, [], ◌∷◌, ◌++◌, Option, None, Some, option_map, sym, refl, ap, ◌∙◌, subst}
+use Rattle.std.proofs.Common.{◌≡◌, List, [], ◌∷◌, Option, Some, option_map, sym, refl, ap, ◌∙◌, subst}
 use Rattle.icu_locale_core_grammar.specs.Subtags.{Text}
 use Rattle.icu_locale_core_grammar.specs.Stepping.{run, CanEnd, IsReader}
 use Rattle.icu_locale_core_grammar.proofs.ListLemmas.{mapped_some}

@@ -1,11 +1,11 @@
 -- Of any grammar: a list stops at one place at most, with one name, and a list that stops has no meaning.
-use Rattle.std.proofs.Common.{◌≡◌, ◌≢◌, true, false, List, [], ◌∷◌, ◌++◌, Option, None, Some, ◌⊎◌, inl, inr, sym, refl, ap, ◌∙◌, subst, append_assoc, append-nil}
+use Rattle.std.proofs.Common.{◌≡◌, true, false, List, [], ◌∷◌, ◌++◌, Option, None, Some, ◌⊎◌, inl, inr, sym, refl, ap, ◌∙◌, subst, append_assoc, append-nil}
 use Rattle.std.specs.List.{list_any}
 use Rattle.std.proofs.lemmas.List.{append_cancel_left}
 use Rattle.icu_locale_core_grammar.specs.declared.error.ParseError.{ParseError}
 use Rattle.icu_locale_core_grammar.specs.declared.error.ParseError.TheVariants.{InvalidLanguage, InvalidSubtag, InvalidExtension, DuplicatedExtension, Memory}
 use Rattle.icu_locale_core_grammar.specs.Subtags.{Text, is_single}
-use Rattle.icu_locale_core_grammar.specs.FaultyPiece.{IsCutAt, IsAccepted, BeginsSome, StopsAt, IsNamed, HasFault}
+use Rattle.icu_locale_core_grammar.specs.FaultyPiece.{BeginsSome, StopsAt, IsNamed, HasFault}
 
 -- of two fronts of one list, one begins with the other
 pub record IsLonger (long left short rest : List Text) : Type 0 where
@@ -71,7 +71,7 @@ module _ {M : Type 0} {Means : List Text → M → Type 0} where
       let g = append_cancel_left front (p ∷ s.cut.0) ((z ∷ zs) ++ tail) f in
       let same : z ≡ p = cc in
       let long : (front ++ z ∷ zs) ++ b.0 ≡ (front ++ p ∷ []) ++ (zs ++ b.0) =
-            append_assoc front (z ∷ zs) b.0 ∙ ap (λ q. front ++ q ∷ (zs ++ b.0)) same ∙ sym (append_assoc front (p ∷ []) (zs ++ b.0)) in
+      append_assoc front (z ∷ zs) b.0 ∙ ap (λ q. front ++ q ∷ (zs ++ b.0)) same ∙ sym (append_assoc front (p ∷ []) (zs ++ b.0)) in
       s.stops (zs ++ b.0, (b.1.0, subst (λ l. Means l b.1.0) long b.1.1))
 
   same_place : (ps front : List Text) (place other : Option Text) → StopsAt Means ps front place → StopsAt Means ps front other → place ≡ other
@@ -93,8 +93,9 @@ module _ {M : Type 0} {Means : List Text → M → Type 0} where
       let a = tail_of ps front place s in
       let b = tail_of ps other at t in
       elim (compared front a.0 other b.0 (sym a.1 ∙ b.1)) [
-        inl l ↦ sym (not_longer ps front other place at l.more b.0 s t l.front b.1)
-        | inr l ↦ not_longer ps other front at place l.more a.0 t s l.front a.1 ]
+        | inl l ↦ sym (not_longer ps front other place at l.more b.0 s t l.front b.1)
+        | inr l ↦ not_longer ps other front at place l.more a.0 t s l.front a.1
+      ]
 
   pub one_place : (ps front other : List Text) (place at : Option Text) → StopsAt Means ps front place → StopsAt Means ps other at → place ≡ at
   one_place ps front other place at s t =

@@ -1,5 +1,5 @@
 -- What the stages of a head and entries find is meant: pieces that are a head and entries.
-use Rattle.std.proofs.Common.{◌≡◌, Bool, true, false, not, ◌&&◌, List, [], ◌∷◌, ◌++◌, Option, None, Some, map, fold, filter, flat_map, option_map, cond, codes, sym, refl, ap, ◌∙◌, subst, append_assoc, append-nil}
+use Rattle.std.proofs.Common.{◌≡◌, Bool, true, false, not, ◌&&◌, List, [], ◌∷◌, ◌++◌, Option, None, Some, map, filter, flat_map, cond, sym, refl, ap, ◌∙◌, subst, append_assoc, append-nil}
 use Rattle.std.specs.Prelude.{if◌then◌else◌}
 use Rattle.std.specs.List.{AllByRecursion}
 use Rattle.std.proofs.lemmas.List.{map-append}
@@ -8,7 +8,7 @@ use Rattle.std.proofs.lemmas.List.Elements.{filter-append}
 use Rattle.icu_locale_core_grammar.specs.Subtags.{Text, is_value, is_true, lower}
 use Rattle.icu_locale_core_grammar.specs.Collections.{Entry, Each, put_first, map_of}
 use Rattle.icu_locale_core_grammar.specs.Extensions.{spelled_entry, value_meaning, entry_meaning, has_enough, IsEntry, Headed, MeansHeaded}
-use Rattle.icu_locale_core_grammar.specs.Stepping.{run, CanEnd, IsReader, HeadedStage, InHead, InEntry, with_value, after_head, headed_after, headed_ends}
+use Rattle.icu_locale_core_grammar.specs.Stepping.{run, IsReader, HeadedStage, InHead, InEntry, with_value, after_head, headed_after, headed_ends}
 use Rattle.icu_locale_core_grammar.proofs.ListLemmas.{fold-append, each-append, mapped_some}
 use Rattle.icu_locale_core_grammar.proofs.Runs.{run_joined, run_keeps}
 
@@ -82,12 +82,19 @@ module _ {S H : Type 0} (step : S → Text → Option S) (start : S) (ends : S �
 
   value_adds : (taken : List Text) (h : H) (es : List Entry) (e : Entry) (full : Bool) (p : Text) → InEntries taken h es e full → is_value p ≡ true → InEntries (taken ++ p ∷ []) h es (with_value e p) true
   value_adds taken h es e full p s g = record {
-      head = s.head; entries = s.entries; key = s.key; values = s.values ++ p ∷ [];
-      parts = ap (λ l. s.head ++ l) (sym (append_assoc (flat_map spelled_entry s.entries) (s.key ∷ s.values) (p ∷ []))) ∙ sym (append_assoc s.head (flat_map spelled_entry s.entries ++ (s.key ∷ s.values)) (p ∷ [])) ∙ ap (λ l. l ++ p ∷ []) s.parts;
-      meant = s.meant; each = s.each; keyed = s.keyed; begun = s.begun;
-      filled = each-append (λ v. is_value v ≡ true) s.values (p ∷ []) s.filled (g, tt);
-      last = sym (with_value_meant s.key p s.values) ∙ ap (λ f. with_value f p) s.last;
-      enough = has_enough_push needs s.values p }
+    head = s.head;
+    entries = s.entries;
+    key = s.key;
+    values = s.values ++ p ∷ [];
+    parts = ap (λ l. s.head ++ l) (sym (append_assoc (flat_map spelled_entry s.entries) (s.key ∷ s.values) (p ∷ []))) ∙ sym (append_assoc s.head (flat_map spelled_entry s.entries ++ (s.key ∷ s.values)) (p ∷ [])) ∙ ap (λ l. l ++ p ∷ []) s.parts;
+    meant = s.meant;
+    each = s.each;
+    keyed = s.keyed;
+    begun = s.begun;
+    filled = each-append (λ v. is_value v ≡ true) s.values (p ∷ []) s.filled (g, tt);
+    last = sym (with_value_meant s.key p s.values) ∙ ap (λ f. with_value f p) s.last;
+    enough = has_enough_push needs s.values p;
+  }
 
   -- the entry that is read, closed
   closed_parts : (taken : List Text) (h : H) (es : List Entry) (e : Entry) (s : InEntries taken h es e true) → s.head ++ flat_map spelled_entry (s.entries ++ (s.key, s.values) ∷ []) ≡ taken
@@ -101,10 +108,19 @@ module _ {S H : Type 0} (step : S → Text → Option S) (start : S) (ends : S �
 
   key_adds : (taken : List Text) (h : H) (es : List Entry) (e : Entry) (p : Text) → InEntries taken h es e true → is_key p ≡ true → InEntries (taken ++ p ∷ []) h (put_first e es) (lower p, []) (not needs)
   key_adds taken h es e p s g = record {
-      head = s.head; entries = s.entries ++ (s.key, s.values) ∷ []; key = p; values = [];
-      parts = sym (append_assoc s.head (flat_map spelled_entry (s.entries ++ (s.key, s.values) ∷ [])) (p ∷ [])) ∙ ap (λ l. l ++ p ∷ []) (closed_parts taken h es e s);
-      meant = s.meant; each = closed_each taken h es e s; keyed = closed_keyed taken h es e s;
-      begun = g; filled = tt; last = refl; enough = refl }
+    head = s.head;
+    entries = s.entries ++ (s.key, s.values) ∷ [];
+    key = p;
+    values = [];
+    parts = sym (append_assoc s.head (flat_map spelled_entry (s.entries ++ (s.key, s.values) ∷ [])) (p ∷ [])) ∙ ap (λ l. l ++ p ∷ []) (closed_parts taken h es e s);
+    meant = s.meant;
+    each = closed_each taken h es e s;
+    keyed = closed_keyed taken h es e s;
+    begun = g;
+    filled = tt;
+    last = refl;
+    enough = refl;
+  }
 
   next_adds : (taken : List Text) (h : H) (es : List Entry) (e : Entry) (full : Bool) (p : Text) (t : HeadedStage S H) (b : Bool) → InEntries taken h es e full → is_key p ≡ b
       → (if full && b then Some (InEntry h (put_first e es) (lower p, []) (not needs)) else None) ≡ Some t → Stands (taken ++ p ∷ []) t

@@ -2,9 +2,9 @@
 use Rattle.std.proofs.Common.{◌≡◌, Bool, true, false, not, ◌&&◌, List, [], ◌∷◌, ◌++◌, Option, None, Some, map, fold, flat_map, option_map, codes, sym, refl, ap, ◌∙◌, subst, append_assoc, append-nil}
 use Rattle.std.specs.Prelude.{if◌then◌else◌}
 use Rattle.std.specs.List.{AllByRecursion}
-use Rattle.icu_locale_core_grammar.specs.Subtags.{Text, is_single, is_value, is_true, lower}
+use Rattle.icu_locale_core_grammar.specs.Subtags.{Text, is_single, is_value, lower}
 use Rattle.icu_locale_core_grammar.specs.Collections.{Entry, Each, put_first, map_of}
-use Rattle.icu_locale_core_grammar.specs.Extensions.{spelled_entry, value_meaning, entry_meaning, has_enough, IsEntry, Headed, MeansHeaded}
+use Rattle.icu_locale_core_grammar.specs.Extensions.{spelled_entry, entry_meaning, has_enough, IsEntry, Headed, MeansHeaded}
 use Rattle.icu_locale_core_grammar.specs.Stepping.{run, CanEnd, IsReader, HeadedStage, InHead, InEntry, with_value, after_head, headed_after, headed_ends}
 use Rattle.icu_locale_core_grammar.proofs.Runs.{run_joined, run_begun, first_step}
 use Rattle.icu_locale_core_grammar.proofs.SubtagLemmas.{single_no_value}
@@ -69,11 +69,11 @@ module _ {S H : Type 0} (step : S → Text → Option S) (start : S) (ends : S �
   values_run h es key before [] full each = ap (λ l. Some (InEntry h es (entry_meaning (key, l)) full)) (sym (append-nil before))
   values_run h es key before (v ∷ vs) full each =
       let one : after (InEntry h es (entry_meaning (key, before)) full) v ≡ Some (InEntry h es (entry_meaning (key, before ++ v ∷ [])) true) =
-            value_steps h es (entry_meaning (key, before)) full v each.0 ∙ ap (λ e. Some (InEntry h es e true)) (with_value_meant key v before) in
+      value_steps h es (entry_meaning (key, before)) full v each.0 ∙ ap (λ e. Some (InEntry h es e true)) (with_value_meant key v before) in
       let others : run after (Some (InEntry h es (entry_meaning (key, before ++ v ∷ [])) true)) vs ≡ Some (InEntry h es (entry_meaning (key, before ++ (v ∷ vs))) true) =
-            values_run h es key (before ++ v ∷ []) vs true each.1
-            ∙ ap (λ l. Some (InEntry h es (entry_meaning (key, l)) (full_after true vs))) (append_assoc before (v ∷ []) vs)
-            ∙ ap (λ b. Some (InEntry h es (entry_meaning (key, before ++ (v ∷ vs))) b)) (still_full vs) in
+      values_run h es key (before ++ v ∷ []) vs true each.1
+      ∙ ap (λ l. Some (InEntry h es (entry_meaning (key, l)) (full_after true vs))) (append_assoc before (v ∷ []) vs)
+      ∙ ap (λ b. Some (InEntry h es (entry_meaning (key, before ++ (v ∷ vs))) b)) (still_full vs) in
       run_begun after (InEntry h es (entry_meaning (key, before)) full) (InEntry h es (entry_meaning (key, before ++ v ∷ [])) true) _ v vs one others
 
   entry_runs : (h : H) (es : List Entry) (e : Entry) → IsSound e → run after (Some (InEntry h es (lower e.0, []) (not needs))) e.1 ≡ Some (InEntry h es (entry_meaning e) true)
@@ -93,11 +93,13 @@ module _ {S H : Type 0} (step : S → Text → Option S) (start : S) (ends : S �
   entries_run h (f ∷ fs) es e each =
       let more = entries_run h fs (put_first e es) (entry_meaning f) each.1 in
       let whole : run after (Some (InEntry h (put_first e es) (lower f.0, []) (not needs))) (f.1 ++ flat_map spelled_entry fs) ≡ Some (InEntry h more.before more.last true) =
-            run_joined after (InEntry h (put_first e es) (lower f.0, []) (not needs)) (InEntry h (put_first e es) (entry_meaning f) true) _ f.1 (flat_map spelled_entry fs) (entry_runs h (put_first e es) f each.0) more.runs in
+      run_joined after (InEntry h (put_first e es) (lower f.0, []) (not needs)) (InEntry h (put_first e es) (entry_meaning f) true) _ f.1 (flat_map spelled_entry fs) (entry_runs h (put_first e es) f each.0) more.runs in
       record {
-        before = more.before; last = more.last;
+        before = more.before;
+        last = more.last;
         runs = run_begun after (InEntry h es e true) (InEntry h (put_first e es) (lower f.0, []) (not needs)) _ f.0 (f.1 ++ flat_map spelled_entry fs) (key_steps h es e f.0 each.0.key) whole;
-        left = more.left }
+        left = more.left;
+      }
 
   -- the end of a run, with its meaning
   abbrev EndsWith : List Text → Headed H → Type 0
@@ -110,11 +112,13 @@ module _ {S H : Type 0} (step : S → Text → Option S) (start : S) (ends : S �
   ended h head s (g ∷ gs) e f each =
       let more = entries_run h gs [] (entry_meaning g) each.1 in
       let own : run after (Some (InEntry h [] (lower g.0, []) (not needs))) (g.1 ++ flat_map spelled_entry gs) ≡ Some (InEntry h more.before more.last true) =
-            run_joined after (InEntry h [] (lower g.0, []) (not needs)) (InEntry h [] (entry_meaning g) true) _ g.1 (flat_map spelled_entry gs) (entry_runs h [] g each.0) more.runs in
+      run_joined after (InEntry h [] (lower g.0, []) (not needs)) (InEntry h [] (entry_meaning g) true) _ g.1 (flat_map spelled_entry gs) (entry_runs h [] g each.0) more.runs in
       let keyed : run after (Some (InHead s)) (g.0 ∷ (g.1 ++ flat_map spelled_entry gs)) ≡ Some (InEntry h more.before more.last true) =
-            run_begun after (InHead s) (InEntry h [] (lower g.0, []) (not needs)) _ g.0 (g.1 ++ flat_map spelled_entry gs) (key_opens s h g.0 f each.0.key) own in
-      (InEntry h more.before more.last true, run_joined after (InHead start) (InHead s) _ head (g.0 ∷ (g.1 ++ flat_map spelled_entry gs)) (head_runs start s head e) keyed,
-        ap (λ l. Some (record { head = h; entries = l })) more.left)
+      run_begun after (InHead s) (InEntry h [] (lower g.0, []) (not needs)) _ g.0 (g.1 ++ flat_map spelled_entry gs) (key_opens s h g.0 f each.0.key) own in (
+        InEntry h more.before more.last true,
+        run_joined after (InHead start) (InHead s) _ head (g.0 ∷ (g.1 ++ flat_map spelled_entry gs)) (head_runs start s head e) keyed,
+        ap (λ l. Some (record { head = h; entries = l })) more.left,
+      )
 
   only : (ps : List Text) (m : Headed H) → MeansHeaded MeansHead is_key needs ps m → EndsWith ps m
   only ps m a =
@@ -129,9 +133,13 @@ module _ {S H : Type 0} (step : S → Text → Option S) (start : S) (ends : S �
       (w.0, InHead w.1, record { head = w.2; entries = [] }, head_runs s w.1 w.0 w.3, ap (option_map (λ x. record { head = x; entries = [] })) w.4)
   goes_on (InEntry h es e true) = ([], InEntry h es e true, record { head = h; entries = put_first e es }, refl, refl)
   goes_on (InEntry h es e false) =
-      let v : Text = codes "abc" in
-      (v ∷ [], InEntry h es (with_value e v) true, record { head = h; entries = put_first (with_value e v) es },
-        run_begun after (InEntry h es e false) (InEntry h es (with_value e v) true) _ v [] (value_steps h es e false v refl) refl, refl)
+      let v : Text = codes "abc" in (
+        v ∷ [],
+        InEntry h es (with_value e v) true,
+        record { head = h; entries = put_first (with_value e v) es },
+        run_begun after (InEntry h es e false) (InEntry h es (with_value e v) true) _ v [] (value_steps h es e false v refl) refl,
+        refl,
+      )
 
   pub headed_reader : IsReader after (InHead start) (headed_ends ends) (MeansHeaded MeansHead is_key needs)
   headed_reader = record { found = headed_found step start ends MeansHead is_key needs right; only = only; goes_on = goes_on }

@@ -1,9 +1,9 @@
 -- Language identifiers: each list of pieces has a meaning or a fault, and a front that is a language part or the fault.
-use Rattle.std.proofs.Common.{◌≡◌, ◌≢◌, Bool, true, false, List, [], ◌∷◌, ◌++◌, Option, None, Some, sym, refl, ap, ◌∙◌, subst, append_assoc, append-nil, ◌⊎◌, inl, inr}
-use Rattle.std.specs.Prelude.{if◌then◌else◌, is_none}
+use Rattle.std.proofs.Common.{◌≡◌, ◌≢◌, Bool, true, false, List, [], ◌∷◌, ◌++◌, Option, None, Some, refl, ap, ◌∙◌, subst, append_assoc, ◌⊎◌, inl, inr}
+use Rattle.std.specs.Prelude.{if◌then◌else◌}
 use Rattle.std.specs.List.{list_any}
 use Rattle.icu_locale_core_grammar.specs.declared.error.ParseError.{ParseError}
-use Rattle.icu_locale_core_grammar.specs.declared.error.ParseError.TheVariants.{InvalidLanguage, InvalidSubtag}
+use Rattle.icu_locale_core_grammar.specs.declared.error.ParseError.TheVariants.{InvalidLanguage}
 use Rattle.icu_locale_core_grammar.specs.Subtags.{Text, is_single, is_language}
 use Rattle.icu_locale_core_grammar.specs.LanguagePart.{LanguageId, MeansLanguage, MeansInner}
 use Rattle.icu_locale_core_grammar.specs.FaultyPiece.{IsAccepted, IsNamed, HasFault}
@@ -21,6 +21,7 @@ language_named taken s place e = by_stage s (language_stands taken s e) (languag
     filled : (ps : List Text) (id : LanguageId) → MeansLanguage ps id → ps ≢ []
     filled [] id a = let f = a.parts in cc
     filled (p ∷ ps) id a = λ f. cc
+
     by_stage : (s : Option LanguageId) → MeansInner taken s → list_any is_single taken ≡ false → IsNamed MeansLanguage (language_fault s) taken place
     by_stage None a plain = a
     by_stage (Some id) a plain = (filled taken id a, plain)

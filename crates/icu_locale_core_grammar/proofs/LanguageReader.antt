@@ -1,12 +1,12 @@
 -- The stages of a language part are a right reader, as a front and as the head of `t`.
 use Rattle.std.proofs.Common.{◌≡◌, Bool, true, false, not, ◌&&◌, List, [], ◌∷◌, ◌++◌, Option, None, Some, IfSome, map, fold, option_map, option_to_list, codes, sym, refl, ap, ◌∙◌, subst, append_assoc, append-nil}
 use Rattle.std.specs.Prelude.{if◌then◌else◌, is_none}
-use Rattle.std.specs.List.{AllByRecursion, IsDistinct}
+use Rattle.std.specs.List.{IsDistinct}
 use Rattle.std.specs.Ordering.{match_ordering}
 use Rattle.std.specs.declared.cmp.Ordering.{Ordering}
 use Rattle.std.specs.declared.cmp.Ordering.TheVariants.{Less, Equal, Greater}
 use Rattle.std.proofs.lemmas.List.{map-append}
-use Rattle.std.proofs.lemmas.Bool.{and_parts, and_from, and_left, not-true}
+use Rattle.std.proofs.lemmas.Bool.{and_parts, not-true}
 use Rattle.icu_locale_core_grammar.specs.Subtags.{Text, is_language, is_script, is_region, is_variant, lower, title, upper}
 use Rattle.icu_locale_core_grammar.specs.Collections.{Each, AreApart, text_cmp, contains_text, insert_text, set_of}
 use Rattle.icu_locale_core_grammar.specs.LanguagePart.{WrittenLanguage, spelled_language, IsLanguagePart, LanguageId, language_meaning, MeansLanguage, MeansInner}
@@ -64,7 +64,9 @@ region_adds language script None [] p sound fits =
     record {
       written = written_of language script (Some p) [];
       sound = record { language = sound.language; script = sound.script; region = fits; variants = tt; apart = apart_none };
-      parts = ap (λ l. language ∷ (l ++ p ∷ [])) (sym (append-nil (option_to_list script))); meant = refl }
+      parts = ap (λ l. language ∷ (l ++ p ∷ [])) (sym (append-nil (option_to_list script)));
+      meant = refl;
+    }
 region_adds language script None (v ∷ vs) p sound fits =
     let f = set_filled (lower v) (map lower vs) in
     let g = (and_parts (has_none (set_of (lower v ∷ map lower vs))) (is_region p) fits).0 in cc
@@ -76,12 +78,13 @@ variant_adds w p sound fits =
     let new : contains_text (lower p) (map lower w.variants) ≡ false = sym (contains-set_of (lower p) (map lower w.variants)) ∙ not-true (contains_text (lower p) (set_of (map lower w.variants))) fs.1 in
     let apart : AreApart (map lower (w.variants ++ p ∷ [])) = subst AreApart (sym (map-append lower w.variants (p ∷ []))) (AreApart-push (map lower w.variants) (lower p) sound.apart new) in
     let set : set_of (map lower (w.variants ++ p ∷ [])) ≡ insert_text (lower p) (set_of (map lower w.variants)) =
-          ap set_of (map-append lower w.variants (p ∷ [])) ∙ fold-append put_text [] (map lower w.variants) (lower p ∷ []) in
+    ap set_of (map-append lower w.variants (p ∷ [])) ∙ fold-append put_text [] (map lower w.variants) (lower p ∷ []) in
     record {
       written = written_of w.language w.script w.region (w.variants ++ p ∷ []);
       sound = record { language = sound.language; script = sound.script; region = sound.region; variants = each-append (λ v. is_variant v ≡ true) w.variants (p ∷ []) sound.variants (fs.0, tt); apart = apart };
       parts = sym (ap (λ l. w.language ∷ l) (append_assoc (option_to_list w.script) (option_to_list w.region ++ w.variants) (p ∷ []) ∙ ap (λ l. option_to_list w.script ++ l) (append_assoc (option_to_list w.region) w.variants (p ∷ []))));
-      meant = ap (λ l. record { language = lower w.language; script = option_map title w.script; region = option_map upper w.region; variants = l }) set }
+      meant = ap (λ l. record { language = lower w.language; script = option_map title w.script; region = option_map upper w.region; variants = l }) set;
+    }
 
 -- a step of a language part, by the tests in their order
 piece_adds : (taken : List Text) (id : LanguageId) (p : Text) (t : LanguageId) (a b c : Bool) → MeansLanguage taken id → fits_script id p ≡ a → fits_region id p ≡ b → fits_variant id p ≡ c
@@ -145,9 +148,9 @@ variant_steps : (id : LanguageId) (p : Text) → is_variant p ≡ true → conta
 unfolding with_piece
 variant_steps id p e new =
     ap (λ b. option_map Some (if b then Some (with_script id p) else (if fits_region id p then Some (with_region id p) else (if fits_variant id p then Some (with_variant id p) else None))))
-      (ap (λ b. (is_none id.script && (is_none id.region && has_none id.variants)) && b) (variant_no_script p e) ∙ none_with (is_none id.script && (is_none id.region && has_none id.variants)))
+    (ap (λ b. (is_none id.script && (is_none id.region && has_none id.variants)) && b) (variant_no_script p e) ∙ none_with (is_none id.script && (is_none id.region && has_none id.variants)))
     ∙ ap (λ b. option_map Some (if b then Some (with_region id p) else (if fits_variant id p then Some (with_variant id p) else None)))
-      (ap (λ b. (is_none id.region && has_none id.variants) && b) (variant_no_region p e) ∙ none_with (is_none id.region && has_none id.variants))
+    (ap (λ b. (is_none id.region && has_none id.variants) && b) (variant_no_region p e) ∙ none_with (is_none id.region && has_none id.variants))
     ∙ ap (λ b. option_map Some (if b then Some (with_variant id p) else None)) (ap (λ b. b && not (contains_text (lower p) id.variants)) e ∙ ap not new)
   where
     none_with : (b : Bool) → (b && false) ≡ false
@@ -180,12 +183,12 @@ variants_run language script region before (v ∷ vs) each apart =
     let new : contains_text (lower v) (map lower before) ≡ false = apart_new (map lower before) (lower v) (map lower vs) (subst AreApart (map-append lower before (v ∷ vs)) apart) in
     let here = variant_steps (id_of language script region (set_of (map lower before))) v each.0 (contains-set_of (lower v) (map lower before) ∙ new) in
     let set : insert_text (lower v) (set_of (map lower before)) ≡ set_of (map lower (before ++ v ∷ [])) =
-          sym (ap set_of (map-append lower before (v ∷ [])) ∙ fold-append put_text [] (map lower before) (lower v ∷ [])) in
+    sym (ap set_of (map-append lower before (v ∷ [])) ∙ fold-append put_text [] (map lower before) (lower v ∷ [])) in
     let one : language_after (Some (id_of language script region (set_of (map lower before)))) v ≡ Some (Some (id_of language script region (set_of (map lower (before ++ v ∷ []))))) =
-          here ∙ ap (λ l. Some (Some (id_of language script region l))) set in
+    here ∙ ap (λ l. Some (Some (id_of language script region l))) set in
     let long : (before ++ v ∷ []) ++ vs ≡ before ++ (v ∷ vs) = append_assoc before (v ∷ []) vs in
     run_begun language_after (Some (id_of language script region (set_of (map lower before)))) (Some (id_of language script region (set_of (map lower (before ++ v ∷ []))))) _ v vs one
-      (variants_run language script region (before ++ v ∷ []) vs each.1 (subst (λ l. AreApart (map lower l)) (sym long) apart) ∙ ap (λ l. Some (Some (id_of language script region (set_of (map lower l))))) long)
+    (variants_run language script region (before ++ v ∷ []) vs each.1 (subst (λ l. AreApart (map lower l)) (sym long) apart) ∙ ap (λ l. Some (Some (id_of language script region (set_of (map lower l))))) long)
 
 pub language_runs : (ps : List Text) (id : LanguageId) → MeansLanguage ps id → run language_after (Some None) ps ≡ Some (Some id)
 language_runs ps id m =
@@ -197,7 +200,7 @@ language_runs ps id m =
     let region = run_joined language_after (Some (id_of l s None [])) (Some (id_of l s r [])) _ (option_to_list w.region) w.variants (region_runs l s w.region m.sound.region) variants in
     let script = run_joined language_after (Some (id_of l None None [])) (Some (id_of l s None [])) _ (option_to_list w.script) (option_to_list w.region ++ w.variants) (script_runs l w.script m.sound.script) region in
     let whole : run language_after (Some None) (spelled_language w) ≡ Some (Some (language_meaning w)) =
-          run_begun language_after None (Some (id_of l None None [])) _ w.language (option_to_list w.script ++ (option_to_list w.region ++ w.variants)) (first_steps w.language m.sound.language) script in
+    run_begun language_after None (Some (id_of l None None [])) _ w.language (option_to_list w.script ++ (option_to_list w.region ++ w.variants)) (first_steps w.language m.sound.language) script in
     subst (λ x. run language_after (Some None) x ≡ Some (Some id)) m.parts (whole ∙ ap (λ i. Some (Some i)) m.meant)
 
 -- ---- the readers

@@ -1,5 +1,5 @@
 -- Readers of pieces of one class, each put to the others as it comes.
-use Rattle.std.proofs.Common.{◌≡◌, Bool, true, false, not, List, [], ◌∷◌, ◌++◌, Option, None, Some, map, fold, filter, cond, sym, refl, ap, ◌∙◌, subst, append_assoc, append-nil}
+use Rattle.std.proofs.Common.{◌≡◌, Bool, true, false, not, List, [], ◌∷◌, ◌++◌, Option, None, Some, map, fold, filter, cond, sym, refl, ap, ◌∙◌, append_assoc, append-nil}
 use Rattle.std.specs.Prelude.{if◌then◌else◌}
 use Rattle.icu_locale_core_grammar.specs.Subtags.{Text, is_true, lower}
 use Rattle.icu_locale_core_grammar.specs.Collections.{Each}
@@ -46,6 +46,7 @@ pieces_reader {M} test put start Means into back = record { found = found; only 
         let same : s ≡ m = cc in
         let g = pieces_stand test put start ps s e in
         into ps m g.0 (g.1 ∙ same)
+
     only : (ps : List Text) (m : M) → Means ps m → (s : M) × (run (pieces_after test put) (Some start) ps ≡ Some s) × (Some s ≡ Some m)
     only ps m a = let g = back ps m a in (m, pieces_run test put start ps g.0 ∙ ap Some g.1, refl)
 

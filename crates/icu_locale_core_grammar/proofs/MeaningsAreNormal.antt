@@ -1,14 +1,13 @@
 -- The meaning of any list of pieces is in normal form.
-use Rattle.std.proofs.Common.{◌≡◌, ◌≢◌, Bool, true, false, not, List, [], ◌∷◌, ◌++◌, Option, None, Some, IfSome, map, fold, filter, cond, option_map, sym, refl, ap, ◌∙◌, subst}
+use Rattle.std.proofs.Common.{◌≡◌, ◌≢◌, Bool, true, false, not, List, [], ◌∷◌, Option, None, Some, IfSome, map, filter, cond, option_map, sym, refl, ◌∙◌, subst}
 use Rattle.std.specs.List.{AllByRecursion}
 use Rattle.std.specs.Char.{to_ascii_lowercase, to_ascii_uppercase}
 use Rattle.icu_locale_core_grammar.specs.Subtags.{Text, is_language, is_script, is_region, is_variant, is_attribute, is_key, is_field_key, is_value, is_true, is_other, is_other_piece, is_private, is_private_piece, true_text, lower, title, upper}
-use Rattle.icu_locale_core_grammar.specs.Collections.{Entry, Each, Rises, keys_of, set_of, map_of, put_first}
+use Rattle.icu_locale_core_grammar.specs.Collections.{Entry, Each, Rises, map_of}
 use Rattle.icu_locale_core_grammar.specs.LanguagePart.{LanguageId, MeansLanguage, MeansInner}
-use Rattle.icu_locale_core_grammar.specs.Extensions.{value_meaning, entry_meaning, IsEntry, MeansHeaded, Block, block_key, IsBlock, blocks_meaning, IsPrivatePart}
+use Rattle.icu_locale_core_grammar.specs.Extensions.{value_meaning, entry_meaning, IsEntry, Block, block_key, IsBlock, blocks_meaning, IsPrivatePart}
 use Rattle.icu_locale_core_grammar.specs.Meaning.{MeansAttributes, MeansUnicode, MeansTransform, MeansOther, UnicodeMeaning, TransformMeaning, Part, unicode, transform, other, MeansPart, ExtensionMeanings, no_extensions, put_part, TagMeaning, MeansTag}
-use Rattle.icu_locale_core_grammar.specs.WellFormed.{IsNormalPiece, AreLower, IsNormalLanguage, IsNormalValue, IsNormalEntry, AreNormalEntries, IsNormalUnicode, IsNormalTransform, IsNormalOther, AreNormalOthers, AreNormalExtensions, IsNormalTag}
-use Rattle.icu_locale_core_grammar.proofs.ListLemmas.{each-map}
+use Rattle.icu_locale_core_grammar.specs.WellFormed.{IsNormalPiece, AreLower, IsNormalLanguage, IsNormalValue, IsNormalEntry, AreNormalEntries, IsNormalUnicode, IsNormalTransform, IsNormalOther, AreNormalExtensions, IsNormalTag}
 use Rattle.icu_locale_core_grammar.proofs.CaseLemmas.{lower_keeps, upper_keeps, characters_changed, language_changed, region_changed, variant_changed, key_changed, field_key_changed, script_titled, lower-lower, title-title, upper-upper, spells_lower, other_lower}
 use Rattle.icu_locale_core_grammar.proofs.SetLemmas.{Rises-set_of}
 use Rattle.icu_locale_core_grammar.proofs.MapLemmas.{each_in_set, each_in_map, each_put, Rises-map_of, Rises-put, rises_none}
@@ -40,7 +39,8 @@ language_normal ps id a =
       script = script_normal w.script a.sound.script;
       region = region_normal w.region a.sound.region;
       variants = each_in_set (IsNormalPiece is_variant lower) (map lower w.variants) (lower_pieces is_variant (variant_changed to_ascii_lowercase lower_keeps) w.variants a.sound.variants);
-      rises = Rises-set_of (map lower w.variants) })
+      rises = Rises-set_of (map lower w.variants);
+    })
 
 inner_normal : (ps : List Text) (id : Option LanguageId) → MeansInner ps id → IfSome id IsNormalLanguage
 inner_normal ps None a = tt
@@ -66,9 +66,10 @@ map_normal test needs same es each = record { each = each_in_map (IsNormalEntry 
 -- ---- extensions
 
 attributes_normal : (ps set : List Text) → MeansAttributes ps set → AreLower is_attribute set × Rises set
-attributes_normal ps set a =
-    (subst (AreLower is_attribute) a.meant (each_in_set (IsNormalPiece is_attribute lower) (map lower ps) (lower_pieces is_attribute (characters_changed to_ascii_lowercase lower_keeps 3 8) ps a.each)),
-     subst Rises a.meant (Rises-set_of (map lower ps)))
+attributes_normal ps set a = (
+  subst (AreLower is_attribute) a.meant (each_in_set (IsNormalPiece is_attribute lower) (map lower ps) (lower_pieces is_attribute (characters_changed to_ascii_lowercase lower_keeps 3 8) ps a.each)),
+  subst Rises a.meant (Rises-set_of (map lower ps)),
+)
 
 pub unicode_normal : (ps : List Text) (u : UnicodeMeaning) → MeansUnicode ps u → IsNormalUnicode u
 unicode_normal ps u a =
@@ -93,8 +94,10 @@ part_put s ps (transform t) e a filled n = record { unicode = n.unicode; transfo
 part_put s ps (other own) e a filled n =
     let here : IsNormalOther (lower s, own) = record { singleton = lower_piece is_other other_lower s a.0; pieces = other_pieces_normal ps own a.1; filled = still_filled ps own filled a.1.meant } in
     record {
-      unicode = n.unicode; transform = n.transform;
-      others = record { each = each_put IsNormalOther (lower s, own) e.others here n.others.each; rises = Rises-put (lower s, own) e.others n.others.rises } }
+      unicode = n.unicode;
+      transform = n.transform;
+      others = record { each = each_put IsNormalOther (lower s, own) e.others here n.others.each; rises = Rises-put (lower s, own) e.others n.others.rises };
+    }
 
 blocks_normal : (bs : List (Block Part)) (e : ExtensionMeanings) → AllByRecursion (IsBlock MeansPart) bs → AreNormalExtensions e → AreNormalExtensions (blocks_meaning put_part e bs)
 blocks_normal [] e each n = n
@@ -102,9 +105,10 @@ blocks_normal (b ∷ bs) e each n = blocks_normal bs (put_part (block_key b) b.v
 
 none_normal : AreNormalExtensions no_extensions
 none_normal = record {
-    unicode = record { attributes = tt; rises = rises_none; keywords = record { each = tt; rises = rises_none } };
-    transform = record { language = tt; fields = record { each = tt; rises = rises_none } };
-    others = record { each = tt; rises = rises_none } }
+  unicode = record { attributes = tt; rises = rises_none; keywords = record { each = tt; rises = rises_none } };
+  transform = record { language = tt; fields = record { each = tt; rises = rises_none } };
+  others = record { each = tt; rises = rises_none };
+}
 
 own_normal : (last own : List Text) → IsPrivatePart is_private is_private_piece last own → AreLower is_private_piece own
 own_normal [] own private = subst (AreLower is_private_piece) (sym private) tt
@@ -112,6 +116,7 @@ own_normal (x ∷ ps) own private = subst (AreLower is_private_piece) private.3 
 
 pub meaning_normal : (ps : List Text) (m : TagMeaning) → MeansTag ps m → IsNormalTag m
 meaning_normal ps m a = record {
-    language = language_normal a.front m.front a.meant;
-    extensions = subst AreNormalExtensions a.together (blocks_normal a.blocks no_extensions a.each none_normal);
-    own = own_normal a.last m.own a.private }
+  language = language_normal a.front m.front a.meant;
+  extensions = subst AreNormalExtensions a.together (blocks_normal a.blocks no_extensions a.each none_normal);
+  own = own_normal a.last m.own a.private;
+}

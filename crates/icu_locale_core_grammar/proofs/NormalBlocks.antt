@@ -1,24 +1,15 @@
 -- The blocks of extensions in normal form: each is a block, their singletons rise, and together they mean the extensions.
-use Rattle.std.proofs.Common.{◌≡◌, ◌≢◌, ℕ, suc, Bool, true, false, not, List, [], ◌∷◌, ◌++◌, Option, None, Some, IfSome, map, take, drop, fold, cond, sym, refl, ap, ◌∙◌, subst, take-append-drop}
-use Rattle.std.specs.List.{AllByRecursion, position_or_len}
-use Rattle.std.specs.List.Sorted.{IsStrictlySortedBy}
-use Rattle.std.specs.Ordering.{is_lt, ordering_reverse, nat_cmp}
-use Rattle.std.specs.declared.cmp.Ordering.{Ordering}
-use Rattle.std.specs.declared.cmp.Ordering.TheVariants.{Less, Equal, Greater}
-use Rattle.std.proofs.lemmas.List.{map-append}
-use Rattle.std.proofs.lemmas.Bool.Decides.{nat_tests}
-use Rattle.icu_locale_core_grammar.specs.Subtags.{Text, is_other, is_other_piece, is_unicode, is_transform, is_single, same_text, lower, transform_text, unicode_text}
-use Rattle.icu_locale_core_grammar.specs.Collections.{text_cmp, Entry, Rises, keys_of, put_first, map_of}
+use Rattle.std.proofs.Common.{◌≡◌, Bool, true, false, List, [], ◌∷◌, ◌++◌, Option, None, Some, take, drop, fold, sym, refl, ap, ◌∙◌, subst, take-append-drop}
+use Rattle.std.specs.List.{AllByRecursion}
+use Rattle.icu_locale_core_grammar.specs.Subtags.{Text, transform_text, unicode_text}
+use Rattle.icu_locale_core_grammar.specs.Collections.{Entry, put_first, map_of}
 use Rattle.icu_locale_core_grammar.specs.LanguagePart.{LanguageId}
 use Rattle.icu_locale_core_grammar.specs.Extensions.{Block, block_key, IsBlock, blocks_meaning}
 use Rattle.icu_locale_core_grammar.specs.Meaning.{UnicodeMeaning, TransformMeaning, Part, unicode, transform, other, MeansPart, ExtensionMeanings, no_unicode, no_transform, no_extensions, put_part}
 use Rattle.icu_locale_core_grammar.specs.NormalText.{inner_pieces, entry_pieces, unicode_pieces, transform_pieces, one_block, unicode_block, transform_block, other_block, other_blocks, before_transform, blocks_of}
-use Rattle.icu_locale_core_grammar.specs.WellFormed.{IsNormalUnicode, IsNormalTransform, IsNormalOther, AreNormalOthers, AreNormalExtensions}
-use Rattle.icu_locale_core_grammar.proofs.ListLemmas.{fold-append, each-append, each_front, each_rest, each_weaker}
-use Rattle.icu_locale_core_grammar.proofs.SetLemmas.{cmp_equal, cmp_swapped, cmp_below, cmp_through}
+use Rattle.icu_locale_core_grammar.specs.WellFormed.{IsNormalOther, AreNormalExtensions}
+use Rattle.icu_locale_core_grammar.proofs.ListLemmas.{fold-append, each-append, each_front, each_rest}
 use Rattle.icu_locale_core_grammar.proofs.MapLemmas.{put_entry, map_of_rising}
-use Rattle.icu_locale_core_grammar.proofs.SingletonLemmas.{other_is_none}
-use Rattle.icu_locale_core_grammar.proofs.SubtagLemmas.{singleton_single}
 use Rattle.icu_locale_core_grammar.proofs.NormalBodies.{unicode_means, transform_means, other_means}
 
 -- ---- one block
@@ -38,9 +29,9 @@ blocks_are e n =
     let split : take at e.others ++ drop at e.others ≡ e.others = take-append-drop at e.others in
     let whole : AllByRecursion IsNormalOther (take at e.others ++ drop at e.others) = subst (AllByRecursion IsNormalOther) (sym split) n.others.each in
     each-append (IsBlock MeansPart) (other_blocks (take at e.others)) _ (others_are (take at e.others) (each_front IsNormalOther (take at e.others) (drop at e.others) whole))
-      (each-append (IsBlock MeansPart) (transform_block e.transform) _ (one_block_is transform_text (transform_pieces e.transform) (transform e.transform) (refl, transform_means e.transform n.transform))
-        (each-append (IsBlock MeansPart) (unicode_block e.unicode) _ (one_block_is unicode_text (unicode_pieces e.unicode) (unicode e.unicode) (refl, unicode_means e.unicode n.unicode))
-          (others_are (drop at e.others) (each_rest IsNormalOther (take at e.others) (drop at e.others) whole))))
+    (each-append (IsBlock MeansPart) (transform_block e.transform) _ (one_block_is transform_text (transform_pieces e.transform) (transform e.transform) (refl, transform_means e.transform n.transform))
+    (each-append (IsBlock MeansPart) (unicode_block e.unicode) _ (one_block_is unicode_text (unicode_pieces e.unicode) (unicode e.unicode) (refl, unicode_means e.unicode n.unicode))
+    (others_are (drop at e.others) (each_rest IsNormalOther (take at e.others) (drop at e.others) whole))))
 
 -- ---- what the blocks mean together
 

@@ -1,16 +1,16 @@
 -- The normal pieces of a language part, of an extension's body and of a private part have the meaning that they are of.
-use Rattle.std.proofs.Common.{◌≡◌, ◌≢◌, Bool, true, false, not, List, [], ◌∷◌, ◌++◌, Option, None, Some, IfSome, map, filter, cond, flat_map, option_map, option_to_list, sym, refl, ap, ◌∙◌, subst}
+use Rattle.std.proofs.Common.{◌≡◌, Bool, true, false, not, List, [], ◌∷◌, Option, None, Some, IfSome, map, filter, cond, option_map, sym, refl, ap, ◌∙◌, subst}
 use Rattle.std.specs.Prelude.{if◌then◌else◌}
 use Rattle.std.specs.List.{AllByRecursion, IsDistinct}
-use Rattle.std.specs.Ordering.{eq_by_cmp, nat_cmp}
+use Rattle.std.specs.Ordering.{nat_cmp}
 use Rattle.std.specs.Cmp.Lexicographic.{slice_cmp, texts_ties}
 use Rattle.std.proofs.lemmas.Map.Keys.{IsDistinct-from_sorted}
-use Rattle.icu_locale_core_grammar.specs.Subtags.{Text, is_script, is_region, is_variant, is_attribute, is_key, is_field_key, is_value, is_true, is_other_piece, is_private, is_private_piece, true_text, private_text, same_text, lower, title, upper}
-use Rattle.icu_locale_core_grammar.specs.Collections.{text_cmp, Entry, Each, AreApart, Rises, keys_of, set_of, map_of}
-use Rattle.icu_locale_core_grammar.specs.LanguagePart.{WrittenLanguage, LanguageId, MeansLanguage, MeansInner}
-use Rattle.icu_locale_core_grammar.specs.Extensions.{spelled_entry, value_meaning, entry_meaning, has_enough, IsEntry, MeansHeaded, IsPrivatePart}
+use Rattle.icu_locale_core_grammar.specs.Subtags.{Text, is_script, is_region, is_variant, is_attribute, is_key, is_field_key, is_value, is_true, is_other_piece, is_private, is_private_piece, true_text, lower, title, upper}
+use Rattle.icu_locale_core_grammar.specs.Collections.{Entry, Each, AreApart, Rises, set_of, map_of}
+use Rattle.icu_locale_core_grammar.specs.LanguagePart.{LanguageId, MeansLanguage, MeansInner}
+use Rattle.icu_locale_core_grammar.specs.Extensions.{value_meaning, entry_meaning, has_enough, IsEntry, IsPrivatePart}
 use Rattle.icu_locale_core_grammar.specs.Meaning.{MeansAttributes, MeansUnicode, MeansTransform, MeansOther, UnicodeMeaning, TransformMeaning}
-use Rattle.icu_locale_core_grammar.specs.NormalText.{language_pieces, inner_pieces, shown_entry, entry_pieces, unicode_pieces, transform_pieces, private_pieces}
+use Rattle.icu_locale_core_grammar.specs.NormalText.{language_pieces, inner_pieces, shown_entry, unicode_pieces, transform_pieces, private_pieces}
 use Rattle.icu_locale_core_grammar.specs.WellFormed.{IsNormalPiece, AreLower, IsNormalLanguage, IsNormalValue, IsNormalEntry, AreNormalEntries, IsNormalUnicode, IsNormalTransform}
 use Rattle.icu_locale_core_grammar.proofs.SetLemmas.{set_of_rising}
 use Rattle.icu_locale_core_grammar.proofs.MapLemmas.{map_of_rising}
@@ -56,7 +56,8 @@ language_means id n =
       written = record { language = id.language; script = id.script; region = id.region; variants = id.variants };
       sound = record { language = n.language.is; script = script_is id.script n.script; region = region_is id.region n.region; variants = pieces_pass is_variant id.variants n.variants; apart = subst AreApart (sym stay) (apart_from_rising id.variants n.rises) };
       parts = refl;
-      meant = λ i. record { language = n.language.same i; script = script_stays id.script n.script i; region = region_stays id.region n.region i; variants = set i } }
+      meant = λ i. record { language = n.language.same i; script = script_stays id.script n.script i; region = region_stays id.region n.region i; variants = set i };
+    }
 
 pub inner_means : (id : Option LanguageId) → IfSome id IsNormalLanguage → MeansInner (inner_pieces id) id
 inner_means None n = refl
@@ -108,13 +109,23 @@ attributes_mean set n rises = record { each = pieces_pass is_attribute set n; me
 
 pub unicode_means : (u : UnicodeMeaning) → IsNormalUnicode u → MeansUnicode (unicode_pieces u) u
 unicode_means u n = record {
-    head = u.head; entries = map (shown_entry false) u.entries; parts = refl; meant = attributes_mean u.head n.attributes n.rises;
-    each = entries_are is_key false u.entries n.keywords.each; keyed = entries_keyed is_key false u.entries n.keywords }
+  head = u.head;
+  entries = map (shown_entry false) u.entries;
+  parts = refl;
+  meant = attributes_mean u.head n.attributes n.rises;
+  each = entries_are is_key false u.entries n.keywords.each;
+  keyed = entries_keyed is_key false u.entries n.keywords;
+}
 
 pub transform_means : (t : TransformMeaning) → IsNormalTransform t → MeansTransform (transform_pieces t) t
 transform_means t n = record {
-    head = inner_pieces t.head; entries = map (shown_entry true) t.entries; parts = refl; meant = inner_means t.head n.language;
-    each = entries_are is_field_key true t.entries n.fields.each; keyed = entries_keyed is_field_key true t.entries n.fields }
+  head = inner_pieces t.head;
+  entries = map (shown_entry true) t.entries;
+  parts = refl;
+  meant = inner_means t.head n.language;
+  each = entries_are is_field_key true t.entries n.fields.each;
+  keyed = entries_keyed is_field_key true t.entries n.fields;
+}
 
 pub other_means : (own : List Text) → AreLower is_other_piece own → MeansOther own own
 other_means own n = record { each = pieces_pass is_other_piece own n; meant = pieces_stay is_other_piece own n }

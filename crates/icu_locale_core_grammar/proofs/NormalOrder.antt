@@ -1,22 +1,21 @@
 -- The singletons of the blocks of extensions in normal form rise.
-use Rattle.std.proofs.Common.{◌≡◌, ◌≢◌, ◌+◌, ◌<◌, ℕ, suc, Bool, true, false, not, ◌&&◌, List, [], ◌∷◌, ◌++◌, map, take, drop, cond, length, sym, refl, ap, ◌∙◌, subst, one-add, append_assoc, take-append-drop, arith}
-use Rattle.std.specs.List.{AllByRecursion, position_or_len}
+use Rattle.std.proofs.Common.{◌≡◌, ◌+◌, ℕ, Bool, true, false, not, List, [], ◌∷◌, ◌++◌, map, take, drop, cond, length, sym, refl, ap, ◌∙◌, subst, one-add, append_assoc, take-append-drop, arith}
+use Rattle.std.specs.List.{AllByRecursion}
 use Rattle.std.specs.List.Sorted.{IsStrictlySortedBy}
-use Rattle.std.specs.Ordering.{is_lt, nat_cmp, ordering_then}
+use Rattle.std.specs.Ordering.{is_lt}
 use Rattle.std.specs.declared.cmp.Ordering.{Ordering}
 use Rattle.std.specs.declared.cmp.Ordering.TheVariants.{Less, Equal, Greater}
 use Rattle.std.proofs.lemmas.List.{map-append}
 use Rattle.std.proofs.lemmas.Bool.Decides.{nat_tests}
-use Rattle.icu_locale_core_grammar.specs.Subtags.{Text, is_other, is_transform, is_unicode, is_single, same_text, lower, transform_text, unicode_text}
+use Rattle.icu_locale_core_grammar.specs.Subtags.{Text, is_transform, is_unicode, same_text, lower, transform_text, unicode_text}
 use Rattle.icu_locale_core_grammar.specs.Collections.{text_cmp, Entry, Rises, keys_of}
-use Rattle.icu_locale_core_grammar.specs.Extensions.{Block, block_key}
+use Rattle.icu_locale_core_grammar.specs.Extensions.{block_key}
 use Rattle.icu_locale_core_grammar.specs.Meaning.{Part, ExtensionMeanings, unicode, transform, other}
 use Rattle.icu_locale_core_grammar.specs.NormalText.{unicode_pieces, transform_pieces, one_block, unicode_block, transform_block, other_block, other_blocks, before_transform, blocks_of}
-use Rattle.icu_locale_core_grammar.specs.WellFormed.{IsNormalOther, AreNormalOthers, AreNormalExtensions}
+use Rattle.icu_locale_core_grammar.specs.WellFormed.{IsNormalOther, AreNormalExtensions}
 use Rattle.icu_locale_core_grammar.proofs.ListLemmas.{each-append, each_front, each_rest, each_weaker}
 use Rattle.icu_locale_core_grammar.proofs.SetLemmas.{cmp_equal, cmp_below, cmp_through}
 use Rattle.icu_locale_core_grammar.proofs.SingletonLemmas.{other_is_none}
-use Rattle.icu_locale_core_grammar.proofs.CollectionLemmas.{same_text_refl}
 use Rattle.icu_locale_core_grammar.proofs.SubtagLemmas.{singleton_single, single_length}
 
 -- ---- lists that rise
@@ -88,6 +87,7 @@ other_above o n e = by_text o.0 n.singleton.same (single_length o.0 (singleton_s
     by_order Less f e = f
     by_order Equal f e = cc
     by_order Greater f e = cc
+
     by_text : (s : Text) → lower s ≡ s → length s ≡ 1 → is_unicode s ≡ false → text_cmp transform_text s ≡ Less → above unicode_text s
     by_text [] same one apart less = cc
     by_text (c ∷ []) same one apart less = one_above c less (sym (ap (same_text unicode_text) same) ∙ apart)
@@ -135,18 +135,18 @@ blocks_rise e n =
     let p = parted e.others n.others.each n.others.rises in
     let behind : Rises (unicode_text ∷ keys_of rest) = rises_begun unicode_text (keys_of rest) p.behind (rises_rest (keys_of front) (keys_of rest) rises) in
     let middle : Rises (transform_text ∷ unicode_text ∷ keys_of rest) =
-          rises_begun transform_text (unicode_text ∷ keys_of rest) (refl, each_weaker (above unicode_text) (above transform_text) (λ s f. cmp_through transform_text unicode_text s refl f) (keys_of rest) p.behind) behind in
+    rises_begun transform_text (unicode_text ∷ keys_of rest) (refl, each_weaker (above unicode_text) (above transform_text) (λ s f. cmp_through transform_text unicode_text s refl f) (keys_of rest) p.behind) behind in
     let all : Rises (keys_of front ++ transform_text ∷ unicode_text ∷ keys_of rest) = rises_behind (keys_of front) transform_text (unicode_text ∷ keys_of rest) (rises_front (keys_of front) (keys_of rest) rises) p.before middle in
     let less : Rises ((keys_of front ++ transform_text ∷ []) ++ (map block_key (unicode_block e.unicode) ++ keys_of rest)) =
-          rises_with_block unicode_text (unicode_pieces e.unicode) (unicode e.unicode) (keys_of front ++ transform_text ∷ []) (keys_of rest)
-            (subst Rises (sym (append_assoc (keys_of front) (transform_text ∷ []) (unicode_text ∷ keys_of rest))) all) in
+    rises_with_block unicode_text (unicode_pieces e.unicode) (unicode e.unicode) (keys_of front ++ transform_text ∷ []) (keys_of rest)
+    (subst Rises (sym (append_assoc (keys_of front) (transform_text ∷ []) (unicode_text ∷ keys_of rest))) all) in
     let least : Rises (keys_of front ++ (map block_key (transform_block e.transform) ++ (map block_key (unicode_block e.unicode) ++ keys_of rest))) =
-          rises_with_block transform_text (transform_pieces e.transform) (transform e.transform) (keys_of front) (map block_key (unicode_block e.unicode) ++ keys_of rest)
-            (subst Rises (append_assoc (keys_of front) (transform_text ∷ []) (map block_key (unicode_block e.unicode) ++ keys_of rest)) less) in
+    rises_with_block transform_text (transform_pieces e.transform) (transform e.transform) (keys_of front) (map block_key (unicode_block e.unicode) ++ keys_of rest)
+    (subst Rises (append_assoc (keys_of front) (transform_text ∷ []) (map block_key (unicode_block e.unicode) ++ keys_of rest)) less) in
     let spelled : map block_key (blocks_of e) ≡ keys_of front ++ (map block_key (transform_block e.transform) ++ (map block_key (unicode_block e.unicode) ++ keys_of rest)) =
-          map-append block_key (other_blocks front) (transform_block e.transform ++ (unicode_block e.unicode ++ other_blocks rest))
-          ∙ ap (λ l. l ++ map block_key (transform_block e.transform ++ (unicode_block e.unicode ++ other_blocks rest))) (others_keys front (each_front IsNormalOther front rest whole))
-          ∙ ap (λ l. keys_of front ++ l) (map-append block_key (transform_block e.transform) (unicode_block e.unicode ++ other_blocks rest)
-              ∙ ap (λ l. map block_key (transform_block e.transform) ++ l) (map-append block_key (unicode_block e.unicode) (other_blocks rest)
-                  ∙ ap (λ l. map block_key (unicode_block e.unicode) ++ l) (others_keys rest (each_rest IsNormalOther front rest whole)))) in
+    map-append block_key (other_blocks front) (transform_block e.transform ++ (unicode_block e.unicode ++ other_blocks rest))
+    ∙ ap (λ l. l ++ map block_key (transform_block e.transform ++ (unicode_block e.unicode ++ other_blocks rest))) (others_keys front (each_front IsNormalOther front rest whole))
+    ∙ ap (λ l. keys_of front ++ l) (map-append block_key (transform_block e.transform) (unicode_block e.unicode ++ other_blocks rest)
+    ∙ ap (λ l. map block_key (transform_block e.transform) ++ l) (map-append block_key (unicode_block e.unicode) (other_blocks rest)
+    ∙ ap (λ l. map block_key (unicode_block e.unicode) ++ l) (others_keys rest (each_rest IsNormalOther front rest whole)))) in
     subst Rises (sym spelled) least

@@ -1,11 +1,10 @@
 -- The normal pieces of a meaning in normal form have that meaning, so its normal text read again is the meaning.
-use Rattle.std.proofs.Common.{◌≡◌, List, [], ◌∷◌, ◌++◌, map, sym, refl, ap, ◌∙◌, subst}
-use Rattle.icu_locale_core_grammar.specs.Subtags.{Text, is_private, is_private_piece}
-use Rattle.icu_locale_core_grammar.specs.Pieces.{pieces, joined_text}
-use Rattle.icu_locale_core_grammar.specs.Collections.{Rises}
+use Rattle.std.proofs.Common.{◌≡◌, List, map, sym, refl, ap, ◌∙◌, subst}
+use Rattle.icu_locale_core_grammar.specs.Subtags.{Text}
+use Rattle.icu_locale_core_grammar.specs.Pieces.{pieces}
 use Rattle.icu_locale_core_grammar.specs.Extensions.{block_key}
-use Rattle.icu_locale_core_grammar.specs.Meaning.{ExtensionMeanings, TagMeaning, MeansTag}
-use Rattle.icu_locale_core_grammar.specs.NormalText.{language_pieces, blocks_of, block_pieces, private_pieces, normal, normal_text}
+use Rattle.icu_locale_core_grammar.specs.Meaning.{TagMeaning, MeansTag}
+use Rattle.icu_locale_core_grammar.specs.NormalText.{language_pieces, blocks_of, private_pieces, normal, normal_text}
 use Rattle.icu_locale_core_grammar.specs.WellFormed.{IsNormalTag}
 use Rattle.icu_locale_core_grammar.proofs.Runs as Runs
 use Rattle.icu_locale_core_grammar.proofs.TagReader.{tag_reader}
@@ -17,12 +16,16 @@ use Rattle.icu_locale_core_grammar.proofs.NormalOrder.{blocks_rise}
 
 pub normal_means : (m : TagMeaning) → IsNormalTag m → MeansTag (normal m) m
 normal_means m n = record {
-    front = language_pieces m.front; blocks = blocks_of m.blocks; last = private_pieces m.own; parts = refl;
-    meant = language_means m.front n.language;
-    each = blocks_are m.blocks n.extensions;
-    apart = apart_from_rising (map block_key (blocks_of m.blocks)) (blocks_rise m.blocks n.extensions);
-    together = blocks_mean m.blocks n.extensions;
-    private = private_means m.own n.own }
+  front = language_pieces m.front;
+  blocks = blocks_of m.blocks;
+  last = private_pieces m.own;
+  parts = refl;
+  meant = language_means m.front n.language;
+  each = blocks_are m.blocks n.extensions;
+  apart = apart_from_rising (map block_key (blocks_of m.blocks)) (blocks_rise m.blocks n.extensions);
+  together = blocks_mean m.blocks n.extensions;
+  private = private_means m.own n.own;
+}
 
 -- the text of the normal pieces, cut again
 pub normal_again : (m : TagMeaning) → MeansTag (normal m) m → pieces (normal_text m) ≡ normal m

@@ -1,15 +1,12 @@
 -- The pieces of each part are letters and digits, and each part in normal form reads back as it is printed.
-use Rattle.std.proofs.Common.{◌≡◌, ◌≢◌, Bool, true, false, List, [], ◌∷◌, ◌++◌, Option, None, Some, map, sym, refl, ap, ◌∙◌, subst}
+use Rattle.std.proofs.Common.{◌≡◌, true, false, List, [], ◌∷◌, ◌++◌, Some, map, refl}
 use Rattle.std.specs.Prelude.{if◌then◌else◌}
-use Rattle.std.specs.List.{AllByRecursion}
 use Rattle.icu_locale_core_grammar.specs.Subtags.{Text, is_plain, is_value, is_key, is_field_key, is_other_piece, is_private_piece, is_true, lower}
-use Rattle.icu_locale_core_grammar.specs.Collections.{Entry}
-use Rattle.icu_locale_core_grammar.specs.NormalText.{shown_entry, entry_pieces, private_pieces}
-use Rattle.icu_locale_core_grammar.specs.WellFormed.{AreLower, IsNormalValue, AreNormalEntries}
-use Rattle.icu_locale_core_grammar.specs.TagStages.{language_after, inner_ends, attributes_after, attributes_end, unicode_after, transform_after, other_after}
+use Rattle.icu_locale_core_grammar.specs.NormalText.{shown_entry}
+use Rattle.icu_locale_core_grammar.specs.TagStages.{language_after, inner_ends, attributes_after, attributes_end, other_after}
 use Rattle.icu_locale_core_grammar.specs.LanguagePart.{MeansLanguage}
 use Rattle.icu_locale_core_grammar.specs.Meaning.{MeansAttributes, MeansUnicode, MeansTransform, MeansOther}
-use Rattle.icu_locale_core_grammar.specs.PartReaders.{IsExtension, MeansOwn, MeansKeywords, MeansFields, MeansValue, nothing_after, nothing_ends, EntriesStage, entries_after, value_after, own_after}
+use Rattle.icu_locale_core_grammar.specs.PartReaders.{MeansOwn, MeansKeywords, MeansFields, MeansValue, nothing_after, nothing_ends, value_after, own_after}
 use Rattle.icu_locale_core_grammar.specs.PartLaws.{TakesPlain, UnicodeReadsBack, TransformReadsBack, PrivateReadsBack, KeywordsReadBack, FieldsReadBack, ValueReadsBack}
 use Rattle.icu_locale_core_grammar.proofs.PlainSubtags.{characters_plain, key_plain, field_key_plain}
 use Rattle.icu_locale_core_grammar.proofs.PlainPieces.{passed, language_takes, headed_takes, attributes_take, plain_read}

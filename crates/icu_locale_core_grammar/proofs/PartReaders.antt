@@ -1,11 +1,10 @@
 -- Keywords, fields, values and private pieces are read right when they stand alone, and read back as they are printed.
-use Rattle.std.proofs.Common.{◌≡◌, ◌≢◌, Bool, true, false, not, List, [], ◌∷◌, ◌++◌, Option, None, Some, map, fold, flat_map, option_map, codes, sym, refl, ap, ◌∙◌, subst}
-use Rattle.std.specs.Prelude.{if◌then◌else◌}
+use Rattle.std.proofs.Common.{◌≡◌, Bool, true, false, List, [], ◌∷◌, ◌++◌, Option, None, Some, map, flat_map, sym, refl, ap, ◌∙◌}
 use Rattle.icu_locale_core_grammar.specs.Subtags.{Text, is_value, is_key, is_field_key, is_private_piece, lower}
-use Rattle.icu_locale_core_grammar.specs.Collections.{Entry, Each, set_of}
+use Rattle.icu_locale_core_grammar.specs.Collections.{Entry, set_of}
 use Rattle.icu_locale_core_grammar.specs.Extensions.{spelled_entry, Headed, MeansHeaded}
 use Rattle.icu_locale_core_grammar.specs.Meaning.{MeansAttributes, MeansUnicode, MeansTransform}
-use Rattle.icu_locale_core_grammar.specs.Stepping.{run, IsReader, InHead, HeadedStage, InEntry, headed_ends}
+use Rattle.icu_locale_core_grammar.specs.Stepping.{run, IsReader, InHead, headed_ends}
 use Rattle.icu_locale_core_grammar.specs.TagStages.{has_none}
 use Rattle.icu_locale_core_grammar.specs.PartReaders.{MeansOwn, MeansEntries, MeansKeywords, MeansFields, MeansValue, nothing_after, nothing_ends, EntriesStage, entries_after, entries_of, entries_end, value_after, own_after}
 use Rattle.icu_locale_core_grammar.proofs.SubtagLemmas.{key_no_value, field_key_no_value}

@@ -2,7 +2,6 @@
 use Rattle.std.proofs.Common.{◌≡◌, List, [], ◌∷◌, ◌++◌, Option, None, Some, sym, refl, ap, ◌∙◌, subst, append_assoc, append-nil, ◌⊎◌, inl, inr}
 use Rattle.std.proofs.lemmas.List.{append_cancel_left}
 use Rattle.icu_locale_core_grammar.specs.Subtags.{Text}
-use Rattle.icu_locale_core_grammar.specs.FaultyPiece.{BeginsSome}
 use Rattle.icu_locale_core_grammar.specs.Stepping.{run, IsReader}
 use Rattle.icu_locale_core_grammar.specs.PartialReading.{IsLongest, ReadsFront}
 use Rattle.icu_locale_core_grammar.proofs.Runs.{stops_at_piece, one_meaning}

@@ -1,19 +1,19 @@
 -- The pieces of a tag are letters and digits, so a tag's text, cut at its hyphens, gives them back.
-use Rattle.std.proofs.Common.{◌≡◌, ℕ, Bool, true, false, not, ◌&&◌, List, [], ◌∷◌, ◌++◌, Option, None, Some, map, flat_map, option_map, sym, refl, ap, ◌∙◌, subst, append-nil, arith}
+use Rattle.std.proofs.Common.{◌≡◌, ℕ, Bool, true, false, not, ◌&&◌, List, [], ◌∷◌, ◌++◌, Option, None, Some, refl, ap, ◌∙◌, append-nil, arith}
 use Rattle.std.specs.Prelude.{if◌then◌else◌, is_none}
-use Rattle.std.specs.List.{list_all, AllByRecursion, slice_split, join_with_byte}
+use Rattle.std.specs.List.{AllByRecursion, join_with_byte}
 use Rattle.std.specs.Char.{is_ascii_alphanumeric}
 use Rattle.std.proofs.lemmas.Bool.{and_parts}
 use Rattle.std.proofs.lemmas.Bool.Decides.{nat_tests}
 use Rattle.std.proofs.lemmas.List.Elements.{All-from_recursion}
 use Rattle.std.proofs.lemmas.List.Splits.{slice_split_none, slice_split_at, join_with_byte-slice_split}
 use Rattle.icu_locale_core_grammar.specs.Subtags.{Text, is_plain, is_language, is_script, is_region, is_variant, is_attribute, is_value, is_key, is_field_key, is_other_piece, is_private, is_private_piece, lower}
-use Rattle.icu_locale_core_grammar.specs.Pieces.{hyphen, is_hyphen, pieces, hyphened, joined_text}
+use Rattle.icu_locale_core_grammar.specs.Pieces.{hyphen, is_hyphen, pieces, joined_text}
 use Rattle.icu_locale_core_grammar.specs.Collections.{Entry, Each, put_first, contains_text, insert_text}
 use Rattle.icu_locale_core_grammar.specs.LanguagePart.{LanguageId}
 use Rattle.icu_locale_core_grammar.specs.Meaning.{TagMeaning, MeansTag, ExtensionMeanings, Part, put_part, no_extensions}
-use Rattle.icu_locale_core_grammar.specs.Stepping.{run, IsReader, HeadedStage, InHead, InEntry, with_value, after_head, headed_after, WholeStage, InFront, AtBlock, InBlock, InPrivate, opened, next_part, after_front, at_block, after_block, whole_after}
-use Rattle.icu_locale_core_grammar.specs.TagStages.{only_language, has_none, fits_script, fits_region, fits_variant, with_script, with_region, with_variant, with_piece, language_after, language_ends, inner_ends, attributes_after, attributes_end, unicode_after, transform_after, other_after, BodyStage, InUnicode, InTransform, InOther, body_after, body_ends, opens, TagStage, tag_start, tag_after}
+use Rattle.icu_locale_core_grammar.specs.Stepping.{run, IsReader, HeadedStage, InHead, InEntry, with_value, after_head, headed_after, InFront, AtBlock, InBlock, InPrivate, opened, after_front, at_block, after_block, whole_after}
+use Rattle.icu_locale_core_grammar.specs.TagStages.{only_language, has_none, fits_script, fits_region, fits_variant, with_script, with_region, with_variant, with_piece, language_after, language_ends, inner_ends, attributes_after, attributes_end, unicode_after, transform_after, other_after, BodyStage, InUnicode, InTransform, InOther, body_after, body_ends, opens, TagStage, tag_after}
 use Rattle.icu_locale_core_grammar.proofs.ListLemmas.{mapped_some}
 use Rattle.icu_locale_core_grammar.proofs.PlainSubtags.{characters_plain, language_plain, script_plain, region_plain, variant_plain, key_plain, field_key_plain, private_plain, opens_plain}
 use Rattle.icu_locale_core_grammar.proofs.Runs.{first_step}

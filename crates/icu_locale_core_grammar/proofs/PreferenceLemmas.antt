@@ -1,18 +1,17 @@
 -- A text is a subdivision in one way at most, and a data locale that was read and printed reads back.
-use Rattle.std.proofs.Common.{◌≡◌, ◌≢◌, ◌≤◌, ◌<◌, ℕ, suc, Bool, true, false, not, ◌&&◌, ◌||◌, List, [], ◌∷◌, ◌++◌, Option, None, Some, take, drop, length, eqb, leb, sym, refl, ap, ◌∙◌, subst, inl, inr, ◌⊎◌, take-append-drop, arith}
+use Rattle.std.proofs.Common.{◌≡◌, ℕ, Bool, true, false, ◌&&◌, ◌||◌, List, [], ◌∷◌, ◌++◌, Option, None, Some, take, drop, length, eqb, sym, refl, ap, ◌∙◌, subst, inl, inr, ◌⊎◌, take-append-drop, arith}
 use Rattle.std.specs.Prelude.{if◌then◌else◌}
 use Rattle.std.specs.List.{list_all}
-use Rattle.std.specs.Char.{is_ascii_alphabetic, is_ascii_digit, is_ascii_alphanumeric}
-use Rattle.std.specs.Int.{is_in_range}
+use Rattle.std.specs.Char.{is_ascii_alphabetic, is_ascii_digit}
 use Rattle.std.proofs.lemmas.List.{take_at, drop_at}
-use Rattle.std.proofs.lemmas.Bool.{and_parts, and_from, or_cases, or_from, eqb-true}
+use Rattle.std.proofs.lemmas.Bool.{and_parts, and_from, or_cases, eqb-true}
 use Rattle.std.proofs.lemmas.Bool.Decides.{nat_tests}
 use Rattle.icu_locale_core_grammar.specs.Subtags.{Text, is_region, lower, upper}
 use Rattle.icu_locale_core_grammar.specs.Pieces.{pieces}
-use Rattle.icu_locale_core_grammar.specs.Meaning.{TagMeaning, MeansTag}
+use Rattle.icu_locale_core_grammar.specs.Meaning.{MeansTag}
 use Rattle.icu_locale_core_grammar.specs.NormalText.{normal_text}
 use Rattle.icu_locale_core_grammar.specs.Preferences.{is_suffix, Subdivision, SpellsSubdivision, subdivision_at, first_there, subdivision_of, DataLocaleMeaning, data_meaning, preferences_of, language_priority}
-use Rattle.icu_locale_core_grammar.specs.DataTags.{IsDataTag, MeansDataLocale}
+use Rattle.icu_locale_core_grammar.specs.DataTags.{MeansDataLocale}
 use Rattle.icu_locale_core_grammar.proofs.Runs as Runs
 use Rattle.icu_locale_core_grammar.proofs.TagReader.{tag_reader}
 use Rattle.icu_locale_core_grammar.proofs.NormalTags.{read_again}
@@ -72,7 +71,7 @@ spelled_subdivision text s a = ap subdivision_of (sym a.parts) ∙ by_case (regi
     by_case (inl f) = ap (λ o. first_there o (subdivision_at 3 (a.region ++ a.suffix))) (at_cut 2 a.region a.suffix f.0 a.first a.second)
     by_case (inr f) =
         ap (λ b. first_there (if b && is_suffix (drop 2 (a.region ++ a.suffix)) then Some (sub_of (take 2 (a.region ++ a.suffix)) (drop 2 (a.region ++ a.suffix))) else None) (subdivision_at 3 (a.region ++ a.suffix)))
-          (digits_no_letters a.region a.suffix f.0 f.1)
+        (digits_no_letters a.region a.suffix f.0 f.1)
         ∙ at_cut 3 a.region a.suffix f.0 a.first a.second
 
 pub one_subdivision : (text : Text) (s t : Subdivision) → SpellsSubdivision text s → SpellsSubdivision text t → s ≡ t

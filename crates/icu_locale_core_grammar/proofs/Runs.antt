@@ -1,8 +1,8 @@
 -- Steps along lists of pieces, and what a right reader of a grammar says of the lists that stop somewhere.
-use Rattle.std.proofs.Common.{◌≡◌, ◌≢◌, ℕ, Bool, true, false, List, [], ◌∷◌, ◌++◌, Option, None, Some, ◌⊎◌, inl, inr, sym, refl, ap, ◌∙◌, subst, append_assoc, append-nil}
+use Rattle.std.proofs.Common.{◌≡◌, List, [], ◌∷◌, ◌++◌, Option, None, Some, ◌⊎◌, inl, inr, sym, refl, ap, ◌∙◌, subst, append_assoc, append-nil}
 use Rattle.icu_locale_core_grammar.specs.Subtags.{Text}
-use Rattle.icu_locale_core_grammar.specs.FaultyPiece.{IsAccepted, BeginsSome, GoesOn, StopsAt}
-use Rattle.icu_locale_core_grammar.specs.Stepping.{run, CanEnd, IsReader}
+use Rattle.icu_locale_core_grammar.specs.FaultyPiece.{IsAccepted, BeginsSome, StopsAt}
+use Rattle.icu_locale_core_grammar.specs.Stepping.{run, IsReader}
 
 module _ {S : Type 0} (step : S → Text → Option S) where
   pub run-append : (s : Option S) (ps qs : List Text) → run step s (ps ++ qs) ≡ run step (run step s ps) qs
@@ -121,7 +121,7 @@ module _ {S M : Type 0} {step : S → Text → Option S} {start : S} {ends : S �
   at_piece taken ps s p None e f onward = inr (record { front = taken; place = Some p; stage = s; reached = e; stuck = f; stops = stops_at_piece taken s p ps e f })
   at_piece taken ps s p (Some u) e f onward =
       subst (λ l. IsAccepted Means l ⊎ Stop l) (append_assoc taken (p ∷ []) ps)
-        (onward u (run_joined step start s (Some u) taken (p ∷ []) e (ap (λ o. run step o []) f)))
+      (onward u (run_joined step start s (Some u) taken (p ∷ []) e (ap (λ o. run step o []) f)))
 
   answered_from : (ps taken : List Text) (s : S) → run step (Some start) taken ≡ Some s → IsAccepted Means (taken ++ ps) ⊎ Stop (taken ++ ps)
   answered_from [] taken s e = subst (λ l. IsAccepted Means l ⊎ Stop l) (sym (append-nil taken)) (at_end taken s (ends s) e refl)

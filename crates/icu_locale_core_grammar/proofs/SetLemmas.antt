@@ -1,15 +1,15 @@
 -- Sets of texts: what they contain, that they rise, and that a list that rises is its own set.
-use Rattle.std.proofs.Common.{◌≡◌, Bool, true, false, ◌||◌, List, [], ◌∷◌, ◌++◌, map, fold, sym, refl, ap, ◌∙◌, subst, ◌⊎◌, inl, inr, append_assoc, append-nil}
-use Rattle.std.specs.List.{AllByRecursion, list_any}
+use Rattle.std.proofs.Common.{◌≡◌, Bool, true, false, ◌||◌, List, [], ◌∷◌, ◌++◌, fold, sym, refl, ap, ◌∙◌, subst, append_assoc, append-nil}
+use Rattle.std.specs.List.{AllByRecursion}
 use Rattle.std.specs.List.Sorted.{IsStrictlySortedBy}
-use Rattle.std.specs.Ordering.{match_ordering, ordering_reverse, is_eq, eq_by_cmp, nat_cmp}
+use Rattle.std.specs.Ordering.{match_ordering, ordering_reverse, is_eq}
 use Rattle.std.specs.declared.cmp.Ordering.{Ordering}
 use Rattle.std.specs.declared.cmp.Ordering.TheVariants.{Less, Equal, Greater}
-use Rattle.std.specs.Cmp.Lexicographic.{slice_cmp, nat_list_cmp_total, texts_ties}
+use Rattle.std.specs.Cmp.Lexicographic.{nat_list_cmp_total, texts_ties}
 use Rattle.icu_locale_core_grammar.specs.Subtags.{Text, same_text}
 use Rattle.icu_locale_core_grammar.specs.Collections.{text_cmp, contains_text, Rises, insert_text, set_of}
-use Rattle.icu_locale_core_grammar.proofs.ListLemmas.{each-append, each_weaker}
-use Rattle.icu_locale_core_grammar.proofs.CollectionLemmas.{same_text_equal, contains-append}
+use Rattle.icu_locale_core_grammar.proofs.ListLemmas.{each_weaker}
+use Rattle.icu_locale_core_grammar.proofs.CollectionLemmas.{same_text_equal}
 
 -- ---- the order of texts
 
@@ -114,6 +114,7 @@ insert_last (u ∷ us) t rest rises =
     below : (vs : List Text) → AllByRecursion (λ v. text_cmp u v ≡ Less) (vs ++ t ∷ rest) → text_cmp u t ≡ Less
     below [] each = each.0
     below (v ∷ vs) each = below vs each.1
+
     above : (vs : List Text) → AllByRecursion (λ v. text_cmp u v ≡ Less) (vs ++ t ∷ rest) → text_cmp t u ≡ Greater
     above vs each = cmp_swapped t u ∙ ap ordering_reverse (below vs each)
 

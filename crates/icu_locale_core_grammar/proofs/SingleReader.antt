@@ -1,5 +1,5 @@
 -- The stages of a tag of one variant and one keyword are a right reader, and its faults have the names of their places.
-use Rattle.std.proofs.Common.{◌≡◌, ◌≢◌, Bool, true, false, ◌||◌, List, [], ◌∷◌, ◌++◌, Option, None, Some, map, option_map, option_to_list, codes, sym, refl, ap, ◌∙◌, subst, append_assoc, append-nil, ◌⊎◌, inl, inr}
+use Rattle.std.proofs.Common.{◌≡◌, Bool, true, false, ◌||◌, List, [], ◌∷◌, ◌++◌, Option, None, Some, option_to_list, codes, sym, refl, ap, ◌∙◌, subst, append_assoc, append-nil, ◌⊎◌, inl, inr}
 use Rattle.std.specs.Prelude.{if◌then◌else◌}
 use Rattle.std.specs.List.{list_any}
 use Rattle.std.specs.Ordering.{match_ordering}
@@ -8,8 +8,8 @@ use Rattle.std.specs.declared.cmp.Ordering.TheVariants.{Less, Equal, Greater}
 use Rattle.std.proofs.lemmas.List.Folds.{list_any-append}
 use Rattle.std.proofs.lemmas.Bool.{or_from, or_left, or_right, false_from_ne_true}
 use Rattle.icu_locale_core_grammar.specs.declared.error.ParseError.{ParseError}
-use Rattle.icu_locale_core_grammar.specs.declared.error.ParseError.TheVariants.{InvalidLanguage, InvalidSubtag, InvalidExtension}
-use Rattle.icu_locale_core_grammar.specs.Subtags.{Text, is_single, is_value, is_key, is_unicode, is_true, unicode_text, lower}
+use Rattle.icu_locale_core_grammar.specs.declared.error.ParseError.TheVariants.{InvalidSubtag, InvalidExtension}
+use Rattle.icu_locale_core_grammar.specs.Subtags.{Text, is_single, is_value, is_key, is_unicode, lower}
 use Rattle.icu_locale_core_grammar.specs.Collections.{text_cmp, insert_text}
 use Rattle.icu_locale_core_grammar.specs.LanguagePart.{LanguageId, MeansLanguage, MeansInner}
 use Rattle.icu_locale_core_grammar.specs.FaultyPiece.{IsAccepted}
@@ -18,7 +18,7 @@ use Rattle.icu_locale_core_grammar.specs.TagStages.{only_language, fits_script, 
 use Rattle.icu_locale_core_grammar.specs.SingleVariant.{SingleMeaning, piece_meaning, MeansKeyword, MeansSingle, begins_extension, single_name, HasSingleFault, SingleStage, InLanguage, BehindUnicode, BehindKey, BehindValue, has_short, kept_short, after_language, single_after, first_variant, single_of, single_ends, single_fault}
 use Rattle.icu_locale_core_grammar.proofs.ListLemmas.{mapped_some}
 use Rattle.icu_locale_core_grammar.proofs.SingletonLemmas.{unicode_single}
-use Rattle.icu_locale_core_grammar.proofs.Runs.{run_joined, run_begun, run_keeps, first_step, Stop, IsStuck, answered}
+use Rattle.icu_locale_core_grammar.proofs.Runs.{run_joined, run_begun, run_keeps, first_step, Stop, answered}
 use Rattle.icu_locale_core_grammar.proofs.LanguageReader.{language_adds, language_runs}
 use Rattle.icu_locale_core_grammar.proofs.BodyReaders.{language_closed}
 
@@ -169,7 +169,7 @@ language_part (p ∷ ps) l m e short =
     let g = step_there l p f.0 f.1 in
     let here : IsShort (Some g.0) = subst IsShort g.1 (run_short ps f.0 m f.2 short) in
     run_begun single_after (InLanguage l) (InLanguage (Some g.0)) _ p ps (language_step l p g.0 (f.1 ∙ ap Some g.1) here)
-      (language_part ps (Some g.0) m (subst (λ x. run language_after (Some x) ps ≡ Some m) g.1 f.2) short)
+    (language_part ps (Some g.0) m (subst (λ x. run language_after (Some x) ps ≡ Some m) g.1 f.2) short)
 
 unicode_step : (id : LanguageId) (u : Text) → is_unicode u ≡ true → single_after (InLanguage (Some id)) u ≡ Some (BehindUnicode id)
 unfolding single_after
@@ -195,16 +195,18 @@ ended m keyword e = λ i. Some (record { language = m.language; script = m.scrip
 keyword_runs : (last : List Text) (m : SingleMeaning) → MeansKeyword last m.keyword → Ends (InLanguage (Some (id_of m))) last m
 keyword_runs [] m a = (InLanguage (Some (id_of m)), refl, ended m None a)
 keyword_runs (u ∷ []) m a = absurd a
-keyword_runs (u ∷ k ∷ []) m a =
-    (BehindKey (id_of m) (lower k),
-      run_begun single_after (InLanguage (Some (id_of m))) (BehindUnicode (id_of m)) _ u (k ∷ []) (unicode_step (id_of m) u a.0) (run_begun single_after (BehindUnicode (id_of m)) (BehindKey (id_of m) (lower k)) _ k [] (key_step (id_of m) k a.1) refl),
-      ended m (Some (lower k, None)) a.2)
-keyword_runs (u ∷ k ∷ v ∷ []) m a =
-    (BehindValue (id_of m) (lower k) (piece_meaning v),
-      run_begun single_after (InLanguage (Some (id_of m))) (BehindUnicode (id_of m)) _ u (k ∷ v ∷ []) (unicode_step (id_of m) u a.0)
-        (run_begun single_after (BehindUnicode (id_of m)) (BehindKey (id_of m) (lower k)) _ k (v ∷ []) (key_step (id_of m) k a.1)
-          (run_begun single_after (BehindKey (id_of m) (lower k)) (BehindValue (id_of m) (lower k) (piece_meaning v)) _ v [] (value_step (id_of m) (lower k) v a.2) refl)),
-      ended m (Some (lower k, piece_meaning v)) a.3)
+keyword_runs (u ∷ k ∷ []) m a = (
+  BehindKey (id_of m) (lower k),
+  run_begun single_after (InLanguage (Some (id_of m))) (BehindUnicode (id_of m)) _ u (k ∷ []) (unicode_step (id_of m) u a.0) (run_begun single_after (BehindUnicode (id_of m)) (BehindKey (id_of m) (lower k)) _ k [] (key_step (id_of m) k a.1) refl),
+  ended m (Some (lower k, None)) a.2,
+)
+keyword_runs (u ∷ k ∷ v ∷ []) m a = (
+  BehindValue (id_of m) (lower k) (piece_meaning v),
+  run_begun single_after (InLanguage (Some (id_of m))) (BehindUnicode (id_of m)) _ u (k ∷ v ∷ []) (unicode_step (id_of m) u a.0)
+      (run_begun single_after (BehindUnicode (id_of m)) (BehindKey (id_of m) (lower k)) _ k (v ∷ []) (key_step (id_of m) k a.1)
+      (run_begun single_after (BehindKey (id_of m) (lower k)) (BehindValue (id_of m) (lower k) (piece_meaning v)) _ v [] (value_step (id_of m) (lower k) v a.2) refl)),
+  ended m (Some (lower k, piece_meaning v)) a.3,
+)
 keyword_runs (u ∷ k ∷ v ∷ w ∷ rest) m a = absurd a
 
 only : (ps : List Text) (m : SingleMeaning) → MeansSingle ps m → Ends (InLanguage None) ps m
@@ -236,7 +238,7 @@ language_plain (p ∷ ps) l m e =
 behind_single : (taken : List Text) (id : LanguageId) (u : Text) (rest : List Text) → Behind taken id (u ∷ rest) → is_unicode u ≡ true → list_any is_single taken ≡ true
 behind_single taken id u rest b e =
     subst (λ l. list_any is_single l ≡ true) b.parts
-      (list_any-append is_single b.front (u ∷ rest) ∙ or_right (list_any is_single b.front) (list_any is_single (u ∷ rest)) (or_left (is_single u) (list_any is_single rest) (unicode_single u e)))
+    (list_any-append is_single b.front (u ∷ rest) ∙ or_right (list_any is_single b.front) (list_any is_single (u ∷ rest)) (or_left (is_single u) (list_any is_single rest) (unicode_single u e)))
 
 name_within : (taken : List Text) (place : Option Text) → list_any is_single taken ≡ true → single_name taken place ≡ InvalidExtension
 name_within [] place e = cc

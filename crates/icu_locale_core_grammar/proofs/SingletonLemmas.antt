@@ -1,12 +1,12 @@
 -- Which singleton opens which extension: `u`, `t`, `x` and the others exclude each other, and each is one character.
-use Rattle.std.proofs.Common.{◌≡◌, ◌≤◌, ℕ, Bool, true, false, not, ◌&&◌, ◌||◌, List, [], ◌∷◌, Option, None, Some, length, eqb, leb, sym, refl, ap, ◌∙◌, inl, inr, ◌⊎◌, arith}
+use Rattle.std.proofs.Common.{◌≡◌, ◌≤◌, Bool, true, false, not, ◌||◌, [], None, Some, length, eqb, leb, sym, refl, ap, ◌∙◌, arith}
 use Rattle.std.specs.Prelude.{if◌then◌else◌}
 use Rattle.std.specs.List.{list_all}
 use Rattle.std.specs.Char.{is_ascii_alphanumeric, to_ascii_lowercase}
 use Rattle.std.specs.Int.{is_in_range}
 use Rattle.std.proofs.lemmas.List.{length-map}
 use Rattle.std.proofs.lemmas.Bool.{and_parts, and_from, or_parts, or_from, not-true, leb-true, le-leb}
-use Rattle.icu_locale_core_grammar.specs.Subtags.{Text, has_characters, is_singleton, is_single, is_private_piece, is_unicode, is_transform, is_private, is_other, spells, same_text, lower, unicode_text, transform_text, private_text}
+use Rattle.icu_locale_core_grammar.specs.Subtags.{Text, is_singleton, is_single, is_private_piece, is_unicode, is_transform, is_private, is_other, spells, same_text, lower, unicode_text, transform_text, private_text}
 use Rattle.icu_locale_core_grammar.specs.Stepping.{InHead}
 use Rattle.icu_locale_core_grammar.specs.TagStages.{BodyStage, InUnicode, InTransform, InOther, opens}
 use Rattle.icu_locale_core_grammar.proofs.CollectionLemmas.{same_text_equal}

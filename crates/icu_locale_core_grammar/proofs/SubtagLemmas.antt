@@ -1,11 +1,11 @@
 -- The classes of subtags exclude each other, by length or by a character.
-use Rattle.std.proofs.Common.{◌≡◌, ◌<◌, ◌≤◌, ℕ, Bool, true, false, not, ◌&&◌, ◌||◌, List, [], ◌∷◌, length, eqb, leb, ltb, sym, refl, ap, ◌∙◌, inl, inr, ◌⊎◌, arith}
+use Rattle.std.proofs.Common.{◌≡◌, ◌<◌, ◌≤◌, ℕ, Bool, true, false, ◌&&◌, ◌||◌, [], ◌∷◌, length, eqb, leb, refl, ap, ◌∙◌, inl, inr, ◌⊎◌, arith}
 use Rattle.std.specs.List.{list_all}
 use Rattle.std.specs.Char.{is_ascii_alphabetic, is_ascii_alphanumeric, is_ascii_digit}
 use Rattle.std.specs.Int.{is_in_range}
 use Rattle.std.proofs.lemmas.Bool.{and_parts, and_left, or_cases, or_from, leb-true, lt-leb, eqb-true, ne_eqb}
 use Rattle.std.proofs.lemmas.Bool.Decides.{nat_tests}
-use Rattle.icu_locale_core_grammar.specs.Subtags.{Text, has_characters, is_language, is_script, is_region, is_variant, begins_with_digit, is_singleton, is_single, is_attribute, is_value, is_key, is_field_key, is_other_piece, is_private_piece}
+use Rattle.icu_locale_core_grammar.specs.Subtags.{Text, has_characters, is_language, is_script, is_region, is_variant, begins_with_digit, is_singleton, is_single, is_value, is_key, is_field_key, is_other_piece}
 
 -- ---- lengths
 
@@ -153,6 +153,7 @@ variant_no_region p e = by_case (variant_cases p e)
     long h = or_from (eqb (length p) 2 && list_all is_ascii_alphabetic p) (eqb (length p) 3 && list_all is_ascii_digit p)
         (ap (λ b. b && list_all is_ascii_alphabetic p) (ne_eqb (length p) 2 (λ g. omega arith)))
         (ap (λ b. b && list_all is_ascii_digit p) (ne_eqb (length p) 3 (λ g. omega arith)))
+
     by_case : (5 ≤ length p) ⊎ ((length p ≡ 4) × (begins_with_digit p ≡ true)) → is_region p ≡ false
     by_case (inl f) = long (omega arith)
     by_case (inr f) = let g = f.0 in long (omega arith)

@@ -1,10 +1,10 @@
 -- The stages of a tag are a right reader, and the fault of a stage that does not go on has the name of its place.
-use Rattle.std.proofs.Common.{◌≡◌, Bool, true, false, List, [], ◌∷◌, ◌++◌, Option, None, Some, codes, sym, refl, ap, ◌∙◌, subst, ◌⊎◌, inl, inr}
+use Rattle.std.proofs.Common.{◌≡◌, List, Option, None, Some, codes, sym, refl, ap, ◌⊎◌, inl, inr}
 use Rattle.std.specs.Prelude.{is_none}
 use Rattle.icu_locale_core_grammar.specs.declared.error.ParseError.{ParseError}
 use Rattle.icu_locale_core_grammar.specs.Subtags.{Text, is_private, is_private_piece}
 use Rattle.icu_locale_core_grammar.specs.LanguagePart.{LanguageId, MeansLanguage, MeansInner}
-use Rattle.icu_locale_core_grammar.specs.Meaning.{Part, ExtensionMeanings, put_part, no_extensions, MeansPart, TagMeaning, MeansTag}
+use Rattle.icu_locale_core_grammar.specs.Meaning.{put_part, no_extensions, MeansPart, MeansTag}
 use Rattle.icu_locale_core_grammar.specs.FaultyPiece.{IsAccepted, IsNamed, HasFault}
 use Rattle.icu_locale_core_grammar.specs.Stepping.{run, IsReader}
 use Rattle.icu_locale_core_grammar.specs.TagStages.{has_none, language_after, language_ends, body_after, body_ends, opens, TagStage, tag_start, tag_after, tag_ends, tag_fault}
@@ -20,9 +20,18 @@ use Rattle.icu_locale_core_grammar.proofs.WholeNames.{named}
 
 tag_parts : AreParts language_after None language_ends MeansLanguage body_after body_ends opens MeansPart is_private is_private_piece
 tag_parts = record {
-    front = language_reader; body = body_reader; body_goes_on = body_goes_on; body_begins = body_begins; opened_by = opened_by;
-    front_closed = language_closed; body_closed = body_closed; opens_single = opens_single; opens_no_x = opens_no_private; x_single = private_single;
-    some_own = (codes "a", refl) }
+  front = language_reader;
+  body = body_reader;
+  body_goes_on = body_goes_on;
+  body_begins = body_begins;
+  opened_by = opened_by;
+  front_closed = language_closed;
+  body_closed = body_closed;
+  opens_single = opens_single;
+  opens_no_x = opens_no_private;
+  x_single = private_single;
+  some_own = (codes "a", refl);
+}
 
 pub tag_reader : IsReader tag_after tag_start tag_ends MeansTag
 tag_reader = whole_reader language_after None language_ends MeansLanguage body_after body_ends opens MeansPart put_part no_extensions is_private is_private_piece tag_parts

@@ -1,16 +1,16 @@
 -- What the stages of a whole find is meant: pieces that are a front, blocks and a private part.
-use Rattle.std.proofs.Common.{◌≡◌, ◌≢◌, Bool, true, false, List, [], ◌∷◌, ◌++◌, Option, None, Some, map, fold, flat_map, option_map, sym, refl, ap, ◌∙◌, subst, append_assoc, append-nil}
+use Rattle.std.proofs.Common.{◌≡◌, Bool, true, false, List, [], ◌∷◌, ◌++◌, Option, None, Some, map, flat_map, sym, refl, ap, ◌∙◌, subst, append_assoc, append-nil}
 use Rattle.std.specs.Prelude.{if◌then◌else◌}
 use Rattle.std.specs.List.{AllByRecursion, IsDistinct}
 use Rattle.std.proofs.lemmas.List.{map-append}
 use Rattle.std.proofs.lemmas.List.Concat.{flat_map-append}
 use Rattle.icu_locale_core_grammar.specs.Subtags.{Text, lower}
 use Rattle.icu_locale_core_grammar.specs.Collections.{Each, AreApart, contains_text}
-use Rattle.icu_locale_core_grammar.specs.Extensions.{Block, spelled_block, block_key, IsBlock, blocks_meaning, IsPrivatePart, Whole, MeansWhole}
-use Rattle.icu_locale_core_grammar.specs.Stepping.{run, IsReader, WholeStage, InFront, AtBlock, InBlock, InPrivate, opened, next_part, after_front, at_block, after_block, whole_after, whole_ends, private_ends}
+use Rattle.icu_locale_core_grammar.specs.Extensions.{Block, spelled_block, block_key, IsBlock, blocks_meaning, Whole, MeansWhole}
+use Rattle.icu_locale_core_grammar.specs.Stepping.{run, WholeStage, InFront, AtBlock, InBlock, InPrivate, opened, after_front, at_block, after_block, whole_after, whole_ends}
 use Rattle.icu_locale_core_grammar.proofs.ListLemmas.{fold-append, each-append, mapped_some}
 use Rattle.icu_locale_core_grammar.proofs.CollectionLemmas.{AreApart-push}
-use Rattle.icu_locale_core_grammar.proofs.Runs.{run_joined, run_begun, run_keeps}
+use Rattle.icu_locale_core_grammar.proofs.Runs.{run_joined, run_keeps}
 use Rattle.icu_locale_core_grammar.proofs.WholeParts.{AreParts}
 
 pub spelled_block_push : {V : Type 0} (bs : List (Block V)) (b : Block V) (tail : List Text) → flat_map spelled_block (bs ++ b ∷ []) ++ tail ≡ flat_map spelled_block bs ++ (spelled_block b ++ tail)
@@ -85,9 +85,15 @@ module _ {L I E B V : Type 0} (step_front : L → Text → Option L) (start : L)
 
   extend : (taken : List Text) (i : I) (seen : List Text) (e : E) (tail : List Text) (p : Text) → InBlocks taken i seen e tail → InBlocks (taken ++ p ∷ []) i seen e (tail ++ p ∷ [])
   extend taken i seen e tail p s = record {
-      front = s.front; blocks = s.blocks;
-      parts = ap (λ l. s.front ++ l) (sym (append_assoc (flat_map spelled_block s.blocks) tail (p ∷ []))) ∙ sym (append_assoc s.front (flat_map spelled_block s.blocks ++ tail) (p ∷ [])) ∙ ap (λ l. l ++ p ∷ []) s.parts;
-      meant = s.meant; each = s.each; keys = s.keys; apart = s.apart; together = s.together }
+    front = s.front;
+    blocks = s.blocks;
+    parts = ap (λ l. s.front ++ l) (sym (append_assoc (flat_map spelled_block s.blocks) tail (p ∷ []))) ∙ sym (append_assoc s.front (flat_map spelled_block s.blocks ++ tail) (p ∷ [])) ∙ ap (λ l. l ++ p ∷ []) s.parts;
+    meant = s.meant;
+    each = s.each;
+    keys = s.keys;
+    apart = s.apart;
+    together = s.together;
+  }
 
   close_front : (taken : List Text) (l : L) (i : I) (p : Text) → run step_front (Some start) taken ≡ Some l → front_ends l ≡ Some i → InBlocks (taken ++ p ∷ []) i [] none (p ∷ [])
   close_front taken l i p e f = record { front = taken; blocks = []; parts = refl; meant = sound.front.found taken l i e f; each = tt; keys = refl; apart = apart_none; together = refl }
@@ -100,13 +106,15 @@ module _ {L I E B V : Type 0} (step_front : L → Text → Option L) (start : L)
       let means : IsBlock MeansBody block = record { meant = (sound.body s.singleton s.begun s.opening).found (s.first ∷ s.rest) b v s.reached f; filled = λ e. cc } in
       let before = s.blocks in
       record {
-        front = before.front; blocks = before.blocks ++ block ∷ [];
+        front = before.front;
+        blocks = before.blocks ++ block ∷ [];
         parts = ap (λ l. before.front ++ l) (spelled_block_push before.blocks block [] ∙ ap (λ l. flat_map spelled_block before.blocks ++ l) (append-nil (spelled_block block))) ∙ before.parts;
         meant = before.meant;
         each = each-append (IsBlock MeansBody) before.blocks (block ∷ []) before.each (means, tt);
         keys = map-append block_key before.blocks (block ∷ []) ∙ ap (λ l. l ++ lower s.singleton ∷ []) before.keys ∙ ap (λ q. seen ++ q ∷ []) s.key;
         apart = AreApart-push seen k before.apart s.new;
-        together = fold-append (λ x y. put (block_key y) y.value x) none before.blocks (block ∷ []) ∙ ap (λ q. put q v (blocks_meaning put none before.blocks)) s.key ∙ ap (put k v) before.together }
+        together = fold-append (λ x y. put (block_key y) y.value x) none before.blocks (block ∷ []) ∙ ap (λ q. put q v (blocks_meaning put none before.blocks)) s.key ∙ ap (put k v) before.together;
+      }
 
   opened_adds : (taken : List Text) (i : I) (seen : List Text) (e : E) (p : Text) (t : Stage) (o : Option B) → InBlocks taken i seen e (p ∷ []) → contains_text (lower p) seen ≡ false → opens p ≡ o
       → opened step_front front_ends step_body body_ends opens put none is_x is_own i seen e (lower p) o ≡ Some t → Stands taken t
@@ -142,17 +150,32 @@ module _ {L I E B V : Type 0} (step_front : L → Text → Option L) (start : L)
   first_adds taken i seen e k b p t (Some c) s f q =
       let same : InBlock i seen e k c ≡ t = cc in
       subst (Stands (taken ++ p ∷ [])) same (record {
-        singleton = s.singleton; first = p; rest = []; begun = b; blocks = extend taken i seen e (s.singleton ∷ []) p s.blocks;
-        key = s.key; new = s.new; opening = s.opening; reached = ap (λ o. run step_body o []) f })
+        singleton = s.singleton;
+        first = p;
+        rest = [];
+        begun = b;
+        blocks = extend taken i seen e (s.singleton ∷ []) p s.blocks;
+        key = s.key;
+        new = s.new;
+        opening = s.opening;
+        reached = ap (λ o. run step_body o []) f;
+      })
 
   body_adds : (taken : List Text) (i : I) (seen : List Text) (e : E) (k : Text) (b : B) (p : Text) (t : Stage) (o : Option B) (v : Option V) → InBody taken i seen e k b → step_body b p ≡ o → body_ends b ≡ v
       → after_block step_front front_ends step_body body_ends opens put none is_x is_own i seen e k o v p ≡ Some t → Stands (taken ++ p ∷ []) t
   body_adds taken i seen e k b p t (Some c) v s f g q =
       let same : InBlock i seen e k c ≡ t = cc in
       subst (Stands (taken ++ p ∷ [])) same (record {
-        singleton = s.singleton; first = s.first; rest = s.rest ++ p ∷ []; begun = s.begun; blocks = extend taken i seen e (s.singleton ∷ s.first ∷ s.rest) p s.blocks;
-        key = s.key; new = s.new; opening = s.opening;
-        reached = run_joined step_body s.begun b (Some c) (s.first ∷ s.rest) (p ∷ []) s.reached (ap (λ o. run step_body o []) f) })
+        singleton = s.singleton;
+        first = s.first;
+        rest = s.rest ++ p ∷ [];
+        begun = s.begun;
+        blocks = extend taken i seen e (s.singleton ∷ s.first ∷ s.rest) p s.blocks;
+        key = s.key;
+        new = s.new;
+        opening = s.opening;
+        reached = run_joined step_body s.begun b (Some c) (s.first ∷ s.rest) (p ∷ []) s.reached (ap (λ o. run step_body o []) f);
+      })
   body_adds taken i seen e k b p t None (Some v) s f g q =
       part_adds (taken ++ p ∷ []) i (seen ++ k ∷ []) (put k v e) p t (is_x p) (extend taken i (seen ++ k ∷ []) (put k v e) [] p (close_block taken i seen e k b v s g)) refl q
   body_adds taken i seen e k b p t None None s f g q = cc
@@ -162,9 +185,14 @@ module _ {L I E B V : Type 0} (step_front : L → Text → Option L) (start : L)
   own_adds taken i e own p t true s f q =
       let same : InPrivate i e (own ++ lower p ∷ []) ≡ t = cc in
       subst (Stands (taken ++ p ∷ [])) same (record {
-        seen = s.seen; x = s.x; pieces = s.pieces ++ p ∷ []; blocks = extend taken i s.seen e (s.x ∷ s.pieces) p s.blocks; is = s.is;
+        seen = s.seen;
+        x = s.x;
+        pieces = s.pieces ++ p ∷ [];
+        blocks = extend taken i s.seen e (s.x ∷ s.pieces) p s.blocks;
+        is = s.is;
         each = each-append (λ w. is_own w ≡ true) s.pieces (p ∷ []) s.each (f, tt);
-        meant = map-append lower s.pieces (p ∷ []) ∙ ap (λ l. l ++ lower p ∷ []) s.meant })
+        meant = map-append lower s.pieces (p ∷ []) ∙ ap (λ l. l ++ lower p ∷ []) s.meant;
+      })
   own_adds taken i e own p t false s f q = cc
 
   pub adds : (taken : List Text) (s : Stage) (p : Text) (t : Stage) → Stands taken s → after s p ≡ Some t → Stands (taken ++ p ∷ []) t
@@ -179,14 +207,29 @@ module _ {L I E B V : Type 0} (step_front : L → Text → Option L) (start : L)
   -- a front and blocks, closed
   closed : (taken : List Text) (i : I) (seen : List Text) (e : E) → InBlocks taken i seen e [] → Meant taken (record { front = i; blocks = e; own = [] })
   closed taken i seen e s = record {
-      front = s.front; blocks = s.blocks; last = []; parts = s.parts; meant = s.meant; each = s.each;
-      apart = subst AreApart (sym s.keys) s.apart; together = s.together; private = refl }
+    front = s.front;
+    blocks = s.blocks;
+    last = [];
+    parts = s.parts;
+    meant = s.meant;
+    each = s.each;
+    apart = subst AreApart (sym s.keys) s.apart;
+    together = s.together;
+    private = refl;
+  }
 
   private_meant : (taken : List Text) (i : I) (e : E) (w : Text) (ws : List Text) → InOwn taken i e (w ∷ ws) → Meant taken (record { front = i; blocks = e; own = w ∷ ws })
   private_meant taken i e w ws s = record {
-      front = s.blocks.front; blocks = s.blocks.blocks; last = s.x ∷ s.pieces; parts = s.blocks.parts; meant = s.blocks.meant; each = s.blocks.each;
-      apart = subst AreApart (sym s.blocks.keys) s.blocks.apart; together = s.blocks.together;
-      private = (s.is, (λ e. let f : [] ≡ w ∷ ws = sym (ap (map lower) e) ∙ s.meant in cc), s.each, s.meant) }
+    front = s.blocks.front;
+    blocks = s.blocks.blocks;
+    last = s.x ∷ s.pieces;
+    parts = s.blocks.parts;
+    meant = s.blocks.meant;
+    each = s.blocks.each;
+    apart = subst AreApart (sym s.blocks.keys) s.blocks.apart;
+    together = s.blocks.together;
+    private = (s.is, (λ e. let f : [] ≡ w ∷ ws = sym (ap (map lower) e) ∙ s.meant in cc), s.each, s.meant);
+  }
 
   pub ends_well : (taken : List Text) (s : Stage) (m : Whole I E) → Stands taken s → whole_ends front_ends body_ends put none s ≡ Some m → Meant taken m
   ends_well taken (InFront l) m s q =

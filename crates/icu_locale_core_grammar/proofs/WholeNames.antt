@@ -1,11 +1,10 @@
 -- The fault of a stage that does not go on has the name of its place.
-use Rattle.std.proofs.Common.{◌≡◌, ◌≢◌, Bool, true, false, ◌&&◌, ◌||◌, List, [], ◌∷◌, ◌++◌, Option, None, Some, ◌⊎◌, inl, inr, map, flat_map, option_map, is_some, sym, refl, ap, ◌∙◌, subst}
+use Rattle.std.proofs.Common.{◌≡◌, Bool, true, false, ◌&&◌, ◌||◌, List, [], ◌∷◌, ◌++◌, Option, None, Some, ◌⊎◌, inl, inr, map, flat_map, option_map, is_some, sym, refl, ap, ◌∙◌, subst}
 use Rattle.std.specs.Prelude.{if◌then◌else◌}
 use Rattle.std.specs.List.{list_any}
 use Rattle.std.proofs.lemmas.List.{map-append}
 use Rattle.std.proofs.lemmas.List.Folds.{list_any-append}
 use Rattle.std.proofs.lemmas.Bool.{or_cases, or_left, or_right, or_from, and_parts, and_from, false_from_ne_true}
-use Rattle.icu_locale_core_grammar.specs.declared.error.ParseError.{ParseError}
 use Rattle.icu_locale_core_grammar.specs.declared.error.ParseError.TheVariants.{InvalidLanguage, InvalidSubtag, InvalidExtension, DuplicatedExtension}
 use Rattle.icu_locale_core_grammar.specs.Subtags.{Text, is_single, is_singleton, same_text, lower}
 use Rattle.icu_locale_core_grammar.specs.Collections.{contains_text}
@@ -14,10 +13,10 @@ use Rattle.icu_locale_core_grammar.specs.FaultyPiece.{IsAccepted, IsDuplicate, I
 use Rattle.icu_locale_core_grammar.specs.Stepping.{run, WholeStage, InFront, AtBlock, InBlock, InPrivate, opened, next_part, after_block, whole_after, whole_ends, is_repeated, stage_fault}
 use Rattle.icu_locale_core_grammar.specs.TagStages.{has_none}
 use Rattle.icu_locale_core_grammar.proofs.ListLemmas.{mapped_some}
-use Rattle.icu_locale_core_grammar.proofs.CollectionLemmas.{contains-append, same_text_refl}
-use Rattle.icu_locale_core_grammar.proofs.Runs.{first_step, accepted_ends, IsStuck}
+use Rattle.icu_locale_core_grammar.proofs.CollectionLemmas.{contains-append}
+use Rattle.icu_locale_core_grammar.proofs.Runs.{first_step, accepted_ends}
 use Rattle.icu_locale_core_grammar.proofs.WholeParts.{AreParts}
-use Rattle.icu_locale_core_grammar.proofs.WholeFound.{InBlocks, InBody, AtSingleton, InOwn, Stands, stands, ends_well}
+use Rattle.icu_locale_core_grammar.proofs.WholeFound.{InBlocks, InBody, Stands, stands, ends_well}
 use Rattle.icu_locale_core_grammar.proofs.WholeReader.{whole_reader}
 
 -- ---- what stands among the pieces
@@ -39,6 +38,7 @@ key_within t (b ∷ bs) e = by_case (or_cases (same_text t (block_key b)) (conta
   where
     rest : contains_text t (map lower (b.body ++ flat_map spelled_block bs)) ≡ (contains_text t (map lower b.body) || contains_text t (map lower (flat_map spelled_block bs)))
     rest = ap (contains_text t) (map-append lower b.body (flat_map spelled_block bs)) ∙ contains-append t (map lower b.body) (map lower (flat_map spelled_block bs))
+
     by_case : (same_text t (block_key b) ≡ true) ⊎ (contains_text t (map block_key bs) ≡ true) → (contains_text t (map block_key bs) ≡ true → contains_text t (map lower (flat_map spelled_block bs)) ≡ true)
         → (same_text t (block_key b) || contains_text t (map lower (b.body ++ flat_map spelled_block bs))) ≡ true
     by_case (inl f) more = or_left (same_text t (block_key b)) _ f
@@ -122,25 +122,27 @@ module _ {L I E B V : Type 0} (step_front : L → Text → Option L) (start : L)
     where
       inner : Option Stage
       inner = if contains_text (lower p) (seen ++ k ∷ []) then None else opened step_front front_ends step_body body_ends opens put none is_x is_own i (seen ++ k ∷ []) (put k v e) (lower p) (opens p)
+
       onward : after (InBlock i seen e k b) p ≡ next_part step_front front_ends step_body body_ends opens put none is_x is_own i (seen ++ k ∷ []) (put k v e) p
       onward =
           ap (λ o. after_block step_front front_ends step_body body_ends opens put none is_x is_own i seen e k o (body_ends b) p) (sound.body_closed b p (singleton_single p g))
           ∙ ap (λ o. after_block step_front front_ends step_body body_ends opens put none is_x is_own i seen e k None o p) f
+
       by_x : (x : Bool) → is_x p ≡ x → ⊥
       by_x true q =
           let h : None ≡ Some (InPrivate i (put k v e) []) = sym stuck ∙ onward ∙ ap (λ c. if c then Some (InPrivate i (put k v e) []) else (if contains_text (lower p) (seen ++ k ∷ []) then None else opened step_front front_ends step_body body_ends opens put none is_x is_own i (seen ++ k ∷ []) (put k v e) (lower p) (opens p))) q in cc
       by_x false q =
           let o = any_opens p g q in
           let h : None ≡ Some (AtBlock i (seen ++ k ∷ []) (put k v e) (lower p) o.0) =
-                sym stuck ∙ onward
-                ∙ ap (λ c. if c then Some (InPrivate i (put k v e) []) else (if contains_text (lower p) (seen ++ k ∷ []) then None else opened step_front front_ends step_body body_ends opens put none is_x is_own i (seen ++ k ∷ []) (put k v e) (lower p) (opens p))) q
-                ∙ ap (λ c. if c then None else opened step_front front_ends step_body body_ends opens put none is_x is_own i (seen ++ k ∷ []) (put k v e) (lower p) (opens p)) new
-                ∙ ap (opened step_front front_ends step_body body_ends opens put none is_x is_own i (seen ++ k ∷ []) (put k v e) (lower p)) o.1 in cc
+          sym stuck ∙ onward
+          ∙ ap (λ c. if c then Some (InPrivate i (put k v e) []) else (if contains_text (lower p) (seen ++ k ∷ []) then None else opened step_front front_ends step_body body_ends opens put none is_x is_own i (seen ++ k ∷ []) (put k v e) (lower p) (opens p))) q
+          ∙ ap (λ c. if c then None else opened step_front front_ends step_body body_ends opens put none is_x is_own i (seen ++ k ∷ []) (put k v e) (lower p) (opens p)) new
+          ∙ ap (opened step_front front_ends step_body body_ends opens put none is_x is_own i (seen ++ k ∷ []) (put k v e) (lower p)) o.1 in cc
 
   repeated_within : (taken : List Text) (i : I) (seen : List Text) (e : E) (k : Text) (b : B) (t : Text) → Body taken i seen e k b → contains_text t (seen ++ k ∷ []) ≡ true → contains_text t (map lower taken) ≡ true
   repeated_within taken i seen e k b t s f =
       subst (λ l. contains_text t (map lower l) ≡ true) s.blocks.parts
-        (within_middle t s.blocks.front (flat_map spelled_block s.blocks.blocks) (s.singleton ∷ s.first ∷ s.rest) (by_case (or_cases (contains_text t seen) (contains_text t (k ∷ [])) (sym (contains-append t seen (k ∷ [])) ∙ f))))
+      (within_middle t s.blocks.front (flat_map spelled_block s.blocks.blocks) (s.singleton ∷ s.first ∷ s.rest) (by_case (or_cases (contains_text t seen) (contains_text t (k ∷ [])) (sym (contains-append t seen (k ∷ [])) ∙ f))))
     where
       by_case : (contains_text t seen ≡ true) ⊎ (contains_text t (k ∷ []) ≡ true) → (contains_text t (map lower (flat_map spelled_block s.blocks.blocks)) || contains_text t (map lower (s.singleton ∷ s.first ∷ s.rest))) ≡ true
       by_case (inl g) = or_left (contains_text t (map lower (flat_map spelled_block s.blocks.blocks))) _ (key_within t s.blocks.blocks (ap (contains_text t) s.blocks.keys ∙ g))
@@ -151,9 +153,11 @@ module _ {L I E B V : Type 0} (step_front : L → Text → Option L) (start : L)
           is_key (inr h) = cc
 
   body_accepted : (taken : List Text) (i : I) (seen : List Text) (e : E) (k : Text) (b : B) (v : V) → Body taken i seen e k b → body_ends b ≡ Some v → IsAccepted Meant taken
-  body_accepted taken i seen e k b v s f =
-      (record { front = i; blocks = put k v e; own = [] }, ends_well step_front start front_ends MeansFront step_body body_ends opens MeansBody put none is_x is_own sound taken (InBlock i seen e k b) _ s
-        (ap (option_map (λ w. record { front = i; blocks = put k w e; own = [] })) f))
+  body_accepted taken i seen e k b v s f = (
+    record { front = i; blocks = put k v e; own = [] },
+    ends_well step_front start front_ends MeansFront step_body body_ends opens MeansBody put none is_x is_own sound taken (InBlock i seen e k b) _ s
+        (ap (option_map (λ w. record { front = i; blocks = put k w e; own = [] })) f),
+  )
 
   -- what the end of a reached block says of its pieces
   end_of_body : (taken : List Text) (i : I) (seen : List Text) (e : E) (k : Text) (b : B) → run after (Some (InFront start)) taken ≡ Some (InBlock i seen e k b) → IsAccepted Meant taken → (v : V) × (body_ends b ≡ Some v)
@@ -175,7 +179,7 @@ module _ {L I E B V : Type 0} (step_front : L → Text → Option L) (start : L)
       no_duplicate d =
           let v = end_of_body taken i seen e k b r d.0 in
           let new : contains_text (lower p) (seen ++ k ∷ []) ≡ true → ⊥ =
-                λ g. not_both (is_repeated (seen ++ k ∷ []) (body_ends b) p) (and_from (is_some (body_ends b)) (is_singleton p && contains_text (lower p) (seen ++ k ∷ [])) (ap is_some v.1) (and_from (is_singleton p) (contains_text (lower p) (seen ++ k ∷ [])) d.1 g)) f in
+          λ g. not_both (is_repeated (seen ++ k ∷ []) (body_ends b) p) (and_from (is_some (body_ends b)) (is_singleton p && contains_text (lower p) (seen ++ k ∷ [])) (ap is_some v.1) (and_from (is_singleton p) (contains_text (lower p) (seen ++ k ∷ [])) d.1 g)) f in
           goes_on_with i seen e k b v.0 p (is_x p) v.1 d.1 (false_from_ne_true (contains_text (lower p) (seen ++ k ∷ [])) new) refl stuck
 
   own_no_duplicate : (taken : List Text) (i : I) (e : E) (own : List Text) (place : Option Text) → Stuck (InPrivate i e own) place → IsDuplicate Meant taken place → ⊥
@@ -196,6 +200,6 @@ module _ {L I E B V : Type 0} (step_front : L → Text → Option L) (start : L)
           (tail_single taken i seen e is.singleton (is.first ∷ is.rest) is.blocks (sound.opens_single is.singleton is.begun is.opening), λ d. d)
       by_stage (InBlock i seen e k b) (Some p) r is stuck =
           named_block taken i seen e k b p (is_repeated (seen ++ k ∷ []) (body_ends b) p) r is
-            (tail_single taken i seen e is.singleton (is.first ∷ is.rest) is.blocks (sound.opens_single is.singleton is.begun is.opening)) refl stuck
+          (tail_single taken i seen e is.singleton (is.first ∷ is.rest) is.blocks (sound.opens_single is.singleton is.begun is.opening)) refl stuck
       by_stage (InPrivate i e own) place r is stuck =
           (tail_single taken i is.seen e is.x is.pieces is.blocks (sound.x_single is.x is.is), own_no_duplicate taken i e own place stuck)

@@ -1,11 +1,11 @@
 -- The stages of a front, blocks and a private part are a right reader.
-use Rattle.std.proofs.Common.{◌≡◌, ◌≢◌, Bool, true, false, List, [], ◌∷◌, ◌++◌, Option, None, Some, map, fold, flat_map, option_map, sym, refl, ap, ◌∙◌, subst, append_assoc, append-nil}
+use Rattle.std.proofs.Common.{◌≡◌, Bool, true, false, List, [], ◌∷◌, ◌++◌, Option, None, Some, map, flat_map, option_map, sym, refl, ap, ◌∙◌, subst, append_assoc, append-nil}
 use Rattle.std.specs.Prelude.{if◌then◌else◌}
 use Rattle.std.specs.List.{AllByRecursion}
 use Rattle.icu_locale_core_grammar.specs.Subtags.{Text, is_single, lower}
 use Rattle.icu_locale_core_grammar.specs.Collections.{Each, AreApart, contains_text}
 use Rattle.icu_locale_core_grammar.specs.Extensions.{Block, spelled_block, block_key, IsBlock, blocks_meaning, IsPrivatePart, Whole, MeansWhole}
-use Rattle.icu_locale_core_grammar.specs.Stepping.{run, CanEnd, IsReader, WholeStage, InFront, AtBlock, InBlock, InPrivate, opened, next_part, after_front, at_block, after_block, whole_after, whole_ends, private_ends}
+use Rattle.icu_locale_core_grammar.specs.Stepping.{run, CanEnd, IsReader, WholeStage, InFront, AtBlock, InBlock, InPrivate, opened, next_part, after_front, at_block, after_block, whole_after, whole_ends}
 use Rattle.icu_locale_core_grammar.proofs.CollectionLemmas.{apart_new}
 use Rattle.icu_locale_core_grammar.proofs.Runs.{run_joined, run_begun, first_step}
 use Rattle.icu_locale_core_grammar.proofs.WholeParts.{AreParts}
@@ -66,7 +66,7 @@ module _ {L I E B V : Type 0} (step_front : L → Text → Option L) (start : L)
   own_runs i e own [] each = ap (λ l. Some (InPrivate i e l)) (sym (append-nil own))
   own_runs i e own (p ∷ ps) each =
       run_begun after (InPrivate i e own) (InPrivate i e (own ++ lower p ∷ [])) _ p ps (own_steps i e own p each.0)
-        (own_runs i e (own ++ lower p ∷ []) ps each.1 ∙ ap (λ l. Some (InPrivate i e l)) (append_assoc own (lower p ∷ []) (map lower ps)))
+      (own_runs i e (own ++ lower p ∷ []) ps each.1 ∙ ap (λ l. Some (InPrivate i e l)) (append_assoc own (lower p ∷ []) (map lower ps)))
 
   -- ---- a part that may end
 
@@ -123,11 +123,11 @@ module _ {L I E B V : Type 0} (step_front : L → Text → Option L) (start : L)
           let r = (sound.body b.singleton o.0 o.1).only (p ∷ ps) b.value (subst (λ l. MeansBody b.singleton l b.value) f is.meant) in
           let g = first_step step_body o.0 r.0 p ps r.1 in
           let opening : after s b.singleton ≡ Some (AtBlock i seen e (block_key b) o.0) =
-                done_next s i seen e b.singleton done (sound.opens_single b.singleton o.0 o.1) ∙ next_block i seen e b.singleton o.0 o.1 new in
+          done_next s i seen e b.singleton done (sound.opens_single b.singleton o.0 o.1) ∙ next_block i seen e b.singleton o.0 o.1 new in
           let inside : run after (Some (AtBlock i seen e (block_key b) o.0)) (p ∷ ps) ≡ Some (InBlock i seen e (block_key b) r.0) =
-                run_begun after (AtBlock i seen e (block_key b) o.0) (InBlock i seen e (block_key b) g.0) _ p ps (first_steps i seen e (block_key b) o.0 g.0 p g.1) (body_runs i seen e (block_key b) g.0 r.0 ps g.2) in
+          run_begun after (AtBlock i seen e (block_key b) o.0) (InBlock i seen e (block_key b) g.0) _ p ps (first_steps i seen e (block_key b) o.0 g.0 p g.1) (body_runs i seen e (block_key b) g.0 r.0 ps g.2) in
           let whole : run after (Some s) (b.singleton ∷ (p ∷ ps)) ≡ Some (InBlock i seen e (block_key b) r.0) =
-                run_begun after s (AtBlock i seen e (block_key b) o.0) _ b.singleton (p ∷ ps) opening inside in
+          run_begun after s (AtBlock i seen e (block_key b) o.0) _ b.singleton (p ∷ ps) opening inside in
           (InBlock i seen e (block_key b) r.0, subst (λ l. run after (Some s) (b.singleton ∷ l) ≡ Some (InBlock i seen e (block_key b) r.0)) (sym f) whole, (b.value, r.2, refl, refl, refl))
 
   blocks_run : (blocks : List (Block V)) (s : Stage) (i : I) (seen : List Text) (e : E) → IsDone s i seen e → AllByRecursion (IsBlock MeansBody) blocks → AreApart (seen ++ map block_key blocks)
@@ -146,9 +146,11 @@ module _ {L I E B V : Type 0} (step_front : L → Text → Option L) (start : L)
   private_runs [] own s i seen e done private = (s, refl, done_ends s i seen e done ∙ ap (λ l. Some (record { front = i; blocks = e; own = l })) (sym private))
   private_runs (x ∷ []) own s i seen e done private = absurd (private.1 refl)
   private_runs (x ∷ p ∷ ps) own s i seen e done private =
-      let opening : after s x ≡ Some (InPrivate i e []) = done_next s i seen e x done (sound.x_single x private.0) ∙ next_private i seen e x private.0 in
-      (InPrivate i e (map lower (p ∷ ps)), run_begun after s (InPrivate i e []) _ x (p ∷ ps) opening (own_runs i e [] (p ∷ ps) private.2),
-        ap (λ l. Some (record { front = i; blocks = e; own = l })) private.3)
+      let opening : after s x ≡ Some (InPrivate i e []) = done_next s i seen e x done (sound.x_single x private.0) ∙ next_private i seen e x private.0 in (
+        InPrivate i e (map lower (p ∷ ps)),
+        run_begun after s (InPrivate i e []) _ x (p ∷ ps) opening (own_runs i e [] (p ∷ ps) private.2),
+        ap (λ l. Some (record { front = i; blocks = e; own = l })) private.3,
+      )
 
   only : (ps : List Text) (m : Whole I E) → Meant ps m → Ends (InFront start) ps m
   only ps m a =
@@ -158,7 +160,7 @@ module _ {L I E B V : Type 0} (step_front : L → Text → Option L) (start : L)
       let w = private_runs a.last m.own bs.0 m.front (map block_key a.blocks) (blocks_meaning put none a.blocks) bs.2 a.private in
       let back : run after (Some (InFront r.0)) (flat_map spelled_block a.blocks ++ a.last) ≡ Some w.0 = run_joined after (InFront r.0) bs.0 _ (flat_map spelled_block a.blocks) a.last bs.1 w.1 in
       let whole : run after (Some (InFront start)) (a.front ++ (flat_map spelled_block a.blocks ++ a.last)) ≡ Some w.0 =
-            run_joined after (InFront start) (InFront r.0) _ a.front (flat_map spelled_block a.blocks ++ a.last) (front_runs start r.0 a.front r.1) back in
+      run_joined after (InFront start) (InFront r.0) _ a.front (flat_map spelled_block a.blocks ++ a.last) (front_runs start r.0 a.front r.1) back in
       (w.0, subst (λ l. run after (Some (InFront start)) l ≡ Some w.0) a.parts whole, w.2 ∙ ap (λ x. Some (record { front = m.front; blocks = x; own = m.own })) a.together)
 
   -- ---- each stage goes on to some end

@@ -1,7 +1,7 @@
 -- Sets of texts, and maps from texts to lists of texts, listed in byte order of the texts and of the keys.
 -- UTS 35, section 3.2.1, "Canonical Unicode Locale Identifiers"; docs/tags.md, "Sets and maps".
 -- Cited by the meaning of a tag, and by every call that changes a set or a map.
-use Rattle.std.specs.Prelude.{◌≡◌, Bool, true, List, [], ◌∷◌, map, fold, nat_eq}
+use Rattle.std.specs.Prelude.{◌≡◌, Bool, true, List, [], ◌∷◌, map, fold}
 use Rattle.std.specs.Cmp.Lexicographic.{slice_cmp}
 use Rattle.std.specs.List.{AllByRecursion, list_any, IsDistinct}
 use Rattle.std.specs.List.Sorted.{IsStrictlySortedBy}

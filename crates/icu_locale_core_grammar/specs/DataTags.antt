@@ -1,7 +1,7 @@
 -- Which tags are data locales: at most one variant, and no extension but a subdivision that reads.
 -- Defined in docs/tags.md, "Data locales".
 -- Cited by the reader of a data locale, and by the laws on them.
-use Rattle.std.specs.Prelude.{◌≡◌, ◌≢◌, ◌≤◌, List, [], Option, None, length, ◌⊎◌}
+use Rattle.std.specs.Prelude.{◌≡◌, ◌≤◌, List, length, ◌⊎◌}
 use Rattle.icu_locale_core_grammar.specs.declared.error.ParseError.{ParseError}
 use Rattle.icu_locale_core_grammar.specs.declared.error.ParseError.TheVariants.{InvalidLanguage, InvalidSubtag, InvalidExtension, DuplicatedExtension, Memory}
 use Rattle.icu_locale_core_grammar.specs.Subtags.{Text}

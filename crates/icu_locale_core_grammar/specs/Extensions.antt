@@ -2,7 +2,7 @@
 -- and its pieces each, then a private part.
 -- UTS 35, sections 3.2, 3.6 and 3.7, and RFC 5646 (BCP 47), section 2.2.6; docs/tags.md, "Extensions".
 -- Cited by the grammar of whole tags, and by every reader of an extension or of a part of one.
-use Rattle.std.specs.Prelude.{◌≡◌, ◌≢◌, Bool, true, not, ◌||◌, List, [], ◌∷◌, ◌++◌, map, filter, fold, flat_map}
+use Rattle.std.specs.Prelude.{◌≡◌, ◌≢◌, Bool, true, not, List, [], ◌∷◌, ◌++◌, map, filter, fold, flat_map}
 use Rattle.std.specs.List.{AllByRecursion}
 use Rattle.icu_locale_core_grammar.specs.Subtags.{Text, is_value, is_true, lower}
 use Rattle.icu_locale_core_grammar.specs.Collections.{Entry, Each, AreApart, map_of}

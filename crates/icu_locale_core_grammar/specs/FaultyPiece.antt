@@ -1,7 +1,7 @@
 -- Which piece of a list that has no meaning is at fault, and what the fault is called.
 -- Defined in docs/tags.md, "Faults": the first piece from the left by which the pieces so far begin no accepted list.
 -- Cited by every reader of a tag or a language identifier, and by `ParseError::number`.
-use Rattle.std.specs.Prelude.{ℕ, ◌≡◌, ◌≢◌, Bool, true, false, List, [], ◌∷◌, ◌++◌, Option, None, Some, map}
+use Rattle.std.specs.Prelude.{ℕ, ◌≡◌, ◌≢◌, true, false, List, [], ◌∷◌, ◌++◌, Option, None, Some, map}
 use Rattle.std.specs.List.{list_any}
 use Rattle.icu_locale_core_grammar.specs.declared.error.ParseError.{ParseError}
 use Rattle.icu_locale_core_grammar.specs.declared.error.ParseError.TheVariants.{InvalidLanguage, InvalidSubtag, InvalidExtension, DuplicatedExtension, Memory}

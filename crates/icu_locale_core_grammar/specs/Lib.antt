@@ -13,12 +13,10 @@ pub mod PartialReading
 pub mod Preferences
 pub mod DataTags
 pub mod SingleVariant
-
 -- What the readers follow, piece by piece.
 pub mod Stepping
 pub mod TagStages
 pub mod KnownRows
-
 -- Statements of laws.
 pub mod TagLaws
 pub mod PartLaws

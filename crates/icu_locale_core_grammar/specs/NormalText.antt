@@ -1,7 +1,7 @@
 -- The normal text of a meaning: its parts in normal case, sets and maps in byte order, extensions by singleton, `x` last.
 -- UTS 35, section 3.2.1, "Canonical Unicode Locale Identifiers"; docs/tags.md, "Normal text".
 -- Cited by all that writes a tag or a part of one, and by the laws on the round trip.
-use Rattle.std.specs.Prelude.{◌≡◌, ◌≢◌, ℕ, Bool, true, false, List, [], ◌∷◌, ◌++◌, Option, None, Some, map, take, drop, option_to_list, flat_map, if◌then◌else◌}
+use Rattle.std.specs.Prelude.{ℕ, Bool, true, false, List, [], ◌∷◌, ◌++◌, Option, None, Some, map, take, drop, option_to_list, flat_map, if◌then◌else◌}
 use Rattle.std.specs.List.{position_or_len}
 use Rattle.std.specs.Ordering.{is_lt}
 use Rattle.icu_locale_core_grammar.specs.Subtags.{Text, lower, true_text, transform_text, unicode_text, private_text}

@@ -1,15 +1,15 @@
 -- What holds of the parts of a tag: each is read right, means one thing, and reads back as it is printed.
 -- Defined in docs/tags.md, "Laws".
 -- Cited by the functions of the module of laws on parts.
-use Rattle.std.specs.Prelude.{◌≡◌, ◌≢◌, ◌↔◌, false, true, List, [], ◌∷◌, Option, None, Some, ◌⊎◌}
+use Rattle.std.specs.Prelude.{◌≡◌, ◌≢◌, ◌↔◌, false, true, List, [], ◌∷◌, None, Some, ◌⊎◌}
 use Rattle.std.specs.List.{AllByRecursion}
 use Rattle.icu_locale_core_grammar.specs.declared.error.ParseError.{ParseError}
 use Rattle.icu_locale_core_grammar.specs.declared.error.ParseError.TheVariants.{InvalidLanguage}
 use Rattle.icu_locale_core_grammar.specs.Subtags.{Text, is_plain, is_key, is_field_key, is_attribute, is_private_piece, is_other_piece, is_unicode, is_transform, is_private, unicode_text, transform_text, private_text}
 use Rattle.icu_locale_core_grammar.specs.Pieces.{pieces, joined_text}
 use Rattle.icu_locale_core_grammar.specs.Collections.{Entry, Each, Rises}
-use Rattle.icu_locale_core_grammar.specs.LanguagePart.{LanguageId, MeansLanguage, MeansInner}
-use Rattle.icu_locale_core_grammar.specs.Meaning.{MeansAttributes, UnicodeMeaning, MeansUnicode, TransformMeaning, MeansTransform, MeansOther, TagMeaning, MeansTag}
+use Rattle.icu_locale_core_grammar.specs.LanguagePart.{LanguageId, MeansLanguage}
+use Rattle.icu_locale_core_grammar.specs.Meaning.{MeansAttributes, UnicodeMeaning, MeansUnicode, TransformMeaning, MeansTransform, MeansOther, MeansTag}
 use Rattle.icu_locale_core_grammar.specs.FaultyPiece.{IsAccepted, HasFault}
 use Rattle.icu_locale_core_grammar.specs.NormalText.{language_pieces, entry_pieces, unicode_pieces, transform_pieces, normal_text}
 use Rattle.icu_locale_core_grammar.specs.WellFormed.{AreLower, IsNormalLanguage, IsNormalValue, AreNormalEntries, IsNormalUnicode, IsNormalTransform}

@@ -1,7 +1,7 @@
 -- What a tag prefers: language, script, region, the least variant, and the values of `sd`, `rg` and `nu` where they read.
 -- UTS 35, section 3.6, keys `nu`, `rg` and `sd`, and unicode_subdivision_id; docs/tags.md, "Preferences".
 -- Cited by the preferences of a locale, by `DataLocale` and by the readers of a subdivision.
-use Rattle.std.specs.Prelude.{◌≡◌, ℕ, Bool, true, false, ◌&&◌, List, [], ◌∷◌, ◌++◌, Option, None, Some, take, drop, option_and_then, option_to_list, codes, if◌then◌else◌}
+use Rattle.std.specs.Prelude.{◌≡◌, ℕ, Bool, true, ◌&&◌, List, [], ◌∷◌, ◌++◌, Option, None, Some, take, drop, option_and_then, option_to_list, codes, if◌then◌else◌}
 use Rattle.icu_locale_core_grammar.specs.Subtags.{Text, has_characters, is_region, same_text, lower, upper}
 use Rattle.icu_locale_core_grammar.specs.Collections.{Entry}
 use Rattle.icu_locale_core_grammar.specs.Meaning.{TagMeaning, no_transform}
@@ -88,10 +88,14 @@ keyword_subdivision key es = option_and_then subdivision_of (keyword_piece key e
 
 abbrev pub preferences_of : TagMeaning → Preferences
 preferences_of m = record {
-    language = m.front.language; script = m.front.script; region = m.front.region; variant = least_of m.front.variants;
-    subdivision = keyword_subdivision subdivision_key m.blocks.unicode.entries;
-    region_override = keyword_subdivision override_key m.blocks.unicode.entries;
-    numbering_system = keyword_piece numbering_key m.blocks.unicode.entries }
+  language = m.front.language;
+  script = m.front.script;
+  region = m.front.region;
+  variant = least_of m.front.variants;
+  subdivision = keyword_subdivision subdivision_key m.blocks.unicode.entries;
+  region_override = keyword_subdivision override_key m.blocks.unicode.entries;
+  numbering_system = keyword_piece numbering_key m.blocks.unicode.entries;
+}
 
 -- ---- the locale that data is asked for
 
@@ -121,6 +125,7 @@ subdivision_entries (Some s) = (subdivision_key, subdivision_text s ∷ []) ∷ 
 -- a data locale as a tag
 abbrev pub data_meaning : DataLocaleMeaning → TagMeaning
 data_meaning d = record {
-    front = record { language = d.language; script = d.script; region = d.region; variants = option_to_list d.variant };
-    blocks = record { unicode = record { head = []; entries = subdivision_entries d.subdivision }; transform = no_transform; others = [] };
-    own = [] }
+  front = record { language = d.language; script = d.script; region = d.region; variants = option_to_list d.variant };
+  blocks = record { unicode = record { head = []; entries = subdivision_entries d.subdivision }; transform = no_transform; others = [] };
+  own = [];
+}

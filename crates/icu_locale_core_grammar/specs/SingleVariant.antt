@@ -48,9 +48,10 @@ keyword_entries (Some k) = (k.0, option_to_list k.1) ∷ []
 
 abbrev pub single_tag : SingleMeaning → TagMeaning
 single_tag m = record {
-    front = record { language = m.language; script = m.script; region = m.region; variants = option_to_list m.variant };
-    blocks = record { unicode = record { head = []; entries = keyword_entries m.keyword }; transform = no_transform; others = [] };
-    own = [] }
+  front = record { language = m.language; script = m.script; region = m.region; variants = option_to_list m.variant };
+  blocks = record { unicode = record { head = []; entries = keyword_entries m.keyword }; transform = no_transform; others = [] };
+  own = [];
+}
 
 -- ---- faults
 

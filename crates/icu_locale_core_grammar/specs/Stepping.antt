@@ -1,7 +1,7 @@
 -- Reading a list of pieces one at a time: a step gives the next stage or none, and a stage may be an end with a meaning.
 -- Defined in docs/tags.md, "Stages"; that the steps read the grammar and no more is the law of every reader.
 -- Cited by the functions that read tags, and by the laws on reading.
-use Rattle.std.specs.Prelude.{◌≡◌, Bool, true, false, not, ◌&&◌, ◌||◌, List, [], ◌∷◌, ◌++◌, Option, None, Some, is_some, option_map, if◌then◌else◌}
+use Rattle.std.specs.Prelude.{◌≡◌, Bool, true, not, ◌&&◌, List, [], ◌∷◌, ◌++◌, Option, None, Some, is_some, option_map, if◌then◌else◌}
 use Rattle.icu_locale_core_grammar.specs.declared.error.ParseError.{ParseError}
 use Rattle.icu_locale_core_grammar.specs.declared.error.ParseError.TheVariants.{InvalidLanguage, InvalidSubtag, InvalidExtension, DuplicatedExtension}
 use Rattle.icu_locale_core_grammar.specs.Subtags.{Text, is_value, is_true, is_singleton, lower}

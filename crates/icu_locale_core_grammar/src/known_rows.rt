@@ -45,8 +45,7 @@ pub fn printed_rows()
     ensures no_region_behind_it { IsPrinted (codes "en-a-us") (codes "en-a-us") }
     // a language may have three letters
     ensures three_letters { IsPrinted (codes "UND") (codes "und") }
-{
-}
+{}
 
 /// Texts that are no tags, and their faults.
 pub fn refused_rows()
@@ -114,5 +113,4 @@ pub fn refused_rows()
     ensures repeated_digit { IsRefused (codes "en-1-foo-1-bar") DuplicatedExtension }
     // the first fault counts: the second `a` comes later
     ensures repeated_behind_fault { IsRefused (codes "en-a-foo-toolongpiece-a-bar") InvalidExtension }
-{
-}
+{}

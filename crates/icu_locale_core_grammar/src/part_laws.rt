@@ -25,8 +25,7 @@ pub fn parts_are_read()
     ensures fields { IsReader (entries_after is_field_key true) (InHead tt) entries_end MeansFields }
     ensures value { IsReader value_after [] Some MeansValue }
     ensures single { IsReader single_after (InLanguage None) single_ends MeansSingle }
-{
-}
+{}
 
 /// Each part means one thing at most.
 pub fn parts_have_one_meaning()
@@ -41,8 +40,7 @@ pub fn parts_have_one_meaning()
     ensures value { IsOne MeansValue }
     ensures single { IsOne MeansSingle }
     ensures data_locale { IsOne MeansDataLocale }
-{
-}
+{}
 
 /// The pieces of each part are letters and digits, and such pieces are those of their text.
 pub fn parts_are_plain()
@@ -56,8 +54,7 @@ pub fn parts_are_plain()
     ensures fields { TakesPlain MeansFields }
     ensures value { TakesPlain MeansValue }
     ensures text { PlainPiecesReadBack }
-{
-}
+{}
 
 /// Each part in normal form has the meaning that its printed pieces have.
 pub fn parts_read_back()
@@ -71,39 +68,33 @@ pub fn parts_read_back()
     ensures fields { FieldsReadBack }
     ensures value { ValueReadsBack }
     ensures data_locale { DataReadsBack }
-{
-}
+{}
 
 /// Keywords alone are what stands behind `u` without an attribute, and fields what stands behind `t` without a language.
 pub fn entries_stand_alone()
     ensures keywords { KeywordsStandAlone }
     ensures fields { FieldsStandAlone }
-{
-}
+{}
 
 /// Each list of pieces is a language identifier or has a fault, and a front of it is one or the first piece is at fault.
 pub fn languages_are_answered()
     ensures whole { LanguageHasMeaningOrFault }
     ensures front { LanguageHasFrontOrFault }
-{
-}
+{}
 
 /// Of a list of pieces one front is read at most, and one rest is left.
 pub fn fronts_are_one()
     ensures language { LeavesOne MeansLanguage }
     ensures tag { LeavesOne MeansTag }
-{
-}
+{}
 
 /// A text is a subdivision exactly where it is a region and a suffix.
 pub fn subdivisions_are_spelled()
     ensures { SubdivisionsAreSpelled }
-{
-}
+{}
 
 /// Each list of pieces is a tag of one variant and one keyword or has a fault, and such a tag is a tag with that meaning.
 pub fn single_tags_are_answered()
     ensures answered { SingleHasMeaningOrFault }
     ensures tag { SingleIsTag }
-{
-}
+{}

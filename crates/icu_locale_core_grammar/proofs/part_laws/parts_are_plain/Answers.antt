@@ -4,5 +4,14 @@ use Rattle.icu_locale_core_grammar.proofs.part_laws.parts_are_plain.Goals as goa
 
 pub returns : goal.returns
 returns c = record {
-    language = language_is_plain; attributes = attributes_are_plain; unicode = unicode_is_plain; transform = transform_is_plain; other = other_is_plain;
-    own = own_is_plain; keywords = keywords_are_plain; fields = fields_are_plain; value = value_is_plain; text = pieces-joined }
+  language = language_is_plain;
+  attributes = attributes_are_plain;
+  unicode = unicode_is_plain;
+  transform = transform_is_plain;
+  other = other_is_plain;
+  own = own_is_plain;
+  keywords = keywords_are_plain;
+  fields = fields_are_plain;
+  value = value_is_plain;
+  text = pieces-joined;
+}

@@ -8,6 +8,15 @@ use Rattle.icu_locale_core_grammar.proofs.part_laws.parts_have_one_meaning.Goals
 
 pub returns : goal.returns
 returns c = record {
-    language = Runs.one_meaning language_reader; attributes = Runs.one_meaning attributes_reader; unicode = Runs.one_meaning unicode_reader; transform = Runs.one_meaning transform_reader;
-    other = Runs.one_meaning other_reader; own = Runs.one_meaning own_reader; keywords = Runs.one_meaning keywords_reader; fields = Runs.one_meaning fields_reader;
-    value = Runs.one_meaning value_reader; single = Runs.one_meaning single_reader; data_locale = one_data_meaning }
+  language = Runs.one_meaning language_reader;
+  attributes = Runs.one_meaning attributes_reader;
+  unicode = Runs.one_meaning unicode_reader;
+  transform = Runs.one_meaning transform_reader;
+  other = Runs.one_meaning other_reader;
+  own = Runs.one_meaning own_reader;
+  keywords = Runs.one_meaning keywords_reader;
+  fields = Runs.one_meaning fields_reader;
+  value = Runs.one_meaning value_reader;
+  single = Runs.one_meaning single_reader;
+  data_locale = one_data_meaning;
+}

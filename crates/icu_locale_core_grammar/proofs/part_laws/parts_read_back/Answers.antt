@@ -5,5 +5,14 @@ use Rattle.icu_locale_core_grammar.proofs.part_laws.parts_read_back.Goals as goa
 
 pub returns : goal.returns
 returns c = record {
-    language = language_means; attributes = attributes_mean; unicode = unicode_back; transform = transform_back; other = other_means;
-    own = private_back; keywords = keywords_back; fields = fields_back; value = value_back; data_locale = data_reads_back }
+  language = language_means;
+  attributes = attributes_mean;
+  unicode = unicode_back;
+  transform = transform_back;
+  other = other_means;
+  own = private_back;
+  keywords = keywords_back;
+  fields = fields_back;
+  value = value_back;
+  data_locale = data_reads_back;
+}
