@@ -1,4 +1,5 @@
 pub mod KnownValues
+pub mod KnownParts
 pub mod ListLemmas
 pub mod Runs
 pub mod FaultyPieceLemmas

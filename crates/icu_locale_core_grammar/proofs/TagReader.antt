@@ -44,7 +44,7 @@ fresh_is taken s e = by_stage s (language_stands taken s e)
     by_stage None m = sym (ap has_none m)
     by_stage (Some id) m = ap has_none m.parts
 
-tag_named : (taken : List Text) (s : TagStage) (place : Option Text) → run tag_after (Some tag_start) taken ≡ Some s → IsStuck tag_reader s place → IsNamed MeansTag (tag_fault s place) taken place
+pub tag_named : (taken : List Text) (s : TagStage) (place : Option Text) → run tag_after (Some tag_start) taken ≡ Some s → IsStuck tag_reader s place → IsNamed MeansTag (tag_fault s place) taken place
 tag_named taken s None r stuck =
     named language_after None language_ends MeansLanguage body_after body_ends opens MeansPart put_part no_extensions is_private is_private_piece tag_parts is_none fresh_is any_opens any_own singleton_single taken s None r stuck
 tag_named taken s (Some p) r stuck =

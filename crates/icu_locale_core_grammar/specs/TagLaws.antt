@@ -81,9 +81,13 @@ PiecesArePlain = (ps : List Text) (m : TagMeaning) → MeansTag ps m → Each is
 
 -- ---- rows
 
+-- the text means something in the grammar, and this shows it
+abbrev pub IsShown : {M : Type 0} → (List Text → M → Type 0) → (M → Text) → Text → Text → Type 0
+IsShown {M} Means show text shown = (m : M) × Means (pieces text) m × (show m ≡ shown)
+
 -- the text is a tag, and this is its normal text
 abbrev pub IsPrinted : Text → Text → Type 0
-IsPrinted text printed = (m : TagMeaning) × MeansTag (pieces text) m × (normal_text m ≡ printed)
+IsPrinted text printed = IsShown MeansTag normal_text text printed
 
 -- the text is no tag, and this is its fault
 abbrev pub IsRefused : Text → ParseError → Type 0

@@ -2,7 +2,13 @@
 //!
 //! Each clause is a fact on the definitions alone, and a wrong definition does not survive it.
 ghost use Rattle.std.specs.Prelude.{codes};
-ghost use Rattle.icu_locale_core_grammar.specs.TagLaws.{IsPrinted, IsRefused};
+ghost use Rattle.icu_locale_core_grammar.specs.FaultyPiece.{HasFault};
+ghost use Rattle.icu_locale_core_grammar.specs.KnownRows.{language_text, single_text, language_first_text, region_first_text};
+ghost use Rattle.icu_locale_core_grammar.specs.LanguagePart.{MeansLanguage};
+ghost use Rattle.icu_locale_core_grammar.specs.Meaning.{MeansTag};
+ghost use Rattle.icu_locale_core_grammar.specs.Pieces.{pieces};
+ghost use Rattle.icu_locale_core_grammar.specs.SingleVariant.{MeansSingle, HasSingleFault};
+ghost use Rattle.icu_locale_core_grammar.specs.TagLaws.{IsShown, IsPrinted, IsRefused};
 ghost use Rattle.icu_locale_core_grammar.specs.declared.error.ParseError.TheVariants.{InvalidLanguage, InvalidSubtag, InvalidExtension, DuplicatedExtension};
 
 /// Texts that are tags, and their normal texts.
@@ -114,3 +120,115 @@ pub fn refused_rows()
     // the first fault counts: the second `a` comes later
     ensures repeated_behind_fault { IsRefused (codes "en-a-foo-toolongpiece-a-bar") InvalidExtension }
 {}
+
+/// Texts that are language identifiers, and their texts.
+pub fn language_rows()
+    // each part in its own case
+    ensures case_by_place { IsShown MeansLanguage language_text (codes "EN-lATN-us-FONIPA-1996") (codes "en-Latn-US-1996-fonipa") }
+    // a region without a script
+    ensures region_alone { IsShown MeansLanguage language_text (codes "de-at") (codes "de-AT") }
+    // a language alone
+    ensures undetermined { IsShown MeansLanguage language_text (codes "und") (codes "und") }
+{
+}
+
+/// Texts that are no language identifiers, and their faults.
+pub fn language_refused_rows()
+    // a singleton is no part of it
+    ensures singleton_refused { HasFault MeansLanguage (pieces (codes "en-u-nu-latn")) InvalidSubtag }
+    // nor is `x`
+    ensures private_refused { HasFault MeansLanguage (pieces (codes "en-x-foo")) InvalidSubtag }
+    // the empty text
+    ensures nothing_read { HasFault MeansLanguage (pieces (codes "")) InvalidLanguage }
+    // a variant twice
+    ensures twice_refused { HasFault MeansLanguage (pieces (codes "de-1996-1996")) InvalidSubtag }
+{
+}
+
+/// Tags of one variant and one keyword, and their texts.
+pub fn single_rows()
+    // one variant, one keyword, one piece
+    ensures one_of_each { IsShown MeansSingle single_text (codes "EN-latn-us-FONIPA-u-NU-Latn") (codes "en-Latn-US-fonipa-u-nu-latn") }
+    // a keyword without a value
+    ensures key_alone { IsShown MeansSingle single_text (codes "en-u-nu") (codes "en-u-nu") }
+    // `true` is left out
+    ensures true_is_no_piece { IsShown MeansSingle single_text (codes "en-u-kn-true") (codes "en-u-kn") }
+    // no keyword
+    ensures no_keyword { IsShown MeansSingle single_text (codes "de-1996") (codes "de-1996") }
+{
+}
+
+/// Texts that have more than one variant or one keyword, and their faults.
+pub fn single_refused_rows()
+    // a second variant
+    ensures second_variant { HasSingleFault (pieces (codes "de-1996-fonipa")) InvalidSubtag }
+    // a second keyword
+    ensures second_keyword { HasSingleFault (pieces (codes "en-u-nu-latn-ca-hebrew")) InvalidExtension }
+    // a second keyword with the same key
+    ensures equal_keyword { HasSingleFault (pieces (codes "en-u-nu-latn-nu-thai")) InvalidExtension }
+    // a second piece of a value
+    ensures second_piece { HasSingleFault (pieces (codes "en-u-ca-islamic-civil")) InvalidExtension }
+    // an attribute
+    ensures attribute_refused { HasSingleFault (pieces (codes "en-u-foo")) InvalidExtension }
+    // another extension
+    ensures other_extension { HasSingleFault (pieces (codes "en-a-foo")) InvalidExtension }
+    // the private part
+    ensures private_extension { HasSingleFault (pieces (codes "en-x-foo")) InvalidExtension }
+    // `t`
+    ensures transform_extension { HasSingleFault (pieces (codes "en-t-de")) InvalidExtension }
+    // `u` twice
+    ensures unicode_twice { HasSingleFault (pieces (codes "en-u-nu-u")) InvalidExtension }
+    // an empty extension
+    ensures empty_extension { HasSingleFault (pieces (codes "en-u")) InvalidExtension }
+    // a character that is no singleton
+    ensures no_singleton { HasSingleFault (pieces (codes "en-@")) InvalidSubtag }
+    // a singleton first
+    ensures no_language { HasSingleFault (pieces (codes "x-foo")) InvalidLanguage }
+{
+}
+
+/// Tags, and the locale that data is asked for, where the language comes first.
+pub fn language_first_rows()
+    // `sd` and `rg` read
+    ensures subdivision_and_override { IsShown MeansTag language_first_text (codes "en-US-u-rg-gbeng-sd-ustx") (codes "en-US-u-sd-ustx") }
+    // the region in `sd` changes nothing
+    ensures subdivision_of_elsewhere { IsShown MeansTag language_first_text (codes "en-US-u-sd-gbeng") (codes "en-US-u-sd-gbeng") }
+    // a suffix of one character reads
+    ensures override_with_one_letter { IsShown MeansTag language_first_text (codes "en-US-u-rg-gbr") (codes "en-US") }
+    // the first variant in byte order
+    ensures least_variant { IsShown MeansTag language_first_text (codes "de-fonipa-1996") (codes "de-1996") }
+    // a value of two pieces does not read
+    ensures two_pieces_do_not_read { IsShown MeansTag language_first_text (codes "en-u-sd-ustx-gbeng") (codes "en") }
+    // a region of digits
+    ensures digits_in_front { IsShown MeansTag language_first_text (codes "es-u-rg-419abc") (codes "es") }
+    // the first of equal keys stands even where it does not read
+    ensures first_key_does_not_read { IsShown MeansTag language_first_text (codes "en-u-rg-rg-gbeng") (codes "en") }
+    // nothing else is asked for
+    ensures all_else_left_out { IsShown MeansTag language_first_text (codes "en-u-foo-ca-hebrew-nu-thai-t-de-x-bar") (codes "en") }
+    // a letter and digits are no region
+    ensures digits_and_letters_do_not_read { IsShown MeansTag language_first_text (codes "en-u-sd-u12abc") (codes "en") }
+{
+}
+
+/// Tags, and the locale that data is asked for, where the region comes first.
+pub fn region_first_rows()
+    // `sd` and `rg` read
+    ensures subdivision_and_override { IsShown MeansTag region_first_text (codes "en-US-u-rg-gbeng-sd-ustx") (codes "en-GB-u-sd-gbeng") }
+    // the region in `sd` changes nothing
+    ensures subdivision_of_elsewhere { IsShown MeansTag region_first_text (codes "en-US-u-sd-gbeng") (codes "en-US-u-sd-gbeng") }
+    // a suffix of one character reads
+    ensures override_with_one_letter { IsShown MeansTag region_first_text (codes "en-US-u-rg-gbr") (codes "en-GB-u-sd-gbr") }
+    // the first variant in byte order
+    ensures least_variant { IsShown MeansTag region_first_text (codes "de-fonipa-1996") (codes "de-1996") }
+    // a value of two pieces does not read
+    ensures two_pieces_do_not_read { IsShown MeansTag region_first_text (codes "en-u-sd-ustx-gbeng") (codes "en") }
+    // a region of digits
+    ensures digits_in_front { IsShown MeansTag region_first_text (codes "es-u-rg-419abc") (codes "es-419-u-sd-419abc") }
+    // the first of equal keys stands even where it does not read
+    ensures first_key_does_not_read { IsShown MeansTag region_first_text (codes "en-u-rg-rg-gbeng") (codes "en") }
+    // nothing else is asked for
+    ensures all_else_left_out { IsShown MeansTag region_first_text (codes "en-u-foo-ca-hebrew-nu-thai-t-de-x-bar") (codes "en") }
+    // a letter and digits are no region
+    ensures digits_and_letters_do_not_read { IsShown MeansTag region_first_text (codes "en-u-sd-u12abc") (codes "en") }
+{
+}
