@@ -19,6 +19,7 @@ pub mod CaseSteps
 pub mod PlainSubtags
 pub mod PlainPieces
 pub mod MapLemmas
+pub mod LookupLemmas
 pub mod MeaningsAreNormal
 pub mod NormalBodies
 pub mod NormalBlocks

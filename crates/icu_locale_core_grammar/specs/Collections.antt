@@ -1,7 +1,7 @@
 -- Sets of texts, and maps from texts to lists of texts, listed in byte order of the texts and of the keys.
 -- UTS 35, section 3.2.1, "Canonical Unicode Locale Identifiers"; docs/tags.md, "Sets and maps".
 -- Cited by the meaning of a tag, and by every call that changes a set or a map.
-use Rattle.std.specs.Prelude.{◌≡◌, Bool, true, List, [], ◌∷◌, map, fold}
+use Rattle.std.specs.Prelude.{◌≡◌, Bool, true, List, [], ◌∷◌, Option, None, Some, map, fold, if◌then◌else◌}
 use Rattle.std.specs.Cmp.Lexicographic.{slice_cmp}
 use Rattle.std.specs.List.{AllByRecursion, list_any, IsDistinct}
 use Rattle.std.specs.List.Sorted.{IsStrictlySortedBy}
@@ -58,3 +58,13 @@ put_first e (f ∷ fs) = match_ordering (text_cmp e.0 f.0) (e ∷ f ∷ fs) (f �
 -- the entries as a map: of equal keys the first stands
 abbrev pub map_of : List Entry → List Entry
 map_of es = fold (λ m e. put_first e m) [] es
+
+-- the value of a key, if the map has the key
+abbrev pub value_at : Text → List Entry → Option (List Text)
+value_at key [] = None
+value_at key (e ∷ es) = if same_text key e.0 then Some e.1 else value_at key es
+
+-- the first of the two that is there
+abbrev pub first_there : {A : Type 0} → Option A → Option A → Option A
+first_there (Some a) o = Some a
+first_there None o = o

@@ -18,5 +18,6 @@ pub mod Stepping
 pub mod TagStages
 pub mod KnownRows
 -- Statements of laws.
+pub mod CollectionLaws
 pub mod TagLaws
 pub mod PartLaws

@@ -2,16 +2,11 @@
 -- UTS 35, section 3.6, keys `nu`, `rg` and `sd`, and unicode_subdivision_id; docs/tags.md, "Preferences".
 -- Cited by the preferences of a locale, by `DataLocale` and by the readers of a subdivision.
 use Rattle.std.specs.Prelude.{◌≡◌, ℕ, Bool, true, ◌&&◌, List, [], ◌∷◌, ◌++◌, Option, None, Some, take, drop, option_and_then, option_to_list, codes, if◌then◌else◌}
-use Rattle.icu_locale_core_grammar.specs.Subtags.{Text, has_characters, is_region, same_text, lower, upper}
-use Rattle.icu_locale_core_grammar.specs.Collections.{Entry}
+use Rattle.icu_locale_core_grammar.specs.Subtags.{Text, has_characters, is_region, lower, upper}
+use Rattle.icu_locale_core_grammar.specs.Collections.{Entry, value_at, first_there}
 use Rattle.icu_locale_core_grammar.specs.Meaning.{TagMeaning, no_transform}
 
 -- ---- values
-
--- the value of a key, if the map has the key
-abbrev pub value_at : Text → List Entry → Option (List Text)
-value_at key [] = None
-value_at key (e ∷ es) = if same_text key e.0 then Some e.1 else value_at key es
 
 -- the piece of a value of one piece
 abbrev pub one_piece : List Text → Option Text
@@ -42,11 +37,6 @@ pub record SpellsSubdivision (text : Text) (s : Subdivision) : Type 0 where
 -- the subdivision whose region has n characters, if the text is one
 abbrev pub subdivision_at : ℕ → Text → Option Subdivision
 subdivision_at n text = if is_region (take n text) && is_suffix (drop n text) then Some (record { region = upper (take n text); suffix = lower (drop n text) }) else None
-
--- the first of the two that is there
-abbrev pub first_there : {A : Type 0} → Option A → Option A → Option A
-first_there (Some a) o = Some a
-first_there None o = o
 
 abbrev pub subdivision_of : Text → Option Subdivision
 subdivision_of text = first_there (subdivision_at 2 text) (subdivision_at 3 text)

@@ -1,8 +1,19 @@
 //! Laws of the grammar: each is the contract of a function that does nothing.
 //!
 //! They hold of the definitions alone, over every list of pieces, and no code stands in for one.
+ghost use Rattle.icu_locale_core_grammar.specs.CollectionLaws.{SetsContain, SetsRise, RisingIsItsSet, MapsKeepTheFirst, MapsRise, RisingIsItsMap};
 ghost use Rattle.icu_locale_core_grammar.specs.TagLaws.{TagsAreRead, StagesNameFaults, HasMeaningOrFault, HasOneMeaning, HasOneFault, HasNeverBoth, CaseIsIgnored, PiecesArePlain};
 ghost use Rattle.icu_locale_core_grammar.specs.TagLaws.{MeaningsAreNormal, NormalPiecesMean, TextReadsBack, TextTellsMeanings, SingletonsRise, PiecesMakeTheText, AnswersAreRight};
+
+/// Sets have what was given and maps the value of the first entry with a key, both in byte order.
+pub fn sets_and_maps()
+    ensures contains { SetsContain }
+    ensures rises { SetsRise }
+    ensures own_set { RisingIsItsSet }
+    ensures first_stands { MapsKeepTheFirst }
+    ensures keys_rise { MapsRise }
+    ensures own_map { RisingIsItsMap }
+{}
 
 /// The stages of a tag read the grammar: what they find is meant, what is meant they find, and each stage goes on to some end.
 pub fn tags_are_read()
