@@ -1,0 +1,23 @@
+-- What a reader must believe.
+pub mod Subtags
+pub mod Pieces
+pub mod Collections
+pub mod LanguagePart
+pub mod Extensions
+pub mod Meaning
+pub mod FaultyPiece
+pub mod NormalText
+pub mod WellFormed
+pub mod PartReaders
+pub mod PartialReading
+pub mod Preferences
+pub mod DataTags
+pub mod SingleVariant
+-- What the readers follow, piece by piece.
+pub mod Stepping
+pub mod TagStages
+pub mod KnownRows
+-- Statements of laws.
+pub mod CollectionLaws
+pub mod TagLaws
+pub mod PartLaws

@@ -1,0 +1,123 @@
+-- A tag of at most one variant and at most one keyword with at most one piece of a value, and nothing else: all of it has a
+-- size that is known before it is read.
+-- Defined in docs/tags.md, "One variant and one keyword".
+-- Cited by the readers that take no memory.
+use Rattle.std.specs.Prelude.{◌≡◌, Bool, true, false, ◌||◌, List, [], ◌∷◌, ◌++◌, Option, None, Some, option_to_list, if◌then◌else◌}
+use Rattle.std.specs.List.{list_any}
+use Rattle.icu_locale_core_grammar.specs.declared.error.ParseError.{ParseError}
+use Rattle.icu_locale_core_grammar.specs.declared.error.ParseError.TheVariants.{InvalidLanguage, InvalidSubtag, InvalidExtension}
+use Rattle.icu_locale_core_grammar.specs.Subtags.{Text, is_single, is_singleton, is_value, is_key, is_true, is_unicode, lower}
+use Rattle.icu_locale_core_grammar.specs.LanguagePart.{LanguageId, MeansLanguage}
+use Rattle.icu_locale_core_grammar.specs.Collections.{Entry}
+use Rattle.icu_locale_core_grammar.specs.Meaning.{TagMeaning, no_transform}
+use Rattle.icu_locale_core_grammar.specs.FaultyPiece.{StopsAt}
+use Rattle.icu_locale_core_grammar.specs.TagStages.{language_after}
+
+-- ---- meaning
+
+pub record SingleMeaning : Type 0 where
+  pub language : Text
+  pub script : Option Text
+  pub region : Option Text
+  pub variant : Option Text
+  pub keyword : Option (Text × Option Text)
+
+-- a value of one piece: `true` is left out
+abbrev pub piece_meaning : Text → Option Text
+piece_meaning v = if is_true v then None else Some (lower v)
+
+-- nothing, or `u` with one key and at most one piece behind it
+abbrev pub MeansKeyword : List Text → Option (Text × Option Text) → Type 0
+MeansKeyword [] keyword = keyword ≡ None
+MeansKeyword (u ∷ []) keyword = ⊥
+MeansKeyword (u ∷ k ∷ []) keyword = (is_unicode u ≡ true) × (is_key k ≡ true) × (keyword ≡ Some (lower k, None))
+MeansKeyword (u ∷ k ∷ v ∷ []) keyword = (is_unicode u ≡ true) × (is_key k ≡ true) × (is_value v ≡ true) × (keyword ≡ Some (lower k, piece_meaning v))
+MeansKeyword (u ∷ k ∷ v ∷ w ∷ rest) keyword = ⊥
+
+pub record MeansSingle (ps : List Text) (m : SingleMeaning) : Type 0 where
+  pub front : List Text
+  pub last : List Text
+  pub parts : front ++ last ≡ ps
+  pub language : MeansLanguage front (record { language = m.language; script = m.script; region = m.region; variants = option_to_list m.variant })
+  pub keyword : MeansKeyword last m.keyword
+
+-- the meaning as that of a tag
+abbrev pub keyword_entries : Option (Text × Option Text) → List Entry
+keyword_entries None = []
+keyword_entries (Some k) = (k.0, option_to_list k.1) ∷ []
+
+abbrev pub single_tag : SingleMeaning → TagMeaning
+single_tag m = record {
+  front = record { language = m.language; script = m.script; region = m.region; variants = option_to_list m.variant };
+  blocks = record { unicode = record { head = []; entries = keyword_entries m.keyword }; transform = no_transform; others = [] };
+  own = [];
+}
+
+-- ---- faults
+
+-- the piece at the place would begin an extension
+abbrev pub begins_extension : Option Text → Bool
+begins_extension None = false
+begins_extension (Some p) = is_singleton p
+
+-- the name of the fault: within `u`, or at the singleton of another extension, it is one of the extension
+abbrev pub single_name : List Text → Option Text → ParseError
+single_name [] place = InvalidLanguage
+single_name (p ∷ ps) place = if list_any is_single (p ∷ ps) || begins_extension place then InvalidExtension else InvalidSubtag
+
+-- the list has no such meaning, and its fault is e
+pub record HasSingleFault (ps : List Text) (e : ParseError) : Type 0 where
+  pub front : List Text
+  pub place : Option Text
+  pub stops : StopsAt MeansSingle ps front place
+  pub named : single_name front place ≡ e
+
+-- ---- stages
+
+pub data SingleStage : Type 0 where
+  InLanguage : Option LanguageId → SingleStage
+  BehindUnicode : LanguageId → SingleStage
+  BehindKey : LanguageId → Text → SingleStage
+  BehindValue : LanguageId → Text → Option Text → SingleStage
+
+-- no second variant
+abbrev pub has_short : List Text → Bool
+has_short [] = true
+has_short (t ∷ []) = true
+has_short (t ∷ u ∷ ts) = false
+
+abbrev pub kept_short : Option LanguageId → Option SingleStage
+kept_short None = None
+kept_short (Some id) = if has_short id.variants then Some (InLanguage (Some id)) else None
+
+abbrev pub after_language : Option LanguageId → Option (Option LanguageId) → Text → Option SingleStage
+after_language l (Some id) p = kept_short id
+after_language (Some id) None p = if is_unicode p then Some (BehindUnicode id) else None
+after_language None None p = None
+
+unfoldable pub single_after : SingleStage → Text → Option SingleStage
+single_after (InLanguage l) p = after_language l (language_after l p) p
+single_after (BehindUnicode id) p = if is_key p then Some (BehindKey id (lower p)) else None
+single_after (BehindKey id k) p = if is_value p then Some (BehindValue id k (piece_meaning p)) else None
+single_after (BehindValue id k v) p = None
+
+abbrev pub first_variant : List Text → Option Text
+first_variant [] = None
+first_variant (t ∷ ts) = Some t
+
+abbrev pub single_of : LanguageId → Option (Text × Option Text) → SingleMeaning
+single_of id keyword = record { language = id.language; script = id.script; region = id.region; variant = first_variant id.variants; keyword = keyword }
+
+abbrev pub single_ends : SingleStage → Option SingleMeaning
+single_ends (InLanguage None) = None
+single_ends (InLanguage (Some id)) = Some (single_of id None)
+single_ends (BehindUnicode id) = None
+single_ends (BehindKey id k) = Some (single_of id (Some (k, None)))
+single_ends (BehindValue id k v) = Some (single_of id (Some (k, v)))
+
+abbrev pub single_fault : SingleStage → Option Text → ParseError
+single_fault (InLanguage None) place = InvalidLanguage
+single_fault (InLanguage (Some id)) place = if begins_extension place then InvalidExtension else InvalidSubtag
+single_fault (BehindUnicode id) place = InvalidExtension
+single_fault (BehindKey id k) place = InvalidExtension
+single_fault (BehindValue id k v) place = InvalidExtension

@@ -1,0 +1,91 @@
+//! Laws of the grammar: each is the contract of a function that does nothing.
+//!
+//! They hold of the definitions alone, over every list of pieces, and no code stands in for one.
+ghost use Rattle.icu_locale_core_grammar.specs.CollectionLaws.{SetsContain, SetsRise, RisingIsItsSet, MapsKeepTheFirst, MapsRise, RisingIsItsMap};
+ghost use Rattle.icu_locale_core_grammar.specs.TagLaws.{TagsAreRead, StagesNameFaults, HasMeaningOrFault, HasOneMeaning, HasOneFault, HasNeverBoth, CaseIsIgnored, PiecesArePlain};
+ghost use Rattle.icu_locale_core_grammar.specs.TagLaws.{MeaningsAreNormal, NormalPiecesMean, TextReadsBack, TextTellsMeanings, SingletonsRise, PiecesMakeTheText, AnswersAreRight};
+
+/// Sets have what was given and maps the value of the first entry with a key, both in byte order.
+pub fn sets_and_maps()
+    ensures contains { SetsContain }
+    ensures rises { SetsRise }
+    ensures own_set { RisingIsItsSet }
+    ensures first_stands { MapsKeepTheFirst }
+    ensures keys_rise { MapsRise }
+    ensures own_map { RisingIsItsMap }
+{}
+
+/// The stages of a tag read the grammar: what they find is meant, what is meant they find, and each stage goes on to some end.
+pub fn tags_are_read()
+    ensures { TagsAreRead }
+{}
+
+/// A stage that was reached and does not go on, with the next piece or at the end, names the fault by its place.
+pub fn stages_name_faults()
+    ensures { StagesNameFaults }
+{}
+
+/// Each list of pieces has a meaning or a fault.
+pub fn meaning_or_fault()
+    ensures { HasMeaningOrFault }
+{}
+
+/// A list of pieces has one meaning at most.
+pub fn one_meaning()
+    ensures { HasOneMeaning }
+{}
+
+/// A list of pieces has one fault at most.
+pub fn one_fault()
+    ensures { HasOneFault }
+{}
+
+/// No list of pieces has a meaning and a fault.
+pub fn never_both()
+    ensures { HasNeverBoth }
+{}
+
+/// Lists of pieces that are one in lower case mean the same.
+pub fn case_is_ignored()
+    ensures { CaseIsIgnored }
+{}
+
+/// The pieces of a tag are letters and digits.
+pub fn pieces_are_plain()
+    ensures { PiecesArePlain }
+{}
+
+/// A meaning that was read is in normal form.
+pub fn meanings_are_normal()
+    ensures { MeaningsAreNormal }
+{}
+
+/// The meanings in normal form are exactly those which their normal pieces have.
+pub fn normal_pieces_mean()
+    ensures { NormalPiecesMean }
+{}
+
+/// The normal text of what was read, cut at its hyphens and read again, has the same meaning.
+pub fn text_reads_back()
+    ensures { TextReadsBack }
+{}
+
+/// Meanings in normal form that have one normal text are one.
+pub fn text_tells_meanings()
+    ensures { TextTellsMeanings }
+{}
+
+/// The singletons of the printed blocks rise, in byte order.
+pub fn singletons_rise()
+    ensures { SingletonsRise }
+{}
+
+/// The pieces of a text, joined by hyphens, are the text.
+pub fn pieces_make_the_text()
+    ensures { PiecesMakeTheText }
+{}
+
+/// The answer that is computed for a text is its normal text, or its fault.
+pub fn answers_are_right()
+    ensures { AnswersAreRight }
+{}
