@@ -5,9 +5,13 @@ use Rattle.std.specs.Char.{is_ascii_digit}
 use Rattle.std.specs.Fmt.{decimal}
 use Rattle.std.proofs.lemmas.Bool.{and_from, and_parts}
 use Rattle.std.proofs.lemmas.Bool.Decides.{nat_tests}
-use Rattle.std.proofs.lemmas.Fmt.{decimal_nonempty, decimal_is_IsNumeral, decimal_by_steps, decimal_step, decimal_digit, first_decimal}
+use Rattle.std.proofs.lemmas.Fmt.{decimal_nonempty, decimal_is_IsNumeral, decimal_by_steps, decimal_step, decimal_digit, first_decimal, length-decimal-le, decimal-digits_value}
 use Rattle.std.proofs.lemmas.List.{append_assoc, length_push, drop-set}
 use Rattle.std.proofs.lemmas.List.Folds.{list_all-append}
+use Rattle.std.specs.Int.{IsInRange}
+use Rattle.std.specs.Str.Parse.{digits_value}
+use Rattle.std.proofs.lemmas.Str.Parse.{IsDigitsTest, numerals_by_value}
+use Rattle.tinystr.specs.Laws.{OneDecimal, TenDigits}
 use Rattle.tinystr.specs.Decimal.{IsDecimalText}
 use Rattle.tinystr.specs.SmallText.{is_text_byte}
 
@@ -68,3 +72,39 @@ digits_are_text [] all = refl
 digits_are_text (d ∷ ds) all =
     let both = and_parts (is_ascii_digit d) (list_all is_ascii_digit ds) all in
     and_from (is_text_byte d) (list_all is_text_byte ds) (digit_is_text d both.0) (digits_are_text ds both.1)
+
+digit_range : (c : ℕ) → is_ascii_digit c ≡ true → IsInRange 48 57 c
+digit_range c h = let low : 48 ≤ c = grind (arith, nat_tests) in let high : c ≤ 57 = grind (arith, nat_tests) in (low, high)
+
+in_digit_range : (c : ℕ) → IsInRange 48 57 c → is_ascii_digit c ≡ true
+in_digit_range c h = let low : 48 ≤ c = h.0 in let high : c ≤ 57 = h.1 in grind (arith, nat_tests)
+
+tells : IsDigitsTest (λ ds. list_all is_ascii_digit ds ≡ true)
+tells = record {
+  empty = refl;
+  parts = λ c cs e. let both = and_parts (is_ascii_digit c) (list_all is_ascii_digit cs) e in (digit_range c both.0, both.1);
+  more = λ c cs k e. and_from (is_ascii_digit c) (list_all is_ascii_digit cs) (in_digit_range c k) e;
+}
+
+lead : (text : List ℕ) → ((rest : List ℕ) → text ≡ 48 ∷ rest → rest ≡ []) → get_or text 0 0 ≡ 48 → length text ≡ 1
+lead [] alone e = absurd (omega arith)
+lead (c ∷ cs) alone e =
+    let rest : cs ≡ [] = alone cs (ap (λ x. x ∷ cs) e) in
+    let long : length cs ≡ 0 = ap length rest in
+    omega arith
+
+-- a shortest text is the one that std writes
+pub is_decimal : (n : ℕ) (text : List ℕ) → n < 2 ^ 64 → IsDecimalText n text → text ≡ decimal n
+is_decimal n text small is =
+    let below : digits_value 10 text < 2 ^ 64 = omega (arith, is.named) in
+    sym (decimal-digits_value (numerals_by_value (λ ds. list_all is_ascii_digit ds ≡ true) tells) text is.digits is.some (lead text is.shortest) below)
+    ∙ ap decimal is.named
+
+pub one_decimal_law : OneDecimal
+one_decimal_law n one other small first second = is_decimal n one small first ∙ sym (is_decimal n other small second)
+
+pub ten_digits_law : TenDigits
+ten_digits_law n text small is =
+    let wide : n < 2 ^ 64 = omega arith in
+    let e : length text ≡ length (decimal n) = ap length (is_decimal n text wide is) in
+    omega (arith, length-decimal-le 10 n (omega arith) (omega arith) wide)

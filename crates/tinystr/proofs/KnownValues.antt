@@ -1,11 +1,11 @@
 -- Rows of docs/small-text.md, so that a wrong definition does not pass.
-use Rattle.std.proofs.Common.{◌≡◌, ℕ, ◌%◌, ◌<◌, ◌≤◌, Bool, true, false, inl, inr, List, [], ◌∷◌, ◌++◌, map, take, get_or, codes, refl, ap, arith, lit≤}
+use Rattle.std.proofs.Common.{◌≡◌, ℕ, ◌%◌, Bool, true, false, inl, inr, List, [], ◌∷◌, ◌++◌, map, take, get_or, codes, refl, ap, arith, lit≤}
 use Rattle.std.specs.List.{list_all}
 use Rattle.std.specs.Char.{is_ascii_alphabetic, is_ascii_alphanumeric, is_ascii_digit, is_ascii_uppercase, is_ascii_lowercase}
 use Rattle.tinystr.specs.declared.error.ParseError.TheVariants.{TooLong, ContainsNull, NonAscii}
-use Rattle.tinystr.specs.declared.error.UleError.TheVariants.{Length, Parse}
-use Rattle.tinystr.specs.SmallText.{IsSmall, IsForm, padded, text_of, is_text_byte}
-use Rattle.tinystr.specs.Faults.{IsFault, IsClean, StopsAtNonAscii, StopsBehindNul, EndsInNul}
+use Rattle.tinystr.specs.declared.error.UleError.TheVariants.{Length}
+use Rattle.tinystr.specs.SmallText.{IsForm, padded, text_of}
+use Rattle.tinystr.specs.Faults.{IsFault, IsClean}
 use Rattle.tinystr.specs.Classes.{is_in_class, is_not_uppercase, is_not_lowercase}
 use Rattle.tinystr.specs.Case.{lowercase, uppercase, titlecase}
 use Rattle.tinystr.specs.Lossy.{kept_or_replacement}

@@ -1,13 +1,12 @@
 -- The laws of `specs/Laws.antt`.
-use Rattle.std.proofs.Common.{◌≡◌, ℕ, suc, zero, ◌+◌, ◌-◌, ◌<◌, ◌≤◌, Bool, true, false, ◌⊎◌, inl, inr, List, [], ◌∷◌, ◌++◌, length, take, map, replicate, refl, sym, ap, arith, ◌∙◌}
+use Rattle.std.proofs.Common.{◌≡◌, ℕ, suc, zero, ◌<◌, ◌≤◌, Bool, true, ◌⊎◌, inl, inr, List, [], ◌∷◌, ◌++◌, take, map, refl, sym, ap, arith, ◌∙◌}
 use Rattle.std.specs.Char.{to_ascii_uppercase, to_ascii_lowercase}
 use Rattle.std.proofs.lemmas.List.{append_assoc, take-map, take-take}
 use Rattle.std.proofs.lemmas.Str.Ascii.{lowercase-lowercase, uppercase-uppercase, lowercase-uppercase}
-use Rattle.tinystr.specs.SmallText.{LAST_ASCII, is_text_byte, IsSmall, padded}
-use Rattle.tinystr.specs.declared.error.ParseError.{ParseError}
+use Rattle.tinystr.specs.SmallText.{LAST_ASCII, is_text_byte}
 use Rattle.tinystr.specs.declared.error.ParseError.TheVariants.{TooLong, ContainsNull, NonAscii}
-use Rattle.tinystr.specs.Faults.{IsClean, StopsAtNonAscii, StopsBehindNul, EndsInNul, IsFault}
-use Rattle.tinystr.specs.Case.{lowercase, uppercase, titlecase}
+use Rattle.tinystr.specs.Faults.{StopsAtNonAscii, StopsBehindNul, IsFault}
+use Rattle.tinystr.specs.Case.{lowercase, titlecase}
 use Rattle.tinystr.specs.Laws.{OneForm, OneFault, TextsHaveNoFault, CaseSettles, CaseMeetsCut, JoinsAlike}
 use Rattle.tinystr.proofs.SmallTextLemmas.{text_of-padded}
 use Rattle.tinystr.specs.SmallText.{text_of}
@@ -46,9 +45,9 @@ two_places (a ∷ front) [] u v more rest e =
 two_places (a ∷ front) (b ∷ bs) u v more rest e =
     let same = heads a b (front ++ u ∷ more) (bs ++ v ∷ rest) e in
     elim (two_places front bs u v more rest (tails a b (front ++ u ∷ more) (bs ++ v ∷ rest) e)) [
-      inl equal ↦ inl equal
+      | inl equal ↦ inl equal
       | inr sides ↦ elim sides [
-        inl lies ↦ inr (inl (further a b front u bs same lies))
+        | inl lies ↦ inr (inl (further a b front u bs same lies))
         | inr lies ↦ inr (inr (further b a bs v front (sym same) lies))
       ]
     ]
@@ -59,18 +58,32 @@ high_and_text u v above is e = above_is_no_text u above (ap is_text_byte e ∙ i
 not_both_stops : (units : List ℕ) → StopsAtNonAscii units → StopsBehindNul units → ⊥
 not_both_stops units high behind =
     elim (two_places high.front behind.front high.unit behind.unit high.rest behind.rest (sym high.whole ∙ behind.whole)) [
-      inl e ↦ high_and_text high.unit behind.unit high.above behind.behind e
+      | inl e ↦ high_and_text high.unit behind.unit high.above behind.behind e
       | inr sides ↦ elim sides [
-        inl lies ↦ clean_refuses_high (suc behind.nuls) behind.front behind.clean (record {
-          front = high.front; nuls = high.nuls; unit = high.unit; rest = lies.rest; clean = high.clean; whole = lies.whole; above = high.above })
+        | inl lies ↦ clean_refuses_high (suc behind.nuls) behind.front behind.clean (record {
+          front = high.front;
+          nuls = high.nuls;
+          unit = high.unit;
+          rest = lies.rest;
+          clean = high.clean;
+          whole = lies.whole;
+          above = high.above;
+        })
         | inr lies ↦ clean_refuses_behind high.nuls high.front high.clean (record {
-          front = behind.front; nuls = behind.nuls; unit = behind.unit; rest = lies.rest; clean = behind.clean; whole = lies.whole; behind = behind.behind })
+          front = behind.front;
+          nuls = behind.nuls;
+          unit = behind.unit;
+          rest = lies.rest;
+          clean = behind.clean;
+          whole = lies.whole;
+          behind = behind.behind;
+        })
       ]
     ]
 
 not_both : (strict : Bool) (n : ℕ) (units : List ℕ) → IsFault strict n units NonAscii → IsFault strict n units ContainsNull → ⊥
 not_both strict n units high nul = elim nul.1 [
-  inl stop ↦ not_both_stops units high.1 stop
+  | inl stop ↦ not_both_stops units high.1 stop
   | inr ends ↦ clean_refuses_high (suc ends.1.nuls) units ends.1.clean high.1
 ]
 

@@ -1,10 +1,11 @@
 -- Laws of small texts, beside the clauses of the calls: one form, one fault, and how the changes of a text meet.
 -- Defined in docs/small-text.md, "Laws".
 -- Each is the clause of a function of `laws` that has an empty body.
-use Rattle.std.specs.Prelude.{◌≡◌, ℕ, ◌≤◌, Bool, List, ◌++◌, length, take}
-use Rattle.tinystr.specs.SmallText.{IsSmall, IsForm, padded, text_of}
+use Rattle.std.specs.Prelude.{◌≡◌, ℕ, ◌^◌, ◌<◌, ◌≤◌, Bool, List, ◌++◌, length, take}
+use Rattle.tinystr.specs.SmallText.{IsSmall, padded}
 use Rattle.tinystr.specs.declared.error.ParseError.{ParseError}
 use Rattle.tinystr.specs.Faults.{IsFault}
+use Rattle.tinystr.specs.Decimal.{IsDecimalText}
 use Rattle.tinystr.specs.Case.{lowercase, uppercase, titlecase}
 
 -- two texts with one form are one text
@@ -39,3 +40,11 @@ pub record CaseMeetsCut (count : ℕ) (text : List ℕ) : Type 0 where
 abbrev pub JoinsAlike : Type 0
 JoinsAlike = (first whole second : ℕ) (one other last : List ℕ) → whole ≤ first → whole ≤ second
     → take whole (take first (one ++ other) ++ last) ≡ take whole (one ++ take second (other ++ last))
+
+-- a number below 2 ^ 64 has one decimal text
+abbrev pub OneDecimal : Type 0
+OneDecimal = (number : ℕ) (one other : List ℕ) → number < 2 ^ 64 → IsDecimalText number one → IsDecimalText number other → one ≡ other
+
+-- and one below 2 ^ 32 has at most ten digits
+abbrev pub TenDigits : Type 0
+TenDigits = (number : ℕ) (text : List ℕ) → number < 2 ^ 32 → IsDecimalText number text → length text ≤ 10

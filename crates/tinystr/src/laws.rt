@@ -1,7 +1,7 @@
 //! Laws of small texts. Each function does nothing; its clause is the law.
 
 ghost use Rattle.std.specs.Prelude.{ℕ, List};
-ghost use Rattle.tinystr.specs.Laws.{OneForm, OneFault, TextsHaveNoFault, CaseSettles, CaseMeetsCut, JoinsAlike};
+ghost use Rattle.tinystr.specs.Laws.{OneForm, OneFault, TextsHaveNoFault, CaseSettles, CaseMeetsCut, JoinsAlike, OneDecimal, TenDigits};
 
 /// A form at a capacity is that of one text.
 pub fn one_form()
@@ -27,4 +27,10 @@ pub fn case_meets_cut()
 /// `concat` of three texts may begin with the first two or the last two.
 pub fn joins_alike()
     ensures { JoinsAlike }
+{}
+
+/// A number has one shortest decimal text, and that of a `u32` has at most ten digits.
+pub fn one_decimal()
+    ensures one { OneDecimal }
+    ensures ten { TenDigits }
 {}
