@@ -1,16 +1,10 @@
 -- Known values of the definitions: lines taken apart, texts of numbers, words of refusals, lines of the program.
-use Rattle.std.proofs.Common.{◌≡◌, ℕ, List, [], ◌∷◌, ◌++◌, codes, Bool, true, false, Option, Some, None, refl}
-use Rattle.fixed_decimal.specs.declared.Sign.{Sign}
-use Rattle.fixed_decimal.specs.declared.Sign.TheVariants.{None as Unsigned, Positive, Negative}
-use Rattle.fixed_decimal.specs.NumberText.{Parts}
-use Rattle.locale_numbers_symbols.specs.declared.GroupingStrategy.TheVariants.{Auto, Never, Always, Min2}
-use Rattle.locale_numbers_book.specs.Tags.{pieces}
-use Rattle.locale_numbers_book.specs.TagReading.{tag_of}
+use Rattle.std.proofs.Common.{◌≡◌, [], ◌∷◌, ◌++◌, codes, true, false, Some, None, refl}
+use Rattle.locale_numbers_symbols.specs.declared.GroupingStrategy.TheVariants.{Min2}
 use Rattle.locale_numbers_engine.specs.declared.RunError.TheVariants as run
 use Rattle.locale_numbers_book.specs.declared.BookError.TheVariants as book
 use Rattle.locale_numbers.specs.declared.request.Form.TheVariants.{Plain}
-use Rattle.locale_numbers.specs.declared.fault.ProgramFault.TheVariants.{Usage, File, Book, Run}
-use Rattle.locale_numbers.specs.Answer.{answer_of, answer_to}
+use Rattle.locale_numbers.specs.declared.fault.ProgramFault.TheVariants.{Usage, Book, Run}
 use Rattle.locale_numbers.specs.Fault.{status_of, line_of}
 use Rattle.locale_numbers.specs.NumberReading.{reading_of, parts_of, nothing, beyond}
 use Rattle.locale_numbers.specs.Request.{tab, fields, request_in, grouping_named}

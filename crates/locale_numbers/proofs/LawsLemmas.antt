@@ -1,5 +1,5 @@
 -- Each text has one reading, and the function answers it.
-use Rattle.std.proofs.Common.{◌≡◌, ◌==◌, Bool, true, false, cond, List, [], ◌∷◌, ◌++◌, ℕ, Option, Some, None, refl, sym, ap, ◌∙◌, subst}
+use Rattle.std.proofs.Common.{◌≡◌, ◌==◌, Bool, true, false, cond, List, [], ◌∷◌, ◌++◌, ℕ, Option, Some, None, refl, sym, ap, subst}
 use Rattle.std.proofs.lemmas.Bool.{eqb-true, eqb-false}
 use Rattle.fixed_decimal.specs.declared.sign.Sign.{Sign}
 use Rattle.fixed_decimal.specs.declared.sign.Sign.TheVariants.{None as Unsigned, Positive, Negative}
@@ -19,6 +19,7 @@ behind_sign text rest sign whole starts = at (parts_of rest) (parts_right rest)
     test : (parts : Parts) (b : Bool) → is_within parts ≡ b → IsPartsOf rest (Some parts) → IsReading text (reading_by sign (Some parts))
     test parts true inside spells = rw inside (record { rest = rest; whole = whole; reads = record { parts = parts; spells = spells; within = within_shown parts inside; is = refl } })
     test parts false past spells = rw past (record { sign = sign; rest = rest; whole = whole; beyond = record { parts = parts; spells = spells; beyond = λ within. let inside : is_within parts ≡ true = within_tested parts within in cc } })
+
     at : (found : Option Parts) → IsPartsOf rest found → IsReading text (reading_by sign found)
     at None lacks = no_signed_text text rest sign whole starts lacks
     at (Some parts) spells = test parts (is_within parts) refl spells

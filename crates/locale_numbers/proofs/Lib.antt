@@ -2,6 +2,5 @@ pub mod KnownValues
 pub mod LawsLemmas
 pub mod NumberReadingLemmas
 pub mod PartsLemmas
-pub mod ProgramLemmas
 pub mod ReadingLemmas
 pub mod RequestLemmas

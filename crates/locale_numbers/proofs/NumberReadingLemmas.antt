@@ -8,7 +8,7 @@ use Rattle.fixed_decimal.specs.SignedText.{plus, sign_text, ReadsSigned, IsBeyon
 use Rattle.fixed_decimal.proofs.TextPartsLemmas.{no_sign}
 use Rattle.fixed_decimal.specs.Number.{Number}
 use Rattle.fixed_decimal.specs.NumberText.{minus, Parts, Spells, Reads, IsBeyond, IsNoText, number_of}
-use Rattle.locale_numbers.specs.NumberReading.{Reading, number, beyond, nothing, parts_of, is_within, reading_by, reading_of}
+use Rattle.locale_numbers.specs.NumberReading.{number, beyond, nothing, parts_of, is_within, reading_by, reading_of}
 use Rattle.locale_numbers.proofs.PartsLemmas.{IsPartsOf, parts_right}
 use Rattle.locale_numbers.proofs.ReadingLemmas.{parts_agree, numbers_agree, within_agree, within_shown, within_tested}
 
@@ -29,6 +29,7 @@ reads_beyond sign text read = at (parts_of text) (parts_right text)
     outside : (parts : Parts) → (b : Bool) → is_within parts ≡ b → ¬ (is_within parts ≡ true) → b ≡ false
     outside parts true inside denies = absurd (denies inside)
     outside parts false inside denies = refl
+
     at : (found : Option Parts) → IsPartsOf text found → reading_by sign found ≡ beyond
     at None lacks = absurd (lacks read.parts read.spells)
     at (Some parts) spells =

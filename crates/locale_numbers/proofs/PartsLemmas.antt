@@ -1,13 +1,12 @@
 -- The parts that a function finds of a text are those that spell it.
-use Rattle.std.proofs.Common.{◌≡◌, ◌==◌, ◌||◌, ◌&&◌, ℕ, ◌+◌, ◌<◌, ◌≤◌, ◌⊎◌, nat_le, nat_lt, Bool, true, false, cond, List, [], ◌∷◌, ◌++◌, length, Option, Some, None, refl, sym, ap, ◌∙◌, subst, arith, inl, inr}
+use Rattle.std.proofs.Common.{◌≡◌, ◌==◌, ◌||◌, ◌&&◌, ℕ, ◌+◌, ◌<◌, ◌⊎◌, Bool, true, false, cond, List, [], ◌∷◌, ◌++◌, length, Option, Some, None, refl, sym, ap, ◌∙◌, subst, arith, inl, inr}
 use Rattle.std.specs.List.{list_all}
-use Rattle.std.specs.Char.{digit_value}
 use Rattle.std.proofs.lemmas.List.{append-nil}
 use Rattle.std.proofs.lemmas.Bool.Decides.{nat_tests}
-use Rattle.fixed_decimal.specs.NumberText.{AreDigits, behind_point, behind_mark, minus_if, minus, point, small_mark, capital_mark, Parts, SpellsExponent, Spells, IsNoText}
-use Rattle.fixed_decimal.specs.TextParts.{StartsNoDigit, StartsNoPoint, StartsNoMinus, IsNoFraction, IsNoExponent}
+use Rattle.fixed_decimal.specs.NumberText.{AreDigits, behind_point, minus_if, minus, point, small_mark, capital_mark, Parts, SpellsExponent, Spells, IsNoText}
+use Rattle.fixed_decimal.specs.TextParts.{StartsNoDigit, StartsNoPoint, StartsNoMinus, IsNoExponent}
 use Rattle.fixed_decimal.proofs.TextPartsLemmas.{no_fraction, no_power, no_digits, found_exponent, no_exponent, cons_head, cons_tail}
-use Rattle.locale_numbers.specs.NumberReading.{is_digit, digits_front, behind_digits, is_mark, digits_alone, behind_mark_of, power_of, parts_with, behind_point_of, parts_behind, parts_of, is_within}
+use Rattle.locale_numbers.specs.NumberReading.{is_digit, digits_front, behind_digits, is_mark, digits_alone, behind_mark_of, power_of, parts_with, behind_point_of, parts_behind, parts_of}
 
 -- the digits in front, and what stands behind them
 pub front_whole : (text : List ℕ) → text ≡ digits_front text ++ behind_digits text
@@ -53,6 +52,7 @@ parts_with_right text integer fraction last whole integers fractions no_digit no
   where
     parts : Parts
     parts = record { integer = integer; fraction = fraction; negative = power.0; exponent = power.1 }
+
     at : (b : Bool) → (length integer + length fraction == 0) ≡ b → IsPartsOf text (cond b None (Some parts))
     at true none = no_digits text integer fraction last whole integers fractions no_digit no_point (grind (arith, nat_tests)) (grind (arith, nat_tests))
     at false some = record {
@@ -84,6 +84,7 @@ alone_right text tail behind mark sign first second no_minus marked = at behind 
     found : (behind : List ℕ) → tail ≡ minus_if sign ++ behind → (sign ≡ false → StartsNoMinus behind) → (negative : Bool) (exponent : List ℕ) → SpellsExponent text negative exponent
         → (digits_front behind ≡ exponent) × (behind_digits behind ≡ []) × (0 < length exponent) × ((mark ≡ small_mark) ⊎ (mark ≡ capital_mark))
     found behind second no_minus negative exponent spells = found_exponent text tail behind (digits_front behind) (behind_digits behind) mark sign first second no_minus (front_whole behind) (front_digits behind) (front_ends behind) negative exponent spells
+
     by_test : (c : ℕ) (cs : List ℕ) → tail ≡ minus_if sign ++ c ∷ cs → (sign ≡ false → StartsNoMinus (c ∷ cs)) → (b : Bool) → list_all is_digit (c ∷ cs) ≡ b → IsPowerOf text (cond b (Some (sign, c ∷ cs)) None)
     by_test c cs second no_minus true all = record { mark = mark; is_mark = marked; digits = all_digits (c ∷ cs) all; whole = first ∙ ap (λ t. mark ∷ t) second }
     by_test c cs second no_minus false some = λ negative exponent spells.
@@ -91,6 +92,7 @@ alone_right text tail behind mark sign first second no_minus marked = at behind 
         let whole : c ∷ cs ≡ digits_front (c ∷ cs) = front_whole (c ∷ cs) ∙ ap (λ t. digits_front (c ∷ cs) ++ t) none ∙ append-nil (digits_front (c ∷ cs)) in
         let all : list_all is_digit (c ∷ cs) ≡ true = digits_all (c ∷ cs) (subst AreDigits (sym whole) (front_digits (c ∷ cs))) in
         cc
+
     at : (behind : List ℕ) → tail ≡ minus_if sign ++ behind → (sign ≡ false → StartsNoMinus behind) → IsPowerOf text (digits_alone sign behind)
     at [] second no_minus = λ negative exponent spells. let h = found [] second no_minus negative exponent spells in let bad : 0 < 0 = subst (λ t. 0 < length t) (sym h.0) h.2 in absurd (omega arith)
     at (c ∷ cs) second no_minus = by_test c cs second no_minus (list_all is_digit (c ∷ cs)) refl
@@ -132,6 +134,7 @@ power_right (c ∷ d ∷ ds) = at (is_mark c) refl
     signed : (c ≡ small_mark) ⊎ (c ≡ capital_mark) → (b : Bool) → (d == minus) ≡ b → IsPowerOf (c ∷ d ∷ ds) (cond b (digits_alone true ds) (digits_alone false (d ∷ ds)))
     signed marked true is = let first : d ≡ minus = grind (arith, nat_tests) in alone_right (c ∷ d ∷ ds) (d ∷ ds) ds c true refl (ap (λ x. x ∷ ds) first) (λ never. absurd (cc)) marked
     signed marked false is = alone_right (c ∷ d ∷ ds) (d ∷ ds) (d ∷ ds) c false refl refl (λ _. λ same. absurd (grind (arith, nat_tests))) marked
+
     at : (b : Bool) → is_mark c ≡ b → IsPowerOf (c ∷ d ∷ ds) (cond b (behind_mark_of (d ∷ ds)) None)
     at true marked = signed (marks c marked) (d == minus) refl
     at false other = unmarked c (d ∷ ds) other
@@ -142,14 +145,17 @@ parts_right text = behind (behind_digits text) (front_whole text) (front_ends te
   where
     front : List ℕ
     front = digits_front text
+
     fraction_right : (tail fraction last : List ℕ) → tail ≡ fraction ++ last → text ≡ front ++ point ∷ tail → AreDigits fraction → StartsNoDigit last → IsPartsOf text (behind_point_of front fraction last)
     fraction_right tail [] last cut whole digits ends = no_fraction text front (point ∷ tail) whole (front_digits text) (record { tail = tail; whole = refl; rest = subst StartsNoDigit (sym cut) ends })
     fraction_right tail (f ∷ fs) last cut whole digits ends =
         parts_with_right text front (f ∷ fs) last (whole ∙ ap (λ t. front ++ point ∷ t) cut) (front_digits text) digits ends (λ never. absurd (cc)) (power_of last) (power_right last)
+
     at : (c : ℕ) (cs : List ℕ) → text ≡ front ++ c ∷ cs → StartsNoDigit (c ∷ cs) → (b : Bool) → (c == point) ≡ b → IsPartsOf text (cond b (behind_point_of front (digits_front cs) (behind_digits cs)) (parts_with front [] (power_of (c ∷ cs))))
     at c cs whole ends true is = let first : c ≡ point = grind (arith, nat_tests) in
         fraction_right cs (digits_front cs) (behind_digits cs) (front_whole cs) (whole ∙ ap (λ x. front ++ x ∷ cs) first) (front_digits cs) (front_ends cs)
     at c cs whole ends false is = parts_with_right text front [] (c ∷ cs) whole (front_digits text) tt ends (λ _. λ same. absurd (grind (arith, nat_tests))) (power_of (c ∷ cs)) (power_right (c ∷ cs))
+
     behind : (rest : List ℕ) → text ≡ front ++ rest → StartsNoDigit rest → IsPartsOf text (parts_behind front rest)
     behind [] whole ends = parts_with_right text front [] [] whole (front_digits text) tt tt (λ _. tt) (power_of []) (power_right [])
     behind (c ∷ cs) whole ends = at c cs whole ends (c == point) refl

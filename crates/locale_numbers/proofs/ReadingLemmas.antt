@@ -1,8 +1,8 @@
 -- A text spells one number: whichever parts spell it, they name the same.
-use Rattle.std.proofs.Common.{◌≡◌, ◌==◌, ◌||◌, ◌&&◌, ℕ, ◌+◌, ◌<◌, ◌≤◌, ◌⊎◌, nat_le, nat_lt, Bool, true, false, cond, List, [], ◌∷◌, ◌++◌, length, Option, Some, None, refl, sym, ap, ◌∙◌, subst, arith, inl, inr}
+use Rattle.std.proofs.Common.{◌≡◌, ◌==◌, ◌||◌, ◌&&◌, ℕ, ◌+◌, ◌<◌, nat_le, Bool, true, false, cond, List, [], ◌∷◌, ◌++◌, length, refl, sym, ap, ◌∙◌, subst, arith}
 use Rattle.std.specs.Char.{digit_value}
 use Rattle.std.proofs.lemmas.Bool.{le-leb, leb-true}
-use Rattle.fixed_decimal.specs.NumberText.{AreDigits, behind_point, behind_mark, minus_if, minus, Parts, SpellsExponent, Spells, IsNoText, IsWithin, up_of, down_of, number_of, mantissa_of, number_at, spelled, AreEndsIn}
+use Rattle.fixed_decimal.specs.NumberText.{minus_if, minus, Parts, SpellsExponent, Spells, IsWithin, up_of, down_of, number_of, mantissa_of, number_at, spelled, AreEndsIn}
 use Rattle.fixed_decimal.proofs.TextPartsLemmas.{found_parts, cons_head, cons_tail, exponent_no_digit, exponent_no_point}
 use Rattle.locale_numbers.specs.NumberReading.{is_within}
 
@@ -45,7 +45,7 @@ pub record Agree (one two : Parts) : Type 0 where
 pub parts_agree : (text : List ℕ) (one two : Parts) → Spells text one → Spells text two → Agree one two
 parts_agree text one two first second =
     let found = found_parts text one.integer one.fraction first.last first.whole first.integer_digits first.fraction_digits
-                (exponent_no_digit first.last one.negative one.exponent first.power) (λ _. exponent_no_point first.last one.negative one.exponent first.power) two second in
+    (exponent_no_digit first.last one.negative one.exponent first.power) (λ _. exponent_no_point first.last one.negative one.exponent first.power) two second in
     let same = powers_agree first.last one.negative two.negative one.exponent two.exponent first.power (subst (λ t. SpellsExponent t two.negative two.exponent) (sym found.2) second.power) in
     let mantissa : mantissa_of one ≡ mantissa_of two = cc in
     record {
@@ -60,6 +60,7 @@ parts_agree text one two first second =
     at_up false false a b zero up = up
     at_up true false a b zero up = absurd (cc)
     at_up false true a b zero up = absurd (cc)
+
     at_down : (z w : Bool) → z ≡ w → cond one.negative (spelled one.exponent) 0 ≡ cond two.negative (spelled two.exponent) 0 → cond z 0 (cond one.negative (spelled one.exponent) 0) ≡ cond w 0 (cond two.negative (spelled two.exponent) 0)
     at_down true true zero down = refl
     at_down false false zero down = down

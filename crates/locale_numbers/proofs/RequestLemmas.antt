@@ -1,5 +1,5 @@
 -- The fields of a line by its first tab.
-use Rattle.std.proofs.Common.{◌≡◌, ◌∷◌, [], ◌<◌, ◌≤◌, ◌+◌, ◌-◌, ◌∙◌, ℕ, List, Option, Some, None, Bool, true, false, length, take, drop, position, sym, ap, refl, arith, nat_lt, cond, not, Result, Ok, Err, is_ok, MatchResult}
+use Rattle.std.proofs.Common.{◌≡◌, ◌∷◌, [], ◌<◌, ◌+◌, ◌-◌, ◌∙◌, ℕ, List, Some, None, Bool, true, false, length, take, drop, position, sym, ap, refl, arith, nat_lt, cond, not, Result, Ok, Err, is_ok, MatchResult}
 use Rattle.std.specs.Str.{IsUtf8, is_utf8}
 use Rattle.std.proofs.lemmas.Str.{IsUtf8-from_is_utf8, is_utf8-from_IsUtf8}
 use Rattle.std.specs.List.{slice_split, position_or_len, count_by, onto_first}

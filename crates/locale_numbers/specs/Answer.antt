@@ -1,7 +1,7 @@
 -- The answer of a book to a line: the number written as the line asks, or the first word that refuses it.
 -- Defined in docs/requests.md, "Answer line".
 -- Cited by `answer` and by `run`.
-use Rattle.std.specs.Prelude.{ℕ, List, [], ◌∷◌, ◌++◌, codes, encode_utf8_all, Option, Some, None}
+use Rattle.std.specs.Prelude.{ℕ, List, ◌∷◌, ◌++◌, codes, encode_utf8_all, Option, Some, None}
 use Rattle.fixed_decimal.specs.Number.{Number}
 use Rattle.fixed_decimal.specs.SignedValue.{SignedValue}
 use Rattle.locale_numbers_symbols.specs.Symbols.{marks_of}

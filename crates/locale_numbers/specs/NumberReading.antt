@@ -1,7 +1,7 @@
 -- The number that a text spells as a function of the text: its digits, its point and its exponent taken off from the front.
 -- Defined in docs/numbers.md, "The text"; a law of `laws.rt` says that it is the reading which the relations of NumberText.antt name.
 -- Cited by `answer` and `run`, through Answer.antt.
-use Rattle.std.specs.Prelude.{ℕ, ◌+◌, ◌==◌, ◌||◌, ◌&&◌, nat_le, nat_lt, Bool, true, false, if◌then◌else◌, List, [], ◌∷◌, length, Option, Some, None, option_map}
+use Rattle.std.specs.Prelude.{ℕ, ◌+◌, ◌==◌, ◌||◌, ◌&&◌, nat_le, nat_lt, Bool, true, false, if◌then◌else◌, List, [], ◌∷◌, length, Option, Some, None}
 use Rattle.std.specs.List.{list_all}
 use Rattle.std.specs.Char.{digit_value}
 use Rattle.fixed_decimal.specs.declared.sign.Sign.{Sign}

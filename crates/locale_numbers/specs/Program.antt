@@ -1,10 +1,12 @@
--- What a run of the program leaves: the book that it reads, and what is untouched where it ends before the first line.
+-- What a start of the program leaves: the book that it reads, the faults that may come, and what they leave untouched.
 -- Defined in docs/requests.md, "Program".
 -- Cited by `program`.
-use Rattle.std.specs.Prelude.{◌≡◌, ℕ, List, Option, IsNone}
+use Rattle.std.specs.Prelude.{◌≡◌, ℕ, List, Option, IsNone, IsSome}
 use Rattle.serde_json.specs.Data.{Data}
-use Rattle.locale_numbers_book.specs.Json.{Reads}
-use Rattle.locale_numbers_book.specs.Book.{BookTables, IsBook}
+use Rattle.locale_numbers_book.specs.Json.{Reads, IsNoJson}
+use Rattle.locale_numbers_book.specs.Book.{BookTables, IsBook, IsNoBook}
+use Rattle.locale_numbers_book.specs.declared.BookError.{BookError}
+use Rattle.locale_numbers_book.specs.declared.BookError.TheVariants as refusal
 use Rattle.locale_numbers.specs.declared.fault.ProgramFault.{ProgramFault}
 use Rattle.locale_numbers.specs.declared.fault.ProgramFault.TheVariants.{Usage, File, Book, Run}
 
@@ -12,28 +14,44 @@ use Rattle.locale_numbers.specs.declared.fault.ProgramFault.TheVariants.{Usage, 
 abbrev pub Says : List ℕ → BookTables → Type 0
 Says text book = (value : Data) × Reads text value × IsBook value book
 
--- the book of the sample's text where no path is named, else of some text
-pub record IsBookAt {P : Type 0} (sample : List ℕ) (path : Option P) (book : BookTables) : Type 0 where
+-- why a text is refused as a book; of want of memory nothing is said
+abbrev pub IsRefused : List ℕ → BookError → Type 0
+IsRefused text refusal.Json = IsNoJson text
+IsRefused text refusal.Shape = (value : Data) × Reads text value × IsNoBook value
+IsRefused text refusal.Memory = Unit {0}
+IsRefused text _ = ⊥
+
+-- a fact of the text that the book is read from: the sample's where no path is named, else what some file held
+pub record OfText {P : Type 0} (sample : List ℕ) (path : Option P) (Fact : List ℕ → Type 0) : Type 0 where
   pub text : List ℕ
   pub unnamed : IsNone path → text ≡ sample
-  pub reads : Says text book
+  pub fact : Fact text
 
--- a fact of the book that was read
+-- a fact of the book that is read
 pub record OfBook {P : Type 0} (sample : List ℕ) (path : Option P) (Fact : BookTables → Type 0) : Type 0 where
   pub book : BookTables
-  pub found : IsBookAt sample path book
+  pub said : OfText sample path (λ text. Says text book)
   pub fact : Fact book
+
+-- a text is refused, and nothing else is at fault
+abbrev pub IsRefusal : List ℕ → ProgramFault → Type 0
+IsRefusal text (Book cause) = IsRefused text cause
+IsRefusal text _ = ⊥
+
+-- a file can't be read, or memory was wanting
+abbrev pub IsOfFile : ProgramFault → Type 0
+IsOfFile File = Unit {0}
+IsOfFile (Book refusal.Memory) = Unit {0}
+IsOfFile _ = ⊥
+
+-- when each fault may come: that of the words never, that of a file where one is named
+abbrev pub MayCome : {P : Type 0} → List ℕ → Option P → ProgramFault → Type 0
+MayCome sample path Usage = ⊥
+MayCome sample path File = IsSome path
+MayCome sample path (Book cause) = OfText sample path (λ text. IsRefused text cause)
+MayCome sample path (Run fault) = Unit {0}
 
 -- the fault is met before the first line is read
 abbrev pub IsBeforeLines : ProgramFault → Type 0
-IsBeforeLines Usage = Unit {0}
-IsBeforeLines File = Unit {0}
-IsBeforeLines (Book refusal) = Unit {0}
 IsBeforeLines (Run fault) = ⊥
-
--- the fault is not that of the words
-abbrev pub IsNoUsage : ProgramFault → Type 0
-IsNoUsage Usage = ⊥
-IsNoUsage File = Unit {0}
-IsNoUsage (Book refusal) = Unit {0}
-IsNoUsage (Run fault) = Unit {0}
+IsBeforeLines _ = Unit {0}

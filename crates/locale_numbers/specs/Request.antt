@@ -1,6 +1,6 @@
 -- What a line asks for: its six fields, where each is known, or nothing.
 -- Defined in docs/requests.md, "Request line".
--- Cited by `read_request`, and through Answer.antt by `answer` and `run`.
+-- Cited by `answer` and `run`, through Answer.antt, and by the private `read_request`.
 use Rattle.std.specs.Prelude.{◌==◌, ◌&&◌, ℕ, Bool, true, if◌then◌else◌, List, [], ◌∷◌, Option, Some, None, codes}
 use Rattle.std.specs.List.{slice_split}
 use Rattle.std.specs.Str.{bytes_eq, is_utf8}

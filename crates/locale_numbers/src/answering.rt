@@ -6,15 +6,13 @@ ghost use Rattle.locale_numbers_book.specs.Choice.{chosen};
 ghost use Rattle.locale_numbers.specs.Answer.{refused, answer_with, answer_to, answer_of};
 ghost use Rattle.locale_numbers.specs.NumberReading.{number, beyond, nothing, reading_of};
 
-use std::alloc::{AllocError, Global};
-
+use crate::refusal::Refusal;
+use crate::request::{Form, read_request};
 use fixed_decimal::{Decimal, ParseError};
 use locale_numbers_book::{Book, Tag};
 use locale_numbers_plain::push_plain;
 use locale_numbers_symbols::GroupingStrategy;
-
-use crate::refusal::Refusal;
-use crate::request::{Form, read_request};
+use std::alloc::{AllocError, Global};
 
 // The number that a text says.
 fn read_number(alloc: Global, text: &[u8]) -> Result<Decimal, ParseError>
@@ -42,7 +40,8 @@ fn push_number(
     value: &Decimal,
     out: &mut String,
 ) -> Result<(), AllocError>
-    ensures text { OnOk result (string_bytes out.new ≡ string_bytes out.old ++ answer_with (chosen book.now tag.now) grouping value.now) }
+    ensures text { OnOk result (string_bytes out.new
+        ≡ string_bytes out.old ++ answer_with (chosen book.now tag.now) grouping value.now) }
     ensures err { OnErr result (Grows (string_bytes out.old) (string_bytes out.new)) }
 {
     let Some(tables) = book.tables_for(tag) else {
@@ -61,7 +60,8 @@ fn push_text(
     text: &[u8],
     out: &mut String,
 ) -> Result<(), AllocError>
-    ensures text { OnOk result (string_bytes out.new ≡ string_bytes out.old ++ answer_to book.now tag.now grouping (reading_of text.now)) }
+    ensures text { OnOk result (string_bytes out.new
+        ≡ string_bytes out.old ++ answer_to book.now tag.now grouping (reading_of text.now)) }
     ensures err { OnErr result (Grows (string_bytes out.old) (string_bytes out.new)) }
 {
     match read_number(alloc, text) {
@@ -72,14 +72,15 @@ fn push_text(
     }
 }
 
-/// Puts the answer to a line behind what `out` holds.
+// Puts the answer to a line behind what `out` holds. After an error a part of it may stand there.
 pub(crate) fn answer_onto(
     alloc: Global,
     book: &Book,
     line: &[u8],
     out: &mut String,
 ) -> Result<(), AllocError>
-    ensures text { OnOk result (string_bytes out.new ≡ string_bytes out.old ++ answer_of book.now line.now) }
+    ensures text { OnOk result (
+        string_bytes out.new ≡ string_bytes out.old ++ answer_of book.now line.now) }
     ensures err { OnErr result (Grows (string_bytes out.old) (string_bytes out.new)) }
 {
     let Some(request) = read_request(line) else {
@@ -93,7 +94,14 @@ pub(crate) fn answer_onto(
     }
 }
 
-/// The answer of `book` to a line, without its line feed.
+/// The answer of `book` to a request line, without a line feed.
+///
+/// A line is six fields between tabs: tag, form, grouping, sign, rounding, text. Under the sample
+/// book `en`, `plain`, `auto`, `keep`, `-`, `-987654.321` with tabs between is answered by `ok`, a
+/// tab and `-987,654.321`. A line that is refused is answered by `err`, a tab and the first word
+/// that applies: `shape`, `tag`, `number`, `limit`, `table`; an empty line by `shape`. A line feed
+/// in it is an ordinary byte. Takes memory, and fails for want of it alone. Tags are those of UTS
+/// 35; the lines are defined in docs/requests.md.
 pub fn answer(alloc: Global, book: &Book, line: &[u8]) -> Result<Vec<u8>, AllocError>
     ensures text { IfOk result (λ text. text.items ≡ answer_of book.now line.now) }
 {

@@ -1,10 +1,9 @@
 ghost use Rattle.std.specs.Prelude.{◌≡◌, Some};
 
-use std::error::Error;
-use std::fmt;
-
 use locale_numbers_book::BookError;
 use locale_numbers_engine::RunError;
+use std::error::Error;
+use std::fmt;
 
 /// Why the program ended before it had answered all lines.
 ///

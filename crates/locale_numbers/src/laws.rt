@@ -6,5 +6,4 @@ ghost use Rattle.locale_numbers.specs.Laws.{HasOneReading};
 /// `fixed_decimal` say of a text is what the answer to a line goes by.
 pub fn texts_have_one_reading()
     ensures { HasOneReading }
-{
-}
+{}

@@ -1,4 +1,15 @@
-//! Numbers as the readers of a locale write them, by request lines.
+//! Numbers as the readers of a locale write them, asked for by request lines.
+//!
+//! A request line is six fields between tabs: tag, form, grouping, sign, rounding, text. Here the
+//! answer is `ok`, a tab and `-987,654.321`:
+//!
+//! ```
+//! let book = Book::from_json(alloc, SAMPLE_BOOK.as_bytes())?;
+//! let text = answer(alloc, &book, b"en\tplain\tauto\tkeep\t-\t-987654.321")?;
+//! ```
+//!
+//! [`run`] answers all lines of a reader onto a writer, and [`program`] does so for the words that a
+//! program was started with.
 
 #![tactic(auto)]
 

@@ -1,25 +1,21 @@
-ghost use Rattle.std.specs.Prelude.{◌≡◌, ◌≤◌, ◌⊎◌, false, true, IfOk, IfErr, OnOk, OnErr, IsErrOf, IsSome};
+ghost use Rattle.std.specs.Prelude.{◌≡◌, ◌≤◌, ◌⊎◌, false, true, IfOk, IfErr, OnOk, IsErrOf, IsSome};
 ghost use Rattle.locale_numbers_engine.specs.Run.{WritesAll, WritesTold, WritesPart, WritesFirst, GivesTooLong};
 ghost use Rattle.locale_numbers.specs.Answer.{answer_of};
-ghost use Rattle.locale_numbers.specs.Program.{Says, IsBookAt, OfBook, IsBeforeLines, IsNoUsage};
-
-use std::alloc::Global;
-use std::fs;
-use std::io;
-use std::io::Read;
-use std::rt::Files;
-
-use locale_numbers_book::{Book, BookError, SAMPLE_BOOK};
-use locale_numbers_engine::{ByteReader, ByteWriter, RunError};
+ghost use Rattle.locale_numbers.specs.Program.{Says, OfText, OfBook, IsRefusal, IsOfFile, MayCome, IsBeforeLines};
 
 use crate::fault::ProgramFault;
 use crate::running::run;
 use crate::words::Words;
+use locale_numbers_book::{Book, BookError, SAMPLE_BOOK};
+use locale_numbers_engine::{ByteReader, ByteWriter, RunError};
+use std::alloc::Global;
+use std::io::Read;
+use std::rt::Files;
+use std::{fs, io};
 
 // The fault that a failed call on the book's file is: want of memory, or the file.
 fn file_fault(error: io::Error) -> ProgramFault
-    ensures early { IsBeforeLines result }
-    ensures usage { IsNoUsage result }
+    ensures { IsOfFile result }
 {
     if error.kind() == io::ErrorKind::OutOfMemory {
         ProgramFault::Book(BookError::Memory)
@@ -30,8 +26,7 @@ fn file_fault(error: io::Error) -> ProgramFault
 
 // All bytes of a file.
 fn read_file<F: Files>(rt: &F, alloc: Global, path: &str) -> Result<Vec<u8>, ProgramFault>
-    ensures early { IfErr result IsBeforeLines }
-    ensures usage { IfErr result IsNoUsage }
+    ensures { IfErr result IsOfFile }
 {
     let mut bytes = Vec::new(alloc);
     match fs::open(rt, path) {
@@ -45,10 +40,8 @@ fn read_file<F: Files>(rt: &F, alloc: Global, path: &str) -> Result<Vec<u8>, Pro
 
 // The book that bytes are.
 fn book_of(alloc: Global, bytes: &[u8]) -> Result<Book, ProgramFault>
-    ensures reads { IfOk result (λ book. Says bytes.now book) }
-    ensures early { IfErr result IsBeforeLines }
-    ensures usage { IfErr result IsNoUsage }
-    ensures file { IsErrOf result ProgramFault.File → ⊥ }
+    ensures says { IfOk result (λ book. Says bytes.now book) }
+    ensures refused { IfErr result (IsRefusal bytes.now) }
 {
     match Book::from_json(alloc, bytes) {
         Ok(book) => Ok(book),
@@ -58,10 +51,9 @@ fn book_of(alloc: Global, bytes: &[u8]) -> Result<Book, ProgramFault>
 
 // The book of a file, or the sample book.
 fn read_book<F: Files>(rt: &F, alloc: Global, path: Option<&str>) -> Result<Book, ProgramFault>
-    ensures found { IfOk result (λ book. IsBookAt SAMPLE_BOOK.now path.entry book) }
+    ensures says { IfOk result (λ book. OfText SAMPLE_BOOK.now path.entry (λ text. Says text book)) }
+    ensures faults { IfErr result (MayCome SAMPLE_BOOK.now path.entry) }
     ensures early { IfErr result IsBeforeLines }
-    ensures usage { IfErr result IsNoUsage }
-    ensures file { IsErrOf result ProgramFault.File → IsSome path.entry }
 {
     match path {
         None => book_of(alloc, SAMPLE_BOOK.as_bytes()),
@@ -73,6 +65,16 @@ fn read_book<F: Files>(rt: &F, alloc: Global, path: Option<&str>) -> Result<Book
 }
 
 /// Reads the book that `words` name, and answers the lines that `reader` gives onto `writer`.
+///
+/// The book is the file at `words.book`, or the sample book where that is `None`; the lines are
+/// answered as by [`run`](crate::run). Takes memory. Faults come in this order, and up to Book
+/// nothing is read or written:
+///
+/// - File: the file can't be opened, or not be read to its end.
+/// - Book: its text is refused, or memory was wanting while it was read.
+/// - Run: the reader or the writer failed, or memory was wanting while lines were answered.
+///
+/// It never answers Usage, which is for [`read_words`](crate::read_words).
 pub fn program<F: Files, R: ByteReader, W: ByteWriter>(
     rt: &F,
     alloc: Global,
@@ -86,24 +88,33 @@ pub fn program<F: Files, R: ByteReader, W: ByteWriter>(
 
     // Every line is answered by the book that was read.
     ensures output { OnOk result (OfBook SAMPLE_BOOK.now words.now.book (λ book.
-        WritesAll (answer_of book) (R.remaining reader.old) (W.contents writer.old) (W.contents writer.new))) }
-    ensures stays_well { OnOk result ((R.failed reader.new ≡ false) × (W.failed writer.new ≡ false)) }
+        WritesAll (answer_of book) (R.remaining reader.old)
+        (W.contents writer.old) (W.contents writer.new))) }
+    ensures stays_well { OnOk result (
+        (R.failed reader.new ≡ false) × (W.failed writer.new ≡ false)) }
 
-    // Before the first line only the words, the file and the book are at fault, and nothing is read or written.
-    ensures usage { IfErr result IsNoUsage }
-    ensures file { IsErrOf result ProgramFault.File → IsSome words.now.book }
-    ensures untouched { IfErr result (λ fault. IsBeforeLines fault → (reader.new ≡ reader.old) × (writer.new ≡ writer.old)) }
+    // Before the first line only the file and the book are at fault, and nothing is read or written.
+    ensures faults { IfErr result (MayCome SAMPLE_BOOK.now words.now.book) }
+    ensures untouched { IfErr result (λ fault. IsBeforeLines fault →
+        (reader.new ≡ reader.old) × (writer.new ≡ writer.old)) }
 
-    // Behind it, what a run leaves.
-    ensures read { IsErrOf result (ProgramFault.Run RunError.Read) → OfBook SAMPLE_BOOK.now words.now.book (λ book.
-        WritesTold (answer_of book) (R.remaining reader.old) (R.remaining reader.new) (W.contents writer.old) (W.contents writer.new)) }
+    // From the first line on, what a run leaves.
+    ensures read { IsErrOf result (ProgramFault.Run RunError.Read) →
+        OfBook SAMPLE_BOOK.now words.now.book (λ book.
+        WritesTold (answer_of book) (R.remaining reader.old) (R.remaining reader.new)
+        (W.contents writer.old) (W.contents writer.new)) }
     ensures reader_failed { IsErrOf result (ProgramFault.Run RunError.Read) →
         (R.failed reader.new ≡ true) ⊎ GivesTooLong (R.remaining reader.old) (R.remaining reader.new) }
-    ensures write { IsErrOf result (ProgramFault.Run RunError.Write) → OfBook SAMPLE_BOOK.now words.now.book (λ book.
-        WritesPart (answer_of book) (R.remaining reader.old) (W.contents writer.old) (W.contents writer.new)) }
-    ensures writer_failed { IsErrOf result (ProgramFault.Run RunError.Write) → W.failed writer.new ≡ true }
-    ensures memory { IsErrOf result (ProgramFault.Run RunError.Memory) → OfBook SAMPLE_BOOK.now words.now.book (λ book.
-        WritesFirst (answer_of book) (R.remaining reader.old) (W.contents writer.old) (W.contents writer.new)) }
+    ensures write { IsErrOf result (ProgramFault.Run RunError.Write) →
+        OfBook SAMPLE_BOOK.now words.now.book (λ book.
+        WritesPart (answer_of book) (R.remaining reader.old)
+        (W.contents writer.old) (W.contents writer.new)) }
+    ensures writer_failed { IsErrOf result (ProgramFault.Run RunError.Write) →
+        W.failed writer.new ≡ true }
+    ensures memory { IsErrOf result (ProgramFault.Run RunError.Memory) →
+        OfBook SAMPLE_BOOK.now words.now.book (λ book.
+        WritesFirst (answer_of book) (R.remaining reader.old)
+        (W.contents writer.old) (W.contents writer.new)) }
 {
     match read_book(rt, alloc, words.book) {
         Ok(book) => match run(alloc, &book, words.capacity, reader, writer) {

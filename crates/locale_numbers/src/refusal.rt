@@ -25,7 +25,7 @@ pub(crate) enum Refusal {
 }
 
 impl Refusal {
-    /// The word behind `err`: `not-written` for `NotWritten`, else the case in lower case.
+    /// The word behind `err`: `table` for `Table`, `not-written` for `NotWritten`.
     pub fn word(&self) -> &'static str
         ensures value { result.now ≡ word_of self.now }
     {

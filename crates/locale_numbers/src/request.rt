@@ -31,7 +31,11 @@ pub(crate) struct Request<'a> {
 fn form_by(word: &[u8]) -> Option<Form>
     ensures { result ≡ form_named word.now }
 {
-    if word == b"plain".as_slice() { Some(Form::Plain) } else { None }
+    if word == b"plain".as_slice() {
+        Some(Form::Plain)
+    } else {
+        None
+    }
 }
 
 /// The grouping that a field names.
@@ -60,7 +64,8 @@ fn first_tab(line: &[u8]) -> Option<usize>
 
 /// The first field of a line, and what stands behind its tab, where it ends with one.
 fn cut_field(line: &[u8]) -> (&[u8], Option<&[u8]>)
-    ensures { MatchOption result.1 (fields line.now ≡ result.0.now ∷ []) (λ rest. fields line.now ≡ result.0.now ∷ fields rest.now) }
+    ensures { MatchOption result.1 (fields line.now ≡ result.0.now ∷ [])
+        (λ rest. fields line.now ≡ result.0.now ∷ fields rest.now) }
 {
     match first_tab(line) {
         None => (line, None),
@@ -82,7 +87,8 @@ struct Fields<'a> {
 /// The fields of a line, where they are six.
 fn six_fields(line: &[u8]) -> Option<Fields<'_>>
     ensures six { IsSome result ↔ (length (fields line.now) ≡ 6) }
-    ensures fields { IfSome result (λ six. fields line.now ≡ six.tag.now ∷ six.form.now ∷ six.grouping.now ∷ six.sign.now ∷ six.rounding.now ∷ six.text.now ∷ []) }
+    ensures fields { IfSome result (λ six. fields line.now
+        ≡ six.tag.now ∷ six.form.now ∷ six.grouping.now ∷ six.sign.now ∷ six.rounding.now ∷ six.text.now ∷ []) }
 {
     let (tag, rest) = cut_field(line);
     let (form, rest) = cut_field(rest?);
@@ -90,7 +96,14 @@ fn six_fields(line: &[u8]) -> Option<Fields<'_>>
     let (sign, rest) = cut_field(rest?);
     let (rounding, rest) = cut_field(rest?);
     match cut_field(rest?) {
-        (text, None) => Some(Fields { tag, form, grouping, sign, rounding, text }),
+        (text, None) => Some(Fields {
+            tag,
+            form,
+            grouping,
+            sign,
+            rounding,
+            text,
+        }),
         (_, Some(_)) => None,
     }
 }
@@ -118,7 +131,8 @@ fn is_unrounded(word: &[u8]) -> bool
 
 /// The request that a line is, or `None` where it is none: not UTF-8, or not six known fields.
 pub(crate) fn read_request(line: &[u8]) -> Option<Request<'_>>
-    ensures { MatchOption result (request_of line.now ≡ None) (λ asked. request_of line.now ≡ Some (record { tag = asked.tag.now; form = asked.form; grouping = asked.grouping; text = asked.text.now })) }
+    ensures { MatchOption result (request_of line.now ≡ None) (λ asked. request_of line.now
+        ≡ Some (record { tag = asked.tag.now; form = asked.form; grouping = asked.grouping; text = asked.text.now })) }
 {
     if !is_text(line) {
         return None;
@@ -129,5 +143,10 @@ pub(crate) fn read_request(line: &[u8]) -> Option<Request<'_>>
     if !is_keep(six.sign) || !is_unrounded(six.rounding) {
         return None;
     }
-    Some(Request { tag: six.tag, form, grouping, text: six.text })
+    Some(Request {
+        tag: six.tag,
+        form,
+        grouping,
+        text: six.text,
+    })
 }

@@ -1,7 +1,6 @@
 //! What no clause says: that calls succeed where memory is ample, and outside values.
-use std::test::Fail;
-
 use crate::{Book, ProgramFault, SAMPLE_BOOK, Tracked, answer, program, read_words, run};
+use std::test::Fail;
 
 #[test]
 fn answers_follow_the_sample_book(rt: HostRuntime) -> Result<(), Fail> {
@@ -50,7 +49,10 @@ fn a_run_keeps_no_formatters(rt: HostRuntime) -> Result<(), Fail> {
     assert_eq!(rt; report.lines, 3);
     assert_eq!(rt; report.made, 0);
     let output = output.into_inner();
-    assert_eq!(rt; output.as_slice(), b"ok\t1,000\nerr\tshape\nerr\tshape\n".as_slice());
+    assert_eq!(rt;
+        output.as_slice(),
+        b"ok\t1,000\nerr\tshape\nerr\tshape\n".as_slice()
+    );
     Ok(())
 }
 

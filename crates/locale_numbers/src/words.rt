@@ -14,10 +14,10 @@ pub struct Words<'a> {
     pub capacity: usize,
 }
 
-/// Reads the words that the program was started with, its own name left out.
+/// What the words say that the program was started with, its own name left out.
 ///
-/// No words are the sample book and a capacity of 16. Any word is refused with
-/// [`ProgramFault::Usage`], so far. It takes no memory.
+/// No words name no book, so the sample book is read, and a capacity of 16. Any word is refused with
+/// [`ProgramFault::Usage`], so far: the words `x`, `0` are. Takes no memory.
 pub fn read_words<'a>(words: &[&'a str]) -> Result<Words<'a>, ProgramFault>
     ensures succeeds { IsOk result ↔ (words.now ≡ []) }
     ensures value { IfOk result (λ read. (read.book ≡ None) × (read.capacity ≡ 16)) }
