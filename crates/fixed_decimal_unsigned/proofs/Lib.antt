@@ -15,3 +15,4 @@ pub mod RangeLemmas
 pub mod ShiftLemmas
 pub mod CutLemmas
 pub mod IntegerLemmas
+pub mod WritingLemmas

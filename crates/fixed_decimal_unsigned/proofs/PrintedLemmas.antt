@@ -1,5 +1,5 @@
 -- The printed text of a number spells that number.
-use Rattle.std.proofs.Common.{◌≡◌, ℕ, zero, suc, ◌+◌, ◌-◌, ◌*◌, ◌/◌, ◌%◌, ◌^◌, ◌<◌, ◌≤◌, min, max, ◌==◌, ◌||◌, Bool, true, false, cond, List, [], ◌∷◌, ◌++◌, length, map, refl, sym, ap, ◌∙◌, subst, arith, inl}
+use Rattle.std.proofs.Common.{◌≡◌, ℕ, zero, suc, ◌+◌, ◌-◌, ◌*◌, ◌/◌, ◌%◌, ◌^◌, ◌<◌, ◌≤◌, min, max, ◌==◌, ◌||◌, Bool, true, false, cond, List, [], ◌∷◌, ◌++◌, length, length-append, map, refl, sym, ap, ◌∙◌, subst, arith, inl}
 use Rattle.std.proofs.Math.Nat.{mod-lt, mod-eq_of_lt, div-div-eq-div-mul, mod-one, div-add-mod', pow-suc, zero-add, suc-add}
 use Rattle.std.proofs.lemmas.Nat.{div_below, mod-mul-add}
 use Rattle.std.proofs.lemmas.List.{append-nil, map-append, length-map}
@@ -122,3 +122,26 @@ reads_printed v h =
       within = printed_within (length parts.integer) (length parts.fraction) (up_of parts) (down_of parts) v.low v.high h.low h.high la lb up down;
       is = printed_number v.count v.low v.high h.low h.ones h.whole
           ∙ sym (same_at (mantissa_of parts) (v.count / 10 ^ v.low) (length parts.integer) above (length parts.fraction) below (up_of parts) 0 (down_of parts) 0 mantissa la lb up down) }
+
+behind_length : (text : List ℕ) → 0 < length text → length (behind_point text) ≡ length text + 1
+behind_length [] p = absurd (omega arith)
+behind_length (c ∷ cs) p = omega arith
+
+behind_none : (text : List ℕ) → length text ≡ 0 → length (behind_point text) ≡ 0
+behind_none [] e = refl
+behind_none (c ∷ cs) e = absurd (omega arith)
+
+-- how long a printed text is, with a fraction and without one
+pub text_with_fraction : (v : Number) → 32768 ≤ v.high → v.low < 32768 → v.high - v.low + 1 + 1 ≡ length (text_of v)
+text_with_fraction v o l =
+    let whole = printed_length v.count 32768 (v.high - 32767) in
+    let part = printed_length v.count v.low (32768 - v.low) in
+    let behind = behind_length (map character (fraction_digits v)) (omega arith) in
+    omega (arith, length-append (map character (whole_digits v)) (behind_point (map character (fraction_digits v))))
+
+pub text_without_fraction : (v : Number) → 32768 ≤ v.high → v.low ≡ 32768 → v.high - v.low + 1 ≡ length (text_of v)
+text_without_fraction v o l =
+    let whole = printed_length v.count 32768 (v.high - 32767) in
+    let part = printed_length v.count v.low (32768 - v.low) in
+    let behind = behind_none (map character (fraction_digits v)) (omega arith) in
+    omega (arith, length-append (map character (whole_digits v)) (behind_point (map character (fraction_digits v))))

@@ -23,6 +23,7 @@ mod text_parts;
 mod trimming;
 mod turns;
 mod unsigned_decimal;
+mod writing;
 
 pub use error::ParseError;
 pub use modes::{RoundingIncrement, UnsignedRoundingMode};
