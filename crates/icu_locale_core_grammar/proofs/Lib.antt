@@ -31,6 +31,7 @@ pub mod SingleReader
 pub mod SingleTags
 pub mod LanguageFaults
 pub mod PartPlain
+pub mod DataFaults
 pub mod SubtagLemmas
 pub mod CollectionLemmas
 pub mod WholeParts
