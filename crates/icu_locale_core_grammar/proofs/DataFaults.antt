@@ -1,5 +1,5 @@
 -- Each list of pieces is a data locale or has a fault, one of them alone.
-use Rattle.std.proofs.Common.{◌≡◌, ◌≢◌, ◌≤◌, ℕ, Bool, true, false, List, [], ◌∷◌, Option, None, Some, ◌⊎◌, inl, inr, length, option_to_list, sym, refl, ap, ◌∙◌, subst, arith, lit≤}
+use Rattle.std.proofs.Common.{◌≡◌, Bool, true, false, List, [], ◌∷◌, Option, None, Some, ◌⊎◌, inl, inr, length, option_to_list, sym, refl, ap, ◌∙◌, subst, arith}
 use Rattle.std.specs.Cmp.Lexicographic.{bytes_decides}
 use Rattle.icu_locale_core_grammar.specs.declared.error.ParseError.{ParseError}
 use Rattle.icu_locale_core_grammar.specs.declared.error.ParseError.TheVariants.{InvalidLanguage, InvalidSubtag, InvalidExtension, DuplicatedExtension, Memory}
@@ -8,8 +8,8 @@ use Rattle.icu_locale_core_grammar.specs.Collections.{Entry}
 use Rattle.icu_locale_core_grammar.specs.LanguagePart.{LanguageId}
 use Rattle.icu_locale_core_grammar.specs.Meaning.{TransformMeaning, no_transform, TagMeaning, MeansTag}
 use Rattle.icu_locale_core_grammar.specs.FaultyPiece.{IsAccepted, HasFault}
-use Rattle.icu_locale_core_grammar.specs.Preferences.{least_of, subdivision_entries, keyword_subdivision, subdivision_key, DataLocaleMeaning, data_meaning, preferences_of, language_priority}
-use Rattle.icu_locale_core_grammar.specs.DataTags.{HasOneVariant, IsDataTag, MeansDataLocale, IsRefusedTag, IsTagRefused, HasDataFault}
+use Rattle.icu_locale_core_grammar.specs.Preferences.{least_of, subdivision_entries, keyword_subdivision, subdivision_key, DataLocaleMeaning, preferences_of, language_priority}
+use Rattle.icu_locale_core_grammar.specs.DataTags.{HasOneVariant, IsDataTag, MeansDataLocale, IsRefusedTag, HasDataFault}
 use Rattle.icu_locale_core_grammar.specs.PartLaws.{DataHasMeaningOrFault, DataHasOneFault, DataHasNeverBoth}
 use Rattle.icu_locale_core_grammar.proofs.Runs as Runs
 use Rattle.icu_locale_core_grammar.proofs.FaultyPieceLemmas as Faults
@@ -71,20 +71,26 @@ record IsBare (m : TagMeaning) : Type 0 where
 
 bare_data : (m : TagMeaning) → IsBare m → IsDataTag m
 bare_data m b = λ i. record {
-    front = record { language = m.front.language; script = m.front.script; region = m.front.region; variants = b.variants i };
-    blocks = record { unicode = record { head = b.attributes i; entries = b.keywords i }; transform = b.transform i; others = b.others i };
-    own = b.own i }
+  front = record { language = m.front.language; script = m.front.script; region = m.front.region; variants = b.variants i };
+  blocks = record { unicode = record { head = b.attributes i; entries = b.keywords i }; transform = b.transform i; others = b.others i };
+  own = b.own i;
+}
 
 data_bare : (m : TagMeaning) → IsDataTag m → IsBare m
 data_bare m e = record {
-    variants = ap (λ x. x.front.variants) e; attributes = ap (λ x. x.blocks.unicode.head) e; keywords = ap (λ x. x.blocks.unicode.entries) e;
-    transform = ap (λ x. x.blocks.transform) e; others = ap (λ x. x.blocks.others) e; own = ap (λ x. x.own) e }
+  variants = ap (λ x. x.front.variants) e;
+  attributes = ap (λ x. x.blocks.unicode.head) e;
+  keywords = ap (λ x. x.blocks.unicode.entries) e;
+  transform = ap (λ x. x.blocks.transform) e;
+  others = ap (λ x. x.blocks.others) e;
+  own = ap (λ x. x.own) e;
+}
 
 bare_decided : (m : TagMeaning) → Decided (IsBare m)
 bare_decided m =
     by_parts (list_decided text_decided (option_to_list (least_of m.front.variants)) m.front.variants) (nothing_decided m.blocks.unicode.head)
-      (list_decided entry_decided (subdivision_entries (keyword_subdivision subdivision_key m.blocks.unicode.entries)) m.blocks.unicode.entries)
-      (transform_decided m.blocks.transform) (nothing_decided m.blocks.others) (nothing_decided m.own)
+    (list_decided entry_decided (subdivision_entries (keyword_subdivision subdivision_key m.blocks.unicode.entries)) m.blocks.unicode.entries)
+    (transform_decided m.blocks.transform) (nothing_decided m.blocks.others) (nothing_decided m.own)
   where
     by_parts : Decided (option_to_list (least_of m.front.variants) ≡ m.front.variants) → Decided ([] ≡ m.blocks.unicode.head)
         → Decided (subdivision_entries (keyword_subdivision subdivision_key m.blocks.unicode.entries) ≡ m.blocks.unicode.entries)
@@ -123,9 +129,11 @@ data_answered ps = by_answer (tag_answered ps)
     refused : (m : TagMeaning) → MeansTag ps m → (IsDataTag m → ⊥) → Decided (HasOneVariant m) → (e : ParseError) × HasDataFault ps e
     refused m a n (inl one) = (InvalidExtension, inr (record { tag = m; means = a; refused = (one, n) }))
     refused m a n (inr many) = (InvalidSubtag, inr (record { tag = m; means = a; refused = many }))
+
     by_tag : (m : TagMeaning) → MeansTag ps m → Decided (IsBare m) → ((d : DataLocaleMeaning) × MeansDataLocale ps d) ⊎ ((e : ParseError) × HasDataFault ps e)
     by_tag m a (inl b) = inl (language_priority (preferences_of m), record { tag = m; means = a; is = bare_data m b; same = refl })
     by_tag m a (inr n) = inr (refused m a (λ e. n (data_bare m e)) (variants_decided m))
+
     by_answer : IsAccepted MeansTag ps ⊎ ((e : ParseError) × HasFault MeansTag ps e) → ((d : DataLocaleMeaning) × MeansDataLocale ps d) ⊎ ((e : ParseError) × HasDataFault ps e)
     by_answer (inl a) = by_tag a.0 a.1 (bare_decided a.0)
     by_answer (inr f) = inr (f.0, inl f.1)
