@@ -8,7 +8,7 @@ use Rattle.icu_locale_core_grammar.specs.Collections.{Entry}
 use Rattle.icu_locale_core_grammar.specs.LanguagePart.{LanguageId}
 use Rattle.icu_locale_core_grammar.specs.Meaning.{TransformMeaning, no_transform, TagMeaning, MeansTag}
 use Rattle.icu_locale_core_grammar.specs.FaultyPiece.{IsAccepted, HasFault}
-use Rattle.icu_locale_core_grammar.specs.Preferences.{least_of, subdivision_entries, keyword_subdivision, subdivision_key, DataLocaleMeaning, preferences_of, language_priority}
+use Rattle.icu_locale_core_grammar.specs.TagPreferences.{least_of, subdivision_entries, keyword_subdivision, subdivision_key, DataLocaleMeaning, preferences_of, language_priority}
 use Rattle.icu_locale_core_grammar.specs.DataTags.{HasOneVariant, IsDataTag, MeansDataLocale, IsRefusedTag, HasDataFault}
 use Rattle.icu_locale_core_grammar.specs.PartLaws.{DataHasMeaningOrFault, DataHasOneFault, DataHasNeverBoth}
 use Rattle.icu_locale_core_grammar.proofs.Runs as Runs

@@ -32,6 +32,7 @@ pub mod SingleTags
 pub mod LanguageFaults
 pub mod PartPlain
 pub mod DataFaults
+pub mod CallerLemmas
 pub mod SubtagLemmas
 pub mod CollectionLemmas
 pub mod WholeParts

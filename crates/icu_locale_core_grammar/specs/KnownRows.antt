@@ -8,7 +8,7 @@ use Rattle.icu_locale_core_grammar.specs.Pieces.{pieces, joined_text}
 use Rattle.icu_locale_core_grammar.specs.LanguagePart.{LanguageId}
 use Rattle.icu_locale_core_grammar.specs.Meaning.{TagMeaning}
 use Rattle.icu_locale_core_grammar.specs.NormalText.{language_pieces, normal_text}
-use Rattle.icu_locale_core_grammar.specs.Preferences.{preferences_of, data_meaning, language_priority, region_priority}
+use Rattle.icu_locale_core_grammar.specs.TagPreferences.{preferences_of, data_meaning, language_priority, region_priority}
 use Rattle.icu_locale_core_grammar.specs.SingleVariant.{SingleMeaning, single_tag, InLanguage, single_after, single_ends, single_fault}
 use Rattle.icu_locale_core_grammar.specs.TagStages.{language_after, language_ends, language_fault, tag_start, tag_after, tag_ends, tag_fault}
 

@@ -15,7 +15,7 @@ use Rattle.icu_locale_core_grammar.specs.NormalText.{language_pieces, entry_piec
 use Rattle.icu_locale_core_grammar.specs.WellFormed.{AreLower, IsNormalLanguage, IsNormalValue, AreNormalEntries, IsNormalUnicode, IsNormalTransform}
 use Rattle.icu_locale_core_grammar.specs.PartReaders.{IsExtension, MeansOwn, MeansKeywords, MeansFields, MeansValue}
 use Rattle.icu_locale_core_grammar.specs.PartialReading.{ReadsFront}
-use Rattle.icu_locale_core_grammar.specs.Preferences.{Subdivision, SpellsSubdivision, subdivision_of, DataLocaleMeaning, data_meaning}
+use Rattle.icu_locale_core_grammar.specs.TagPreferences.{Subdivision, SpellsSubdivision, subdivision_of, DataLocaleMeaning, data_meaning}
 use Rattle.icu_locale_core_grammar.specs.DataTags.{MeansDataLocale, HasDataFault}
 use Rattle.icu_locale_core_grammar.specs.SingleVariant.{SingleMeaning, single_tag, MeansSingle, HasSingleFault}
 
