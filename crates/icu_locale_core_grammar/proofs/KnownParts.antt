@@ -210,3 +210,13 @@ digits_and_letters_do_not_read_by_language = refl
 pub digits_and_letters_do_not_read_by_region : region_first_answer (codes "en-u-sd-u12abc") ≡ Ok (codes "en")
 unfolding whole_after headed_after body_after with_piece
 digits_and_letters_do_not_read_by_region = refl
+
+-- of two subdivisions the first stands, language first
+pub first_subdivision_by_language : language_first_answer (codes "en-u-sd-ustx-sd-gbeng") ≡ Ok (codes "en-u-sd-ustx")
+unfolding whole_after headed_after body_after with_piece
+first_subdivision_by_language = refl
+
+-- of two subdivisions the first stands, region first
+pub first_subdivision_by_region : region_first_answer (codes "en-u-sd-ustx-sd-gbeng") ≡ Ok (codes "en-u-sd-ustx")
+unfolding whole_after headed_after body_after with_piece
+first_subdivision_by_region = refl

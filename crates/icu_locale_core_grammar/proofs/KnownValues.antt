@@ -102,6 +102,16 @@ pub three_letters : answer_to (codes "UND") ≡ Ok (codes "und")
 unfolding whole_after headed_after body_after with_piece
 three_letters = refl
 
+-- a language, a script, a region and a keyword
+pub whole_tag : answer_to (codes "en-Latn-US-u-nu-thai") ≡ Ok (codes "en-Latn-US-u-nu-thai")
+unfolding whole_after headed_after body_after with_piece
+whole_tag = refl
+
+-- within `x` a letter may stand twice
+pub private_twice : answer_to (codes "en-x-a-a") ≡ Ok (codes "en-x-a-a")
+unfolding whole_after headed_after body_after with_piece
+private_twice = refl
+
 -- ---- refused
 
 -- the empty text is one empty piece

@@ -31,6 +31,8 @@ pub mod SingleReader
 pub mod SingleTags
 pub mod LanguageFaults
 pub mod PartPlain
+pub mod DataFaults
+pub mod CallerLemmas
 pub mod SubtagLemmas
 pub mod CollectionLemmas
 pub mod WholeParts

@@ -11,7 +11,7 @@ use Rattle.icu_locale_core_grammar.specs.Pieces.{pieces}
 use Rattle.icu_locale_core_grammar.specs.Meaning.{MeansTag}
 use Rattle.icu_locale_core_grammar.specs.NormalText.{normal_text}
 use Rattle.icu_locale_core_grammar.specs.Collections.{first_there}
-use Rattle.icu_locale_core_grammar.specs.Preferences.{is_suffix, Subdivision, SpellsSubdivision, subdivision_at, subdivision_of, DataLocaleMeaning, data_meaning, preferences_of, language_priority}
+use Rattle.icu_locale_core_grammar.specs.TagPreferences.{is_suffix, Subdivision, SpellsSubdivision, subdivision_at, subdivision_of, DataLocaleMeaning, data_meaning, preferences_of, language_priority}
 use Rattle.icu_locale_core_grammar.specs.DataTags.{MeansDataLocale}
 use Rattle.icu_locale_core_grammar.proofs.Runs as Runs
 use Rattle.icu_locale_core_grammar.proofs.TagReader.{tag_reader}

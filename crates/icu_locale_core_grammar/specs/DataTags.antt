@@ -7,7 +7,7 @@ use Rattle.icu_locale_core_grammar.specs.declared.error.ParseError.TheVariants.{
 use Rattle.icu_locale_core_grammar.specs.Subtags.{Text}
 use Rattle.icu_locale_core_grammar.specs.Meaning.{TagMeaning, MeansTag}
 use Rattle.icu_locale_core_grammar.specs.FaultyPiece.{HasFault}
-use Rattle.icu_locale_core_grammar.specs.Preferences.{DataLocaleMeaning, data_meaning, preferences_of, language_priority}
+use Rattle.icu_locale_core_grammar.specs.TagPreferences.{DataLocaleMeaning, data_meaning, preferences_of, language_priority}
 
 abbrev pub HasOneVariant : TagMeaning → Type 0
 HasOneVariant m = length m.front.variants ≤ 1

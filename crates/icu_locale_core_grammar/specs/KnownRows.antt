@@ -1,16 +1,16 @@
 -- What a text is answered with, as one computation: its meaning, or the fault.
 -- Defined in docs/tags.md, "Rows"; that this answer is the meaning's, or the fault's, is a law.
 -- Cited by the rows that hold the definitions.
-use Rattle.std.specs.Prelude.{List, [], ◌∷◌, Option, None, Some, Result, Ok, Err, IfOk}
+use Rattle.std.specs.Prelude.{List, [], ◌∷◌, Option, None, Some, Result, Ok, Err}
 use Rattle.icu_locale_core_grammar.specs.declared.error.ParseError.{ParseError}
 use Rattle.icu_locale_core_grammar.specs.Subtags.{Text}
 use Rattle.icu_locale_core_grammar.specs.Pieces.{pieces, joined_text}
 use Rattle.icu_locale_core_grammar.specs.LanguagePart.{LanguageId}
 use Rattle.icu_locale_core_grammar.specs.Meaning.{TagMeaning}
 use Rattle.icu_locale_core_grammar.specs.NormalText.{language_pieces, normal_text}
-use Rattle.icu_locale_core_grammar.specs.Preferences.{Preferences, preferences_of, DataLocaleMeaning, data_meaning, language_priority, region_priority}
-use Rattle.icu_locale_core_grammar.specs.SingleVariant.{SingleMeaning, single_tag, SingleStage, InLanguage, single_after, single_ends, single_fault}
-use Rattle.icu_locale_core_grammar.specs.TagStages.{language_after, language_ends, language_fault, TagStage, tag_start, tag_after, tag_ends, tag_fault}
+use Rattle.icu_locale_core_grammar.specs.TagPreferences.{preferences_of, data_meaning, language_priority, region_priority}
+use Rattle.icu_locale_core_grammar.specs.SingleVariant.{SingleMeaning, single_tag, InLanguage, single_after, single_ends, single_fault}
+use Rattle.icu_locale_core_grammar.specs.TagStages.{language_after, language_ends, language_fault, tag_start, tag_after, tag_ends, tag_fault}
 
 -- over any steps: where they end, and the fault of a stage that does not go on
 module _ {S M : Type 0} (step : S → Text → Option S) (ends : S → Option M) (fault : S → Option Text → ParseError) where

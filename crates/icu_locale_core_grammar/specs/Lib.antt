@@ -10,7 +10,7 @@ pub mod NormalText
 pub mod WellFormed
 pub mod PartReaders
 pub mod PartialReading
-pub mod Preferences
+pub mod TagPreferences
 pub mod DataTags
 pub mod SingleVariant
 -- What the readers follow, piece by piece.

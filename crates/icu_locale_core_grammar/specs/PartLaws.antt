@@ -15,8 +15,8 @@ use Rattle.icu_locale_core_grammar.specs.NormalText.{language_pieces, entry_piec
 use Rattle.icu_locale_core_grammar.specs.WellFormed.{AreLower, IsNormalLanguage, IsNormalValue, AreNormalEntries, IsNormalUnicode, IsNormalTransform}
 use Rattle.icu_locale_core_grammar.specs.PartReaders.{IsExtension, MeansOwn, MeansKeywords, MeansFields, MeansValue}
 use Rattle.icu_locale_core_grammar.specs.PartialReading.{ReadsFront}
-use Rattle.icu_locale_core_grammar.specs.Preferences.{Subdivision, SpellsSubdivision, subdivision_of, DataLocaleMeaning, data_meaning}
-use Rattle.icu_locale_core_grammar.specs.DataTags.{MeansDataLocale}
+use Rattle.icu_locale_core_grammar.specs.TagPreferences.{Subdivision, SpellsSubdivision, subdivision_of, DataLocaleMeaning, data_meaning}
+use Rattle.icu_locale_core_grammar.specs.DataTags.{MeansDataLocale, HasDataFault}
 use Rattle.icu_locale_core_grammar.specs.SingleVariant.{SingleMeaning, single_tag, MeansSingle, HasSingleFault}
 
 -- ---- over any grammar
@@ -92,6 +92,16 @@ SubdivisionsAreSpelled = (text : Text) (s : Subdivision) → (subdivision_of tex
 -- a data locale that was read prints a text that reads back
 abbrev pub DataReadsBack : Type 0
 DataReadsBack = (ps : List Text) (d : DataLocaleMeaning) → MeansDataLocale ps d → MeansDataLocale (pieces (normal_text (data_meaning d))) d
+
+-- each list of pieces is a data locale or has a fault, one at most, and never both
+abbrev pub DataHasMeaningOrFault : Type 0
+DataHasMeaningOrFault = (ps : List Text) → ((d : DataLocaleMeaning) × MeansDataLocale ps d) ⊎ ((e : ParseError) × HasDataFault ps e)
+
+abbrev pub DataHasOneFault : Type 0
+DataHasOneFault = (ps : List Text) (e f : ParseError) → HasDataFault ps e → HasDataFault ps f → e ≡ f
+
+abbrev pub DataHasNeverBoth : Type 0
+DataHasNeverBoth = (ps : List Text) (d : DataLocaleMeaning) (e : ParseError) → MeansDataLocale ps d → HasDataFault ps e → ⊥
 
 -- ---- one variant and one keyword
 

@@ -51,6 +51,12 @@ pub fn printed_rows()
     ensures no_region_behind_it { IsPrinted (codes "en-a-us") (codes "en-a-us") }
     // a language may have three letters
     ensures three_letters { IsPrinted (codes "UND") (codes "und") }
+
+    // a language, a script, a region and a keyword
+    ensures whole_tag { IsPrinted (codes "en-Latn-US-u-nu-thai") (codes "en-Latn-US-u-nu-thai") }
+
+    // within `x` a letter may stand twice
+    ensures private_twice { IsPrinted (codes "en-x-a-a") (codes "en-x-a-a") }
 {}
 
 /// Texts that are no tags, and their faults.
@@ -129,8 +135,7 @@ pub fn language_rows()
     ensures region_alone { IsShown MeansLanguage language_text (codes "de-at") (codes "de-AT") }
     // a language alone
     ensures undetermined { IsShown MeansLanguage language_text (codes "und") (codes "und") }
-{
-}
+{}
 
 /// Texts that are no language identifiers, and their faults.
 pub fn language_refused_rows()
@@ -142,8 +147,7 @@ pub fn language_refused_rows()
     ensures nothing_read { HasFault MeansLanguage (pieces (codes "")) InvalidLanguage }
     // a variant twice
     ensures twice_refused { HasFault MeansLanguage (pieces (codes "de-1996-1996")) InvalidSubtag }
-{
-}
+{}
 
 /// Tags of one variant and one keyword, and their texts.
 pub fn single_rows()
@@ -155,8 +159,7 @@ pub fn single_rows()
     ensures true_is_no_piece { IsShown MeansSingle single_text (codes "en-u-kn-true") (codes "en-u-kn") }
     // no keyword
     ensures no_keyword { IsShown MeansSingle single_text (codes "de-1996") (codes "de-1996") }
-{
-}
+{}
 
 /// Texts that have more than one variant or one keyword, and their faults.
 pub fn single_refused_rows()
@@ -184,8 +187,7 @@ pub fn single_refused_rows()
     ensures no_singleton { HasSingleFault (pieces (codes "en-@")) InvalidSubtag }
     // a singleton first
     ensures no_language { HasSingleFault (pieces (codes "x-foo")) InvalidLanguage }
-{
-}
+{}
 
 /// Tags, and the locale that data is asked for, where the language comes first.
 pub fn language_first_rows()
@@ -207,8 +209,10 @@ pub fn language_first_rows()
     ensures all_else_left_out { IsShown MeansTag language_first_text (codes "en-u-foo-ca-hebrew-nu-thai-t-de-x-bar") (codes "en") }
     // a letter and digits are no region
     ensures digits_and_letters_do_not_read { IsShown MeansTag language_first_text (codes "en-u-sd-u12abc") (codes "en") }
-{
-}
+
+    // of two subdivisions the first stands
+    ensures first_subdivision { IsShown MeansTag language_first_text (codes "en-u-sd-ustx-sd-gbeng") (codes "en-u-sd-ustx") }
+{}
 
 /// Tags, and the locale that data is asked for, where the region comes first.
 pub fn region_first_rows()
@@ -230,5 +234,7 @@ pub fn region_first_rows()
     ensures all_else_left_out { IsShown MeansTag region_first_text (codes "en-u-foo-ca-hebrew-nu-thai-t-de-x-bar") (codes "en") }
     // a letter and digits are no region
     ensures digits_and_letters_do_not_read { IsShown MeansTag region_first_text (codes "en-u-sd-u12abc") (codes "en") }
-{
-}
+
+    // of two subdivisions the first stands
+    ensures first_subdivision { IsShown MeansTag region_first_text (codes "en-u-sd-ustx-sd-gbeng") (codes "en-u-sd-ustx") }
+{}

@@ -8,6 +8,7 @@ ghost use Rattle.icu_locale_core_grammar.specs.DataTags.{MeansDataLocale};
 ghost use Rattle.icu_locale_core_grammar.specs.SingleVariant.{MeansSingle, InLanguage, single_after, single_ends};
 ghost use Rattle.icu_locale_core_grammar.specs.Stepping.{IsReader, InHead};
 ghost use Rattle.icu_locale_core_grammar.specs.TagStages.{language_after, language_ends, inner_ends, attributes_after, attributes_end, unicode_after, unicode_ends, transform_after, transform_ends, other_after, other_ends};
+ghost use Rattle.icu_locale_core_grammar.specs.PartLaws.{DataHasMeaningOrFault, DataHasOneFault, DataHasNeverBoth};
 ghost use Rattle.icu_locale_core_grammar.specs.PartLaws.{IsOne, LeavesOne, TakesPlain, PlainPiecesReadBack, LanguageHasMeaningOrFault, LanguageHasFrontOrFault, LanguageReadsBack, UnicodeReadsBack};
 ghost use Rattle.icu_locale_core_grammar.specs.PartLaws.{TransformReadsBack, PrivateReadsBack, OtherReadsBack, AttributesReadBack, KeywordsReadBack, FieldsReadBack, ValueReadsBack, KeywordsStandAlone, FieldsStandAlone};
 ghost use Rattle.icu_locale_core_grammar.specs.PartLaws.{SubdivisionsAreSpelled, DataReadsBack, SingleHasMeaningOrFault, SingleIsTag};
@@ -97,4 +98,11 @@ pub fn subdivisions_are_spelled()
 pub fn single_tags_are_answered()
     ensures answered { SingleHasMeaningOrFault }
     ensures tag { SingleIsTag }
+{}
+
+/// Each list of pieces is a data locale or has a fault, one at most, and never both.
+pub fn data_locales_are_answered()
+    ensures answered { DataHasMeaningOrFault }
+    ensures one_fault { DataHasOneFault }
+    ensures never_both { DataHasNeverBoth }
 {}

@@ -24,4 +24,6 @@ returns c = record {
   region_of_digits = printed_row (codes "es-419-1ABC") (codes "es-419-1abc") Rows.region_of_digits;
   no_region_behind_it = printed_row (codes "en-a-us") (codes "en-a-us") Rows.no_region_behind_it;
   three_letters = printed_row (codes "UND") (codes "und") Rows.three_letters;
+  whole_tag = printed_row (codes "en-Latn-US-u-nu-thai") (codes "en-Latn-US-u-nu-thai") Rows.whole_tag;
+  private_twice = printed_row (codes "en-x-a-a") (codes "en-x-a-a") Rows.private_twice;
 }

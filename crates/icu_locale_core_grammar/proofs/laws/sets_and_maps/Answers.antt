@@ -7,5 +7,10 @@ use Rattle.icu_locale_core_grammar.proofs.laws.sets_and_maps.Goals as goal
 
 pub returns : goal.returns
 returns c = record {
-    contains = contains-set_of; rises = Rises-set_of; own_set = λ ts. (set_of_rising ts, λ e. subst Rises e (Rises-set_of ts));
-    first_stands = value_at-map_of; keys_rise = Rises-map_of; own_map = λ es. (map_of_rising es, λ e. subst (λ l. Rises (keys_of l)) e (Rises-map_of es)) }
+  contains = contains-set_of;
+  rises = Rises-set_of;
+  own_set = λ ts. (set_of_rising ts, λ e. subst Rises e (Rises-set_of ts));
+  first_stands = value_at-map_of;
+  keys_rise = Rises-map_of;
+  own_map = λ es. (map_of_rising es, λ e. subst (λ l. Rises (keys_of l)) e (Rises-map_of es));
+}
