@@ -3,7 +3,6 @@ use Rattle.std.proofs.Common.{◌≡◌, ℕ, zero, suc, ◌+◌, ◌-◌, ◌<�
 use Rattle.std.specs.Char.{encode_utf8}
 use Rattle.std.proofs.lemmas.Str.{encode_ascii}
 use Rattle.writeable.specs.AnnotatedText.{Event, byte, bytes}
-
 use Rattle.fixed_decimal_unsigned.specs.Number.{digit, digits_down}
 use Rattle.fixed_decimal_unsigned.specs.NumberText.{character, behind_point, point}
 use Rattle.fixed_decimal_unsigned.proofs.PrintedLemmas.{digit_below_ten}
