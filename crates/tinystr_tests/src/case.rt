@@ -14,7 +14,12 @@ fn letters_change_and_nothing_else(rt: HostRuntime) -> Result<(), Fail> {
         // only the first character is raised
         ("1ab", "1ab", "1AB", "1ab"),
         ("a-B", "a-b", "A-B", "A-b"),
-        ("abcdefgHIJKL", "abcdefghijkl", "ABCDEFGHIJKL", "Abcdefghijkl"),
+        (
+            "abcdefgHIJKL",
+            "abcdefghijkl",
+            "ABCDEFGHIJKL",
+            "Abcdefghijkl",
+        ),
     ] {
         let small = TinyStr16::try_from_str(text)?;
         assert_eq!(rt; small.to_ascii_lowercase().as_str(), lower, "{text}");

@@ -28,6 +28,7 @@ fn every_class_holds_of_the_empty_text(rt: HostRuntime) {
 }
 
 const T: bool = true;
+
 const F: bool = false;
 
 /// A byte, and the nine answers of the text that it is alone.
@@ -82,9 +83,21 @@ fn a_last_character_counts(rt: HostRuntime) -> Result<(), Fail> {
         ("1234567a", [F, T, F, T, F, T, F, F, F]),
         ("12345678", [F, T, T, T, T, T, F, F, F]),
     ] {
-        assert_eq!(rt; answers(TinyAsciiStr::<8>::try_from_str(text)?), want, "{text} at 8");
-        assert_eq!(rt; answers(TinyAsciiStr::<9>::try_from_str(text)?), want, "{text} at 9");
-        assert_eq!(rt; answers(TinyAsciiStr::<16>::try_from_str(text)?), want, "{text} at 16");
+        assert_eq!(rt;
+            answers(TinyAsciiStr::<8>::try_from_str(text)?),
+            want,
+            "{text} at 8"
+        );
+        assert_eq!(rt;
+            answers(TinyAsciiStr::<9>::try_from_str(text)?),
+            want,
+            "{text} at 9"
+        );
+        assert_eq!(rt;
+            answers(TinyAsciiStr::<16>::try_from_str(text)?),
+            want,
+            "{text} at 16"
+        );
     }
     Ok(())
 }

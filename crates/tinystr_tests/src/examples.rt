@@ -2,14 +2,23 @@
 
 use std::convert::AsStr;
 use std::test::Fail;
-use tinystr::{ParseError, TinyAsciiStr, TinyStr16, TinyStr4, TinyStr8};
+use tinystr::{ParseError, TinyAsciiStr, TinyStr4, TinyStr8, TinyStr16};
 
 #[test]
 fn try_from_str(rt: HostRuntime) -> Result<(), Fail> {
     assert_eq!(rt; TinyStr4::try_from_str("tEsT")?.as_str(), "tEsT");
-    assert_eq!(rt; TinyStr4::try_from_str("hello").err(), Some(ParseError::TooLong { max: 4, len: 5 }));
-    assert_eq!(rt; TinyStr4::try_from_str("a\0").err(), Some(ParseError::ContainsNull));
-    assert_eq!(rt; TinyStr4::try_from_str("ä").err(), Some(ParseError::NonAscii));
+    assert_eq!(rt;
+        TinyStr4::try_from_str("hello").err(),
+        Some(ParseError::TooLong { max: 4, len: 5 })
+    );
+    assert_eq!(rt;
+        TinyStr4::try_from_str("a\0").err(),
+        Some(ParseError::ContainsNull)
+    );
+    assert_eq!(rt;
+        TinyStr4::try_from_str("ä").err(),
+        Some(ParseError::NonAscii)
+    );
     let read: TinyStr4 = "tEsT".parse()?;
     assert_eq!(rt; read.as_str(), "tEsT");
     Ok(())
@@ -31,16 +40,34 @@ fn try_from_raw(rt: HostRuntime) -> Result<(), Fail> {
 
 #[test]
 fn from_utf8_lossy(rt: HostRuntime) {
-    assert_eq!(rt; TinyStr4::from_utf8_lossy(&[97, 0, 255, 98, 99], b'?').as_str(), "a??b");
-    assert_eq!(rt; TinyStr4::from_utf16_lossy(&[0x61, 0x30ab], b'?').as_str(), "a?");
+    assert_eq!(rt;
+        TinyStr4::from_utf8_lossy(&[97, 0, 255, 98, 99], b'?').as_str(),
+        "a??b"
+    );
+    assert_eq!(rt;
+        TinyStr4::from_utf16_lossy(&[0x61, 0x30ab], b'?').as_str(),
+        "a?"
+    );
     // a unit whose low byte is a letter
     assert_eq!(rt; TinyStr4::from_utf16_lossy(&[0x161], b'?').as_str(), "?");
 }
 
 #[test]
 fn new_unsigned_decimal(rt: HostRuntime) -> Result<(), Fail> {
-    assert_eq!(rt; TinyStr8::new_unsigned_decimal(12345).ok().ok_or("it fits")?.as_str(), "12345");
-    assert_eq!(rt; TinyStr4::new_unsigned_decimal(12345).err().ok_or("it is longer")?.as_str(), "1234");
+    assert_eq!(rt;
+        TinyStr8::new_unsigned_decimal(12345)
+            .ok()
+            .ok_or("it fits")?
+            .as_str(),
+        "12345"
+    );
+    assert_eq!(rt;
+        TinyStr4::new_unsigned_decimal(12345)
+            .err()
+            .ok_or("it is longer")?
+            .as_str(),
+        "1234"
+    );
     Ok(())
 }
 

@@ -11,14 +11,23 @@ fn the_count_of_bytes_comes_first(rt: HostRuntime) {
         ([97, 0, 0, 0, 0].as_slice(), Err(UleError::Length(5))),
         ([0, 97, 0, 0].as_slice(), Err(UleError::Parse)),
         ([97, 0, 0, 0, 98, 99, 100, 101].as_slice(), Ok(())),
-        ([97, 0, 0, 0, 0, 99, 100, 101].as_slice(), Err(UleError::Parse)),
+        (
+            [97, 0, 0, 0, 0, 99, 100, 101].as_slice(),
+            Err(UleError::Parse),
+        ),
         ([255, 255, 255, 255].as_slice(), Err(UleError::Parse)),
         ([].as_slice(), Ok(())),
     ] {
         assert_eq!(rt; TinyStr4::validate_bytes(bytes), want, "{bytes:?}");
     }
-    assert_eq!(rt; UnvalidatedTinyAsciiStr::<4>::validate_bytes(&[0, 97, 255, 0]), Ok(()));
-    assert_eq!(rt; UnvalidatedTinyAsciiStr::<4>::validate_bytes(&[97; 5]), Err(UleError::Length(5)));
+    assert_eq!(rt;
+        UnvalidatedTinyAsciiStr::<4>::validate_bytes(&[0, 97, 255, 0]),
+        Ok(())
+    );
+    assert_eq!(rt;
+        UnvalidatedTinyAsciiStr::<4>::validate_bytes(&[97; 5]),
+        Err(UleError::Length(5))
+    );
     assert_eq!(rt; UleError::Length(5).number(), 1);
     assert_eq!(rt; UleError::Parse.number(), 2);
 }
@@ -27,11 +36,23 @@ fn the_count_of_bytes_comes_first(rt: HostRuntime) {
 fn bytes_read_back(rt: HostRuntime) -> Result<(), Fail> {
     let text = TinyStr4::try_from_str("ab")?;
     assert_eq!(rt; TinyStr4::from_bytes(&text.to_bytes())?, text);
-    assert_eq!(rt; TinyStr4::from_bytes(&[97, 98]).err(), Some(UleError::Length(2)));
-    assert_eq!(rt; TinyStr4::from_bytes(&[0, 98, 0, 0]).err(), Some(UleError::Parse));
+    assert_eq!(rt;
+        TinyStr4::from_bytes(&[97, 98]).err(),
+        Some(UleError::Length(2))
+    );
+    assert_eq!(rt;
+        TinyStr4::from_bytes(&[0, 98, 0, 0]).err(),
+        Some(UleError::Parse)
+    );
     let bytes = text.to_unvalidated();
-    assert_eq!(rt; UnvalidatedTinyAsciiStr::<4>::from_bytes(&bytes.to_bytes())?, bytes);
-    assert_eq!(rt; UnvalidatedTinyAsciiStr::<4>::from_bytes(&[97, 98]).err(), Some(UleError::Length(2)));
+    assert_eq!(rt;
+        UnvalidatedTinyAsciiStr::<4>::from_bytes(&bytes.to_bytes())?,
+        bytes
+    );
+    assert_eq!(rt;
+        UnvalidatedTinyAsciiStr::<4>::from_bytes(&[97, 98]).err(),
+        Some(UleError::Length(2))
+    );
     assert_eq!(rt; bytes.try_into_tinystr()?, text);
     assert_eq!(rt; UnvalidatedTinyAsciiStr::<4>::from(text), bytes);
     assert_eq!(rt; UnvalidatedTinyAsciiStr::<2>::default().to_bytes(), [0, 0]);
@@ -45,12 +66,27 @@ fn json_is_a_text(rt: HostRuntime) -> Result<(), Fail> {
     let value = text.to_json(alloc)?;
     assert_eq!(rt; value.as_str(), Some("ab"));
     assert_eq!(rt; TinyStr4::from_json(&value)?, text);
-    assert_eq!(rt; UnvalidatedTinyAsciiStr::<4>::from_json(&value)?, text.to_unvalidated());
-    assert_eq!(rt; TinyAsciiStr::<1>::from_json(&value).err(), Some(UleError::Parse));
-    assert_eq!(rt; UnvalidatedTinyAsciiStr::<1>::from_json(&value).err(), Some(UleError::Parse));
+    assert_eq!(rt;
+        UnvalidatedTinyAsciiStr::<4>::from_json(&value)?,
+        text.to_unvalidated()
+    );
+    assert_eq!(rt;
+        TinyAsciiStr::<1>::from_json(&value).err(),
+        Some(UleError::Parse)
+    );
+    assert_eq!(rt;
+        UnvalidatedTinyAsciiStr::<1>::from_json(&value).err(),
+        Some(UleError::Parse)
+    );
     let number = Value::from_str(alloc, "12")?;
-    assert_eq!(rt; TinyStr4::from_json(&number).err(), Some(UleError::Length(0)));
-    assert_eq!(rt; UnvalidatedTinyAsciiStr::<4>::from_json(&number).err(), Some(UleError::Length(0)));
+    assert_eq!(rt;
+        TinyStr4::from_json(&number).err(),
+        Some(UleError::Length(0))
+    );
+    assert_eq!(rt;
+        UnvalidatedTinyAsciiStr::<4>::from_json(&number).err(),
+        Some(UleError::Length(0))
+    );
     Ok(())
 }
 

@@ -8,7 +8,10 @@ fn the_first_fault_decides(rt: HostRuntime) -> Result<(), Fail> {
     for (units, want) in [
         (b"hello".as_slice(), ParseError::TooLong { max: 4, len: 5 }),
         // too long comes before all else
-        ([200, 0, 97, 0, 0].as_slice(), ParseError::TooLong { max: 4, len: 5 }),
+        (
+            [200, 0, 97, 0, 0].as_slice(),
+            ParseError::TooLong { max: 4, len: 5 },
+        ),
         ([97, 0, 98].as_slice(), ParseError::ContainsNull),
         // above 127 at the place where a NUL is no longer last
         ([97, 0, 200].as_slice(), ParseError::NonAscii),
@@ -18,7 +21,11 @@ fn the_first_fault_decides(rt: HostRuntime) -> Result<(), Fail> {
         ([97, 0].as_slice(), ParseError::ContainsNull),
         ([0].as_slice(), ParseError::ContainsNull),
     ] {
-        assert_eq!(rt; TinyStr4::try_from_utf8(units).err(), Some(want), "{units:?}");
+        assert_eq!(rt;
+            TinyStr4::try_from_utf8(units).err(),
+            Some(want),
+            "{units:?}"
+        );
     }
     Ok(())
 }
@@ -26,20 +33,31 @@ fn the_first_fault_decides(rt: HostRuntime) -> Result<(), Fail> {
 #[test]
 fn the_first_fault_of_utf16_decides(rt: HostRuntime) -> Result<(), Fail> {
     for (units, want) in [
-        ([0x61_u16, 0x62, 0x63, 0x64, 0x65].as_slice(), ParseError::TooLong { max: 4, len: 5 }),
+        (
+            [0x61_u16, 0x62, 0x63, 0x64, 0x65].as_slice(),
+            ParseError::TooLong { max: 4, len: 5 },
+        ),
         ([0x61_u16, 0].as_slice(), ParseError::ContainsNull),
         // the low byte alone would be `a`
         ([0x161_u16].as_slice(), ParseError::NonAscii),
         ([0x61_u16, 0, 0x30ab].as_slice(), ParseError::NonAscii),
     ] {
-        assert_eq!(rt; TinyStr4::try_from_utf16(units).err(), Some(want), "{units:?}");
+        assert_eq!(rt;
+            TinyStr4::try_from_utf16(units).err(),
+            Some(want),
+            "{units:?}"
+        );
     }
     Ok(())
 }
 
 #[test]
 fn raw_bytes_may_end_in_nuls(rt: HostRuntime) -> Result<(), Fail> {
-    for (raw, want) in [([97, 0, 0, 0], "a"), ([0, 0, 0, 0], ""), ([97, 98, 99, 100], "abcd")] {
+    for (raw, want) in [
+        ([97, 0, 0, 0], "a"),
+        ([0, 0, 0, 0], ""),
+        ([97, 98, 99, 100], "abcd"),
+    ] {
         assert_eq!(rt; TinyStr4::try_from_raw(raw)?.as_str(), want, "{raw:?}");
     }
     for (raw, want) in [
@@ -56,7 +74,10 @@ fn raw_bytes_may_end_in_nuls(rt: HostRuntime) -> Result<(), Fail> {
 #[test]
 fn nothing_fits_at_0_but_the_empty_text(rt: HostRuntime) -> Result<(), Fail> {
     assert!(rt; TinyAsciiStr::<0>::try_from_str("")?.is_empty());
-    assert_eq!(rt; TinyAsciiStr::<0>::try_from_str("a").err(), Some(ParseError::TooLong { max: 0, len: 1 }));
+    assert_eq!(rt;
+        TinyAsciiStr::<0>::try_from_str("a").err(),
+        Some(ParseError::TooLong { max: 0, len: 1 })
+    );
     assert!(rt; TinyAsciiStr::<0>::EMPTY.is_empty());
     assert!(rt; TinyAsciiStr::<0>::try_from_raw([])?.is_empty());
     Ok(())
