@@ -2,7 +2,9 @@ pub mod SignedRounding
 pub mod SignedText
 pub mod SignedValue
 pub mod SignChoice
+pub mod WholeNumbers
 pub use Rattle.fixed_decimal_unsigned.specs.ErrorNumbers
+pub use Rattle.fixed_decimal_unsigned.specs.Integers
 pub use Rattle.fixed_decimal_unsigned.specs.Number
 pub use Rattle.fixed_decimal_unsigned.specs.NumberText
 pub use Rattle.fixed_decimal_unsigned.specs.TextParts

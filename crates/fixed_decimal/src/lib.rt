@@ -3,11 +3,13 @@
 #![tactic(auto)]
 
 mod decimal;
+mod integers;
 mod modes;
 mod rounding;
 mod sign;
 mod sign_choice;
 mod signed;
+mod writing;
 
 pub use decimal::Decimal;
 pub use fixed_decimal_unsigned::{

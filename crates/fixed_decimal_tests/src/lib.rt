@@ -3,4 +3,6 @@
 #![tactic(auto)]
 
 #[cfg(test)]
+mod rounding;
+#[cfg(test)]
 mod texts;

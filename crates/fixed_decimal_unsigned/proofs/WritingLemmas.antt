@@ -1,10 +1,18 @@
 -- Digits written one a call: the events of the first digit, and of the rest.
-use Rattle.std.proofs.Common.{◌≡◌, ℕ, zero, suc, ◌+◌, ◌-◌, ◌<◌, ◌≤◌, List, [], ◌∷◌, ◌++◌, map, codes, refl, sym, ap, ◌∙◌, subst, arith}
+use Rattle.std.proofs.Common.{◌≡◌, ℕ, zero, suc, ◌+◌, ◌-◌, ◌<◌, ◌≤◌, List, [], ◌∷◌, ◌++◌, length, map, refl, sym, ap, ◌∙◌, subst, arith}
 use Rattle.std.specs.Char.{encode_utf8}
 use Rattle.std.proofs.lemmas.Str.{encode_ascii}
+<<<<<<< HEAD
 use Rattle.writeable.specs.AnnotatedText.{Event, byte, bytes}
 use Rattle.fixed_decimal_unsigned.specs.Number.{digit, digits_down}
 use Rattle.fixed_decimal_unsigned.specs.NumberText.{character, behind_point, point}
+=======
+use Rattle.writeable.specs.AnnotatedText.{Event, byte, bytes, text_of as written}
+use Rattle.writeable.proofs.AnnotatedTextLemmas.{text_of_bytes}
+
+use Rattle.fixed_decimal_unsigned.specs.Number.{Number, digit, digits_down, whole_digits, fraction_digits}
+use Rattle.fixed_decimal_unsigned.specs.NumberText.{character, behind_point, point, text_of as printed}
+>>>>>>> decimal
 use Rattle.fixed_decimal_unsigned.proofs.PrintedLemmas.{digit_below_ten}
 
 bytes_first : (c : ℕ) (cs : List ℕ) → bytes (c ∷ cs) ≡ bytes (c ∷ []) ++ bytes cs
@@ -45,3 +53,12 @@ pub bytes_joined : (xs ys : List ℕ) → bytes (xs ++ ys) ≡ bytes xs ++ bytes
 unfolding bytes
 bytes_joined [] ys = refl
 bytes_joined (x ∷ xs) ys = ap (λ es. byte x ∷ es) (bytes_joined xs ys)
+
+-- the events of a number are its printed text
+pub events_text : (v : Number) → written (bytes (map character (whole_digits v)) ++ bytes (behind_point (map character (fraction_digits v)))) ≡ printed v
+events_text v =
+    let a = map character (whole_digits v) in let b = behind_point (map character (fraction_digits v)) in
+    ap written (sym (bytes_joined a b)) ∙ text_of_bytes (a ++ b)
+
+pub events_length : (v : Number) → length (written (bytes (map character (whole_digits v)) ++ bytes (behind_point (map character (fraction_digits v))))) ≡ length (printed v)
+events_length v = ap length (events_text v)

@@ -86,15 +86,37 @@ fn text_length(number: &UnsignedDecimal) -> usize
 }
 
 impl Writeable for UnsignedDecimal {
-    ghost use Rattle.std.specs.Prelude.{◌++◌, map};
-    ghost use Rattle.writeable.specs.AnnotatedText.{bytes};
+    ghost use Rattle.std.specs.Prelude.{◌≡◌, ◌++◌, Some, length, map};
+    ghost use Rattle.writeable.specs.AnnotatedText.{bytes, text_of as written};
+    ghost use Rattle.writeable.specs.LengthHint.{IsWithinHint};
     ghost use Rattle.fixed_decimal_unsigned.specs.Number.{whole_digits, fraction_digits};
-    ghost use Rattle.fixed_decimal_unsigned.specs.NumberText.{character, behind_point};
+    ghost use Rattle.fixed_decimal_unsigned.specs.NumberText.{character, behind_point, text_of};
 
     ghost events = { λ v. bytes (map character (whole_digits v)) ++ bytes (behind_point (map character (fraction_digits v))) };
 
     fn write_to<S: Sink>(&self, sink: &mut S) -> Result<(), Error> {
         write_whole(self, sink)?;
         write_fraction(self, sink)
+    }
+
+    #[tactic(auto, using(crate::proofs::WritingLemmas::events_length))]
+    fn writeable_length_hint(&self) -> LengthHint
+        ensures within { IsWithinHint result (length (written (bytes (map character (whole_digits self.now)) ++ bytes (behind_point (map character (fraction_digits self.now)))))) }
+        ensures low { result.low ≡ length (text_of self.now) }
+        ensures high { result.high ≡ Some (length (text_of self.now)) }
+    {
+        LengthHint::exact(text_length(self))
+    }
+}
+
+impl fmt::Display for UnsignedDecimal {
+    ghost use Rattle.std.specs.Prelude.{Some};
+    ghost use Rattle.fixed_decimal_unsigned.specs.NumberText.{text_of};
+
+    ghost output = { λ v. Some (text_of v) };
+
+    #[tactic(auto, using(crate::proofs::WritingLemmas::events_text))]
+    fn fmt<W: fmt::Write>(&self, f: &mut fmt::Formatter<W>) -> fmt::Result {
+        display(self, f)
     }
 }
