@@ -2,17 +2,11 @@
 use Rattle.std.proofs.Common.{◌≡◌, ℕ, zero, suc, ◌+◌, ◌-◌, ◌<◌, ◌≤◌, List, [], ◌∷◌, ◌++◌, length, map, refl, sym, ap, ◌∙◌, subst, arith}
 use Rattle.std.specs.Char.{encode_utf8}
 use Rattle.std.proofs.lemmas.Str.{encode_ascii}
-<<<<<<< HEAD
-use Rattle.writeable.specs.AnnotatedText.{Event, byte, bytes}
-use Rattle.fixed_decimal_unsigned.specs.Number.{digit, digits_down}
-use Rattle.fixed_decimal_unsigned.specs.NumberText.{character, behind_point, point}
-=======
 use Rattle.writeable.specs.AnnotatedText.{Event, byte, bytes, text_of as written}
 use Rattle.writeable.proofs.AnnotatedTextLemmas.{text_of_bytes}
 
 use Rattle.fixed_decimal_unsigned.specs.Number.{Number, digit, digits_down, whole_digits, fraction_digits}
 use Rattle.fixed_decimal_unsigned.specs.NumberText.{character, behind_point, point, text_of as printed}
->>>>>>> decimal
 use Rattle.fixed_decimal_unsigned.proofs.PrintedLemmas.{digit_below_ten}
 
 bytes_first : (c : ℕ) (cs : List ℕ) → bytes (c ∷ cs) ≡ bytes (c ∷ []) ++ bytes cs
