@@ -11,7 +11,11 @@ use std::alloc::{AllocError, Global};
 fn sign_below(integer: i128) -> Sign
     ensures { result ≡ sign_of integer }
 {
-    if integer < 0 { Sign::Negative } else { Sign::None }
+    if integer < 0 {
+        Sign::Negative
+    } else {
+        Sign::None
+    }
 }
 
 // The size of a whole number.

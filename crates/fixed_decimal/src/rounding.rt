@@ -25,7 +25,8 @@ impl Signed<UnsignedDecimal> {
         ensures turns { (low digits : ℕ) → HoldsDigits self.old.absolute.count low digits → turns.new ≤ turns.old + digits + 2 }
     {
         let by_size = mode.by_size(self.sign);
-        self.absolute.round_counted(position, by_size, increment, turns)
+        self.absolute
+            .round_counted(position, by_size, increment, turns)
     }
 
     /// Rounds to a multiple of the increment at a position.
@@ -40,7 +41,8 @@ impl Signed<UnsignedDecimal> {
         ensures same { OnErr result (self.new ≡ self.old) }
     {
         let by_size = mode.by_size(self.sign);
-        self.absolute.round_with_mode_and_increment(position, by_size, increment)
+        self.absolute
+            .round_with_mode_and_increment(position, by_size, increment)
     }
 
     /// Rounds at a position as the mode says.
@@ -55,21 +57,30 @@ impl Signed<UnsignedDecimal> {
     pub fn round(&mut self, position: i16)
         ensures { RoundsSigned (SignedRoundingMode.Unsigned UnsignedRoundingMode.HalfEven) RoundingIncrement.MultiplesOf1 (place position) self.old self.new }
     {
-        self.round_with_mode(position, SignedRoundingMode::Unsigned(UnsignedRoundingMode::HalfEven));
+        self.round_with_mode(
+            position,
+            SignedRoundingMode::Unsigned(UnsignedRoundingMode::HalfEven),
+        );
     }
 
     /// Rounds at a position away from zero.
     pub fn expand(&mut self, position: i16)
         ensures { RoundsSigned (SignedRoundingMode.Unsigned UnsignedRoundingMode.Expand) RoundingIncrement.MultiplesOf1 (place position) self.old self.new }
     {
-        self.round_with_mode(position, SignedRoundingMode::Unsigned(UnsignedRoundingMode::Expand));
+        self.round_with_mode(
+            position,
+            SignedRoundingMode::Unsigned(UnsignedRoundingMode::Expand),
+        );
     }
 
     /// Rounds at a position towards zero.
     pub fn trunc(&mut self, position: i16)
         ensures { RoundsSigned (SignedRoundingMode.Unsigned UnsignedRoundingMode.Trunc) RoundingIncrement.MultiplesOf1 (place position) self.old self.new }
     {
-        self.round_with_mode(position, SignedRoundingMode::Unsigned(UnsignedRoundingMode::Trunc));
+        self.round_with_mode(
+            position,
+            SignedRoundingMode::Unsigned(UnsignedRoundingMode::Trunc),
+        );
     }
 
     /// Rounds at a position upwards.

@@ -35,10 +35,18 @@ fn shown_sign(display: SignDisplay, sign: Sign, is_zero: bool) -> Sign
         SignDisplay::Never => Sign::None,
         SignDisplay::Always => plus_added(sign),
         SignDisplay::ExceptZero => {
-            if is_zero { Sign::None } else { plus_added(sign) }
+            if is_zero {
+                Sign::None
+            } else {
+                plus_added(sign)
+            }
         }
         SignDisplay::Negative => {
-            if is_zero { Sign::None } else { plus_dropped(sign) }
+            if is_zero {
+                Sign::None
+            } else {
+                plus_dropped(sign)
+            }
         }
     }
 }
