@@ -1,6 +1,6 @@
 -- A text has one sign, since no number's text begins with one.
-use Rattle.std.proofs.Common.{◌≡◌, ℕ, List, [], ◌∷◌, ◌++◌, ◌⊎◌, refl, sym, ap, ◌∙◌, subst, inl, inr, arith}
-use Rattle.fixed_decimal_unsigned.specs.NumberText.{minus, Parts, Spells, IsNoText}
+use Rattle.std.proofs.Common.{◌≡◌, ℕ, List, [], ◌∷◌, ◌++◌, ◌⊎◌, refl, sym, ◌∙◌, subst, inl, inr, arith}
+use Rattle.fixed_decimal_unsigned.specs.NumberText.{minus, Spells, IsNoText}
 use Rattle.fixed_decimal_unsigned.proofs.TextPartsLemmas.{no_sign, cons_head, cons_tail}
 use Rattle.fixed_decimal.specs.SignedText.{plus, sign_text, IsNoSignedText, StartsNoSign}
 use Rattle.fixed_decimal.specs.declared.sign.Sign.{Sign}

@@ -1,8 +1,6 @@
 -- A value with a sign: the sign as it is written, and the value without it.
 -- Defined in docs/numbers.md, "The number".
 -- Cited by each clause on a `Decimal`.
-use Rattle.std.specs.Prelude.{refl}
-use Rattle.std.specs.Coded.{Coded, code_by, coded×}
 use Rattle.fixed_decimal.specs.declared.sign.Sign.{Sign}
 
 -- a sign, and what it stands before

@@ -31,20 +31,68 @@ fn roundings_take_the_multiple(rt: HostRuntime) -> Result<(), Fail> {
     let even = SignedRoundingMode::Unsigned(UnsignedRoundingMode::HalfEven);
     let expand = SignedRoundingMode::Unsigned(UnsignedRoundingMode::Expand);
     for (text, position, mode, increment, want) in [
-        ("99.999", 4, expand, RoundingIncrement::MultiplesOf1, "10000"),
+        (
+            "99.999",
+            4,
+            expand,
+            RoundingIncrement::MultiplesOf1,
+            "10000",
+        ),
         ("2.5", 0, even, RoundingIncrement::MultiplesOf1, "2"),
         ("3.5", 0, even, RoundingIncrement::MultiplesOf1, "4"),
         // the even count is counted in the increment
         ("37.5", 0, even, RoundingIncrement::MultiplesOf25, "50"),
-        ("12.34", 1, SignedRoundingMode::Floor, RoundingIncrement::MultiplesOf5, "00"),
-        ("-12.34", 1, SignedRoundingMode::Floor, RoundingIncrement::MultiplesOf5, "-50"),
-        ("1.5", -3, SignedRoundingMode::Ceil, RoundingIncrement::MultiplesOf1, "1.500"),
+        (
+            "12.34",
+            1,
+            SignedRoundingMode::Floor,
+            RoundingIncrement::MultiplesOf5,
+            "00",
+        ),
+        (
+            "-12.34",
+            1,
+            SignedRoundingMode::Floor,
+            RoundingIncrement::MultiplesOf5,
+            "-50",
+        ),
+        (
+            "1.5",
+            -3,
+            SignedRoundingMode::Ceil,
+            RoundingIncrement::MultiplesOf1,
+            "1.500",
+        ),
         ("123", 0, expand, RoundingIncrement::MultiplesOf25, "125"),
         ("110", 0, expand, RoundingIncrement::MultiplesOf25, "125"),
-        ("99999999", 1, even, RoundingIncrement::MultiplesOf1, "100000000"),
-        ("-2.5", 0, SignedRoundingMode::HalfCeil, RoundingIncrement::MultiplesOf1, "-2"),
-        ("-2.5", 0, SignedRoundingMode::HalfFloor, RoundingIncrement::MultiplesOf1, "-3"),
-        ("5", 3, SignedRoundingMode::Floor, RoundingIncrement::MultiplesOf1, "000"),
+        (
+            "99999999",
+            1,
+            even,
+            RoundingIncrement::MultiplesOf1,
+            "100000000",
+        ),
+        (
+            "-2.5",
+            0,
+            SignedRoundingMode::HalfCeil,
+            RoundingIncrement::MultiplesOf1,
+            "-2",
+        ),
+        (
+            "-2.5",
+            0,
+            SignedRoundingMode::HalfFloor,
+            RoundingIncrement::MultiplesOf1,
+            "-3",
+        ),
+        (
+            "5",
+            3,
+            SignedRoundingMode::Floor,
+            RoundingIncrement::MultiplesOf1,
+            "000",
+        ),
         ("7", 0, even, RoundingIncrement::MultiplesOf2, "8"),
         ("5", 0, even, RoundingIncrement::MultiplesOf2, "4"),
     ] {
@@ -97,11 +145,18 @@ fn signs_are_chosen(rt: HostRuntime) -> Result<(), Fail> {
         ("+7", SignDisplay::Negative, "7"),
     ] {
         let decimal = read(rt.alloc(), text)?.with_sign_display(choice);
-        assert_eq!(rt; decimal.write_to_string(rt.alloc())?.as_str(), want, "{text}");
+        assert_eq!(rt;
+            decimal.write_to_string(rt.alloc())?.as_str(),
+            want,
+            "{text}"
+        );
     }
     let whole = Decimal::from_i32(rt.alloc(), -2500)?;
     assert_eq!(rt; whole.write_to_string(rt.alloc())?.as_str(), "-2500");
     let large = Decimal::from_u64(rt.alloc(), 18446744073709551615)?;
-    assert_eq!(rt; large.write_to_string(rt.alloc())?.as_str(), "18446744073709551615");
+    assert_eq!(rt;
+        large.write_to_string(rt.alloc())?.as_str(),
+        "18446744073709551615"
+    );
     Ok(())
 }

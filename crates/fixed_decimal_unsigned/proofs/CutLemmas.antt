@@ -74,12 +74,12 @@ first_left : (ds : List ℕ) (top start : ℕ) → IsTrimmed ds top → start < 
 first_left ds top start h sl found =
     subst (λ x. 0 < x) (sym (first_by ds start sl))
     (⊎_elim found (λ a.
-      let all : start + 1 ≡ length ds = omega arith in
-      let last : 0 < number_from_digits 10 ds % 10 = h.last (omega arith) in
-      let e : start + 1 - 1 ≡ start = omega arith in
-      let same : number_from_digits 10 ds % 10 ≡ get_or ds start 0 =
-          ap (λ x. x % 10) (sym (front_all ds (start + 1) all)) ∙ front_last ds (start + 1) h.tens (omega arith) (omega arith) ∙ ap (λ k. get_or ds k 0) e in
-      omega arith) (cases_lt (start + 1) (length ds)))
+    let all : start + 1 ≡ length ds = omega arith in
+    let last : 0 < number_from_digits 10 ds % 10 = h.last (omega arith) in
+    let e : start + 1 - 1 ≡ start = omega arith in
+    let same : number_from_digits 10 ds % 10 ≡ get_or ds start 0 =
+    ap (λ x. x % 10) (sym (front_all ds (start + 1) all)) ∙ front_last ds (start + 1) h.tens (omega arith) (omega arith) ∙ ap (λ k. get_or ds k 0) e in
+    omega arith) (cases_lt (start + 1) (length ds)))
 
 tail_last : (a k u b : ℕ) → u ≡ k * 10 → (a * u + b) % 10 ≡ b % 10
 tail_last a k u b e = ap (λ x. x % 10) (shape a k u b e) ∙ mod_added (a * k) b
@@ -90,28 +90,43 @@ cut_trimmed ds new top start t h sl en found et =
     let room : length ds ≤ top + 1 = h.room in
     let last : 0 < number_from_digits 10 ds % 10 = h.last (omega arith) in
     let same : number_from_digits 10 ds % 10 ≡ number_from_digits 10 new % 10 =
-        ap (λ x. x % 10) (number_cut start ds)
-        ∙ tail_last (number_from_digits 10 (take start ds)) (10 ^ (length ds - start - 1)) (10 ^ (length ds - start)) (number_from_digits 10 (drop start ds))
-          (let e : length ds - start - 1 + 1 ≡ length ds - start = omega arith in ap (λ k. 10 ^ k) (sym e) ∙ tens_next (length ds - start - 1))
-        ∙ ap (λ xs. number_from_digits 10 xs % 10) (sym en) in
+    ap (λ x. x % 10) (number_cut start ds)
+    ∙ tail_last (number_from_digits 10 (take start ds)) (10 ^ (length ds - start - 1)) (10 ^ (length ds - start)) (number_from_digits 10 (drop start ds))
+    (let e : length ds - start - 1 + 1 ≡ length ds - start = omega arith in ap (λ k. 10 ^ k) (sym e) ∙ tens_next (length ds - start - 1))
+    ∙ ap (λ xs. number_from_digits 10 xs % 10) (sym en) in
     record {
       tens = subst (AllBelowBase 10) (sym en) (below_drop start ds h.tens);
       first = λ p. subst (λ xs. 0 < get_or xs 0 0) (sym en) (first_left ds top start h sl found);
       last = λ p. omega arith;
       room = omega arith;
-      zero_top = λ z. absurd (omega arith) }
+      zero_top = λ z. absurd (omega arith);
+    }
 
 pub cuts_stored : (ds new : List ℕ) (top t low high place lo hi : ℕ) → IsStored ds top low high → IsTrimmed new t → (0 < length new → t + length ds ≡ top + length new) → (0 < length new → t < place)
     → lo ≡ min low place → hi ≡ max (place - 1) 32768 → IsStored new t lo hi
 cuts_stored ds [] top t low high place lo hi s h e b el eh =
-    record { tens = h.tens; first = h.first; last = h.last;
+    record {
+      tens = h.tens;
+      first = h.first;
+      last = h.last;
       room = let z = h.zero_top refl in let l = s.low_end in omega arith;
-      below = let z = h.zero_top refl in omega arith; low_end = let l = s.low_end in omega arith; ones = omega arith; zero_top = h.zero_top }
+      below = let z = h.zero_top refl in omega arith;
+      low_end = let l = s.low_end in omega arith;
+      ones = omega arith;
+      zero_top = h.zero_top;
+    }
 cuts_stored ds (c ∷ cs) top t low high place lo hi s h e b el eh =
     let at = e (omega arith) in let under = b (omega arith) in
-    record { tens = h.tens; first = h.first; last = h.last;
+    record {
+      tens = h.tens;
+      first = h.first;
+      last = h.last;
       room = let r = s.room in omega arith;
-      below = omega arith; low_end = let l = s.low_end in omega arith; ones = omega arith; zero_top = h.zero_top }
+      below = omega arith;
+      low_end = let l = s.low_end in omega arith;
+      ones = omega arith;
+      zero_top = h.zero_top;
+    }
 
 pub cuts_made : (count low high lo hi p q new : ℕ) (old : Number) → number_made count low high ≡ old → p ≡ q → new ≡ count % 10 ^ p → lo ≡ min low p → hi ≡ max (p - 1) 32768 → Cuts q old (number_made new lo hi)
 cuts_made count low high lo hi p q new old e ep en el eh =

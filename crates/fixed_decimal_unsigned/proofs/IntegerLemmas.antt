@@ -30,7 +30,7 @@ zeros_few n left zeros p l e =
 pub digits_few : (ds : List ℕ) (n : ℕ) → number_from_digits 10 ds ≡ n → n < 2 ^ 128 → (0 < length ds → 0 < get_or ds 0 0) → length ds < 40
 digits_few ds n e l f =
     ⊎_elim (λ a. a) (λ a.
-      let up = tens_apart 39 (length ds - 1) (omega arith) in let reach = number_reaches ds (omega arith) (f (omega arith)) in absurd (omega arith)) (cases_lt (length ds) 40)
+    let up = tens_apart 39 (length ds - 1) (omega arith) in let reach = number_reaches ds (omega arith) (f (omega arith)) in absurd (omega arith)) (cases_lt (length ds) 40)
 
 pub left_few : (ds : List ℕ) (number left zeros : ℕ) → number_from_digits 10 ds ≡ left → number ≡ left * 10 ^ zeros → number < 2 ^ 128 → (0 < length ds → 0 < get_or ds 0 0) → length ds < 40
 left_few ds number left zeros e n l f =
@@ -53,7 +53,8 @@ integer_made ds number left zeros count low high top pos e n last tens first ec 
     record {
       count = ec ∙ ap (λ x. x * 10 ^ (32768 + zeros)) e ∙ shared left (10 ^ zeros) (10 ^ 32768) (10 ^ (32768 + zeros)) (tens_split zeros 32768 (32768 + zeros) (omega arith)) ∙ ap (λ x. x * 10 ^ 32768) (sym n);
       low = omega arith;
-      high = subst (λ c. IsHighest 32768 0 c high) (sym same) (subst (IsHighest 32768 0 (count_of ds top)) (highest_same top high eh) (highest_is ds top 32768 0 trimmed (omega arith))) }
+      high = subst (λ c. IsHighest 32768 0 c high) (sym same) (subst (IsHighest 32768 0 (count_of ds top)) (highest_same top high eh) (highest_is ds top 32768 0 trimmed (omega arith)));
+    }
 
 pub some_digits : (ds : List ℕ) (left : ℕ) → number_from_digits 10 ds ≡ left → 0 < left % 10 → 0 < length ds
 some_digits [] left e l = let z : 0 ≡ left = e in absurd (omega arith)

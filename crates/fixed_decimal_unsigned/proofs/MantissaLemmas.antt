@@ -71,8 +71,8 @@ pub mantissa_last : (integer kept : List ℕ) → 0 < length kept → 0 < spelle
 mantissa_last integer kept p h =
     let e : length kept - 1 + 1 ≡ length kept = omega arith in
     let same : spelled (integer ++ kept) % 10 ≡ spelled kept % 10 =
-        ap (λ x. x % 10) (spelled_joined integer kept)
-        ∙ multiple (spelled integer) (10 ^ length kept) (spelled kept) (10 ^ (length kept - 1)) (ap (λ k. 10 ^ k) (sym e) ∙ tens_next (length kept - 1)) in
+    ap (λ x. x % 10) (spelled_joined integer kept)
+    ∙ multiple (spelled integer) (10 ^ length kept) (spelled kept) (10 ^ (length kept - 1)) (ap (λ k. 10 ^ k) (sym e) ∙ tens_next (length kept - 1)) in
     omega arith
 
 pub spelled_front_only : (front kept : List ℕ) → length kept ≡ 0 → spelled (front ++ kept) ≡ spelled front
@@ -101,14 +101,16 @@ capped_ends above below up down h = record {
   exponent_high = let a = h.exponent_high in omega arith;
   exponent_low = let a = h.exponent_low in omega arith;
   first = let a = h.first in let b = h.exponent_low in let d = h.exponent_high in omega arith;
-  last = let a = h.last in let b = h.exponent_low in let d = h.exponent_high in omega arith }
+  last = let a = h.last in let b = h.exponent_low in let d = h.exponent_high in omega arith;
+}
 
 pub ends_uncapped : (above below up down : ℕ) → AreEndsIn above below (min up 65536) (min down 65536) → AreEndsIn above below up down
 ends_uncapped above below up down h = record {
   exponent_high = let a = h.exponent_high in omega arith;
   exponent_low = let a = h.exponent_low in omega arith;
   first = let a = h.first in let b = h.exponent_low in let d = h.exponent_high in omega arith;
-  last = let a = h.last in let b = h.exponent_low in let d = h.exponent_high in omega arith }
+  last = let a = h.last in let b = h.exponent_low in let d = h.exponent_high in omega arith;
+}
 
 abbrev pub number_made : ℕ → ℕ → ℕ → Number
 number_made a b c = record { count = a; low = b; high = c }

@@ -91,13 +91,13 @@ pair_exact mode n h t u k c e hundred z =
 pub pair_reaches : (ds : List ℕ) (top place : ℕ) → length ds ≤ top + 1 → 0 < count_of ds top / 10 ^ place % 100 → top < place + length ds + 1
 pair_reaches ds top place l h =
     ⊎_elim (λ a. a) (λ a.
-      let e = top + 1 - length ds in
-      let number = number_from_digits 10 ds in
-      let split : 10 ^ e ≡ 10 ^ (e - place - 2) * 100 * 10 ^ place = tens_split (e - place - 2 + 2) place e (omega arith) ∙ ap (λ x. x * 10 ^ place) (tens_split (e - place - 2) 2 (e - place - 2 + 2) refl) in
-      let whole : number * 10 ^ e ≡ number * 10 ^ (e - place - 2) * 100 * 10 ^ place = ap (λ x. number * x) split ∙ regroup_hundred number (10 ^ (e - place - 2)) (10 ^ place) in
-      let none : number * 10 ^ e / 10 ^ place % 100 ≡ 0 =
-          ap (λ x. x / 10 ^ place % 100) whole ∙ ap (λ x. x % 100) (mul-div_cancel (number * 10 ^ (e - place - 2) * 100) (tens_positive place)) ∙ mul-mod_left (number * 10 ^ (e - place - 2)) 100 in
-      absurd (omega arith)) (cases_lt top (place + length ds + 1))
+    let e = top + 1 - length ds in
+    let number = number_from_digits 10 ds in
+    let split : 10 ^ e ≡ 10 ^ (e - place - 2) * 100 * 10 ^ place = tens_split (e - place - 2 + 2) place e (omega arith) ∙ ap (λ x. x * 10 ^ place) (tens_split (e - place - 2) 2 (e - place - 2 + 2) refl) in
+    let whole : number * 10 ^ e ≡ number * 10 ^ (e - place - 2) * 100 * 10 ^ place = ap (λ x. number * x) split ∙ regroup_hundred number (10 ^ (e - place - 2)) (10 ^ place) in
+    let none : number * 10 ^ e / 10 ^ place % 100 ≡ 0 =
+    ap (λ x. x / 10 ^ place % 100) whole ∙ ap (λ x. x % 100) (mul-div_cancel (number * 10 ^ (e - place - 2) * 100) (tens_positive place)) ∙ mul-mod_left (number * 10 ^ (e - place - 2)) 100 in
+    absurd (omega arith)) (cases_lt top (place + length ds + 1))
 
 -- where the lower of them is not zero, digits stand at it or below
 pub digit_reaches : (ds : List ℕ) (top place : ℕ) → length ds ≤ top + 1 → 0 < count_of ds top / 10 ^ place % 10 → top < place + length ds
@@ -116,13 +116,13 @@ kept_number ds top place h l deep =
     let joined : count_of ds top / 10 ^ (place + 2) ≡ count_of ds top / 10 ^ place / 100 = ap (λ t. count_of ds top / t) power ∙ sym (div-div-eq-div-mul (count_of ds top) (10 ^ place) 100) in
     ⊎_elim
     (λ a.
-      let none : top + 1 - (place + 2) ≡ 0 = omega arith in
-      let small : count_of ds top < 10 ^ (place + 2) = let b = count_below ds top h l in let up = tens_apart (top + 1) (place + 2) (omega arith) in omega arith in
-      ap (λ k. number_from_digits 10 (take k ds)) none ∙ sym (div-eq_of_lt small) ∙ joined)
+    let none : top + 1 - (place + 2) ≡ 0 = omega arith in
+    let small : count_of ds top < 10 ^ (place + 2) = let b = count_below ds top h l in let up = tens_apart (top + 1) (place + 2) (omega arith) in omega arith in
+    ap (λ k. number_from_digits 10 (take k ds)) none ∙ sym (div-eq_of_lt small) ∙ joined)
     (λ a.
-      let e : place + 2 - (top + 1 - length ds) ≡ length ds - (top + 1 - (place + 2)) = omega arith in
-      sym (number_quotient (top + 1 - (place + 2)) ds h) ∙ ap (λ k. number_from_digits 10 ds / 10 ^ k) (sym e)
-      ∙ sym (quotient_kept (number_from_digits 10 ds) (top + 1 - length ds) (place + 2) (omega arith)) ∙ joined)
+    let e : place + 2 - (top + 1 - length ds) ≡ length ds - (top + 1 - (place + 2)) = omega arith in
+    sym (number_quotient (top + 1 - (place + 2)) ds h) ∙ ap (λ k. number_from_digits 10 ds / 10 ^ k) (sym e)
+    ∙ sym (quotient_kept (number_from_digits 10 ds) (top + 1 - length ds) (place + 2) (omega arith)) ∙ joined)
     (cases_lt (top + 1) (place + 2))
 
 parity_tested : (x : ℕ) → x % 2 ≡ cond (nat_eq (x % 2) 1) 1 0

@@ -48,7 +48,7 @@ printed_value count base (suc k) =
     let rest = map character (digits_down count base k) in
     let first : digit_value (character (digit count (base + k))) ≡ digit count (base + k) = character_value (digit count (base + k)) (digit_below_ten count (base + k)) in
     let at : digit count (base + k) ≡ count / 10 ^ base / 10 ^ k % 10 =
-        ap (λ t. count / t % 10) (tens_split base k (base + k) refl) ∙ ap (λ x. x % 10) (sym (div-div-eq-div-mul count (10 ^ base) (10 ^ k))) in
+    ap (λ t. count / t % 10) (tens_split base k (base + k) refl) ∙ ap (λ x. x % 10) (sym (div-div-eq-div-mul count (10 ^ base) (10 ^ k))) in
     spelled_from (0 * 10 + digit_value (character (digit count (base + k)))) rest
     ∙ ap (λ l. (0 * 10 + digit_value (character (digit count (base + k)))) * 10 ^ l + spelled rest) (printed_length count base k)
     ∙ ap (λ s. (0 * 10 + digit_value (character (digit count (base + k)))) * 10 ^ k + s) (printed_value count base k)
@@ -101,11 +101,11 @@ reads_printed v h =
     let parts : Parts = record { integer = map character (whole_digits v); fraction = map character (fraction_digits v); negative = false; exponent = [] } in
     let base : v.low + below ≡ 32768 = let a = h.low in omega arith in
     let all : whole_digits v ++ fraction_digits v ≡ digits_down v.count v.low (above + below) =
-        ap (λ b. digits_down v.count b above ++ fraction_digits v) (sym base) ∙ digits_joined v.count v.low below above in
+    ap (λ b. digits_down v.count b above ++ fraction_digits v) (sym base) ∙ digits_joined v.count v.low below above in
     let mantissa : spelled (parts.integer ++ parts.fraction) ≡ v.count / 10 ^ v.low =
-        ap spelled (sym (map-append character (whole_digits v) (fraction_digits v)) ∙ ap (map character) all)
-        ∙ printed_value v.count v.low (above + below)
-        ∙ quotient_whole v.count v.low (above + below) (v.high + 1) (let a = h.low in let b = h.ones in omega arith) h.below in
+    ap spelled (sym (map-append character (whole_digits v) (fraction_digits v)) ∙ ap (map character) all)
+    ∙ printed_value v.count v.low (above + below)
+    ∙ quotient_whole v.count v.low (above + below) (v.high + 1) (let a = h.low in let b = h.ones in omega arith) h.below in
     let la : length parts.integer ≡ above = printed_length v.count 32768 above in
     let lb : length parts.fraction ≡ below = printed_length v.count v.low below in
     let up : up_of parts ≡ 0 = nothing_moved (mantissa_of parts == 0 || false) 0 in
@@ -118,10 +118,12 @@ reads_printed v h =
         integer_digits = printed_digits v.count 32768 above;
         fraction_digits = printed_digits v.count v.low below;
         some = let b = h.ones in omega arith;
-        power = record { mark = small_mark; is_mark = inl refl; digits = tt; whole = refl } };
+        power = record { mark = small_mark; is_mark = inl refl; digits = tt; whole = refl };
+      };
       within = printed_within (length parts.integer) (length parts.fraction) (up_of parts) (down_of parts) v.low v.high h.low h.high la lb up down;
       is = printed_number v.count v.low v.high h.low h.ones h.whole
-          ∙ sym (same_at (mantissa_of parts) (v.count / 10 ^ v.low) (length parts.integer) above (length parts.fraction) below (up_of parts) 0 (down_of parts) 0 mantissa la lb up down) }
+          ∙ sym (same_at (mantissa_of parts) (v.count / 10 ^ v.low) (length parts.integer) above (length parts.fraction) below (up_of parts) 0 (down_of parts) 0 mantissa la lb up down);
+    }
 
 behind_length : (text : List ℕ) → 0 < length text → length (behind_point text) ≡ length text + 1
 behind_length [] p = absurd (omega arith)

@@ -80,12 +80,14 @@ highest_is [] top least place h l = record {
   keeps = omega arith;
   position = omega arith;
   holds = let z = tens_positive (max (max least (place - 1)) top + 1) in omega (arith, zero-mul (10 ^ (top + 1 - 0)));
-  lowest = λ x a b d. let t = h.zero_top refl in omega arith }
+  lowest = λ x a b d. let t = h.zero_top refl in omega arith;
+}
 highest_is (c ∷ cs) top least place h l = record {
   keeps = omega arith;
   position = omega arith;
   holds = let b = count_below (c ∷ cs) top h.tens h.room in let up = tens_apart (top + 1) (max (max least (place - 1)) top + 1) (omega arith) in omega arith;
-  lowest = λ x a b d. let t = top_below (c ∷ cs) top (x + 1) h (omega arith) d in omega arith }
+  lowest = λ x a b d. let t = top_below (c ∷ cs) top (x + 1) h (omega arith) d in omega arith;
+}
 
 rounded_room : (ds : List ℕ) (top place : ℕ) → IsTrimmed ds top → count_of ds top % 10 ^ place ≡ 0 → min place 32768 + length ds ≤ top + 1
 rounded_room [] top place h w = let t = h.zero_top refl in omega arith
@@ -94,9 +96,15 @@ rounded_room (c ∷ cs) top place h w = let r = whole_room (c ∷ cs) top place 
 -- the invariant after a rounding
 pub rounded_stored : (ds : List ℕ) (top place high : ℕ) → IsTrimmed ds top → 32768 ≤ high → count_of ds top % 10 ^ place ≡ 0 → IsStored ds top (min place 32768) (max (max high (place - 1)) top)
 rounded_stored ds top place high h l w = record {
-  tens = h.tens; first = h.first; last = h.last;
+  tens = h.tens;
+  first = h.first;
+  last = h.last;
   room = rounded_room ds top place h w;
-  below = omega arith; low_end = omega arith; ones = omega arith; zero_top = h.zero_top }
+  below = omega arith;
+  low_end = omega arith;
+  ones = omega arith;
+  zero_top = h.zero_top;
+}
 
 pub rounded_kept : (ds : List ℕ) (top place high lo hi : ℕ) → IsTrimmed ds top → 32768 ≤ high → count_of ds top % 10 ^ place ≡ 0 → lo ≡ min place 32768 → hi ≡ max (max high (place - 1)) top → IsStored ds top lo hi
 rounded_kept ds top place high lo hi h l w el eh =
@@ -112,7 +120,8 @@ rounds_made mode increment p q view old multiple new top lo hi ep ev h l r lim e
     (record {
       taken = record { multiple = multiple; rounded = r; is = lim };
       low = el;
-      high = subst (λ x. IsHighest view.high p (count_of new top) x) (sym eh) (highest_is new top view.high p h l) }))
+      high = subst (λ x. IsHighest view.high p (count_of new top) x) (sym eh) (highest_is new top view.high p h l);
+    }))
 
 pub limited_multiple : (mode : UnsignedRoundingMode) (increment : RoundingIncrement) (place n multiple limited : ℕ) → IsRounded mode (increment_number increment * 10 ^ place) n multiple → IsLimited multiple limited → limited % 10 ^ place ≡ 0
 limited_multiple mode increment place n multiple limited r lim =

@@ -63,7 +63,8 @@ spelled_once text p q h k =
     record {
       integer = found.0;
       fraction = found.1;
-      power = same_power_by p.exponent q.exponent p.negative q.negative h.power.mark k.power.mark h.power.digits k.power.digits (sym h.power.whole ∙ found.2 ∙ k.power.whole) }
+      power = same_power_by p.exponent q.exponent p.negative q.negative h.power.mark k.power.mark h.power.digits k.power.digits (sym h.power.whole ∙ found.2 ∙ k.power.whole);
+    }
 
 same_mantissa : (p q : Parts) → AreSameParts p q → mantissa_of p ≡ mantissa_of q
 same_mantissa p q s = ap (λ x. spelled (x ++ p.fraction)) s.integer ∙ ap (λ x. spelled (q.integer ++ x)) s.fraction

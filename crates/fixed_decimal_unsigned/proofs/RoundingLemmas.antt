@@ -23,13 +23,15 @@ truncated : (unit q r n : ℕ) → n ≡ q * unit + r → r < unit → IsTruncat
 truncated unit q r n e l = record {
   multiple = (q, refl);
   under = omega arith;
-  greatest = λ other m h. ⊎_elim (λ a. a) (λ a. absurd (omega arith)) (sides q unit other m) }
+  greatest = λ other m h. ⊎_elim (λ a. a) (λ a. absurd (omega arith)) (sides q unit other m);
+}
 
 expanded : (unit q r n : ℕ) → n ≡ q * unit + r → 0 < r → r < unit → IsExpanded unit n (q * unit + unit)
 expanded unit q r n e p l = record {
   multiple = (q + 1, upper_count q unit);
   over = omega arith;
-  least = λ other m h. ⊎_elim (λ a. absurd (omega arith)) (λ a. a) (sides q unit other m) }
+  least = λ other m h. ⊎_elim (λ a. absurd (omega arith)) (λ a. a) (sides q unit other m);
+}
 
 near_lower : (unit low r n other : ℕ) → n ≡ low + r → 2 * r ≤ unit → (other ≤ low) ⊎ (low + unit ≤ other) → distance n low ≤ distance n other
 near_lower unit low r n other e h (inl a) = omega arith
@@ -51,13 +53,15 @@ lower_nearest : (unit q r n : ℕ) (takes : ℕ → Type 0) → n ≡ q * unit +
 lower_nearest unit q r n takes e p h t = record {
   multiple = (q, refl);
   nearest = λ other m. near_lower unit (q * unit) r n other e h (sides q unit other m);
-  tied = λ other m ne d. let s = tie_lower unit (q * unit) r n other e h p ne d (sides q unit other m) in subst takes (sym s.1) (t s.0) }
+  tied = λ other m ne d. let s = tie_lower unit (q * unit) r n other e h p ne d (sides q unit other m) in subst takes (sym s.1) (t s.0);
+}
 
 upper_nearest : (unit q r n : ℕ) (takes : ℕ → Type 0) → n ≡ q * unit + r → r < unit → unit ≤ 2 * r → (2 * r ≡ unit → takes (q * unit)) → IsNearest unit n (q * unit + unit) takes
 upper_nearest unit q r n takes e l h t = record {
   multiple = (q + 1, upper_count q unit);
   nearest = λ other m. near_upper unit (q * unit) r n other e l h (sides q unit other m);
-  tied = λ other m ne d. let s = tie_upper unit (q * unit) r n other e l h ne d (sides q unit other m) in subst takes (sym s.1) (t s.0) }
+  tied = λ other m ne d. let s = tie_upper unit (q * unit) r n other e l h ne d (sides q unit other m) in subst takes (sym s.1) (t s.0);
+}
 
 doubled : (a unit : ℕ) → a * 2 * unit ≡ a * (2 * unit)
 doubled a unit = omega arith
@@ -92,7 +96,8 @@ exact_nearest : (unit n : ℕ) (takes : ℕ → Type 0) → IsMultiple unit n �
 exact_nearest unit n takes m = record {
   multiple = m;
   nearest = λ other k. omega arith;
-  tied = λ other k ne d. absurd (ne (omega arith)) }
+  tied = λ other k ne d. absurd (ne (omega arith));
+}
 
 -- a multiple is itself what every mode names
 pub exact : (mode : UnsignedRoundingMode) (unit n : ℕ) → IsMultiple unit n → IsRounded mode unit n n

@@ -28,16 +28,17 @@ below_some ds top place h p l =
     let e = top + 1 - length ds in
     let number = number_from_digits 10 ds in
     elim (eq-zero-or-pos (number * 10 ^ e % 10 ^ place)) [
-      inl z ↦
-        let c = number * 10 ^ e / 10 ^ place in
-        let whole : c * 10 ^ place ≡ number * 10 ^ e = omega (arith, div-add-mod' (number * 10 ^ e) (10 ^ place)) in
-        let power : 10 ^ place ≡ 10 ^ (place - e - 1) * 10 * 10 ^ e = tens_split (place - e - 1 + 1) e place (omega arith) ∙ ap (λ t. t * 10 ^ e) (tens_next (place - e - 1)) in
-        let shape : c * 10 ^ (place - e - 1) * 10 * 10 ^ e ≡ number * 10 ^ e = sym (ap (λ t. c * t) power ∙ regroup c (10 ^ (place - e - 1)) (10 ^ e)) ∙ whole in
-        let same : c * 10 ^ (place - e - 1) * 10 ≡ number = eq_of_mul-eq-mul_right (10 ^ e) (tens_positive e) (c * 10 ^ (place - e - 1) * 10) number shape in
-        let last : number % 10 ≡ 0 = ap (λ n. n % 10) (sym same) ∙ mul-mod_left (c * 10 ^ (place - e - 1)) 10 in
-        let some : 0 < number % 10 = h.last p in
-        absurd (omega arith)
-    | inr s ↦ s ]
+      | inl z ↦
+          let c = number * 10 ^ e / 10 ^ place in
+          let whole : c * 10 ^ place ≡ number * 10 ^ e = omega (arith, div-add-mod' (number * 10 ^ e) (10 ^ place)) in
+          let power : 10 ^ place ≡ 10 ^ (place - e - 1) * 10 * 10 ^ e = tens_split (place - e - 1 + 1) e place (omega arith) ∙ ap (λ t. t * 10 ^ e) (tens_next (place - e - 1)) in
+          let shape : c * 10 ^ (place - e - 1) * 10 * 10 ^ e ≡ number * 10 ^ e = sym (ap (λ t. c * t) power ∙ regroup c (10 ^ (place - e - 1)) (10 ^ e)) ∙ whole in
+          let same : c * 10 ^ (place - e - 1) * 10 ≡ number = eq_of_mul-eq-mul_right (10 ^ e) (tens_positive e) (c * 10 ^ (place - e - 1) * 10) number shape in
+          let last : number % 10 ≡ 0 = ap (λ n. n % 10) (sym same) ∙ mul-mod_left (c * 10 ^ (place - e - 1)) 10 in
+          let some : 0 < number % 10 = h.last p in
+          absurd (omega arith)
+      | inr s ↦ s
+    ]
 
 pub below_none : (ds : List ℕ) (top place : ℕ) → IsTrimmed ds top → place + length ds ≤ top + 1 → count_of ds top % 10 ^ place ≡ 0
 below_none ds top place h l = mod_below_power (number_from_digits 10 ds) (top + 1 - length ds) place (omega arith)

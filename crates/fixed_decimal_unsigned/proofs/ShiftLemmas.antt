@@ -16,11 +16,13 @@ pub lowest_is : (ds : List ℕ) (top most : ℕ) → IsTrimmed ds top → most �
 lowest_is [] top most h l = record {
   under = omega arith;
   whole = mod_below_power 0 (top + 1 - 0) (min most (top + 1 - 0)) (omega arith);
-  highest = λ p a w. let t = h.zero_top refl in omega arith }
+  highest = λ p a w. let t = h.zero_top refl in omega arith;
+}
 lowest_is (c ∷ cs) top most h l = record {
   under = omega arith;
   whole = mod_below_power (number_from_digits 10 (c ∷ cs)) (top + 1 - length (c ∷ cs)) (min most (top + 1 - length (c ∷ cs))) (omega arith);
-  highest = λ p a w. let r = whole_room (c ∷ cs) top p h (omega arith) w in omega arith }
+  highest = λ p a w. let r = whole_room (c ∷ cs) top p h (omega arith) w in omega arith;
+}
 
 greatest_of : (top new : ℕ) → new ≡ max top 32768 → max (max 32768 (0 - 1)) top ≡ new
 greatest_of top new e = omega arith
@@ -37,9 +39,12 @@ pub pads_start : (ds : List ℕ) (top low high new p q : ℕ) (old : Number) →
 pads_start ds top low high new p q old s e ep over n =
     subst (λ x. PadsStart x old (number_made (count_of ds top) low new)) ep
     (subst (λ v. PadsStart p v (number_made (count_of ds top) low new)) e
-    (record { count = refl; low = refl;
+    (record {
+      count = refl;
+      low = refl;
       high = λ _. subst (IsHighest 32768 p (count_of ds top)) (padded_of top p new over n) (highest_is ds top 32768 p (trimmed_of ds top low high s) (omega arith));
-      same = λ under. absurd (omega arith) }))
+      same = λ under. absurd (omega arith);
+    }))
 
 pub trims_end : (ds : List ℕ) (top low high new : ℕ) (old : Number) → IsStored ds top low high → number_made (count_of ds top) low high ≡ old → new ≡ min 32768 (top + 1 - length ds) → TrimsEnd old (number_made (count_of ds top) new high)
 trims_end ds top low high new old s e n =
@@ -50,9 +55,12 @@ pub pads_end : (ds : List ℕ) (top low high new p q : ℕ) (old : Number) → I
 pads_end ds top low high new p q old s e ep under n =
     subst (λ x. PadsEnd x old (number_made (count_of ds top) new high)) ep
     (subst (λ v. PadsEnd p v (number_made (count_of ds top) new high)) e
-    (record { count = refl; high = refl;
+    (record {
+      count = refl;
+      high = refl;
       low = λ _. subst (IsLowest p (count_of ds top)) (sym n) (lowest_is ds top p (trimmed_of ds top low high s) under);
-      same = λ over. absurd (omega arith) }))
+      same = λ over. absurd (omega arith);
+    }))
 
 pub trims_whole : (ds : List ℕ) (top low high : ℕ) (old : Number) → IsStored ds top low high → number_made (count_of ds top) low high ≡ old → min 32768 (top + 1 - length ds) ≡ 32768 → TrimsWhole old (number_made (count_of ds top) 32768 high)
 trims_whole ds top low high old s e n =
@@ -64,7 +72,8 @@ trims_not ds top low high old s e n =
     subst (λ v. TrimsWhole v v) e
     (record {
       whole = λ w. let l = lowest_is ds top 32768 (trimmed_of ds top low high s) (omega arith) in let h = l.highest 32768 (omega arith) w in absurd (n (omega arith));
-      fraction = λ _. refl })
+      fraction = λ _. refl;
+    })
 
 regroup_power : (n a b c d : ℕ) → a * b ≡ c * d → n * a * b ≡ n * c * d
 regroup_power n a b c d e = mul_assoc n a b ∙ ap (λ x. n * x) e ∙ sym (mul_assoc n c d)
@@ -87,5 +96,7 @@ shifts_made by ds top low high moved ml mh lo hi old s e under over t el eh nl n
       within = λ _. record {
         count = shifted_count ds top moved (rise by) (fall by) t (λ p. let a = t p in let r = s.room in omega arith) (let r = s.room in omega arith);
         low = omega arith;
-        high = omega arith };
-      beyond = λ bad. absurd (bad (record { low = under; high = over })) })
+        high = omega arith;
+      };
+      beyond = λ bad. absurd (bad (record { low = under; high = over }));
+    })

@@ -90,7 +90,8 @@ abbrev pub number_at : ℕ → ℕ → ℕ → ℕ → ℕ → Number
 number_at mantissa above below up down = record {
   count = mantissa * 10 ^ (32768 + up - (below + down));
   low = min 32768 (32768 + up - (below + down));
-  high = max 32768 (32768 + up + above - (down + 1)) }
+  high = max 32768 (32768 + up + above - (down + 1));
+}
 
 abbrev pub IsWithin : Parts → Type 0
 IsWithin parts = AreEndsIn (length parts.integer) (length parts.fraction) (up_of parts) (down_of parts)

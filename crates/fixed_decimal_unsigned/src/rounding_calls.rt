@@ -47,7 +47,11 @@ impl UnsignedDecimal {
     pub fn round_with_mode(&mut self, position: i16, mode: UnsignedRoundingMode)
         ensures { Rounds mode RoundingIncrement.MultiplesOf1 (place position) self.old self.new }
     {
-        let _succeeds = self.round_with_mode_and_increment(position, mode, RoundingIncrement::MultiplesOf1);
+        let _succeeds = self.round_with_mode_and_increment(
+            position,
+            mode,
+            RoundingIncrement::MultiplesOf1,
+        );
     }
 
     /// Rounds at a position to the nearest multiple, a tie to the even one.

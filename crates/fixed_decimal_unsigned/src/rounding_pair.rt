@@ -56,7 +56,11 @@ fn is_exact(over: u8, has_rest: bool) -> bool
 fn step_up(mode: UnsignedRoundingMode, half: Ordering, is_odd: bool, step: u8) -> u8
     ensures { result ≡ cond (takes_upper_of mode half is_odd) step 0 }
 {
-    if takes_upper(mode, half, is_odd) { step } else { 0 }
+    if takes_upper(mode, half, is_odd) {
+        step
+    } else {
+        0
+    }
 }
 
 // Adds two digits, of which not both are zero, and no zero before the first digit or behind the last.

@@ -2,7 +2,6 @@
 ghost use Rattle.std.specs.Prelude.{◌≡◌, false, ◌++◌, ◌∷◌, [], length, MatchOption, IfSome, IfNone, IsTrue, ◌↔◌};
 ghost use Rattle.fixed_decimal_unsigned.specs.NumberText.{AreDigits, behind_point, SpellsExponent, Spells, IsNoText, minus_if};
 ghost use Rattle.fixed_decimal_unsigned.specs.TextParts.{StartsNoDigit, StartsNoPoint, IsNoFraction, IsNoExponent, StartsNoMinus, IsMark};
-
 ghost use Rattle.fixed_decimal_unsigned.specs.BorrowedParts.{parts_of};
 
 // The parts of a text, borrowed from it.

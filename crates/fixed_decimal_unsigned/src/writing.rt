@@ -78,7 +78,11 @@ fn text_length(number: &UnsignedDecimal) -> usize
     ensures { result ≡ length (text_of number.now) }
 {
     let digits = (number.high - number.low) as usize + 1;
-    if number.low < ONES { digits + 1 } else { digits }
+    if number.low < ONES {
+        digits + 1
+    } else {
+        digits
+    }
 }
 
 impl Writeable for UnsignedDecimal {

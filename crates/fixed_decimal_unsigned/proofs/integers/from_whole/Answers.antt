@@ -5,13 +5,13 @@ use Rattle.fixed_decimal_unsigned.proofs.integers.from_whole.Goals as goal
 pub overflow_add-ends-2 : goal.overflow_add-ends-2
 overflow_add-ends-2 c =
     let few : length c.push_number.new.digits.items < 40 =
-        left_few c.push_number.new.digits.items c.args.number c.strip_zeros-left.result.0 c.strip_zeros-left.result.1 c.in_ok-push_number.ensures.value c.strip_zeros-left.ensures.value (omega arith) c.in_ok-push_number.ensures.first in
+    left_few c.push_number.new.digits.items c.args.number c.strip_zeros-left.result.0 c.strip_zeros-left.result.1 c.in_ok-push_number.ensures.value c.strip_zeros-left.ensures.value (omega arith) c.in_ok-push_number.ensures.first in
     let at = c.len.ensures.value in let zeros = c.strip_zeros-left.ensures.few in omega arith
 
 pub overflow_cast-ends-2 : goal.overflow_cast-ends-2
 overflow_cast-ends-2 c =
     let few : length c.push_number.new.digits.items < 40 =
-        left_few c.push_number.new.digits.items c.args.number c.strip_zeros-left.result.0 c.strip_zeros-left.result.1 c.in_ok-push_number.ensures.value c.strip_zeros-left.ensures.value (omega arith) c.in_ok-push_number.ensures.first in
+    left_few c.push_number.new.digits.items c.args.number c.strip_zeros-left.result.0 c.strip_zeros-left.result.1 c.in_ok-push_number.ensures.value c.strip_zeros-left.ensures.value (omega arith) c.in_ok-push_number.ensures.first in
     let at = c.len.ensures.value in let zeros = c.strip_zeros-left.ensures.few in omega arith
 
 pub returns : goal.returns

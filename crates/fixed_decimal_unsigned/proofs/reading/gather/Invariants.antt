@@ -8,4 +8,5 @@ invariant-loop-c l = record {
   value : digits_value_after 10 (number_from_digits 10 l.digits.items) (drop l.c-index l.text) ≡ digits_value_after 10 (number_from_digits 10 l.initial.digits.items) l.text;
   tens : AllBelowBase 10 l.digits.items;
   first : 0 < length l.digits.items → 0 < slice_index l.digits.items 0;
-  length_le : length l.digits.items ≤ length l.initial.digits.items + l.c-index }
+  length_le : length l.digits.items ≤ length l.initial.digits.items + l.c-index;
+}

@@ -11,8 +11,8 @@ returns-in_default-clause-limit c = λ _ h.
     let p = parts_of c.args.parts.now in
     let r = c.without_mantissa_zeros.result in
     let zero : c.is_none.result ≡ (mantissa_of p == 0) =
-        c.is_none.ensures ∙ none_kept (mantissa_of p) (spelled (r.0.now ++ r.1.now)) (length p.integer + length p.fraction - (length r.0.now + length r.1.now)) (length r.0.now + length r.1.now)
-            c.without_mantissa_zeros.ensures.value (spelled_none r.0.now r.1.now) c.without_mantissa_zeros.ensures.last in
+    c.is_none.ensures ∙ none_kept (mantissa_of p) (spelled (r.0.now ++ r.1.now)) (length p.integer + length p.fraction - (length r.0.now + length r.1.now)) (length r.0.now + length r.1.now)
+    c.without_mantissa_zeros.ensures.value (spelled_none r.0.now r.1.now) c.without_mantissa_zeros.ensures.last in
     let up : c.moves_of-up.result.0 ≡ min (up_of p) 65536 = c.moves_of-up.ensures.up ∙ ap (λ b. min (cond (b || p.negative) 0 (spelled p.exponent)) 65536) zero in
     let down : c.moves_of-up.result.1 ≡ min (down_of p) 65536 = c.moves_of-up.ensures.down ∙ ap (λ b. min (cond b 0 (cond p.negative (spelled p.exponent) 0)) 65536) zero in
     c.in_default.ensures.beyond
@@ -25,8 +25,8 @@ returns-clause-within c =
     let p = parts_of c.args.parts.now in
     let r = c.without_mantissa_zeros.result in
     let zero : c.is_none.result ≡ (mantissa_of p == 0) =
-        c.is_none.ensures ∙ none_kept (mantissa_of p) (spelled (r.0.now ++ r.1.now)) (length p.integer + length p.fraction - (length r.0.now + length r.1.now)) (length r.0.now + length r.1.now)
-            c.without_mantissa_zeros.ensures.value (spelled_none r.0.now r.1.now) c.without_mantissa_zeros.ensures.last in
+    c.is_none.ensures ∙ none_kept (mantissa_of p) (spelled (r.0.now ++ r.1.now)) (length p.integer + length p.fraction - (length r.0.now + length r.1.now)) (length r.0.now + length r.1.now)
+    c.without_mantissa_zeros.ensures.value (spelled_none r.0.now r.1.now) c.without_mantissa_zeros.ensures.last in
     let up : c.moves_of-up.result.0 ≡ min (up_of p) 65536 = c.moves_of-up.ensures.up ∙ ap (λ b. min (cond (b || p.negative) 0 (spelled p.exponent)) 65536) zero in
     let down : c.moves_of-up.result.1 ≡ min (down_of p) 65536 = c.moves_of-up.ensures.down ∙ ap (λ b. min (cond b 0 (cond p.negative (spelled p.exponent) 0)) 65536) zero in
     ends_uncapped (length p.integer) (length p.fraction) (up_of p) (down_of p)
@@ -39,8 +39,8 @@ returns-clause-value c =
     let r = c.without_mantissa_zeros.result in
     let zeros = length p.integer + length p.fraction - (length r.0.now + length r.1.now) in
     let zero : c.is_none.result ≡ (mantissa_of p == 0) =
-        c.is_none.ensures ∙ none_kept (mantissa_of p) (spelled (r.0.now ++ r.1.now)) zeros (length r.0.now + length r.1.now)
-            c.without_mantissa_zeros.ensures.value (spelled_none r.0.now r.1.now) c.without_mantissa_zeros.ensures.last in
+    c.is_none.ensures ∙ none_kept (mantissa_of p) (spelled (r.0.now ++ r.1.now)) zeros (length r.0.now + length r.1.now)
+    c.without_mantissa_zeros.ensures.value (spelled_none r.0.now r.1.now) c.without_mantissa_zeros.ensures.last in
     let up : c.moves_of-up.result.0 ≡ min (up_of p) 65536 = c.moves_of-up.ensures.up ∙ ap (λ b. min (cond (b || p.negative) 0 (spelled p.exponent)) 65536) zero in
     let down : c.moves_of-up.result.1 ≡ min (down_of p) 65536 = c.moves_of-up.ensures.down ∙ ap (λ b. min (cond b 0 (cond p.negative (spelled p.exponent) 0)) 65536) zero in
     let within = c.in-Some.ensures.within in
@@ -51,7 +51,7 @@ returns-clause-value c =
     let ends = c.in-Some.ends in
     let number = number_from_digits 10 c.in_ok-digits.digits.items in
     let value : mantissa_of p ≡ number * 10 ^ left =
-        c.without_mantissa_zeros.ensures.value ∙ ap (λ n. n * 10 ^ zeros) (sym c.in_ok-digits.ensures.value) ∙ ap (λ k. number * 10 ^ k) (zeros_grouped a b (length r.0.now) (length r.1.now)) in
+    c.without_mantissa_zeros.ensures.value ∙ ap (λ n. n * 10 ^ zeros) (sym c.in_ok-digits.ensures.value) ∙ ap (λ k. number * 10 ^ k) (zeros_grouped a b (length r.0.now) (length r.1.now)) in
     from_fields c.assembled.result (number * 10 ^ (ends.last + left)) (min 32768 ends.last) (max 32768 ends.first) c.assembled.ensures.count c.assembled.ensures.low c.assembled.ensures.high
     ∙ assembled_is (mantissa_of p) a b c.moves_of-up.result.0 c.moves_of-up.result.1 number left ends.first ends.last within c.requires.some value c.in-Some.ensures.first c.in-Some.ensures.last
     ∙ ap (λ u. number_at (mantissa_of p) a b u c.moves_of-up.result.1) up_is

@@ -6,7 +6,8 @@ abbrev pub invariant-loop-last : goal.invariant-loop-last
 invariant-loop-last l = record {
   digits : AreDigits l.kept;
   within : length l.kept ≤ length l.text;
-  value : spelled l.text ≡ spelled l.kept * 10 ^ (length l.text - length l.kept) }
+  value : spelled l.text ≡ spelled l.kept * 10 ^ (length l.text - length l.kept);
+}
 
 abbrev pub decreases-loop-last : goal.decreases-loop-last
 decreases-loop-last l = length l.kept

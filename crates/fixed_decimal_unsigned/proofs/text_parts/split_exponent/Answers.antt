@@ -9,7 +9,7 @@ pub returns-then-not-is_empty-clause-none : goal.returns-then-not-is_empty-claus
 returns-then-not-is_empty-clause-none c = λ negative exponent h.
     let first : c.args.text.now ≡ c.in-Some.mark.now ∷ c.in-Some.tail.now = search rules in
     let found = found_exponent c.args.text.now c.in-Some.tail.now c.split_minus-negative.result.1.now c.split_digits.result.0.now c.split_digits.result.1.now
-                c.in-Some.mark.now c.split_minus-negative.result.0 first c.split_minus-negative.ensures.whole c.split_minus-negative.ensures.none
-                c.split_digits.ensures.whole c.split_digits.ensures.digits c.split_digits.ensures.rest negative exponent h in
+    c.in-Some.mark.now c.split_minus-negative.result.0 first c.split_minus-negative.ensures.whole c.split_minus-negative.ensures.none
+    c.split_digits.ensures.whole c.split_digits.ensures.digits c.split_digits.ensures.rest negative exponent h in
     let gone : length c.split_digits.result.1.now ≡ 0 = ap length found.1 in
     not_none (length c.split_digits.result.1.now) c.if-not-is_empty.ensures gone

@@ -19,7 +19,8 @@ loop-left-preserved g c =
     record {
       left = omega arith;
       writing = writing_goes_on g.S.Sink.takes g.S.Sink.refused g.met.S.Sink.joins _ _ _ _ (bytes (encode_utf8 (48 + c.digit_at-digit.result))) _
-          (rw next at c.loop-left.invariant.writing) c.in_ok-write_char.ensures.ok c.in_ok-write_char.ensures.refused }
+          (rw next at c.loop-left.invariant.writing) c.in_ok-write_char.ensures.ok c.in_ok-write_char.ensures.refused;
+    }
 
 pub returns-in_err-write_char-clause-begun : goal.returns-in_err-write_char-clause-begun
 returns-in_err-write_char-clause-begun g c =
@@ -30,7 +31,7 @@ returns-in_err-write_char-clause-begun g c =
     let next = next_digit c.args.number.now.count c.args.base left (48 + c.digit_at-digit.result) some (ap (λ d. character d) value) in
     on_err c.from_residual.result
     (writing_stops g.S.Sink.takes g.S.Sink.refused g.met.S.Sink.joins g.S.Sink.lacks_room g.met.S.Sink.lacks_more _ _ _ _ (bytes (encode_utf8 (48 + c.digit_at-digit.result))) _
-        (rw next at c.loop-left.invariant.writing) c.in_err-write_char.ensures.begun)
+    (rw next at c.loop-left.invariant.writing) c.in_err-write_char.ensures.begun)
 
 pub returns-clause-ok : goal.returns-clause-ok
 returns-clause-ok g c =

@@ -1,4 +1,3 @@
-use Rattle.std.proofs.Common.{◌≡◌}
 use Rattle.fixed_decimal.proofs.SignedTextLemmas.{no_signed_text}
 use Rattle.fixed_decimal.proofs.decimal.Signed+UnsignedDecimal.try_from_utf8.Goals as goal
 

@@ -18,7 +18,7 @@ invariant_of-self-2 g c =
     let new = c.within_limit-self-inside.new.digits.items in let top = c.within_limit-self-inside.result in
     let at = c.place_of-place.result in
     let whole = limited_multiple c.args.mode c.args.increment at (count_of i.digits.items i.top) (count_of c.round_digits.new.digits.items c.in_ok-top.top) (count_of new top)
-                c.in_ok-top.ensures.value c.within_limit-self-inside.ensures.value in
+    c.in_ok-top.ensures.value c.within_limit-self-inside.ensures.value in
     rounded_kept new top at i.high c.min-self-inside.result c.max-self-inside.result c.within_limit-self-inside.ensures.trimmed c.self.invariant.ones whole
     c.min-self-inside.ensures
     (c.max-self-inside.ensures ∙ ap (λ x. max x top) (c.max.ensures ∙ ap (λ x. max i.high x) c.saturating_sub.ensures))
