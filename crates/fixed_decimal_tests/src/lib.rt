@@ -5,6 +5,4 @@
 #[cfg(test)]
 mod examples;
 #[cfg(test)]
-mod rounding;
-#[cfg(test)]
 mod texts;
