@@ -1,5 +1,4 @@
 //! The examples that the docs of the public calls give, one test a call.
-use crate::fakes::{Pieces, Room};
 use locale_numbers::{Book, SAMPLE_BOOK, Tracked, answer, run};
 use std::test::Fail;
 
@@ -13,18 +12,6 @@ fn example_answer(rt: HostRuntime) -> Result<(), Fail> {
         "ar-EG-u-nu-thai\tplain\tauto\tkeep\t-\t1234".as_bytes(),
     )?;
     assert_eq!(rt; text.as_slice(), "ok\t๑٬๒๓๔".as_bytes());
-    Ok(())
-}
-
-#[test]
-fn example_run(rt: HostRuntime) -> Result<(), Fail> {
-    let alloc = rt.alloc();
-    let book = Book::from_json(alloc, SAMPLE_BOOK.as_bytes())?;
-    let mut reader = Pieces::ending("en\tplain\tauto\tkeep\t-\t-987654.321\n\n", 4096);
-    let mut writer = Room::wide(alloc, 4096);
-    let report = run(alloc, &book, 16, &mut reader, &mut writer)?;
-    assert_eq!(rt; writer.held(), "ok\t-987,654.321\nerr\tshape\n".as_bytes());
-    assert_eq!(rt; report.lines, 2);
     Ok(())
 }
 

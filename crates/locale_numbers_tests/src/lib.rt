@@ -1,5 +1,5 @@
 //! Rows of values over the public calls of `locale_numbers`: what a request line is answered, which
-//! book is refused, what a run leaves. Expected values come from docs/, never from the program.
+//! book is taken, what the program's faults say. Expected values come from docs/, never from the program.
 
 #![tactic(auto)]
 
@@ -8,12 +8,4 @@ mod books;
 #[cfg(test)]
 mod examples;
 #[cfg(test)]
-mod fakes;
-#[cfg(test)]
-mod faulty_io;
-#[cfg(test)]
 mod program_words;
-#[cfg(test)]
-mod running;
-#[cfg(test)]
-mod worked_rows;

@@ -1,6 +1,5 @@
 //! The program's words, statuses and its line on standard error.
-use crate::fakes::{Pieces, Room};
-use locale_numbers::{BookError, ProgramFault, RunError, Words, program, read_words};
+use locale_numbers::{BookError, ProgramFault, RunError, Words, read_words};
 use std::test::Fail;
 
 #[test]
@@ -44,22 +43,5 @@ fn each_fault_has_a_status_and_a_line(rt: HostRuntime) -> Result<(), Fail> {
         assert_eq!(rt; fault.status(), status, "{want}");
         assert_eq!(rt; fault.number(), status, "{want}");
     }
-    Ok(())
-}
-
-#[test]
-fn the_program_answers_under_the_sample_book(rt: HostRuntime) -> Result<(), Fail> {
-    let alloc = rt.alloc();
-    let words = Words {
-        book: None,
-        capacity: 16,
-    };
-    let mut reader = Pieces::ending("en\tplain\tauto\tkeep\t-\t-987654.321\n", 5);
-    let mut writer = Room::wide(alloc, 5);
-    program(&rt, alloc, &words, &mut reader, &mut writer)?;
-    assert_eq!(rt; writer.held(), "ok\t-987,654.321\n".as_bytes());
-    let mut broken = Pieces::failing("", 5);
-    let given = program(&rt, alloc, &words, &mut broken, &mut writer);
-    assert_eq!(rt; given, Err(ProgramFault::Run(RunError::Read)));
     Ok(())
 }

@@ -1,5 +1,0 @@
-//! Request lines and their answers.
-
-mod grouping;
-mod plain;
-mod refusals;
