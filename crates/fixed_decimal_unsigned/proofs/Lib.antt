@@ -15,4 +15,6 @@ pub mod RangeLemmas
 pub mod ShiftLemmas
 pub mod CutLemmas
 pub mod IntegerLemmas
+pub mod EqualityLemmas
+pub mod NonzeroLemmas
 pub mod WritingLemmas

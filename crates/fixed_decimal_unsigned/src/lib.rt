@@ -5,12 +5,14 @@
 
 #![tactic(auto)]
 
+mod comparing;
 mod cutting;
 mod digits;
 mod error;
 mod integers;
 pub mod laws;
 mod modes;
+mod nonzero;
 mod places;
 mod reading;
 mod rounding;
