@@ -17,4 +17,5 @@ pub mod CutLemmas
 pub mod IntegerLemmas
 pub mod EqualityLemmas
 pub mod NonzeroLemmas
+pub mod ConcatenationLemmas
 pub mod WritingLemmas

@@ -48,7 +48,7 @@ ones_only (negsuc n) e = absurd (omega (arith, e))
 none_kept : (ds : List ℕ) (top : ℕ) → IsTrimmed ds top → count_of ds top ≡ 0 → length ds ≡ 0
 none_kept ds top h z = ⊎_elim (λ e. e) (λ p. let some = count_positive ds top p (h.first p) in absurd (omega arith)) (eq-zero-or-pos (length ds))
 
-some_kept : (ds : List ℕ) (top : ℕ) → 0 < count_of ds top → 0 < length ds
+pub some_kept : (ds : List ℕ) (top : ℕ) → 0 < count_of ds top → 0 < length ds
 some_kept ds top p = ⊎_elim (λ e. let z = count_none ds top e in absurd (omega arith)) (λ h. h) (eq-zero-or-pos (length ds))
 
 module _ (ds : List ℕ) (top low high : ℕ) (s : IsStored ds top low high) (old : Number) (e : number_made (count_of ds top) low high ≡ old) (r : ℤ) where

@@ -1,4 +1,5 @@
 pub mod BorrowedParts
+pub mod Concatenation
 pub mod Equality
 pub mod ErrorNumbers
 pub mod Integers
