@@ -18,4 +18,5 @@ pub mod IntegerLemmas
 pub mod EqualityLemmas
 pub mod NonzeroLemmas
 pub mod ConcatenationLemmas
+pub mod KnownValues
 pub mod WritingLemmas
