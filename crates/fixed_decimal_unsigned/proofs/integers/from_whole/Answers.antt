@@ -1,4 +1,4 @@
-use Rattle.std.proofs.Common.{◌<◌, ◌≡◌, ◌+◌, ◌-◌, length, arith, refl, ap}
+use Rattle.std.proofs.Common.{◌<◌, ◌+◌, ◌-◌, length, arith, ap}
 use Rattle.fixed_decimal_unsigned.proofs.IntegerLemmas.{left_few, integer_made, some_digits}
 use Rattle.fixed_decimal_unsigned.proofs.integers.from_whole.Goals as goal
 
