@@ -1,5 +1,6 @@
 // The digits of a number: this file alone knows how they lie in memory.
 ghost use Rattle.std.specs.Prelude.{◌≡◌, ◌==◌, ◌+◌, ◌-◌, ◌<◌, ◌≤◌, [], ◌∷◌, ◌++◌, length, slice_index, slice_get, take, drop, IsOk, IfOk, OnOk, OnErr};
+ghost use Rattle.std.specs.Bool.{Decides};
 
 use smallvec::SmallVec;
 use std::alloc::{AllocError, Global};
@@ -67,6 +68,7 @@ impl Digits {
         requires { digit < 10 }
         ensures ok { OnOk result (self.new.items ≡ self.old.items ++ digit ∷ []) }
         ensures err { OnErr result (self.new ≡ self.old) }
+        ensures room { OnErr result (8 ≤ length self.old.items) }
     {
         match self.kept.push(digit) {
             Ok(()) => Ok(()),
@@ -125,9 +127,17 @@ impl Digits {
         self.kept.truncate(left);
     }
 
+    // Whether the digits are those of another list.
+    pub fn is_same(&self, other: &Digits) -> bool
+        ensures { Decides result (self.now.items ≡ other.now.items) }
+    {
+        self.kept.as_slice() == other.kept.as_slice()
+    }
+
     // The same digits in a list of their own.
     pub fn try_clone(&self) -> Result<Digits, AllocError>
-        ensures { IfOk result (λ d. d.items ≡ self.now.items) }
+        ensures value { IfOk result (λ d. d.items ≡ self.now.items) }
+        ensures room { OnErr result (8 < length self.now.items) }
     {
         let kept = SmallVec::from_slice(*self.kept.allocator(), self.kept.as_slice())?;
         Ok(Digits { kept })
