@@ -1,6 +1,8 @@
 //! The subtags of the language part: language, script, region and variant.
 
-ghost use Rattle.std.specs.Prelude.{◌≡◌};
+ghost use Rattle.std.specs.Prelude.{◌≡◌, ◌↔◌, IsTrue, codes};
+ghost use Rattle.std.specs.List.{list_all};
+ghost use Rattle.std.specs.Char.{is_ascii_alphabetic};
 ghost use Rattle.icu_locale_core_grammar.specs.declared.error.ParseError.{ParseError};
 ghost use Rattle.icu_locale_core_grammar.specs.Subtags.{is_language, is_script, is_region, is_variant, lower, upper, title};
 ghost use Rattle.icu_locale_core_subtags.specs.RuleLaws.{language_rule, script_rule, region_rule, variant_rule};
@@ -9,6 +11,7 @@ use crate::rule::SubtagRule;
 use crate::subtag_of::SubtagOf;
 use crate::words::{are_digits, are_letters, is_word};
 use icu_locale_core_grammar::ParseError;
+use std::marker::PhantomData;
 use tinystr::TinyAsciiStr;
 
 /// 2 or 3 letters, in lower case: `en`.
@@ -35,6 +38,39 @@ pub type Region = SubtagOf<RegionRule, 3>;
 /// A variant: 5 to 8 letters and digits, or 4 of which the first is a digit, in lower case. `1996` and `Valencia` read;
 /// other texts are `InvalidSubtag`.
 pub type Variant = SubtagOf<VariantRule, 8>;
+
+impl Language {
+    /// The language `und`, which is not known.
+    pub const UNKNOWN: Self = SubtagOf {
+        text: TinyAsciiStr::<3>::UND,
+        rule: PhantomData,
+    };
+
+    /// Whether the language is `und`.
+    pub fn is_unknown(&self) -> bool
+        ensures { IsTrue result ↔ (self.now ≡ codes "und") }
+    {
+        *self == Self::default()
+    }
+}
+
+/// The language `und`.
+impl Default for Language {
+    ghost is_default = { λ s. s ≡ codes "und" };
+
+    fn default() -> Self {
+        Self::UNKNOWN
+    }
+}
+
+impl Region {
+    /// Whether the region is of letters: `US` is, and `419` is not.
+    pub fn is_alphabetic(&self) -> bool
+        ensures { result ≡ list_all is_ascii_alphabetic self.now }
+    {
+        self.text.is_ascii_alphabetic()
+    }
+}
 
 impl SubtagRule<3> for LanguageRule {
     ghost accepts = { is_language };

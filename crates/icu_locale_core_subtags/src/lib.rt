@@ -11,10 +11,12 @@
 #![tactic(auto)]
 
 mod comparing;
+mod json;
 mod language_part;
 pub mod laws;
 mod pieces;
 pub mod private;
+mod raw;
 mod rule;
 mod subtag_of;
 pub mod transform;
@@ -23,6 +25,7 @@ mod word;
 mod words;
 mod writing;
 
+pub use crate::json::text_of_json;
 pub use crate::language_part::{
     Language, LanguageRule, Region, RegionRule, Script, ScriptRule, Variant, VariantRule,
 };
