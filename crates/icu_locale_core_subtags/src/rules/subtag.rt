@@ -1,11 +1,11 @@
-//! A piece of an extension that has no rule of its own.
+//! A subtag of any kind: a piece of an extension that has no rule of its own.
 
 ghost use Rattle.std.specs.Prelude.{◌≡◌, ◌↔◌, ◌≤◌, IsTrue, true, false, length, MatchResult};
 ghost use Rattle.icu_locale_core_grammar.specs.declared.error.ParseError.{ParseError};
 ghost use Rattle.icu_locale_core_grammar.specs.Subtags.{is_other_piece, lower};
 ghost use Rattle.icu_locale_core_subtags.specs.RuleLaws.{other_piece_rule};
 
-use crate::language_part::Script;
+use super::script::Script;
 use crate::rule::SubtagRule;
 use crate::subtag_of::SubtagOf;
 use crate::words::is_word;
