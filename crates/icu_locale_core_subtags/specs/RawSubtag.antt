@@ -1,5 +1,5 @@
 -- The raw form of a subtag: N bytes that are its text in normal case, and then NULs.
--- Defined in docs/tags.md, "Subtags".
+-- Defined in docs/tags.md, "Subtags as values".
 -- Cited by `try_from_raw`.
 use Rattle.std.specs.Prelude.{◌≡◌, ℕ, Bool, true, List}
 use Rattle.tinystr.specs.SmallText.{IsForm, text_of}
