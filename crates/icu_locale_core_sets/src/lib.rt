@@ -1,0 +1,2 @@
+//! Sets and lists of subtags.
+#![tactic(auto)]
