@@ -1,8 +1,8 @@
 -- What a search of a rising list tells of the text in it, and of the list with one more text or one less.
-use Rattle.std.proofs.Common.{◌≡◌, ℕ, zero, suc, ◌+◌, ◌<◌, ◌≤◌, Bool, true, false, not, ◌||◌, List, [], ◌∷◌, ◌++◌, length, take, drop, get_or, cond, sym, refl, ap, ◌∙◌, subst, arith}
+use Rattle.std.proofs.Common.{◌≡◌, ℕ, zero, suc, ◌+◌, ◌<◌, ◌≤◌, Bool, true, false, not, ◌||◌, List, [], ◌∷◌, ◌++◌, length, take, drop, get_or, cond, Result, Ok, Err, MatchResult, sym, refl, ap, ◌∙◌, subst, arith}
 use Rattle.std.specs.Prelude.{filter}
 use Rattle.std.specs.List.{AllByRecursion, AllWithin, HoldsAt, IsDistinct, insert, remove}
-use Rattle.std.specs.List.Sorted.{IsStrictlySortedBy, IsNonDecreasingBy}
+use Rattle.std.specs.List.Sorted.{IsStrictlySortedBy, IsNonDecreasingBy, IsPartitionPoint, IsSearchInRange, IsBinarySearchResult}
 use Rattle.std.specs.Ordering.{match_ordering, ordering_reverse, ordering_index, is_eq, is_lt}
 use Rattle.std.specs.declared.cmp.Ordering.{Ordering}
 use Rattle.std.specs.declared.cmp.Ordering.TheVariants.{Less, Equal, Greater}
@@ -14,11 +14,14 @@ use Rattle.std.proofs.lemmas.Map.Keys.{Less-from_sorted}
 use Rattle.std.proofs.Math.Seq.{drop-cons}
 use Rattle.icu_locale_core_grammar.specs.Subtags.{Text, same_text}
 use Rattle.icu_locale_core_grammar.specs.Collections.{text_cmp, contains_text, AreApart, Rises, insert_text}
+use Rattle.icu_locale_core_grammar.specs.WellFormed.{IsNormalPiece}
 use Rattle.icu_locale_core_grammar.proofs.CollectionLemmas.{same_text_swapped, same_text_refl, apart_new, contains-append}
 use Rattle.icu_locale_core_grammar.proofs.ListLemmas.{each-append, each_front, each_rest, each_weaker}
-use Rattle.icu_locale_core_grammar.proofs.SetLemmas.{cmp_equal, cmp_swapped, cmp_through}
+use Rattle.icu_locale_core_grammar.proofs.SetLemmas.{cmp_equal, cmp_swapped, cmp_through, Rises-insert}
 use Rattle.icu_locale_core_grammar.proofs.NormalBodies.{apart_from_rising}
-use Rattle.icu_locale_core_sets.specs.SubtagSets.{remove_text}
+use Rattle.icu_locale_core_grammar.proofs.MapLemmas.{rises_none, each_inserted}
+use Rattle.icu_locale_core_sets.specs.SubtagSets.{remove_text, IsSubtagSet}
+use Rattle.icu_locale_core_sets.specs.Places.{StandsAt, BelongsAt}
 
 -- ---- what holds at each place holds of each text
 
@@ -187,3 +190,41 @@ Rises-remove t (u ∷ us) rises = by (not (same_text t u)) (each_kept (λ v. tex
     by : (b : Bool) → AllByRecursion (λ v. text_cmp u v ≡ Less) (remove_text t us) → Rises (remove_text t us) → Rises (cond b (u ∷ remove_text t us) (remove_text t us))
     by true above more = (above, more)
     by false above more = more
+
+-- ---- what a search answers
+
+pub stands_at : (t : Text) (us : List Text) (i : ℕ) → Rises us → i < length us → HoldsAt (λ u. text_cmp u t ≡ Equal) us i → StandsAt t us i
+stands_at t us i rises within at = record {
+  within = within;
+  there = contains_at t us i within at;
+  kept = insert_contained t us rises (contains_at t us i within at);
+  rest = remove_at t us i rises within at;
+}
+
+pub belongs_at : (t : Text) (us : List Text) (i : ℕ) → i ≤ length us → IsPartitionPoint (λ u. text_cmp u t ≡ Less) (λ u. text_cmp u t ≡ Greater) us i → BelongsAt t us i
+belongs_at t us i within point = record {
+  within = within;
+  missing = contains_at_gap t us i within point.0 point.1;
+  more = insert_at_gap t us i within point.0 point.1;
+  same = remove_at_gap t us i within point.0 point.1;
+}
+
+pub place_found : (t : Text) (us : List Text) (r : Result ℕ ℕ) → Rises us → IsSearchInRange r (length us) → IsBinarySearchResult (λ u. text_cmp u t) us r
+    → MatchResult r (StandsAt t us) (BelongsAt t us)
+place_found t us (Ok i) rises within at = stands_at t us i rises within at
+place_found t us (Err i) rises within point = belongs_at t us i within (point (searchable t us rises))
+
+-- ---- what every set of subtags keeps
+
+module _ {accepts : List ℕ → Bool} {normal : List ℕ → List ℕ} where
+  pub no_subtags : IsSubtagSet accepts normal []
+  no_subtags = record { rises = rises_none; each = tt }
+
+  pub subtag_inserted : (t : Text) (us : List Text) → accepts t ≡ true → normal t ≡ t → IsSubtagSet accepts normal us → IsSubtagSet accepts normal (insert_text t us)
+  subtag_inserted t us is same set = record {
+    rises = Rises-insert t us set.rises;
+    each = each_inserted (IsNormalPiece accepts normal) t us (record { is = is; same = same }) set.each;
+  }
+
+  pub subtag_removed : (t : Text) (us : List Text) → IsSubtagSet accepts normal us → IsSubtagSet accepts normal (remove_text t us)
+  subtag_removed t us set = record { rises = Rises-remove t us set.rises; each = each_kept (IsNormalPiece accepts normal) t us set.each }

@@ -1,2 +1,11 @@
 //! Sets and lists of subtags.
 #![tactic(auto)]
+
+mod comparing;
+mod copying;
+mod place;
+mod subtag_set;
+mod variants;
+
+pub use crate::subtag_set::SubtagSet;
+pub use crate::variants::Variants;

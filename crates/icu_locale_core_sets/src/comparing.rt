@@ -1,0 +1,3 @@
+//! Equality, order and hash of sets: those of their lists of texts.
+
+ghost use Rattle.std.specs.Prelude.{◌≡◌};
