@@ -2,7 +2,6 @@
 #![tactic(auto)]
 
 mod comparing;
-mod copying;
 mod place;
 mod subtag_set;
 mod variants;

@@ -7,9 +7,9 @@ ghost use Rattle.icu_locale_core_sets.specs.Places.{StandsAt, BelongsAt};
 use icu_locale_core_subtags::{SubtagOf, SubtagRule};
 
 /// The place of the subtag, or the place where it would stand.
-pub(crate) fn place_of<R: SubtagRule<N>, const N: usize>(
-    items: &[SubtagOf<R, N>],
-    subtag: &SubtagOf<R, N>,
+pub(crate) fn place_of<R: SubtagRule<8>>(
+    items: &[SubtagOf<R, 8>],
+    subtag: &SubtagOf<R, 8>,
 ) -> Result<usize, usize>
     requires { Rises items.now }
     ensures { MatchResult result (StandsAt subtag.now items.now) (BelongsAt subtag.now items.now) }

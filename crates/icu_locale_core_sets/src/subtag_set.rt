@@ -6,7 +6,6 @@ ghost use Rattle.std.specs.Slice.Iter.{iter_rest};
 ghost use Rattle.icu_locale_core_grammar.specs.Collections.{contains_text, insert_text};
 ghost use Rattle.icu_locale_core_sets.specs.SubtagSets.{IsSubtagSet, remove_text};
 
-use crate::copying::copied;
 use crate::place::place_of;
 use icu_locale_core_subtags::laws::subtags_are_words;
 use icu_locale_core_subtags::{SubtagOf, SubtagRule};
@@ -15,13 +14,13 @@ use std::marker::Model;
 use std::mem;
 use std::slice;
 
-/// A set of subtags of the rule R, each of at most N characters: none of them twice, in byte order of their texts.
+/// A set of subtags of the rule R, each of at most 8 characters: none of them twice, in byte order of their texts.
 #[derive(Drop)]
-pub struct SubtagSet<R: SubtagRule<N>, const N: usize> {
-    items: Vec<SubtagOf<R, N>>,
+pub struct SubtagSet<R: SubtagRule<8>> {
+    items: Vec<SubtagOf<R, 8>>,
 }
 
-impl<R: SubtagRule<N>, const N: usize> Model for SubtagSet<R, N> {
+impl<R: SubtagRule<8>> Model for SubtagSet<R> {
     ghost use Rattle.std.specs.Prelude.{ℕ, List};
     ghost use Rattle.icu_locale_core_sets.specs.SubtagSets.{IsSubtagSet};
 
@@ -32,7 +31,7 @@ impl<R: SubtagRule<N>, const N: usize> Model for SubtagSet<R, N> {
     ghost invariant = { λ s. IsSubtagSet R.accepts R.normal s.items.items };
 }
 
-impl<R: SubtagRule<N>, const N: usize> SubtagSet<R, N> {
+impl<R: SubtagRule<8>> SubtagSet<R> {
     /// The empty set. It takes no memory.
     pub fn new(alloc: Global) -> Self
         ensures { result ≡ [] }
@@ -46,7 +45,7 @@ impl<R: SubtagRule<N>, const N: usize> SubtagSet<R, N> {
     ///
     /// `b` pushed into the set of `a`, `c` gives `a`, `b`, `c`. `AllocError` is answered for memory alone, and the set is
     /// then as before; a subtag that is there already takes none.
-    pub fn push(&mut self, subtag: SubtagOf<R, N>) -> Result<bool, AllocError>
+    pub fn push(&mut self, subtag: SubtagOf<R, 8>) -> Result<bool, AllocError>
         ensures succeeds { contains_text subtag self.old ≡ true → IsOk result }
         ensures changed { IfOk result (λ changed. changed ≡ not (contains_text subtag self.old)) }
         ensures value { OnOk result (self.new ≡ insert_text subtag self.old) }
@@ -66,7 +65,7 @@ impl<R: SubtagRule<N>, const N: usize> SubtagSet<R, N> {
     /// Takes the subtag out of the set; answers whether it was there.
     ///
     /// `b` taken out of the set of `a`, `b`, `c` leaves `a`, `c`. It takes no memory.
-    pub fn remove(&mut self, subtag: SubtagOf<R, N>) -> bool
+    pub fn remove(&mut self, subtag: SubtagOf<R, 8>) -> bool
         ensures there { result ≡ contains_text subtag self.old }
         ensures value { self.new ≡ remove_text subtag self.old }
     {
@@ -80,14 +79,14 @@ impl<R: SubtagRule<N>, const N: usize> SubtagSet<R, N> {
     }
 
     /// Whether the subtag is in the set.
-    pub fn contains(&self, subtag: &SubtagOf<R, N>) -> bool
+    pub fn contains(&self, subtag: &SubtagOf<R, 8>) -> bool
         ensures { result ≡ contains_text subtag.now self.now }
     {
         place_of(self.items.as_slice(), subtag).is_ok()
     }
 
     /// The subtags, in byte order.
-    pub fn as_slice(&self) -> &[SubtagOf<R, N>]
+    pub fn as_slice(&self) -> &[SubtagOf<R, 8>]
         ensures value { result.now ≡ self.now }
         ensures set { IsSubtagSet R.accepts R.normal self.now }
     {
@@ -109,14 +108,14 @@ impl<R: SubtagRule<N>, const N: usize> SubtagSet<R, N> {
     }
 
     /// The subtag at this place, counted from 0; `None` past the last.
-    pub fn get(&self, index: usize) -> Option<&SubtagOf<R, N>>
+    pub fn get(&self, index: usize) -> Option<&SubtagOf<R, 8>>
         ensures { option_copied result ≡ slice_get self.now index }
     {
         self.items.as_slice().get(index)
     }
 
     /// The least subtag; `None` where there is none.
-    pub fn first(&self) -> Option<&SubtagOf<R, N>>
+    pub fn first(&self) -> Option<&SubtagOf<R, 8>>
         ensures { option_copied result ≡ slice_get self.now 0 }
     {
         self.items.as_slice().first()
@@ -135,7 +134,7 @@ impl<R: SubtagRule<N>, const N: usize> SubtagSet<R, N> {
     pub fn try_clone(&self) -> Result<Self, AllocError>
         ensures { IfOk result (λ set. set ≡ self.now) }
     {
-        let items = copied(*self.items.allocator(), self.items.as_slice())?;
+        let items = self.items.clone()?;
         Ok(SubtagSet { items })
     }
 }

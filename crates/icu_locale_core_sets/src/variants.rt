@@ -7,9 +7,9 @@ use icu_locale_core_subtags::{Variant, VariantRule};
 use std::alloc::{AllocError, Global};
 
 /// The variants of a language identifier: none of them twice, in byte order.
-pub type Variants = SubtagSet<VariantRule, 8>;
+pub type Variants = SubtagSet<VariantRule>;
 
-impl SubtagSet<VariantRule, 8> {
+impl SubtagSet<VariantRule> {
     /// The set of this variant alone. `AllocError` is answered for memory alone.
     pub fn from_variant(alloc: Global, variant: Variant) -> Result<Variants, AllocError>
         ensures { IfOk result (λ set. set ≡ variant ∷ []) }
