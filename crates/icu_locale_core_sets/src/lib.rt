@@ -3,8 +3,10 @@
 
 mod comparing;
 mod place;
+mod printing;
 mod subtag_set;
 mod variants;
 
+pub use crate::printing::{pieces_length, write_pieces};
 pub use crate::subtag_set::SubtagSet;
 pub use crate::variants::Variants;

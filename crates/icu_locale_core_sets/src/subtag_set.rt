@@ -1,7 +1,8 @@
 //! A set of subtags of one rule, in byte order.
 
-ghost use Rattle.std.specs.Prelude.{◌≡◌, ◌==◌, true, false, not, [], length, IfOk, OnOk, OnErr, IsOk, slice_get};
+ghost use Rattle.std.specs.Prelude.{◌≡◌, ◌==◌, ℕ, List, true, false, not, [], length, IfOk, OnOk, OnErr, IsOk, slice_get};
 ghost use Rattle.std.specs.Option.{option_copied};
+ghost use Rattle.std.specs.Iterator.Adapters.{IterYieldsInOrder};
 ghost use Rattle.std.specs.Slice.Iter.{iter_rest};
 ghost use Rattle.icu_locale_core_grammar.specs.Collections.{contains_text, insert_text};
 ghost use Rattle.icu_locale_core_sets.specs.SubtagSets.{IsSubtagSet, remove_text};
@@ -11,8 +12,7 @@ use icu_locale_core_subtags::laws::subtags_are_words;
 use icu_locale_core_subtags::{SubtagOf, SubtagRule};
 use std::alloc::{AllocError, Global};
 use std::marker::Model;
-use std::mem;
-use std::slice;
+use std::{mem, slice};
 
 /// A set of subtags of the rule R, each of at most 8 characters: none of them twice, in byte order of their texts.
 #[derive(Drop)]
@@ -119,6 +119,15 @@ impl<R: SubtagRule<8>> SubtagSet<R> {
         ensures { option_copied result ≡ slice_get self.now 0 }
     {
         self.items.as_slice().first()
+    }
+
+    /// The subtags one after another, in byte order.
+    pub fn iter(&self) -> slice::Iter<'_, SubtagOf<R, 8>>
+        ensures rest { iter_rest result ≡ self.now }
+        ensures len { length (iter_rest result) ≡ length self.now }
+        ensures runs { IterYieldsInOrder (List ℕ) }
+    {
+        self.items.as_slice().iter()
     }
 
     /// Takes every subtag out; answers the set as it was. It takes no memory.
