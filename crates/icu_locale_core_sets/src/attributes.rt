@@ -1,6 +1,6 @@
 //! The attributes of a `u` extension.
 
-ghost use Rattle.std.specs.Prelude.{◌≡◌, ◌++◌, IfOk, IfErr, OnOk, OnErr};
+ghost use Rattle.std.specs.Prelude.{◌≡◌, [], ◌++◌, IsOk, IfOk, IfErr, OnOk, OnErr};
 ghost use Rattle.icu_locale_core_grammar.specs.Collections.{set_of};
 ghost use Rattle.icu_locale_core_grammar.specs.PartReaders.{ReadsAttributes};
 ghost use Rattle.icu_locale_core_sets.specs.Reading.{IsRefused};
@@ -20,6 +20,7 @@ impl SubtagSet<AttributeRule> {
     /// `foo-Bar-FOO` has `bar`, `foo`; the empty text has none. `InvalidExtension` where a piece is no attribute; `Memory`
     /// where a growth was refused. Source: UTS 35, section 3.6.
     pub fn try_from_str(alloc: Global, s: &str) -> Result<Attributes, ParseError>
+        ensures succeeds { s.now ≡ [] → IsOk result }
         ensures value { IfOk result (ReadsAttributes s.now) }
         ensures fault { IfErr result (IsRefused (ReadsAttributes s.now)) }
     {
@@ -28,6 +29,7 @@ impl SubtagSet<AttributeRule> {
 
     /// The set of the attributes of these bytes, as `try_from_str`.
     pub fn try_from_utf8(alloc: Global, code_units: &[u8]) -> Result<Attributes, ParseError>
+        ensures succeeds { code_units.now ≡ [] → IsOk result }
         ensures value { IfOk result (ReadsAttributes code_units.now) }
         ensures fault { IfErr result (IsRefused (ReadsAttributes code_units.now)) }
     {
