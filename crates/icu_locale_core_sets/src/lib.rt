@@ -6,6 +6,7 @@ mod comparing;
 mod comparing_private;
 mod place;
 mod printing;
+mod printing_private;
 mod private;
 mod subtag_set;
 mod variants;
