@@ -1,4 +1,4 @@
 pub mod PlaceLemmas
-pub mod ReadingLemmas
+pub mod JoiningLemmas
 pub mod PrintingLemmas
 pub mod LawLemmas
