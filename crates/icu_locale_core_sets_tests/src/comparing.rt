@@ -12,7 +12,7 @@ fn private_pieces_are_ordered_piece_by_piece(rt: HostRuntime) -> Result<(), Fail
         ("x-a", "x-b", Ordering::Less),
         ("x-a", "x-a-b", Ordering::Less),
         ("x-b-a", "x-a-b", Ordering::Greater),
-        // by pieces, where the texts are ordered the other way
+        // a piece that begins another comes first
         ("x-a-b", "x-a1", Ordering::Less),
     ] {
         let a = Private::try_from_str(rt.alloc(), left)?;
