@@ -1,0 +1,4 @@
+pub mod PlaceLemmas
+pub mod JoiningLemmas
+pub mod PrintingLemmas
+pub mod LawLemmas

@@ -1,0 +1,9 @@
+use Rattle.std.proofs.Common.{◌∙◌, sym}
+use Rattle.icu_locale_core_sets.proofs.JoiningLemmas.{set_of_joined, fold_past}
+use Rattle.icu_locale_core_sets.proofs.attributes.SubtagSet+AttributeRule.extend_from_attributes.Goals as goal
+
+pub returns-clause-value : goal.returns-clause-value
+returns-clause-value c =
+    let items = c.as_slice-attribute-items.result.now in
+    sym (fold_past c.loop-attribute.joined items c.loop-attribute.attribute-index c.loop-attribute-test.false) ∙ c.loop-attribute.invariant
+    ∙ sym (set_of_joined c.args.self.now c.args.other c.try_clone.ensures.set.rises)
