@@ -1,1 +1,2 @@
+pub mod SteppingLemmas
 pub mod StoppingLemmas

@@ -1,5 +1,5 @@
 -- What a reader that stopped has found: the meaning or the fault, in each mode.
-use Rattle.std.proofs.Common.{◌≡◌, ℕ, suc, ◌+◌, arith, Bool, true, false, not, ◌||◌, List, [], ◌∷◌, ◌++◌, Option, None, Some, cond, take, drop, sym, refl, ap, ◌∙◌, subst, append-nil}
+use Rattle.std.proofs.Common.{◌≡◌, ℕ, suc, ◌+◌, arith, Bool, true, false, not, List, [], ◌∷◌, ◌++◌, Option, None, Some, cond, take, drop, sym, refl, ap, ◌∙◌, subst}
 use Rattle.std.specs.List.{list_any, position_or_len}
 use Rattle.std.proofs.lemmas.Bool.{or_parts}
 use Rattle.icu_locale_core_grammar.specs.declared.error.ParseError.TheVariants.{InvalidLanguage, InvalidSubtag}
@@ -9,11 +9,18 @@ use Rattle.icu_locale_core_grammar.specs.FaultyPiece.{HasFault}
 use Rattle.icu_locale_core_grammar.specs.PartialReading.{ReadsFront, before_single, from_single}
 use Rattle.icu_locale_core_grammar.specs.Stepping.{run}
 use Rattle.icu_locale_core_grammar.specs.TagStages.{language_after}
-use Rattle.icu_locale_core_grammar.proofs.LanguageReader.{language_reader, language_stands}
+use Rattle.icu_locale_core_grammar.proofs.LanguageReader.{language_reader}
 use Rattle.icu_locale_core_grammar.proofs.SingleReader.{language_plain}
 use Rattle.icu_locale_core_grammar.proofs.PartialReadingLemmas.{IsRefusedFirst, front_read}
 use Rattle.icu_locale_core_grammar.proofs.CallerLemmas.{read_whole, none_left, language_refused, language_cut}
+use Rattle.icu_locale_core_langid.specs.declared.modes.ParserMode.{ParserMode}
+use Rattle.icu_locale_core_langid.specs.declared.modes.ParserMode.TheVariants.{LanguageIdentifier, Locale, Partial}
 use Rattle.icu_locale_core_langid.specs.LanguageStep.{IsStuck, StopsWith}
+use Rattle.icu_locale_core_langid.specs.Modes.{ReadsInMode, HasFaultInMode, may_leave}
+
+-- what a reader of the same pieces found, at its stage
+pub stopped : (from ps : List Text) (s t : Option LanguageId) (rest : List Text) → from ≡ ps → s ≡ t → StopsWith from s rest → StopsWith ps t rest
+stopped from ps s t rest same is stops = subst (λ u. StopsWith ps u rest) is (subst (λ l. StopsWith l s rest) same stops)
 
 -- ---- all pieces
 
@@ -111,3 +118,25 @@ pub before_no_language : (ps : List Text) (rest : List Text) → StopsWith ps No
 before_no_language ps [] s =
     language_cut (before_single ps) s.taken (none_left (before_single ps) s.taken (before_rest ps None [] s)) s.reached
 before_no_language ps (p ∷ rest) s = before_none ps s.taken p rest (is_single p) refl (before_rest ps None (p ∷ rest) s) s.reached s.stuck
+
+-- ---- in a mode
+
+pub read_in_mode : (mode : ParserMode) (ps : List Text) (id : LanguageId) (rest : List Text) → StopsWith ps (Some id) rest → may_leave mode rest ≡ true → ReadsInMode mode ps id rest
+read_in_mode LanguageIdentifier ps id [] s e = (whole_read ps id s, refl)
+read_in_mode LanguageIdentifier ps id (p ∷ rest) s e = cc
+read_in_mode Locale ps id [] s e = (before_end ps id s, from_end ps (Some id) s)
+read_in_mode Locale ps id (p ∷ rest) s e = (before_extension ps id p rest e s, from_extension ps (Some id) p rest e s)
+read_in_mode Partial ps id rest s e = front_left ps id rest s
+
+pub refused_in_mode : (mode : ParserMode) (ps : List Text) (id : LanguageId) (rest : List Text) → StopsWith ps (Some id) rest → may_leave mode rest ≡ false → HasFaultInMode mode ps InvalidSubtag
+refused_in_mode LanguageIdentifier ps id [] s e = cc
+refused_in_mode LanguageIdentifier ps id (p ∷ rest) s e = piece_refused ps id p rest s
+refused_in_mode Locale ps id [] s e = cc
+refused_in_mode Locale ps id (p ∷ rest) s e = before_refused ps id p rest e s
+refused_in_mode Partial ps id [] s e = cc
+refused_in_mode Partial ps id (p ∷ rest) s e = cc
+
+pub none_in_mode : (mode : ParserMode) (ps : List Text) (rest : List Text) → StopsWith ps None rest → HasFaultInMode mode ps InvalidLanguage
+none_in_mode LanguageIdentifier ps rest s = no_language ps rest s
+none_in_mode Locale ps rest s = before_no_language ps rest s
+none_in_mode Partial ps rest s = (no_language ps rest s, refl)

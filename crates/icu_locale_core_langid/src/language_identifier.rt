@@ -48,10 +48,11 @@ impl LanguageIdentifier {
     /// The identifier of these three parts, without a variant: of `en`, no script and `US` it is `en-US`. It takes no memory.
     pub fn from_triple(
         alloc: Global,
-        (language, script, region): (Language, Option<Script>, Option<Region>),
+        triple: (Language, Option<Script>, Option<Region>),
     ) -> Self
-        ensures { result ≡ with_parts language script region [] }
+        ensures { result ≡ with_parts triple.0 triple.1 triple.2 [] }
     {
+        let (language, script, region) = triple;
         LanguageIdentifier {
             language,
             script,
@@ -67,37 +68,6 @@ impl LanguageIdentifier {
         Self::from_triple(alloc, (language, None, None))
     }
 
-    /// The language `und` with this script, or alone: of `Latn` it is `und-Latn`. It takes no memory.
-    pub fn from_script(alloc: Global, script: Option<Script>) -> Self
-        ensures { result ≡ with_parts und_text script None [] }
-    {
-        Self::from_triple(alloc, (Language::UNKNOWN, script, None))
-    }
-
-    /// The language `und` with this region, or alone: of `US` it is `und-US`. It takes no memory.
-    pub fn from_region(alloc: Global, region: Option<Region>) -> Self
-        ensures { result ≡ with_parts und_text None region [] }
-    {
-        Self::from_triple(alloc, (Language::UNKNOWN, None, region))
-    }
-
-    /// The language `und`, and nothing else. It takes no memory.
-    pub fn unknown(alloc: Global) -> Self
-        ensures { result ≡ with_parts und_text None None [] }
-    {
-        Self::from_language(alloc, Language::UNKNOWN)
-    }
-
-    /// Whether this is the language `und`, and nothing else.
-    pub fn is_unknown(&self) -> bool
-        ensures { IsTrue result ↔ (self.now ≡ with_parts und_text None None []) }
-    {
-        self.language.is_unknown()
-            && self.script.is_none()
-            && self.region.is_none()
-            && self.variants.is_empty()
-    }
-
     /// The language, the script and the region: of `en-US-1996` they are `en`, none and `US`.
     pub fn triple(&self) -> (Language, Option<Script>, Option<Region>)
         ensures language { result.0 ≡ self.now.language }
@@ -105,18 +75,5 @@ impl LanguageIdentifier {
         ensures region { result.2 ≡ self.now.region }
     {
         (self.language, self.script, self.region)
-    }
-
-    /// An equal identifier. `AllocError` is answered for memory alone.
-    pub fn try_clone(&self) -> Result<Self, AllocError>
-        ensures { IfOk result (λ id. id ≡ self.now) }
-    {
-        let variants = self.variants.try_clone()?;
-        Ok(LanguageIdentifier {
-            language: self.language,
-            script: self.script,
-            region: self.region,
-            variants,
-        })
     }
 }

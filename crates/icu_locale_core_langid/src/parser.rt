@@ -1,6 +1,6 @@
 //! Reading language identifiers from pieces.
 
-ghost use Rattle.std.specs.Prelude.{◌≡◌, ◌⊎◌, List, IfOk, IfErr, OnErr};
+ghost use Rattle.std.specs.Prelude.{◌≡◌, ◌⊎◌, ℕ, List, IfOk, IfErr, OnErr};
 ghost use Rattle.icu_locale_core_grammar.specs.declared.error.ParseError.{ParseError};
 ghost use Rattle.icu_locale_core_grammar.specs.Pieces.{pieces};
 ghost use Rattle.icu_locale_core_langid.specs.LanguageStep.{StopsWith};
@@ -65,14 +65,16 @@ pub fn parse_language_identifier_from_iter(
 {
     match read_front(alloc, iter.again()) {
         Err(_) => Err(ParseError::Memory),
-        Ok((None, _)) => Err(ParseError::InvalidLanguage),
-        Ok((Some(id), rest)) => {
-            if !leaves(mode, &rest) {
-                return Err(ParseError::InvalidSubtag);
+        Ok((stage, rest)) => match stage {
+            None => Err(ParseError::InvalidLanguage),
+            Some(id) => {
+                if !leaves(mode, &rest) {
+                    return Err(ParseError::InvalidSubtag);
+                }
+                *iter = rest;
+                Ok(id)
             }
-            *iter = rest;
-            Ok(id)
-        }
+        },
     }
 }
 

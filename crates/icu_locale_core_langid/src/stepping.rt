@@ -61,19 +61,25 @@ fn piece_after(
     ensures { IfOk result (λ s. IsStep with_piece id piece.now s) }
 {
     let mut id = id;
-    if let Some(script) = fitting_script(&id, piece) {
-        id.script = Some(script);
-        return Ok(Step::Taken(id));
+    match fitting_script(&id, piece) {
+        Some(script) => {
+            id.script = Some(script);
+            Ok(Step::Taken(id))
+        }
+        None => match fitting_region(&id, piece) {
+            Some(region) => {
+                id.region = Some(region);
+                Ok(Step::Taken(id))
+            }
+            None => match fitting_variant(&id, piece) {
+                Some(variant) => {
+                    id.variants.push(variant)?;
+                    Ok(Step::Taken(id))
+                }
+                None => Ok(Step::Refused(id)),
+            },
+        },
     }
-    if let Some(region) = fitting_region(&id, piece) {
-        id.region = Some(region);
-        return Ok(Step::Taken(id));
-    }
-    if let Some(variant) = fitting_variant(&id, piece) {
-        id.variants.push(variant)?;
-        return Ok(Step::Taken(id));
-    }
-    Ok(Step::Refused(id))
 }
 
 /// The language part with one more piece, `None` before its first piece; a piece that does not fit leaves it as it was.
