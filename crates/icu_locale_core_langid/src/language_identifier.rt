@@ -46,10 +46,7 @@ impl Model for LanguageIdentifier {
 
 impl LanguageIdentifier {
     /// The identifier of these three parts, without a variant: of `en`, no script and `US` it is `en-US`. It takes no memory.
-    pub fn from_triple(
-        alloc: Global,
-        triple: (Language, Option<Script>, Option<Region>),
-    ) -> Self
+    pub fn from_triple(alloc: Global, triple: (Language, Option<Script>, Option<Region>)) -> Self
         ensures { result ≡ with_parts triple.0 triple.1 triple.2 [] }
     {
         let (language, script, region) = triple;

@@ -54,10 +54,7 @@ fn fitting_variant(id: &LanguageIdentifier, piece: &[u8]) -> Option<Variant>
 
 // The identifier with one more piece.
 #[tactic(auto, unfolding(icu_locale_core_grammar::specs::TagStages::with_piece))]
-fn piece_after(
-    id: LanguageIdentifier,
-    piece: &[u8],
-) -> Result<Step<LanguageIdentifier>, AllocError>
+fn piece_after(id: LanguageIdentifier, piece: &[u8]) -> Result<Step<LanguageIdentifier>, AllocError>
     ensures { IfOk result (λ s. IsStep with_piece id piece.now s) }
 {
     let mut id = id;
