@@ -1,2 +1,3 @@
+pub mod LanguageTextLemmas
 pub mod SteppingLemmas
 pub mod StoppingLemmas

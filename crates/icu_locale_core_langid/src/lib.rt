@@ -7,6 +7,7 @@ mod parser;
 mod reading;
 mod step;
 mod stepping;
+mod writing;
 
 pub use crate::language_identifier::LanguageIdentifier;
 pub use crate::modes::ParserMode;
