@@ -73,4 +73,16 @@ impl LanguageIdentifier {
     {
         (self.language, self.script, self.region)
     }
+    /// An equal identifier. `AllocError` is answered for memory alone.
+    pub fn try_clone(&self) -> Result<Self, AllocError>
+        ensures { IfOk result (λ id. id ≡ self.now) }
+    {
+        let variants = self.variants.try_clone()?;
+        Ok(LanguageIdentifier {
+            language: self.language,
+            script: self.script,
+            region: self.region,
+            variants,
+        })
+    }
 }

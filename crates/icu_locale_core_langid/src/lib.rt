@@ -1,7 +1,10 @@
 //! Language identifiers.
 #![tactic(auto)]
 
+mod comparing;
+mod inner;
 mod language_identifier;
+pub mod laws;
 mod modes;
 mod parser;
 mod reading;

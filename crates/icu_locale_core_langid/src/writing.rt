@@ -97,7 +97,7 @@ fn region_length(region: Option<Region>) -> usize
 
 // How many bytes the text has, where a `usize` holds it.
 #[tactic(auto, using(crate::proofs::LanguageTextLemmas::length_joined))]
-fn text_length(id: &LanguageIdentifier) -> Option<usize>
+pub(crate) fn text_length(id: &LanguageIdentifier) -> Option<usize>
     ensures { SomeIff result (length (language_text id.now) < 2 ^ 64) (length (language_text id.now)) }
 {
     subtags_are_words(&id.language);
