@@ -1,11 +1,13 @@
 -- The events and the length of pieces that are written with a hyphen before each.
-use Rattle.std.proofs.Common.{◌≡◌, ℕ, ◌+◌, ◌<◌, ◌≤◌, List, [], ◌∷◌, ◌++◌, length, drop, get_or, refl, sym, ap, ◌∙◌, arith, length-append}
+use Rattle.std.proofs.Common.{◌≡◌, true, false, eqb, ℕ, ◌+◌, ◌<◌, ◌≤◌, List, [], ◌∷◌, ◌++◌, length, drop, get_or, refl, sym, ap, ◌∙◌, arith, length-append}
 use Rattle.std.specs.Prelude.{flat_map}
+use Rattle.std.proofs.lemmas.Bool.{eqb-true}
 use Rattle.std.proofs.lemmas.List.{drop_more, drop_all}
 use Rattle.writeable.specs.AnnotatedText.{Event, byte, bytes, text_of}
 use Rattle.writeable.proofs.AnnotatedTextLemmas.{text_of_bytes}
-use Rattle.icu_locale_core_grammar.specs.Subtags.{Text}
-use Rattle.icu_locale_core_grammar.specs.Pieces.{hyphen, hyphened}
+use Rattle.icu_locale_core_grammar.specs.Subtags.{Text, private_text}
+use Rattle.icu_locale_core_grammar.specs.Pieces.{hyphen, hyphened, joined_text}
+use Rattle.icu_locale_core_grammar.specs.NormalText.{private_pieces}
 
 pub bytes_joined : (xs ys : List ℕ) → bytes (xs ++ ys) ≡ bytes xs ++ bytes ys
 unfolding bytes
@@ -41,3 +43,13 @@ pub next_piece_length : (ps : List Text) (i : ℕ) (p : Text) → i < length ps 
 next_piece_length ps i p within is =
     ap length (next_piece ps i p within is) ∙ length-append (hyphened p) (flat_map hyphened (drop (i + 1) ps))
     ∙ (let e : length (hyphened p) ≡ length p + 1 = omega arith in ap (λ n. n + length (flat_map hyphened (drop (i + 1) ps))) e)
+
+-- ---- private pieces
+
+pub no_private_events : (own : List Text) → eqb (length own) 0 ≡ true → bytes (joined_text (private_pieces own)) ≡ []
+no_private_events [] none = no_bytes
+no_private_events (w ∷ ws) none = let wrong : length (w ∷ ws) ≡ 0 = eqb-true (length (w ∷ ws)) 0 none in absurd (omega (arith, wrong))
+
+pub private_events : (own : List Text) → eqb (length own) 0 ≡ false → bytes (joined_text (private_pieces own)) ≡ bytes private_text ++ bytes (flat_map hyphened own)
+private_events [] some = cc
+private_events (w ∷ ws) some = bytes_joined private_text (flat_map hyphened (w ∷ ws))

@@ -141,7 +141,8 @@ impl<R: SubtagRule<8>> SubtagSet<R> {
 
     /// An equal set. `AllocError` is answered for memory alone.
     pub fn try_clone(&self) -> Result<Self, AllocError>
-        ensures { IfOk result (λ set. set ≡ self.now) }
+        ensures value { IfOk result (λ set. set ≡ self.now) }
+        ensures set { IsSubtagSet R.accepts R.normal self.now }
     {
         let items = self.items.clone()?;
         Ok(SubtagSet { items })
