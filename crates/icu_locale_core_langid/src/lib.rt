@@ -6,6 +6,7 @@ mod inner;
 mod language_identifier;
 pub mod laws;
 mod modes;
+mod normalizing;
 mod parser;
 mod reading;
 mod step;
