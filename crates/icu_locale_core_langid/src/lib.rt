@@ -3,6 +3,7 @@
 
 mod comparing;
 mod inner;
+mod json;
 mod language_identifier;
 pub mod laws;
 mod modes;
