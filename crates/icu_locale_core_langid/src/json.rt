@@ -11,18 +11,18 @@ ghost use Rattle.icu_locale_core_subtags.specs.JsonText.{json_text};
 ghost use Rattle.icu_locale_core_langid.specs.LanguageText.{language_text};
 
 use crate::language_identifier::LanguageIdentifier;
+use crate::writing::built_text;
 use icu_locale_core_grammar::ParseError;
 use icu_locale_core_subtags::text_of_json;
 use serde_json::Value;
 use std::alloc::{AllocError, Global};
-use writeable::Writeable;
 
 impl LanguageIdentifier {
     /// The text as a JSON value: `en-US` gives `"en-US"`. `AllocError` is answered for memory alone.
     pub fn to_json(&self, alloc: Global) -> Result<Value, AllocError>
         ensures { IfOk result (λ value. view value ≡ string (language_text self.now)) }
     {
-        Ok(Value::String(self.write_to_string(alloc)?))
+        Ok(Value::String(built_text(alloc, self)?))
     }
 
     /// The language identifier of the text in a JSON value, as `try_from_str`: `"EN-us"` gives `en-US`.

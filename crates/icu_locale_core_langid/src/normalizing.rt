@@ -9,11 +9,11 @@ ghost use Rattle.icu_locale_core_langid.specs.LanguageText.{language_text};
 ghost use Rattle.icu_locale_core_langid.specs.NormalizedText.{IsNormalized};
 
 use crate::language_identifier::LanguageIdentifier;
+use crate::writing::built_text;
 use icu_locale_core_grammar::ParseError;
 use std::alloc::{AllocError, Global};
 use std::borrow::CowStr;
 use std::str;
-use writeable::Writeable;
 
 // Whether this is the text of the identifier.
 fn is_text_of(id: &LanguageIdentifier, text: &[u8]) -> bool
@@ -33,7 +33,7 @@ fn text_or_input<'a>(
     if is_text_of(id, input.as_bytes()) {
         Ok(CowStr::Borrowed(input))
     } else {
-        Ok(CowStr::Owned(id.write_to_string(alloc)?))
+        Ok(CowStr::Owned(built_text(alloc, id)?))
     }
 }
 
@@ -61,7 +61,7 @@ impl LanguageIdentifier {
         match str::from_utf8(input) {
             Ok(text) => Self::normalize(alloc, text),
             Err(_) => match Self::try_from_utf8(alloc, input) {
-                Ok(id) => match id.write_to_string(alloc) {
+                Ok(id) => match built_text(alloc, &id) {
                     Ok(text) => {
                         let _shown = text.as_str();
                         Ok(CowStr::Owned(text))
