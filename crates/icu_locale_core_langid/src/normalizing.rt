@@ -53,6 +53,7 @@ impl LanguageIdentifier {
             Err(error) => Err(error),
         }
     }
+
     /// The normal text of the bytes of a text, as `normalize`.
     pub fn normalize_utf8(alloc: Global, input: &[u8]) -> Result<CowStr<'_, Global>, ParseError>
         ensures value { IfOk result (λ text. (id : LanguageId) × MeansLanguage (pieces input.now) id × IsNormalized input.now (language_text id) text) }

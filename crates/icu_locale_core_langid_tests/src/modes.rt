@@ -14,7 +14,6 @@ fn a_mode_leaves_its_rest(rt: HostRuntime) -> Result<(), Fail> {
     for (mode, text, want, left) in [
         (ParserMode::LanguageIdentifier, "en-us", "en-US", ""),
         (ParserMode::Locale, "en-us-u-nu-thai", "en-US", "u"),
-        (ParserMode::Locale, "en-us", "en-US", ""),
         // the front that is read is the longest one
         (
             ParserMode::Partial,
@@ -34,7 +33,6 @@ fn a_mode_leaves_its_rest(rt: HostRuntime) -> Result<(), Fail> {
             "de-1996",
             "1996",
         ),
-        (ParserMode::Partial, "en", "en", ""),
     ] {
         let mut iter = SubtagIterator::new(text.as_bytes());
         let id = parse_language_identifier_from_iter(rt.alloc(), &mut iter, mode)?;
