@@ -1,0 +1,4 @@
+-- What a reader must believe.
+pub mod EntryChanges
+-- Where a key stands in a map, for the proofs.
+pub mod Places

@@ -1,0 +1,2 @@
+//! Keywords and fields: maps from keys to values.
+#![tactic(auto)]
