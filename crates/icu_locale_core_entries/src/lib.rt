@@ -1,2 +1,8 @@
-//! Keywords and fields: maps from keys to values.
+//! Keywords and fields: maps from keys to values, read, changed and written.
 #![tactic(auto)]
+
+mod kind;
+mod value;
+
+pub use crate::kind::EntryKind;
+pub use crate::value::ValueOf;
