@@ -1,9 +1,10 @@
 -- What the place of a key in a map tells: its value, and what setting, putting and taking away leave.
 use Rattle.std.proofs.Common.{ℕ, zero, suc, ◌≡◌, ◌<◌, ◌≤◌, Bool, true, false, not, List, [], ◌∷◌, ◌++◌, Option, None, Some, filter, cond, length, take, drop, get_or, sym, refl, ap, ◌∙◌, subst, arith}
-use Rattle.std.specs.Prelude.{if◌then◌else◌}
+use Rattle.std.specs.Prelude.{if◌then◌else◌, Result, Ok, Err, MatchResult, is_ok, is_some}
+use Rattle.std.proofs.Math.ListN.{set}
 use Rattle.std.proofs.lemmas.List.{take-append-drop}
 use Rattle.std.proofs.lemmas.List.Elements.{filter-append}
-use Rattle.std.specs.List.{AllByRecursion, AllWithin, HoldsAt}
+use Rattle.std.specs.List.{insert, remove}
 use Rattle.std.specs.List.Sorted.{IsStrictlySortedBy}
 use Rattle.std.specs.Ordering.{match_ordering, ordering_reverse, is_eq}
 use Rattle.std.specs.declared.cmp.Ordering.{Ordering}
@@ -14,6 +15,8 @@ use Rattle.icu_locale_core_grammar.specs.Collections.{text_cmp, Entry, keys_of, 
 use Rattle.icu_locale_core_grammar.proofs.CollectionLemmas.{same_text_equal, same_text_refl}
 use Rattle.icu_locale_core_grammar.proofs.SetLemmas.{cmp_equal, cmp_swapped, cmp_below, cmp_through}
 use Rattle.icu_locale_core_grammar.proofs.ListLemmas.{each_weaker, each_front, each_rest}
+use Rattle.icu_locale_core_grammar.proofs.MapLemmas.{Rises-put}
+use Rattle.icu_locale_core_entries.proofs.RisingLemmas.{Rises-set, Rises-without}
 use Rattle.icu_locale_core_entries.specs.EntryChanges.{set_entry, without_key}
 use Rattle.icu_locale_core_entries.specs.Places.{AreBelow, AreAbove, IsFoundAt, IsMissingAt}
 
@@ -35,6 +38,13 @@ differs_below a b e = texts_ties a b ∙ ap is_eq e
 
 differs_above : (a b : Text) → text_cmp b a ≡ Less → same_text a b ≡ false
 differs_above a b e = texts_ties a b ∙ ap is_eq (cmp_above b a e)
+
+-- ---- lists
+
+set_parts : (es : List Entry) (i : ℕ) (e : Entry) → i < length es → set es i e ≡ take i es ++ e ∷ drop (suc i) es
+set_parts [] i e fits = absurd (omega arith)
+set_parts (f ∷ fs) zero e fits = refl
+set_parts (f ∷ fs) (suc i) e fits = ap (λ l. f ∷ l) (set_parts fs i e (omega arith))
 
 -- ---- a key above all entries before it
 
@@ -116,6 +126,17 @@ module _ (key : Text) where
         ∙ ap (λ l. l ++ without_key key ((key, found.value) ∷ drop (suc i) es)) (without_below (take i es) found.below)
         ∙ ap (λ l. take i es ++ l) (without_here found.value (drop (suc i) es) found.above)
 
+    -- in the words of a list and an index
+    pub value_index : (x : Entry) → x ≡ get_or es i x → Some x.1 ≡ value_at key es
+    value_index x e = ap (λ f. Some f.1) (e ∙ found.at x) ∙ sym value_found
+
+    pub set_index : (x : Entry) (value : List Text) → x ≡ get_or es i x → set es i (x.0, value) ≡ set_entry (key, value) es
+    set_index x value e =
+        set_parts es i (x.0, value) found.fits ∙ ap (λ f. take i es ++ (f.0, value) ∷ drop (suc i) es) (e ∙ found.at x) ∙ sym (set_found value)
+
+    pub old_index : (x : Entry) → x ≡ get_or es i x → x.1 ≡ found.value
+    old_index x e = ap (λ f. f.1) (e ∙ found.at x)
+
   -- ---- the key would stand at place i
 
   module _ (es : List Entry) (i : ℕ) (missing : IsMissingAt key es i) where
@@ -140,3 +161,43 @@ module _ (key : Text) where
         ap (without_key key) split ∙ filter-append (λ e. not (same_text key e.0)) (take i es) (drop i es)
         ∙ ap (λ l. l ++ without_key key (drop i es)) (without_below (take i es) missing.below)
         ∙ ap (λ l. take i es ++ l) (without_above (drop i es) missing.above) ∙ sym split
+
+  -- ---- the entries of a map, and what they are after an edit at place i
+
+  pub value_taken : (map es : List Entry) (i : ℕ) → es ≡ map → IsFoundAt key map i → (x : Entry) → x ≡ get_or es i x → Some x.1 ≡ value_at key map
+  value_taken map es i shown found x here = value_index map i found x (here ∙ ap (λ l. get_or l i x) shown)
+
+  module _ (map es new : List Entry) (i : ℕ) (shown : es ≡ map) where
+    module _ (missing : IsMissingAt key map i) (value : List Text) (edit : new ≡ insert es i (key, value)) where
+      put_in : take i map ++ (key, value) ∷ drop i map ≡ new
+      put_in = ap (λ l. insert l i (key, value)) (sym shown) ∙ sym edit
+
+      pub put_inserted : new ≡ put_first (key, value) map
+      put_inserted = sym (put_missing map i missing value ∙ put_in)
+
+      pub set_inserted : new ≡ set_entry (key, value) map
+      set_inserted = sym (set_missing map i missing value ∙ put_in)
+
+      pub rises_inserted : Rises (keys_of es) → Rises (keys_of new)
+      rises_inserted rises = subst (λ l. Rises (keys_of l)) (sym put_inserted) (Rises-put (key, value) map (subst (λ l. Rises (keys_of l)) shown rises))
+
+    module _ (found : IsFoundAt key map i) where
+      module _ (x : Entry) (here : x ≡ get_or es i x) (value : List Text) (edit : new ≡ set es i (x.0, value)) where
+        pub set_replaced : new ≡ set_entry (key, value) map
+        set_replaced = edit ∙ ap (λ l. set l i (x.0, value)) shown ∙ set_index map i found x value (here ∙ ap (λ l. get_or l i x) shown)
+
+        pub rises_replaced : Rises (keys_of es) → Rises (keys_of new)
+        rises_replaced rises = subst (λ l. Rises (keys_of l)) (sym set_replaced) (Rises-set (key, value) map (subst (λ l. Rises (keys_of l)) shown rises))
+
+      module _ (edit : new ≡ remove es i) where
+        pub without_removed : new ≡ without_key key map
+        without_removed = edit ∙ ap (λ l. remove l i) shown ∙ sym (without_found map i found)
+
+        pub rises_removed : Rises (keys_of es) → Rises (keys_of new)
+        rises_removed rises = subst (λ l. Rises (keys_of l)) (sym without_removed) (Rises-without key map (subst (λ l. Rises (keys_of l)) shown rises))
+
+  -- ---- whether the map has the key
+
+  pub holds_key : (es : List Entry) (r : Result ℕ ℕ) → MatchResult r (IsFoundAt key es) (IsMissingAt key es) → is_ok r ≡ is_some (value_at key es)
+  holds_key es (Ok i) found = sym (ap is_some (value_found es i found))
+  holds_key es (Err i) missing = sym (ap is_some (value_missing es i missing))

@@ -1,7 +1,8 @@
 -- What a binary search for a key tells of a list of entries whose keys rise.
 use Rattle.std.proofs.Common.{ℕ, zero, suc, ◌≡◌, ◌+◌, ◌<◌, ◌≤◌, List, [], ◌∷◌, ◌++◌, length, take, drop, get_or, sym, refl, ap, ◌∙◌, subst, arith, add-one}
+use Rattle.std.specs.Prelude.{Result, Ok, Err, MatchResult}
 use Rattle.std.specs.List.{AllByRecursion, AllWithin, HoldsAt}
-use Rattle.std.specs.List.Sorted.{IsStrictlySortedBy, IsNonDecreasingBy, IsPartitionPoint}
+use Rattle.std.specs.List.Sorted.{IsStrictlySortedBy, IsNonDecreasingBy, IsPartitionPoint, IsSearchInRange, IsBinarySearchResult}
 use Rattle.std.specs.Ordering.{ordering_index, is_lt}
 use Rattle.std.specs.Cmp.Lexicographic.{nat_list_cmp_total}
 use Rattle.std.proofs.lemmas.List.Sorted.{searchable_from_sorted}
@@ -35,16 +36,18 @@ module _ (key : Text) where
   entries_above low [] each same = tt
   entries_above low (e ∷ es) each same = (subst (λ k. text_cmp k e.0 ≡ Less) same each.0, entries_above low es each.1 same)
 
-  pub found_at : (es : List Entry) (i : ℕ) → i < length es → HoldsAt (λ e. text_cmp e.0 key ≡ Equal) es i → Rises (keys_of es) → IsFoundAt key es i
+  found_at : (es : List Entry) (i : ℕ) → i < length es → HoldsAt (λ e. text_cmp e.0 key ≡ Equal) es i → Rises (keys_of es) → IsFoundAt key es i
   unfolding IsStrictlySortedBy
   found_at [] i fits at rises = absurd (omega arith)
   found_at (e ∷ es) zero fits at rises =
       let same : e.0 ≡ key = cmp_equal e.0 key (at e) in
-      record { value = e.1; parts = ap (λ k. (k, e.1) ∷ es) same; below = tt; above = entries_above e.0 es rises.0 same }
+      record { value = e.1; fits = fits; at = λ d. ap (λ k. (k, e.1)) same; parts = ap (λ k. (k, e.1) ∷ es) same; below = tt; above = entries_above e.0 es rises.0 same }
   found_at (e ∷ es) (suc i) fits at rises =
       let more = found_at es i (omega arith) at rises.1 in
       record {
         value = more.value;
+        fits = fits;
+        at = more.at;
         parts = ap (λ l. e ∷ l) more.parts;
         below = (of_key (λ k. text_cmp e.0 k ≡ Less) es i (omega arith) at rises.0, more.below);
         above = more.above;
@@ -70,7 +73,15 @@ module _ (key : Text) where
       searchable_from_sorted nat_list_cmp_total (λ e. e.0) es key
       (λ k d low high. rw add-one (ap is_lt (cmp_above (get_or es k d).0 (get_or es (suc k) d).0 (next_above es rises k d (omega arith)))))
 
-  pub missing_where_none : (es : List Entry) (i : ℕ) → i ≤ length es → Rises (keys_of es)
-      → (IsNonDecreasingBy (λ e. ordering_index (text_cmp e.0 key)) es → IsPartitionPoint (λ e. text_cmp e.0 key ≡ Less) (λ e. text_cmp e.0 key ≡ Greater) es i)
-      → IsMissingAt key es i
-  missing_where_none es i fits rises point = missing_at es i fits (point (searchable es rises))
+  found_or_missing : (es : List Entry) (r : Result ℕ ℕ) → Rises (keys_of es) → IsSearchInRange r (length es) → IsBinarySearchResult (λ e. text_cmp e.0 key) es r
+      → MatchResult r (IsFoundAt key es) (IsMissingAt key es)
+  found_or_missing es (Ok i) rises fits found = found_at es i fits found rises
+  found_or_missing es (Err i) rises fits point = missing_at es i fits (point (searchable es rises))
+
+  -- the map, its entries, and the slice of them that was searched
+  pub searched : (map es slice : List Entry) (r : Result ℕ ℕ) → es ≡ map → slice ≡ es → Rises (keys_of es) → IsSearchInRange r (length slice) → IsBinarySearchResult (λ e. text_cmp e.0 key) slice r
+      → MatchResult r (IsFoundAt key map) (IsMissingAt key map)
+  searched map es slice r same shown rises fits found =
+      let fits' : IsSearchInRange r (length es) = subst (λ l. IsSearchInRange r (length l)) shown fits in
+      let found' : IsBinarySearchResult (λ e. text_cmp e.0 key) es r = subst (λ l. IsBinarySearchResult (λ e. text_cmp e.0 key) l r) shown found in
+      subst (λ l. MatchResult r (IsFoundAt key l) (IsMissingAt key l)) same (found_or_missing es r rises fits' found')
