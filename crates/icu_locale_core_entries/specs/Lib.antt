@@ -2,8 +2,11 @@
 pub mod EntryKind
 pub mod Values
 pub mod EntryChanges
+pub mod Orders
 pub mod PartFaults
 pub mod Steps
 pub mod HeadedView
 -- Where a key stands in a map, for the proofs.
 pub mod Places
+-- What the comparisons of this crate prove.
+pub mod OrderLaws

@@ -50,6 +50,14 @@ impl<K: EntryKind> EntriesOf<K> {
         Ok(map)
     }
 
+    /// The entries, in byte order of their keys.
+    pub(crate) fn as_slice(&self) -> &[(SubtagOf<K, 2>, ValueOf<K>)]
+        ensures value { result.now ≡ self.now }
+        ensures rises { Rises (keys_of result.now) }
+    {
+        self.entries.as_slice()
+    }
+
     /// Where the key stands, or where it would.
     fn place_of(&self, key: &SubtagOf<K, 2>) -> Result<usize, usize>
         ensures { MatchResult result (λ place. IsFoundAt key.now self.now place) (λ place. IsMissingAt key.now self.now place) }

@@ -1,6 +1,7 @@
 //! Keywords and fields: maps from keys to values, read, changed and written.
 #![tactic(auto)]
 
+mod comparing;
 mod entries;
 mod entries_reading;
 mod headed;
