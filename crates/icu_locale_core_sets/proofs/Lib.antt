@@ -1,0 +1,4 @@
+pub mod PlaceLemmas
+pub mod ReadingLemmas
+pub mod PrintingLemmas
+pub mod LawLemmas
