@@ -3,3 +3,4 @@ pub mod RisingLemmas
 pub mod SearchLemmas
 pub mod StepLemmas
 pub mod ReadingLemmas
+pub mod TextLemmas

@@ -1,9 +1,9 @@
 -- What a reader must believe.
 pub mod EntryKind
 pub mod Values
+pub mod EntryText
 pub mod EntryChanges
 pub mod Orders
-pub mod PartFaults
 pub mod Steps
 pub mod HeadedView
 -- Where a key stands in a map, for the proofs.

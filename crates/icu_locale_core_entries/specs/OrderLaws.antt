@@ -24,9 +24,6 @@ values_total = lists_total nat_list_cmp_total
 pub values_tie : (v w : List Text) → same_value v w ≡ eq_by_cmp value_cmp v w
 values_tie = lists_ties text_cmp texts_ties
 
-pub values_po : IsPartialOrder same_value (λ v w. Some (value_cmp v w))
-values_po = po values_total values_tie
-
 pub values_decide : (v w : List Text) → Decides (same_value v w) (v ≡ w)
 values_decide = pointwise_decides bytes_decides
 

@@ -1,11 +1,12 @@
 //! Equality, order and hash of values and of maps: those of their lists.
 
-ghost use Rattle.std.specs.Prelude.{Some, refl};
+ghost use Rattle.std.specs.Prelude.{◌++◌, Some, refl};
 ghost use Rattle.std.specs.Cmp.{partial_equiv_from_equiv};
 ghost use Rattle.std.specs.Hash as fed;
 ghost use Rattle.std.proofs.Common.{ap};
+ghost use Rattle.icu_locale_core_sets.specs.Orders.{lists_of_texts_po, lists_fed_alike};
 ghost use Rattle.icu_locale_core_entries.specs.Orders.{same_value, value_cmp, same_entries, entries_cmp};
-ghost use Rattle.icu_locale_core_entries.specs.OrderLaws.{values_equiv, values_total, values_tie, values_po, values_decide, entries_equiv, entries_total, entries_tie, entries_po, entries_decide};
+ghost use Rattle.icu_locale_core_entries.specs.OrderLaws.{values_equiv, values_total, values_tie, entries_equiv, entries_total, entries_tie, entries_po, entries_decide};
 
 use crate::entries::EntriesOf;
 use crate::kind::EntryKind;
@@ -30,7 +31,7 @@ impl<K: EntryKind> Eq for ValueOf<K> {
 impl<K: EntryKind> PartialOrd for ValueOf<K> {
     ghost partial_cmp = { λ v w. Some (value_cmp v w) };
 
-    ghost laws = { values_po };
+    ghost laws = { lists_of_texts_po };
 
     fn partial_cmp(&self, other: &Self) -> Option<Ordering> {
         Some(self.cmp(other))
@@ -55,7 +56,7 @@ impl<K: EntryKind> Ord for ValueOf<K> {
 impl<K: EntryKind> Hash for ValueOf<K> {
     ghost hash_input = { λ v. fed.slice fed.str v };
 
-    ghost respects_eq = { λ v w e. ap (fed.slice fed.str) ((values_decide v w).0 e) };
+    ghost respects_eq = { λ v w e. lists_fed_alike v w e };
 
     fn hash<H: Hasher>(&self, state: &mut H) {
         self.as_subtags_slice().hash(state);
@@ -98,5 +99,15 @@ impl<K: EntryKind> Ord for EntriesOf<K> {
 
     fn cmp(&self, other: &Self) -> Ordering {
         self.as_slice().cmp(other.as_slice())
+    }
+}
+
+impl<K: EntryKind> Hash for EntriesOf<K> {
+    ghost hash_input = { λ m. fed.slice (λ e. fed.str e.0 ++ fed.slice fed.str e.1) m };
+
+    ghost respects_eq = { λ m n e. ap (fed.slice (λ f. fed.str f.0 ++ fed.slice fed.str f.1)) ((entries_decide m n).0 e) };
+
+    fn hash<H: Hasher>(&self, state: &mut H) {
+        self.as_slice().hash(state);
     }
 }

@@ -9,6 +9,7 @@ mod kind;
 mod step;
 mod value;
 mod value_reading;
+mod writing;
 
 pub use crate::entries::EntriesOf;
 pub use crate::headed::{HeadReader, HeadedStage, NoHead, headed_after, headed_finish};
