@@ -1,5 +1,5 @@
 -- The texts of values and of maps, entry by entry: as they are written, and how long they are.
-use Rattle.std.proofs.Common.{◌≡◌, Bool, ℕ, ◌+◌, ◌<◌, ◌≤◌, List, [], ◌∷◌, ◌++◌, length, drop, get_or, refl, sym, ap, ◌∙◌, append_assoc, arith, length-append}
+use Rattle.std.proofs.Common.{◌≡◌, Bool, false, ℕ, ◌+◌, ◌<◌, ◌≤◌, List, [], ◌∷◌, ◌++◌, length, drop, get_or, refl, sym, ap, ◌∙◌, append_assoc, arith, length-append}
 use Rattle.std.specs.Prelude.{flat_map}
 use Rattle.std.proofs.lemmas.List.{drop_more, drop_all}
 use Rattle.std.proofs.lemmas.List.Concat.{flat_map-append}
@@ -10,7 +10,7 @@ use Rattle.icu_locale_core_grammar.specs.Pieces.{hyphen, hyphened}
 use Rattle.icu_locale_core_grammar.specs.NormalText.{entry_pieces}
 use Rattle.icu_locale_core_sets.proofs.PrintingLemmas.{bytes_joined, no_bytes}
 use Rattle.icu_locale_core_entries.specs.Values.{shown_value}
-use Rattle.icu_locale_core_entries.specs.EntryText.{hyphened_value, hyphened_entries}
+use Rattle.icu_locale_core_entries.specs.EntryText.{value_text, hyphened_value, entries_text, hyphened_entries}
 
 module _ (needs : Bool) where
   -- the first entry, and those behind it
@@ -52,3 +52,27 @@ module _ (needs : Bool) where
 
     pub no_entry_length : length es ≤ i → length (hyphened_entries needs (drop i es)) ≡ 0
     no_entry_length past = ap length (no_entry past)
+
+  -- ---- as a whole: the first piece without a hyphen
+
+  pub value_written : (vs slice : List Text) (first : Text) (others : List Text) → slice ≡ vs → slice ≡ first ∷ others
+      → bytes (value_text needs vs) ≡ bytes first ++ bytes (flat_map hyphened others)
+  value_written vs slice first others same cut =
+      ap (λ l. bytes (value_text needs l)) (sym same ∙ cut) ∙ bytes_joined first (flat_map hyphened others)
+
+  pub value_unwritten : (vs slice : List Text) → slice ≡ vs → length slice ≡ 0 → needs ≡ false → bytes (value_text needs vs) ≡ []
+  value_unwritten vs (v ∷ slice) same none lax = absurd (omega (arith, none))
+  value_unwritten vs [] same none lax = ap (λ l. bytes (value_text needs l)) (sym same) ∙ ap (λ b. bytes (value_text b [])) lax ∙ no_bytes
+
+  pub map_written : (es slice : List Entry) (first : Entry) (others : List Entry) → slice ≡ es → slice ≡ first ∷ others
+      → bytes (entries_text needs es) ≡ (bytes first.0 ++ bytes (hyphened_value needs first.1)) ++ bytes (hyphened_entries needs others)
+  map_written es slice first others same cut =
+      let value = hyphened_value needs first.1 in
+      let rest = hyphened_entries needs others in
+      ap (λ l. bytes (entries_text needs l)) (sym same ∙ cut)
+      ∙ ap (λ l. bytes (first.0 ++ l)) (flat_map-append hyphened (shown_value needs first.1) (entry_pieces needs others))
+      ∙ bytes_joined first.0 (value ++ rest) ∙ ap (λ l. bytes first.0 ++ l) (bytes_joined value rest) ∙ sym (append_assoc (bytes first.0) (bytes value) (bytes rest))
+
+  pub map_unwritten : (es slice : List Entry) → slice ≡ es → length slice ≡ 0 → bytes (entries_text needs es) ≡ []
+  map_unwritten es (e ∷ slice) same none = absurd (omega (arith, none))
+  map_unwritten es [] same none = ap (λ l. bytes (entries_text needs l)) (sym same) ∙ no_bytes
