@@ -4,3 +4,4 @@ pub mod SearchLemmas
 pub mod StepLemmas
 pub mod ReadingLemmas
 pub mod TextLemmas
+pub mod RetainLemmas

@@ -3,6 +3,7 @@ pub mod EntryKind
 pub mod Values
 pub mod EntryText
 pub mod EntryChanges
+pub mod Retained
 pub mod Orders
 pub mod Steps
 pub mod HeadedView

@@ -6,6 +6,7 @@ mod entries;
 mod entries_reading;
 mod headed;
 mod kind;
+mod retaining;
 mod step;
 mod value;
 mod value_reading;
