@@ -2,6 +2,7 @@
 pub mod EntryKind
 pub mod Values
 pub mod EntryText
+pub mod Lends
 pub mod EntryChanges
 pub mod Retained
 pub mod Orders

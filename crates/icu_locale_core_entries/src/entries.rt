@@ -59,7 +59,7 @@ impl<K: EntryKind> EntriesOf<K> {
     }
 
     /// Where the key stands, or where it would.
-    fn place_of(&self, key: &SubtagOf<K, 2>) -> Result<usize, usize>
+    pub(crate) fn place_of(&self, key: &SubtagOf<K, 2>) -> Result<usize, usize>
         ensures { MatchResult result (λ place. IsFoundAt key.now self.now place) (λ place. IsMissingAt key.now self.now place) }
     {
         self.entries.binary_search_by(|entry| entry.0.cmp(key))

@@ -6,6 +6,7 @@ mod entries;
 mod entries_reading;
 mod headed;
 mod kind;
+mod lending;
 mod retaining;
 mod step;
 mod value;
