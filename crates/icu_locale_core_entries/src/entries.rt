@@ -2,7 +2,9 @@
 
 ghost use Rattle.std.specs.Prelude.{◌≡◌, true, false, List, [], ◌∷◌, Option, None, Some, length, IfOk, OnOk, OnErr, IsOk, MatchResult, is_some, ◌==◌};
 ghost use Rattle.std.specs.Option.{option_copied};
-ghost use Rattle.icu_locale_core_grammar.specs.Collections.{Rises, keys_of, put_first, value_at};
+ghost use Rattle.std.specs.Iterator.Adapters.{IterYieldsInOrder};
+ghost use Rattle.std.specs.Slice.Iter.{iter_rest};
+ghost use Rattle.icu_locale_core_grammar.specs.Collections.{Entry, Rises, keys_of, put_first, value_at};
 ghost use Rattle.icu_locale_core_entries.specs.EntryChanges.{set_entry, without_key};
 ghost use Rattle.icu_locale_core_entries.specs.Places.{IsFoundAt, IsMissingAt};
 
@@ -11,7 +13,7 @@ use crate::value::ValueOf;
 use icu_locale_core_subtags::SubtagOf;
 use std::alloc::{AllocError, Global};
 use std::marker::Model;
-use std::mem;
+use std::{mem, slice};
 
 /// Keywords or fields: a map from keys to values, listed in byte order of the keys.
 #[derive(Drop)]
@@ -151,5 +153,14 @@ impl<K: EntryKind> EntriesOf<K> {
         ensures { result ≡ (length self.now == 0) }
     {
         self.entries.is_empty()
+    }
+
+    /// The entries one after another, in byte order of their keys, each a key and its value.
+    pub fn iter(&self) -> slice::Iter<'_, (SubtagOf<K, 2>, ValueOf<K>)>
+        ensures rest { iter_rest result ≡ self.now }
+        ensures len { length (iter_rest result) ≡ length self.now }
+        ensures runs { IterYieldsInOrder Entry }
+    {
+        self.entries.as_slice().iter()
     }
 }

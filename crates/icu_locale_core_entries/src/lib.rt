@@ -1,11 +1,13 @@
 //! Keywords and fields: maps from keys to values, read, changed and written.
 #![tactic(auto)]
 
+mod collecting;
 mod comparing;
 mod entries;
 mod entries_reading;
 mod headed;
 mod kind;
+pub mod laws;
 mod lending;
 mod retaining;
 mod step;

@@ -1,6 +1,6 @@
 //! Writing values and maps: their subtags between hyphens, without parts.
 
-ghost use Rattle.std.specs.Prelude.{◌≡◌, ◌++◌, ◌<◌, ◌^◌, false, [], ◌∷◌, is_err, length, flat_map, OnOk, OnErr, SomeIff};
+ghost use Rattle.std.specs.Prelude.{◌≡◌, ◌++◌, ◌<◌, ◌^◌, false, [], ◌∷◌, is_err, length, flat_map, OnOk, OnErr, SomeIff, IsTrue, ◌↔◌};
 ghost use Rattle.writeable.specs.AnnotatedText.{bytes};
 ghost use Rattle.writeable.specs.Taking.{HasBegun};
 ghost use Rattle.icu_locale_core_grammar.specs.Pieces.{hyphen, hyphened};
@@ -12,7 +12,7 @@ use crate::value::ValueOf;
 use icu_locale_core_sets::{pieces_length, write_pieces};
 use icu_locale_core_subtags::{Subtag, SubtagOf};
 use std::fmt;
-use writeable::{Error, LengthHint, Sink, Writeable, display};
+use writeable::{Error, LengthHint, Sink, Writeable, display, strict_cmp};
 
 impl<K: EntryKind> ValueOf<K> {
     /// Writes the subtags, each with a hyphen before it: `-abc-def`. Of a field without a value it is `-true`.
@@ -26,6 +26,15 @@ impl<K: EntryKind> ValueOf<K> {
             return sink.write_str("-true");
         }
         write_pieces(self.as_subtags_slice(), sink)
+    }
+
+    /// Whether the text of the value is this one, in normal case: of `abc-def` true for `abc-def`, false for `ABC-def`.
+    ///
+    /// Of a keyword without a value it is the empty text, of a field without one `true`. It takes no memory.
+    pub fn eq_str(&self, other: &str) -> bool
+        ensures { IsTrue result ↔ (value_text K.needs self.now ≡ other.now) }
+    {
+        strict_cmp(self, other.as_bytes()).is_eq()
     }
 
     /// How many bytes `write_hyphened` writes: 8 of `abc-def`. `None` where a `usize` does not hold it.
@@ -245,5 +254,17 @@ impl<K: EntryKind> fmt::Display for EntriesOf<K> {
     #[tactic(auto, using(writeable::proofs::AnnotatedTextLemmas::text_of_bytes))]
     fn fmt<W: fmt::Write>(&self, f: &mut fmt::Formatter<W>) -> fmt::Result {
         display(self, f)
+    }
+}
+
+impl<K: EntryKind> fmt::Debug for ValueOf<K> {
+    fn fmt<W: fmt::Write>(&self, f: &mut fmt::Formatter<W>) -> fmt::Result {
+        fmt::Debug::fmt(self.as_subtags_slice(), f)
+    }
+}
+
+impl<K: EntryKind> fmt::Debug for EntriesOf<K> {
+    fn fmt<W: fmt::Write>(&self, f: &mut fmt::Formatter<W>) -> fmt::Result {
+        fmt::Debug::fmt(self.as_slice(), f)
     }
 }
