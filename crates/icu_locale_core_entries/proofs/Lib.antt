@@ -7,3 +7,4 @@ pub mod TextLemmas
 pub mod RetainLemmas
 pub mod CopyLemmas
 pub mod ValueLemmas
+pub mod LawLemmas
