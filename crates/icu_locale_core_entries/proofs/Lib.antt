@@ -8,3 +8,4 @@ pub mod RetainLemmas
 pub mod CopyLemmas
 pub mod ValueLemmas
 pub mod LawLemmas
+pub mod WellFormedLemmas

@@ -13,6 +13,7 @@ mod retaining;
 mod step;
 mod value;
 mod value_reading;
+mod well_formed;
 mod writing;
 
 pub use crate::entries::EntriesOf;
