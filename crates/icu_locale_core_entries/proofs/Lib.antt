@@ -1,0 +1,11 @@
+pub mod PlaceLemmas
+pub mod RisingLemmas
+pub mod SearchLemmas
+pub mod StepLemmas
+pub mod ReadingLemmas
+pub mod TextLemmas
+pub mod RetainLemmas
+pub mod CopyLemmas
+pub mod ValueLemmas
+pub mod LawLemmas
+pub mod WellFormedLemmas
