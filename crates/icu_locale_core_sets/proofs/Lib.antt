@@ -1,0 +1,3 @@
+pub mod PlaceLemmas
+pub mod PrintingLemmas
+pub mod ReadingLemmas

@@ -1,0 +1,55 @@
+-- The events and the length of pieces that are written with a hyphen before each.
+use Rattle.std.proofs.Common.{◌≡◌, true, false, eqb, ℕ, ◌+◌, ◌<◌, ◌≤◌, List, [], ◌∷◌, ◌++◌, length, drop, get_or, refl, sym, ap, ◌∙◌, arith, length-append}
+use Rattle.std.specs.Prelude.{flat_map}
+use Rattle.std.proofs.lemmas.Bool.{eqb-true}
+use Rattle.std.proofs.lemmas.List.{drop_more, drop_all}
+use Rattle.writeable.specs.AnnotatedText.{Event, byte, bytes, text_of}
+use Rattle.writeable.proofs.AnnotatedTextLemmas.{text_of_bytes}
+use Rattle.icu_locale_core_grammar.specs.Subtags.{Text, private_text}
+use Rattle.icu_locale_core_grammar.specs.Pieces.{hyphen, hyphened, joined_text}
+use Rattle.icu_locale_core_grammar.specs.NormalText.{private_pieces}
+
+pub bytes_joined : (xs ys : List ℕ) → bytes (xs ++ ys) ≡ bytes xs ++ bytes ys
+unfolding bytes
+bytes_joined [] ys = refl
+bytes_joined (x ∷ xs) ys = ap (λ es. byte x ∷ es) (bytes_joined xs ys)
+
+pub no_bytes : bytes [] ≡ []
+unfolding bytes
+no_bytes = refl
+
+hyphened_bytes : (p rest : Text) → bytes (hyphened p ++ rest) ≡ (bytes (hyphen ∷ []) ++ bytes p) ++ bytes rest
+hyphened_bytes p rest = bytes_joined (hyphened p) rest ∙ ap (λ es. es ++ bytes rest) (bytes_joined (hyphen ∷ []) p)
+
+-- the piece at i, and those behind it
+pub next_piece : (ps : List Text) (i : ℕ) (p : Text) → i < length ps → p ≡ get_or ps i p
+    → flat_map hyphened (drop i ps) ≡ hyphened p ++ flat_map hyphened (drop (i + 1) ps)
+next_piece ps i p within is =
+    ap (flat_map hyphened) (drop_more ps i p within) ∙ ap (λ q. hyphened q ++ flat_map hyphened (drop (i + 1) ps)) (sym is)
+
+pub next_piece_events : (ps : List Text) (i : ℕ) (p : Text) → i < length ps → p ≡ get_or ps i p
+    → bytes (flat_map hyphened (drop i ps)) ≡ (bytes (hyphen ∷ []) ++ bytes p) ++ bytes (flat_map hyphened (drop (i + 1) ps))
+next_piece_events ps i p within is = ap bytes (next_piece ps i p within is) ∙ hyphened_bytes p (flat_map hyphened (drop (i + 1) ps))
+
+-- past the last piece
+pub no_piece : (ps : List Text) (i : ℕ) → length ps ≤ i → flat_map hyphened (drop i ps) ≡ []
+no_piece ps i past = ap (flat_map hyphened) (drop_all i ps past)
+
+pub no_piece_events : (ps : List Text) (i : ℕ) → length ps ≤ i → bytes (flat_map hyphened (drop i ps)) ≡ []
+no_piece_events ps i past = ap bytes (no_piece ps i past) ∙ no_bytes
+
+pub next_piece_length : (ps : List Text) (i : ℕ) (p : Text) → i < length ps → p ≡ get_or ps i p
+    → length (flat_map hyphened (drop i ps)) ≡ (length p + 1) + length (flat_map hyphened (drop (i + 1) ps))
+next_piece_length ps i p within is =
+    ap length (next_piece ps i p within is) ∙ length-append (hyphened p) (flat_map hyphened (drop (i + 1) ps))
+    ∙ (let e : length (hyphened p) ≡ length p + 1 = omega arith in ap (λ n. n + length (flat_map hyphened (drop (i + 1) ps))) e)
+
+-- ---- private pieces
+
+pub no_private_events : (own : List Text) → eqb (length own) 0 ≡ true → bytes (joined_text (private_pieces own)) ≡ []
+no_private_events [] none = no_bytes
+no_private_events (w ∷ ws) none = let wrong : length (w ∷ ws) ≡ 0 = eqb-true (length (w ∷ ws)) 0 none in absurd (omega (arith, wrong))
+
+pub private_events : (own : List Text) → eqb (length own) 0 ≡ false → bytes (joined_text (private_pieces own)) ≡ bytes private_text ++ bytes (flat_map hyphened own)
+private_events [] some = cc
+private_events (w ∷ ws) some = bytes_joined private_text (flat_map hyphened (w ∷ ws))

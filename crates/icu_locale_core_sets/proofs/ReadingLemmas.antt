@@ -1,0 +1,15 @@
+-- Reading attributes and joining sets: the set so far, and what is left.
+use Rattle.std.proofs.Common.{◌≡◌, ℕ, ◌+◌, ◌≤◌, List, [], ◌++◌, length, fold, drop, ap, ◌∙◌}
+use Rattle.std.proofs.lemmas.List.{drop_all}
+use Rattle.icu_locale_core_grammar.specs.Subtags.{Text}
+use Rattle.icu_locale_core_grammar.specs.Collections.{Rises, set_of}
+use Rattle.icu_locale_core_grammar.proofs.ListLemmas.{fold-append}
+use Rattle.icu_locale_core_grammar.proofs.SetLemmas.{put_text, set_of_rising}
+
+-- a set and more texts
+pub set_of_joined : (set ts : List Text) → Rises set → set_of (set ++ ts) ≡ fold put_text set ts
+set_of_joined set ts rises = fold-append put_text [] set ts ∙ ap (λ s. fold put_text s ts) (set_of_rising set rises)
+
+-- past the last text
+pub fold_past : (set ts : List Text) (i : ℕ) → length ts ≤ i → fold put_text set (drop i ts) ≡ set
+fold_past set ts i past = ap (fold put_text set) (drop_all i ts past)

@@ -1,0 +1,10 @@
+use Rattle.std.proofs.Common.{◌≡◌, ◌∙◌, sym, drop, fold, ap}
+use Rattle.icu_locale_core_grammar.proofs.SetLemmas.{put_text}
+use Rattle.icu_locale_core_sets.proofs.ReadingLemmas.{set_of_joined, fold_past}
+use Rattle.icu_locale_core_sets.proofs.attributes.SubtagSet+AttributeRule.extend_from_attributes.Goals as goal
+
+pub returns-clause-value : goal.returns-clause-value
+returns-clause-value c =
+    let items = c.as_slice-attribute-items.result.now in
+    sym (fold_past c.loop-attribute.joined items c.loop-attribute.attribute-index c.loop-attribute-test.false) ∙ c.loop-attribute.invariant
+    ∙ sym (set_of_joined c.args.self.now c.args.other c.try_clone.ensures.set.rises)

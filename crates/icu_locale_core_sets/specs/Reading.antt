@@ -1,0 +1,22 @@
+-- Why a list of pieces is not read, and what is still to be read of one.
+-- UTS 35, sections 3.6 and 3.7; docs/tags.md, "Parts read alone".
+-- Cited by the readers of attributes and of private pieces.
+use Rattle.std.specs.Prelude.{◌≡◌, ◌↔◌, ◌⊎◌, List, ◌++◌, map, fold}
+use Rattle.icu_locale_core_grammar.specs.declared.error.ParseError.{ParseError}
+use Rattle.icu_locale_core_grammar.specs.declared.error.ParseError.TheVariants.{InvalidExtension, Memory}
+use Rattle.icu_locale_core_grammar.specs.Subtags.{Text, is_attribute, is_private_piece, lower}
+use Rattle.icu_locale_core_grammar.specs.Collections.{Each, insert_text, set_of}
+
+-- a growth was refused, or nothing is read
+abbrev pub IsRefused : {M : Type 0} → (M → Type 0) → ParseError → Type 0
+IsRefused {M} Reads e = (e ≡ Memory) ⊎ ((e ≡ InvalidExtension) × ((m : M) → ¬ Reads m))
+
+-- amid the reading of attributes: what is left decides as all pieces do, and completes the set
+pub record IsReadingSet (ps left set : List Text) : Type 0 where
+  pub passes : Each is_attribute ps ↔ Each is_attribute left
+  pub completes : fold (λ ts t. insert_text t ts) set (map lower left) ≡ set_of (map lower ps)
+
+-- amid the reading of private pieces: what is left decides as all pieces do, and completes the list
+pub record IsReadingList (ps left own : List Text) : Type 0 where
+  pub passes : Each is_private_piece ps ↔ Each is_private_piece left
+  pub completes : own ++ map lower left ≡ map lower ps

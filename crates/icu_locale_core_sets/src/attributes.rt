@@ -1,0 +1,66 @@
+//! The attributes of a `u` extension.
+
+ghost use Rattle.std.specs.Prelude.{◌≡◌, [], ◌++◌, IsOk, IfOk, IfErr, OnOk, OnErr};
+ghost use Rattle.icu_locale_core_grammar.specs.Collections.{set_of};
+ghost use Rattle.icu_locale_core_grammar.specs.PartReaders.{ReadsAttributes};
+ghost use Rattle.icu_locale_core_sets.specs.Reading.{IsRefused};
+
+use crate::subtag_set::SubtagSet;
+use icu_locale_core_grammar::ParseError;
+use icu_locale_core_subtags::SubtagIterator;
+use icu_locale_core_subtags::unicode::{Attribute, AttributeRule};
+use std::alloc::{AllocError, Global};
+
+/// The attributes of a `u` extension: none of them twice, in byte order.
+pub type Attributes = SubtagSet<AttributeRule>;
+
+impl SubtagSet<AttributeRule> {
+    /// The set of the attributes of this text, pieces of 3 to 8 letters and digits in either case between hyphens.
+    ///
+    /// `foo-Bar-FOO` has `bar`, `foo`; the empty text has none. `InvalidExtension` where a piece is no attribute; `Memory`
+    /// where a growth was refused. Source: UTS 35, section 3.6.
+    pub fn try_from_str(alloc: Global, s: &str) -> Result<Attributes, ParseError>
+        ensures succeeds { s.now ≡ [] → IsOk result }
+        ensures value { IfOk result (ReadsAttributes s.now) }
+        ensures fault { IfErr result (IsRefused (ReadsAttributes s.now)) }
+    {
+        Attributes::try_from_utf8(alloc, s.as_bytes())
+    }
+
+    /// The set of the attributes of these bytes, as `try_from_str`.
+    pub fn try_from_utf8(alloc: Global, code_units: &[u8]) -> Result<Attributes, ParseError>
+        ensures succeeds { code_units.now ≡ [] → IsOk result }
+        ensures value { IfOk result (ReadsAttributes code_units.now) }
+        ensures fault { IfErr result (IsRefused (ReadsAttributes code_units.now)) }
+    {
+        let mut attributes = Attributes::new(alloc);
+        if code_units.is_empty() {
+            return Ok(attributes);
+        }
+        for piece in SubtagIterator::new(code_units) {
+            let Ok(attribute) = Attribute::try_from_utf8(piece) else {
+                return Err(ParseError::InvalidExtension);
+            };
+            let Ok(_) = attributes.push(attribute) else {
+                return Err(ParseError::Memory);
+            };
+        }
+        Ok(attributes)
+    }
+
+    /// Puts the attributes of the other set into this one.
+    ///
+    /// `bar`, `foo` with `baz`, `foo` becomes `bar`, `baz`, `foo`. `AllocError` is answered for memory alone, and the set is
+    /// then as before.
+    pub fn extend_from_attributes(&mut self, other: Attributes) -> Result<(), AllocError>
+        ensures value { OnOk result (self.new ≡ set_of (self.old ++ other)) }
+        ensures err { OnErr result (self.new ≡ self.old) }
+    {
+        let mut joined = self.try_clone()?;
+        for attribute in other.as_slice() {
+            joined.push(*attribute)?;
+        }
+        *self = joined;
+        Ok(())
+    }
+}

@@ -1,0 +1,50 @@
+//! Printing the pieces of a list, each behind a hyphen.
+
+ghost use Rattle.std.specs.Prelude.{◌≡◌, ◌++◌, ◌<◌, ◌^◌, false, [], ◌∷◌, is_err, length, flat_map, OnOk, OnErr, SomeIff};
+ghost use Rattle.writeable.specs.AnnotatedText.{bytes};
+ghost use Rattle.writeable.specs.Taking.{HasBegun};
+ghost use Rattle.icu_locale_core_grammar.specs.Pieces.{hyphen, hyphened};
+
+use icu_locale_core_subtags::{SubtagOf, SubtagRule};
+use writeable::{Error, Sink, Writeable};
+
+// Writes a hyphen, and the piece.
+fn write_piece<R: SubtagRule<8>, S: Sink>(piece: &SubtagOf<R, 8>, sink: &mut S) -> Result<(), Error>
+    requires { S.refused sink.old ≡ false }
+    ensures ok { OnOk result (S.takes sink.old (bytes (hyphen ∷ []) ++ bytes piece.now) sink.new) }
+    ensures refused { S.refused sink.new ≡ is_err result }
+    ensures begun { OnErr result (HasBegun S.takes S.lacks_room sink.old (bytes (hyphen ∷ []) ++ bytes piece.now) sink.new) }
+{
+    sink.write_char('-')?;
+    piece.write_to(sink)
+}
+
+/// Writes the pieces into `sink`, each with a hyphen before it: `-1996-valencia`.
+///
+/// `Ok`: the sink took them all behind what it held. `Error`, only where the sink refused: it took a beginning. It takes
+/// no memory but the sink's.
+pub fn write_pieces<R: SubtagRule<8>, S: Sink>(
+    pieces: &[SubtagOf<R, 8>],
+    sink: &mut S,
+) -> Result<(), Error>
+    requires { S.refused sink.old ≡ false }
+    ensures ok { OnOk result (S.takes sink.old (bytes (flat_map hyphened pieces.now)) sink.new) }
+    ensures refused { S.refused sink.new ≡ is_err result }
+    ensures begun { OnErr result (HasBegun S.takes S.lacks_room sink.old (bytes (flat_map hyphened pieces.now)) sink.new) }
+{
+    for piece in pieces {
+        write_piece(piece, sink)?;
+    }
+    Ok(())
+}
+
+/// How many bytes `write_pieces` writes: for `1996`, `valencia` it is 14. `None` where a `usize` does not hold it.
+pub fn pieces_length<R: SubtagRule<8>>(pieces: &[SubtagOf<R, 8>]) -> Option<usize>
+    ensures { SomeIff result (length (flat_map hyphened pieces.now) < 2 ^ 64) (length (flat_map hyphened pieces.now)) }
+{
+    let mut length: usize = 0;
+    for piece in pieces {
+        length = length.checked_add(piece.as_str().len() + 1)?;
+    }
+    Some(length)
+}

@@ -1,0 +1,185 @@
+//! The private pieces of a tag.
+
+ghost use Rattle.std.specs.Prelude.{◌≡◌, ◌==◌, ℕ, List, [], ◌∷◌, ◌++◌, length, IfOk, IfErr, OnOk, OnErr, slice_get};
+ghost use Rattle.std.specs.Option.{option_copied};
+ghost use Rattle.std.specs.Iterator.Adapters.{IterYieldsInOrder};
+ghost use Rattle.std.specs.Slice.Iter.{iter_rest};
+ghost use Rattle.icu_locale_core_grammar.specs.Subtags.{is_private, is_private_piece};
+ghost use Rattle.icu_locale_core_grammar.specs.PartReaders.{MeansOwn, ReadsPrivate};
+ghost use Rattle.icu_locale_core_grammar.specs.WellFormed.{AreLower};
+ghost use Rattle.icu_locale_core_sets.specs.Reading.{IsRefused};
+
+use icu_locale_core_grammar::ParseError;
+use icu_locale_core_subtags::SubtagIterator;
+use icu_locale_core_subtags::laws::subtags_are_words;
+use icu_locale_core_subtags::private::Subtag;
+use std::alloc::{AllocError, Global};
+use std::marker::Model;
+use std::slice;
+
+/// The private pieces of a tag, those behind `x`, in the order written.
+#[derive(Drop)]
+pub struct Private {
+    items: Vec<Subtag>,
+}
+
+impl Model for Private {
+    ghost use Rattle.std.specs.Prelude.{ℕ, List};
+    ghost use Rattle.icu_locale_core_grammar.specs.Subtags.{is_private_piece};
+    ghost use Rattle.icu_locale_core_grammar.specs.WellFormed.{AreLower};
+
+    ghost Value = { List (List ℕ) };
+
+    ghost view = { λ s. s.items.items };
+
+    ghost invariant = { λ s. AreLower is_private_piece s.items.items };
+}
+
+/// Whether the piece is `x`, in either case.
+fn is_singleton(piece: &[u8]) -> bool
+    ensures { result ≡ is_private piece.now }
+{
+    piece.len() == 1 && piece[0].to_ascii_lowercase() == b'x'
+}
+
+impl Private {
+    /// No private pieces. It takes no memory.
+    pub fn new(alloc: Global) -> Self
+        ensures { result ≡ [] }
+    {
+        Private {
+            items: Vec::new(alloc),
+        }
+    }
+
+    /// This private piece alone. `AllocError` is answered for memory alone.
+    pub fn new_single(alloc: Global, subtag: Subtag) -> Result<Self, AllocError>
+        ensures { IfOk result (λ private. private ≡ subtag ∷ []) }
+    {
+        let mut private = Private::new(alloc);
+        private.push(subtag)?;
+        Ok(private)
+    }
+
+    /// The private pieces of this text: `x`, and 1 or more pieces of 1 to 8 letters and digits, in either case, with hyphens
+    /// between them.
+    ///
+    /// `X-Foo-a` has `foo`, `a`. `InvalidExtension` where the text has another form, as `foo`, `x` and `x-toolongpiece`;
+    /// `Memory` where a growth was refused. Source: UTS 35, section 3.2.
+    pub fn try_from_str(alloc: Global, s: &str) -> Result<Self, ParseError>
+        ensures value { IfOk result (ReadsPrivate s.now) }
+        ensures fault { IfErr result (IsRefused (ReadsPrivate s.now)) }
+    {
+        Private::try_from_utf8(alloc, s.as_bytes())
+    }
+
+    /// The private pieces of these bytes, as `try_from_str`.
+    pub fn try_from_utf8(alloc: Global, code_units: &[u8]) -> Result<Self, ParseError>
+        ensures value { IfOk result (ReadsPrivate code_units.now) }
+        ensures fault { IfErr result (IsRefused (ReadsPrivate code_units.now)) }
+    {
+        let (rest, first) = SubtagIterator::new(code_units).next_const();
+        let Some(singleton) = first else {
+            return Err(ParseError::InvalidExtension);
+        };
+        if !is_singleton(singleton) {
+            return Err(ParseError::InvalidExtension);
+        }
+        let private = Private::try_from_iter(alloc, rest)?;
+        if private.is_empty() {
+            return Err(ParseError::InvalidExtension);
+        }
+        Ok(private)
+    }
+
+    /// The private pieces that these pieces are, without a singleton: no piece is the empty list.
+    ///
+    /// `InvalidExtension` where one is no private piece; `Memory` where a growth was refused.
+    pub fn try_from_iter(alloc: Global, iter: SubtagIterator<'_>) -> Result<Self, ParseError>
+        ensures value { IfOk result (MeansOwn iter.entry) }
+        ensures fault { IfErr result (IsRefused (MeansOwn iter.entry)) }
+    {
+        let mut private = Private::new(alloc);
+        for piece in iter {
+            let Ok(subtag) = Subtag::try_from_utf8(piece) else {
+                return Err(ParseError::InvalidExtension);
+            };
+            let Ok(()) = private.push(subtag) else {
+                return Err(ParseError::Memory);
+            };
+        }
+        Ok(private)
+    }
+
+    /// Puts one more private piece behind the others.
+    ///
+    /// `AllocError` is answered for memory alone, and the pieces are then as before.
+    pub fn push(&mut self, subtag: Subtag) -> Result<(), AllocError>
+        ensures value { OnOk result (self.new ≡ self.old ++ subtag ∷ []) }
+        ensures err { OnErr result (self.new ≡ self.old) }
+    {
+        subtags_are_words(&subtag);
+        self.items.push(subtag)?;
+        Ok(())
+    }
+
+    /// The private pieces, in the order written.
+    pub fn as_slice(&self) -> &[Subtag]
+        ensures value { result.now ≡ self.now }
+        ensures lower { AreLower is_private_piece self.now }
+    {
+        self.items.as_slice()
+    }
+
+    /// The private pieces one after another, in the order written.
+    pub fn iter(&self) -> slice::Iter<'_, Subtag>
+        ensures rest { iter_rest result ≡ self.now }
+        ensures len { length (iter_rest result) ≡ length self.now }
+        ensures runs { IterYieldsInOrder (List ℕ) }
+    {
+        self.items.as_slice().iter()
+    }
+
+    /// How many private pieces there are.
+    pub fn len(&self) -> usize
+        ensures { result ≡ length self.now }
+    {
+        self.items.len()
+    }
+
+    /// Whether there is no private piece.
+    pub fn is_empty(&self) -> bool
+        ensures { result ≡ (length self.now == 0) }
+    {
+        self.items.is_empty()
+    }
+
+    /// The private piece at this place, counted from 0; `None` past the last.
+    pub fn get(&self, index: usize) -> Option<&Subtag>
+        ensures { option_copied result ≡ slice_get self.now index }
+    {
+        self.items.as_slice().get(index)
+    }
+
+    /// The first private piece; `None` where there is none.
+    pub fn first(&self) -> Option<&Subtag>
+        ensures { option_copied result ≡ slice_get self.now 0 }
+    {
+        self.items.as_slice().first()
+    }
+
+    /// Takes every private piece away. It takes no memory.
+    pub fn clear(&mut self)
+        ensures { self.new ≡ [] }
+    {
+        self.items.clear();
+    }
+
+    /// The same private pieces. `AllocError` is answered for memory alone.
+    pub fn try_clone(&self) -> Result<Self, AllocError>
+        ensures { IfOk result (λ private. private ≡ self.now) }
+    {
+        let items = self.items.clone()?;
+        Ok(Private { items })
+    }
+}
