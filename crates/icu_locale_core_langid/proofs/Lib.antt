@@ -1,0 +1,3 @@
+pub mod LanguageTextLemmas
+pub mod SteppingLemmas
+pub mod StoppingLemmas

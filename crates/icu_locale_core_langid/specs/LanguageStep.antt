@@ -1,0 +1,27 @@
+-- One step of a reader in code, and what a reader of language parts has taken when it stops.
+-- Defined in docs/tags.md, "Stages".
+-- Cited by the functions that read language identifiers piece by piece.
+use Rattle.std.specs.Prelude.{◌≡◌, List, [], ◌∷◌, ◌++◌, Option, None, Some}
+use Rattle.icu_locale_core_grammar.specs.Subtags.{Text}
+use Rattle.icu_locale_core_grammar.specs.LanguagePart.{LanguageId}
+use Rattle.icu_locale_core_grammar.specs.Stepping.{run}
+use Rattle.icu_locale_core_grammar.specs.TagStages.{language_after}
+use Rattle.icu_locale_core_langid.specs.declared.step.Step.{Step}
+use Rattle.icu_locale_core_langid.specs.declared.step.Step.TheVariants.{Taken, Refused}
+
+-- the answer to the piece p at the stage s: a refused piece leaves the stage as it was
+abbrev pub IsStep : {S : Type 0} → (S → Text → Option S) → S → Text → Step S → Type 0
+IsStep after s p (Taken t) = after s p ≡ Some t
+IsStep after s p (Refused t) = (after s p ≡ None) × (t ≡ s)
+
+-- no piece is left, or the stage does not go on with the first
+abbrev pub IsStuck : Option LanguageId → List Text → Type 0
+IsStuck s [] = Unit {0}
+IsStuck s (p ∷ rest) = language_after s p ≡ None
+
+-- the steps of a language part took all but `rest`, and stopped there at the stage s
+pub record StopsWith (ps : List Text) (s : Option LanguageId) (rest : List Text) : Type 0 where
+  pub taken : List Text
+  pub parts : ps ≡ taken ++ rest
+  pub reached : run language_after (Some None) taken ≡ Some s
+  pub stuck : IsStuck s rest

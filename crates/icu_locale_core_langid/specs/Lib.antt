@@ -1,0 +1,9 @@
+-- What a reader must believe.
+pub mod Parts
+pub mod Modes
+pub mod LanguageText
+pub mod LanguageOrder
+-- What the readers follow, piece by piece.
+pub mod LanguageStep
+-- What the impls prove.
+pub mod LanguageOrderLaws

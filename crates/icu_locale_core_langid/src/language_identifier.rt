@@ -1,0 +1,88 @@
+//! The language identifier: its parts, and how it is made from them.
+
+ghost use Rattle.std.specs.Prelude.{◌≡◌, ◌↔◌, [], None, Some, codes, IsTrue, IfOk};
+ghost use Rattle.icu_locale_core_langid.specs.Parts.{with_parts, und_text};
+
+use icu_locale_core_sets::Variants;
+use icu_locale_core_subtags::{Language, Region, Script};
+use std::alloc::{AllocError, Global};
+use std::marker::Model;
+
+/// A language, a script or none, a region or none, and a set of variants.
+///
+/// `en-latn-us-fonipa-1996` is the language `en`, the script `Latn`, the region `US` and the variants `1996` and `fonipa`.
+/// Source: UTS 35, section 3.1, "Unicode Language Identifier".
+#[derive(Drop)]
+pub struct LanguageIdentifier {
+    /// The language; `und` where it is not known.
+    pub language: Language,
+    /// The script, where one is named.
+    pub script: Option<Script>,
+    /// The region, where one is named.
+    pub region: Option<Region>,
+    /// The variants, in byte order.
+    pub variants: Variants,
+}
+
+impl Model for LanguageIdentifier {
+    ghost use Rattle.icu_locale_core_grammar.specs.LanguagePart.{LanguageId};
+
+    ghost Value = { LanguageId };
+
+    ghost view = { λ a. record {
+      language = a.language;
+      script = a.script;
+      region = a.region;
+      variants = a.variants;
+    } };
+
+    ghost inverse = { λ id. record {
+      language = id.language;
+      script = id.script;
+      region = id.region;
+      variants = id.variants;
+    } };
+}
+
+impl LanguageIdentifier {
+    /// The identifier of these three parts, without a variant: of `en`, no script and `US` it is `en-US`. It takes no memory.
+    pub fn from_triple(alloc: Global, triple: (Language, Option<Script>, Option<Region>)) -> Self
+        ensures { result ≡ with_parts triple.0 triple.1 triple.2 [] }
+    {
+        let (language, script, region) = triple;
+        LanguageIdentifier {
+            language,
+            script,
+            region,
+            variants: Variants::new(alloc),
+        }
+    }
+
+    /// The identifier of this language alone. It takes no memory.
+    pub fn from_language(alloc: Global, language: Language) -> Self
+        ensures { result ≡ with_parts language None None [] }
+    {
+        Self::from_triple(alloc, (language, None, None))
+    }
+
+    /// The language, the script and the region: of `en-US-1996` they are `en`, none and `US`.
+    pub fn triple(&self) -> (Language, Option<Script>, Option<Region>)
+        ensures language { result.0 ≡ self.now.language }
+        ensures script { result.1 ≡ self.now.script }
+        ensures region { result.2 ≡ self.now.region }
+    {
+        (self.language, self.script, self.region)
+    }
+    /// An equal identifier. `AllocError` is answered for memory alone.
+    pub fn try_clone(&self) -> Result<Self, AllocError>
+        ensures { IfOk result (λ id. id ≡ self.now) }
+    {
+        let variants = self.variants.try_clone()?;
+        Ok(LanguageIdentifier {
+            language: self.language,
+            script: self.script,
+            region: self.region,
+            variants,
+        })
+    }
+}

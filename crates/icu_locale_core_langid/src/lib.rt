@@ -1,0 +1,19 @@
+//! Language identifiers.
+#![tactic(auto)]
+
+mod comparing;
+mod inner;
+mod language_identifier;
+pub mod laws;
+mod modes;
+mod parser;
+mod reading;
+mod step;
+mod stepping;
+mod writing;
+
+pub use crate::language_identifier::LanguageIdentifier;
+pub use crate::modes::ParserMode;
+pub use crate::parser::{parse_language_identifier, parse_language_identifier_from_iter};
+pub use crate::step::Step;
+pub use crate::stepping::language_after;

@@ -1,0 +1,94 @@
+//! Reading language identifiers from pieces.
+
+ghost use Rattle.std.specs.Prelude.{◌≡◌, ◌⊎◌, ℕ, List, IfOk, IfErr, OnErr};
+ghost use Rattle.icu_locale_core_grammar.specs.declared.error.ParseError.{ParseError};
+ghost use Rattle.icu_locale_core_grammar.specs.Pieces.{pieces};
+ghost use Rattle.icu_locale_core_langid.specs.LanguageStep.{StopsWith};
+ghost use Rattle.icu_locale_core_langid.specs.Modes.{ReadsInMode, HasFaultInMode, may_leave};
+
+use crate::language_identifier::LanguageIdentifier;
+use crate::modes::ParserMode;
+use crate::step::Step;
+use crate::stepping::language_after;
+use icu_locale_core_grammar::ParseError;
+use icu_locale_core_subtags::SubtagIterator;
+use std::alloc::{AllocError, Global};
+
+// The longest front that the steps of a language part take, and the pieces left.
+fn read_front<'a>(
+    alloc: Global,
+    from: SubtagIterator<'a>,
+) -> Result<(Option<LanguageIdentifier>, SubtagIterator<'a>), AllocError>
+    ensures { IfOk result (λ r. StopsWith from.entry r.0 r.1) }
+{
+    let mut stage = None;
+    let mut rest = from.again();
+    for piece in from {
+        match language_after(alloc, stage, piece)? {
+            Step::Taken(next) => {
+                stage = next;
+                rest.next();
+            }
+            Step::Refused(same) => return Ok((same, rest)),
+        }
+    }
+    Ok((stage, rest))
+}
+
+// Whether the mode may leave these pieces.
+fn leaves(mode: ParserMode, rest: &SubtagIterator<'_>) -> bool
+    ensures { result ≡ may_leave mode rest.now }
+{
+    match rest.peek() {
+        None => true,
+        Some(piece) => match mode {
+            ParserMode::LanguageIdentifier => false,
+            ParserMode::Locale => piece.len() == 1,
+            ParserMode::Partial => true,
+        },
+    }
+}
+
+/// Reads a language identifier from the next pieces, as much as the mode says, and leaves the rest.
+///
+/// Of the pieces `en`, `US`, `u`, `nu`, mode `Locale` reads `en-US` and leaves `u`, `nu`. `InvalidLanguage`: the first piece
+/// is no language, or there is none. `InvalidSubtag`: a later piece does not fit and the mode does not leave it. `Memory`:
+/// a growth was refused. After a refusal all pieces are left.
+pub fn parse_language_identifier_from_iter(
+    alloc: Global,
+    iter: &mut SubtagIterator<'_>,
+    mode: ParserMode,
+) -> Result<LanguageIdentifier, ParseError>
+    ensures value { IfOk result (λ id. ReadsInMode mode iter.old id iter.new) }
+    ensures fault { IfErr result (λ e. (e ≡ ParseError.Memory) ⊎ HasFaultInMode mode iter.old e) }
+    ensures err { OnErr result (iter.new ≡ iter.old) }
+{
+    match read_front(alloc, iter.again()) {
+        Err(_) => Err(ParseError::Memory),
+        Ok((stage, rest)) => match stage {
+            None => Err(ParseError::InvalidLanguage),
+            Some(id) => {
+                if !leaves(mode, &rest) {
+                    return Err(ParseError::InvalidSubtag);
+                }
+                *iter = rest;
+                Ok(id)
+            }
+        },
+    }
+}
+
+/// Reads a language identifier from the pieces of a text, as much as the mode says; what is left is not looked at.
+///
+/// Of `en-US-u-nu-thai`, mode `Locale` reads `en-US`. It refuses as `parse_language_identifier_from_iter` does.
+pub fn parse_language_identifier(
+    alloc: Global,
+    code_units: &[u8],
+    mode: ParserMode,
+) -> Result<LanguageIdentifier, ParseError>
+    ensures value { IfOk result (λ id. (rest : List (List ℕ)) × ReadsInMode mode (pieces code_units.now) id rest) }
+    ensures fault { IfErr result (λ e. (e ≡ ParseError.Memory) ⊎ HasFaultInMode mode (pieces code_units.now) e) }
+{
+    let mut iter = SubtagIterator::new(code_units);
+    parse_language_identifier_from_iter(alloc, &mut iter, mode)
+}

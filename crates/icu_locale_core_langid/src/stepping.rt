@@ -1,0 +1,104 @@
+//! A language part that is read piece by piece.
+
+ghost use Rattle.std.specs.Prelude.{◌≡◌, Some, None, Option, IfOk, if◌then◌else◌};
+ghost use Rattle.icu_locale_core_grammar.specs.Subtags.{title, upper, lower, is_variant};
+ghost use Rattle.icu_locale_core_grammar.specs.TagStages.{fits_script, fits_region, fits_variant, with_piece, language_after as stage_after};
+ghost use Rattle.icu_locale_core_langid.specs.LanguageStep.{IsStep};
+
+use crate::language_identifier::LanguageIdentifier;
+use crate::step::Step;
+use icu_locale_core_subtags::{Language, Region, Script, Variant};
+use std::alloc::{AllocError, Global};
+
+// The script that the piece is, right behind the language.
+fn fitting_script(id: &LanguageIdentifier, piece: &[u8]) -> Option<Script>
+    ensures { result ≡ (if fits_script id.now piece.now then Some (title piece.now) else None) }
+{
+    if id.script.is_some() || id.region.is_some() || !id.variants.is_empty() {
+        return None;
+    }
+    match Script::try_from_utf8(piece) {
+        Ok(script) => Some(script),
+        Err(_) => None,
+    }
+}
+
+// The region that the piece is, before any variant.
+fn fitting_region(id: &LanguageIdentifier, piece: &[u8]) -> Option<Region>
+    ensures { result ≡ (if fits_region id.now piece.now then Some (upper piece.now) else None) }
+{
+    if id.region.is_some() || !id.variants.is_empty() {
+        return None;
+    }
+    match Region::try_from_utf8(piece) {
+        Ok(region) => Some(region),
+        Err(_) => None,
+    }
+}
+
+// The variant that the piece is, where it is not there yet.
+fn fitting_variant(id: &LanguageIdentifier, piece: &[u8]) -> Option<Variant>
+    ensures { result ≡ (if fits_variant id.now piece.now then Some (lower piece.now) else None) }
+{
+    match Variant::try_from_utf8(piece) {
+        Ok(variant) => {
+            if id.variants.contains(&variant) {
+                None
+            } else {
+                Some(variant)
+            }
+        }
+        Err(_) => None,
+    }
+}
+
+// The identifier with one more piece.
+#[tactic(auto, unfolding(icu_locale_core_grammar::specs::TagStages::with_piece))]
+fn piece_after(id: LanguageIdentifier, piece: &[u8]) -> Result<Step<LanguageIdentifier>, AllocError>
+    ensures { IfOk result (λ s. IsStep with_piece id piece.now s) }
+{
+    let mut id = id;
+    match fitting_script(&id, piece) {
+        Some(script) => {
+            id.script = Some(script);
+            Ok(Step::Taken(id))
+        }
+        None => match fitting_region(&id, piece) {
+            Some(region) => {
+                id.region = Some(region);
+                Ok(Step::Taken(id))
+            }
+            None => match fitting_variant(&id, piece) {
+                Some(variant) => {
+                    id.variants.push(variant)?;
+                    Ok(Step::Taken(id))
+                }
+                None => Ok(Step::Refused(id)),
+            },
+        },
+    }
+}
+
+/// The language part with one more piece, `None` before its first piece; a piece that does not fit leaves it as it was.
+///
+/// Behind `en` the piece `us` gives `en-US`, and the piece `u` is refused. `AllocError` is answered for memory alone.
+pub fn language_after(
+    alloc: Global,
+    language: Option<LanguageIdentifier>,
+    piece: &[u8],
+) -> Result<Step<Option<LanguageIdentifier>>, AllocError>
+    ensures { IfOk result (λ s. IsStep stage_after language piece.now s) }
+{
+    match language {
+        None => match Language::try_from_utf8(piece) {
+            Ok(language) => Ok(Step::Taken(Some(LanguageIdentifier::from_language(
+                alloc, language,
+            )))),
+            Err(_) => Ok(Step::Refused(None)),
+        },
+        Some(id) => match piece_after(id, piece)? {
+            Step::Taken(id) => Ok(Step::Taken(Some(id))),
+            Step::Refused(id) => Ok(Step::Refused(Some(id))),
+        },
+    }
+}
