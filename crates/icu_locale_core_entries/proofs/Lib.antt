@@ -1,0 +1,4 @@
+pub mod PlaceLemmas
+pub mod RisingLemmas
+pub mod SearchLemmas
+pub mod StepLemmas

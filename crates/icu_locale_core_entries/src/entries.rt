@@ -1,0 +1,146 @@
+//! Maps from keys to values.
+
+ghost use Rattle.std.specs.Prelude.{◌≡◌, true, false, List, [], ◌∷◌, Option, None, Some, length, IfOk, OnOk, OnErr, IsOk, MatchResult, is_some, ◌==◌};
+ghost use Rattle.std.specs.Option.{option_copied};
+ghost use Rattle.icu_locale_core_grammar.specs.Collections.{Rises, keys_of, put_first, value_at};
+ghost use Rattle.icu_locale_core_entries.specs.EntryChanges.{set_entry, without_key};
+ghost use Rattle.icu_locale_core_entries.specs.Places.{IsFoundAt, IsMissingAt};
+
+use crate::kind::EntryKind;
+use crate::value::ValueOf;
+use icu_locale_core_subtags::SubtagOf;
+use std::alloc::{AllocError, Global};
+use std::marker::Model;
+use std::mem;
+
+/// Keywords or fields: a map from keys to values, listed in byte order of the keys.
+#[derive(Drop)]
+pub struct EntriesOf<K: EntryKind> {
+    entries: Vec<(SubtagOf<K, 2>, ValueOf<K>)>,
+}
+
+impl<K: EntryKind> Model for EntriesOf<K> {
+    ghost use Rattle.std.specs.Prelude.{List};
+    ghost use Rattle.icu_locale_core_grammar.specs.Collections.{Entry, Rises, keys_of};
+
+    ghost Value = { List Entry };
+
+    ghost view = { λ m. m.entries.items };
+
+    ghost invariant = { λ m. Rises (keys_of m.entries.items) };
+}
+
+impl<K: EntryKind> EntriesOf<K> {
+    /// The empty map. It takes no memory.
+    #[tactic(auto, using(icu_locale_core_grammar::proofs::MapLemmas::rises_none))]
+    pub fn new(alloc: Global) -> Self
+        ensures { result ≡ [] }
+    {
+        EntriesOf {
+            entries: Vec::new(alloc),
+        }
+    }
+
+    /// The map with one entry. `AllocError` is answered for memory alone.
+    pub fn new_single(alloc: Global, key: SubtagOf<K, 2>, value: ValueOf<K>) -> Result<Self, AllocError>
+        ensures { IfOk result (λ m. m ≡ (key, value) ∷ []) }
+    {
+        let mut map = Self::new(alloc);
+        map.put_first(key, value)?;
+        Ok(map)
+    }
+
+    /// Where the key stands, or where it would.
+    fn place_of(&self, key: &SubtagOf<K, 2>) -> Result<usize, usize>
+        ensures { MatchResult result (λ place. IsFoundAt key.now self.now place) (λ place. IsMissingAt key.now self.now place) }
+    {
+        self.entries.binary_search_by(|entry| entry.0.cmp(key))
+    }
+
+    /// Puts an entry that is not there at its place.
+    fn insert_at(&mut self, place: usize, key: SubtagOf<K, 2>, value: ValueOf<K>) -> Result<(), AllocError>
+        requires { IsMissingAt key self.old place }
+        ensures put { OnOk result (self.new ≡ put_first (key, value) self.old) }
+        ensures set { OnOk result (self.new ≡ set_entry (key, value) self.old) }
+        ensures err { OnErr result (self.new ≡ self.old) }
+    {
+        let Ok(()) = self.entries.insert(place, (key, value)) else {
+            return Err(AllocError);
+        };
+        Ok(())
+    }
+
+    /// Puts the entry into the map, unless the key is there: then the map stays as it is.
+    ///
+    /// `AllocError` is answered for memory alone, and leaves the map.
+    pub(crate) fn put_first(&mut self, key: SubtagOf<K, 2>, value: ValueOf<K>) -> Result<(), AllocError>
+        ensures ok { OnOk result (self.new ≡ put_first (key, value) self.old) }
+        ensures err { OnErr result (self.new ≡ self.old) }
+    {
+        match self.place_of(&key) {
+            Ok(_) => Ok(()),
+            Err(place) => self.insert_at(place, key, value),
+        }
+    }
+
+    /// The value of a key, if the map has the key.
+    pub fn get(&self, key: &SubtagOf<K, 2>) -> Option<&ValueOf<K>>
+        ensures { option_copied result ≡ value_at key.now self.now }
+    {
+        match self.place_of(key) {
+            Ok(place) => Some(&self.entries[place].1),
+            Err(_) => None,
+        }
+    }
+
+    /// Whether the map has the key.
+    pub fn contains_key(&self, key: &SubtagOf<K, 2>) -> bool
+        ensures { result ≡ is_some (value_at key.now self.now) }
+    {
+        self.place_of(key).is_ok()
+    }
+
+    /// Sets the value of a key, and answers the value that it had, if any.
+    ///
+    /// `AllocError` is answered for memory alone, and leaves the map. No memory is taken where the map has the key.
+    pub fn set(&mut self, key: SubtagOf<K, 2>, value: ValueOf<K>) -> Result<Option<ValueOf<K>>, AllocError>
+        ensures ok { OnOk result (self.new ≡ set_entry (key, value) self.old) }
+        ensures old { IfOk result (λ old. old ≡ value_at key self.old) }
+        ensures succeeds { is_some (value_at key self.old) ≡ true → IsOk result }
+        ensures err { OnErr result (self.new ≡ self.old) }
+    {
+        match self.place_of(&key) {
+            Ok(place) => Ok(Some(mem::replace(&mut self.entries[place].1, value))),
+            Err(place) => {
+                self.insert_at(place, key, value)?;
+                Ok(None)
+            }
+        }
+    }
+
+    /// Takes the key away, and answers the value that it had, if any.
+    pub fn remove(&mut self, key: &SubtagOf<K, 2>) -> Option<ValueOf<K>>
+        ensures value { result ≡ value_at key.now self.old }
+        ensures rest { self.new ≡ without_key key.now self.old }
+    {
+        match self.place_of(key) {
+            Ok(place) => Some(self.entries.remove(place).1),
+            Err(_) => None,
+        }
+    }
+
+    /// Leaves the empty map.
+    #[tactic(auto, using(icu_locale_core_grammar::proofs::MapLemmas::rises_none))]
+    pub fn clear(&mut self)
+        ensures { self.new ≡ [] }
+    {
+        self.entries.clear();
+    }
+
+    /// Whether the map has no entry.
+    pub fn is_empty(&self) -> bool
+        ensures { result ≡ (length self.now == 0) }
+    {
+        self.entries.is_empty()
+    }
+}
