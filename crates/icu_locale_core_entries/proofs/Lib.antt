@@ -2,3 +2,4 @@ pub mod PlaceLemmas
 pub mod RisingLemmas
 pub mod SearchLemmas
 pub mod StepLemmas
+pub mod ReadingLemmas

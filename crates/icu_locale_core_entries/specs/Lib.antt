@@ -2,6 +2,7 @@
 pub mod EntryKind
 pub mod Values
 pub mod EntryChanges
+pub mod PartFaults
 pub mod Steps
 pub mod HeadedView
 -- Where a key stands in a map, for the proofs.

@@ -2,6 +2,7 @@
 #![tactic(auto)]
 
 mod entries;
+mod entries_reading;
 mod headed;
 mod kind;
 mod step;
@@ -9,7 +10,33 @@ mod value;
 mod value_reading;
 
 pub use crate::entries::EntriesOf;
-pub use crate::headed::{HeadReader, HeadedStage, NoHead};
+pub use crate::headed::{HeadReader, HeadedStage, NoHead, headed_after, headed_finish};
 pub use crate::kind::EntryKind;
 pub use crate::step::Step;
 pub use crate::value::ValueOf;
+
+/// Keywords of the extension `u`.
+pub mod unicode {
+    use crate::entries::EntriesOf;
+    use crate::value::ValueOf;
+    use icu_locale_core_subtags::unicode::KeyRule;
+
+    /// Keywords: a map from keys to values, listed in byte order of the keys.
+    pub type Keywords = EntriesOf<KeyRule>;
+
+    /// The value of a keyword: a list of subtags, none of which is `true`.
+    pub type Value = ValueOf<KeyRule>;
+}
+
+/// Fields of the extension `t`.
+pub mod transform {
+    use crate::entries::EntriesOf;
+    use crate::value::ValueOf;
+    use icu_locale_core_subtags::transform::KeyRule;
+
+    /// Fields: a map from keys to values, listed in byte order of the keys.
+    pub type Fields = EntriesOf<KeyRule>;
+
+    /// The value of a field: a list of subtags, none of which is `true`.
+    pub type Value = ValueOf<KeyRule>;
+}

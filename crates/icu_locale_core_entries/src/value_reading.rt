@@ -1,13 +1,15 @@
 //! Reading a value piece by piece.
 
-ghost use Rattle.std.specs.Prelude.{◌≡◌, true, false, Some, None, IfOk, OnErr, MatchOption, MatchBool};
+ghost use Rattle.std.specs.Prelude.{◌≡◌, true, false, [], Some, None, IfOk, IfErr, IsOk, OnErr, MatchOption, MatchBool};
 ghost use Rattle.icu_locale_core_grammar.specs.Subtags.{is_value, lower};
-ghost use Rattle.icu_locale_core_grammar.specs.PartReaders.{value_after};
+ghost use Rattle.icu_locale_core_grammar.specs.PartReaders.{value_after, ReadsValue};
+ghost use Rattle.icu_locale_core_entries.specs.PartFaults.{IsPartFault};
 
 use crate::kind::EntryKind;
 use crate::value::ValueOf;
-use icu_locale_core_subtags::Subtag;
-use std::alloc::AllocError;
+use icu_locale_core_grammar::ParseError;
+use icu_locale_core_subtags::{Subtag, SubtagIterator};
+use std::alloc::{AllocError, Global};
 
 /// The piece of a value in a piece of a text, in lower case: 3 to 8 letters and digits.
 fn value_piece(piece: &[u8]) -> Option<Subtag>
@@ -32,5 +34,37 @@ impl<K: EntryKind> ValueOf<K> {
         };
         self.push_subtag(subtag)?;
         Ok(true)
+    }
+
+    /// The value of this text: pieces of 3 to 8 letters and digits between hyphens, in lower case, without `true`.
+    ///
+    /// `ABC-true-def` is `abc-def`, and the empty text the empty value. `ParseError::InvalidExtension`: a piece is of another
+    /// kind. `ParseError::Memory`: there is no memory.
+    pub fn try_from_str(alloc: Global, s: &str) -> Result<Self, ParseError>
+        ensures value { IfOk result (ReadsValue s.now) }
+        ensures fault { IfErr result (IsPartFault (ReadsValue s.now)) }
+        ensures succeeds { s.now ≡ [] → IsOk result }
+    {
+        Self::try_from_utf8(alloc, s.as_bytes())
+    }
+
+    /// The value of these bytes, as `try_from_str`.
+    pub fn try_from_utf8(alloc: Global, code_units: &[u8]) -> Result<Self, ParseError>
+        ensures value { IfOk result (ReadsValue code_units.now) }
+        ensures fault { IfErr result (IsPartFault (ReadsValue code_units.now)) }
+        ensures succeeds { code_units.now ≡ [] → IsOk result }
+    {
+        let mut value = Self::new_empty(alloc);
+        if code_units.is_empty() {
+            return Ok(value);
+        }
+        for piece in SubtagIterator::new(code_units) {
+            match value.take_piece(piece) {
+                Ok(true) => {}
+                Ok(false) => return Err(ParseError::InvalidExtension),
+                Err(_) => return Err(ParseError::Memory),
+            }
+        }
+        Ok(value)
     }
 }
