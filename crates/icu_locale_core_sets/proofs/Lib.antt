@@ -1,3 +1,4 @@
 pub mod PlaceLemmas
-pub mod PrintingLemmas
 pub mod ReadingLemmas
+pub mod PrintingLemmas
+pub mod LawLemmas

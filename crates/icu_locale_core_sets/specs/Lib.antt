@@ -1,6 +1,7 @@
 -- What a reader must believe.
 pub mod SubtagSets
 pub mod Reading
+pub mod Laws
 -- What the laws of comparing rest on.
 pub mod Orders
 -- What private calls say.

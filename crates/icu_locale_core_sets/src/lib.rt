@@ -1,12 +1,18 @@
-//! Sets and lists of subtags.
+//! Sets and lists of subtags: the variants and the attributes of a tag, and its private pieces.
+//!
+//! [`Variants`] and [`Attributes`] are sets, listed in byte order; [`Private`] is a list in the order written. The rules are
+//! in docs/tags.md, "Sets and maps" and "Parts read alone".
+//!
+//! ```rust
+//! use icu_locale_core_sets::Attributes;
+//!
+//! let attributes = Attributes::try_from_str(alloc, "foo-Bar-FOO")?;   // bar, foo
+//! ```
 #![tactic(auto)]
 
 mod attributes;
-mod comparing;
-mod comparing_private;
-mod place;
+pub mod laws;
 mod printing;
-mod printing_private;
 mod private;
 mod subtag_set;
 mod variants;

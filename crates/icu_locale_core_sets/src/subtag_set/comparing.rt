@@ -1,4 +1,4 @@
-//! Equality, order and hash of sets: those of their lists of texts.
+//! Equality, order, hash and `Debug` of sets: those of their lists of texts.
 
 ghost use Rattle.std.specs.Prelude.{Some, refl};
 ghost use Rattle.std.specs.Cmp.{on_equiv, on_total, on_po, on_per, partial_equiv_from_equiv};
@@ -11,6 +11,7 @@ ghost use Rattle.icu_locale_core_sets.specs.Orders.{lists_of_texts_po, lists_fed
 use crate::subtag_set::SubtagSet;
 use icu_locale_core_subtags::SubtagRule;
 use std::cmp::Ordering;
+use std::fmt;
 use std::hash::{Hash, Hasher};
 
 impl<R: SubtagRule<8>> PartialEq for SubtagSet<R> {
@@ -59,5 +60,11 @@ impl<R: SubtagRule<8>> Hash for SubtagSet<R> {
 
     fn hash<H: Hasher>(&self, state: &mut H) {
         self.as_slice().hash(state);
+    }
+}
+
+impl<R: SubtagRule<8>> fmt::Debug for SubtagSet<R> {
+    fn fmt<W: fmt::Write>(&self, f: &mut fmt::Formatter<W>) -> fmt::Result {
+        fmt::Debug::fmt(self.as_slice(), f)
     }
 }

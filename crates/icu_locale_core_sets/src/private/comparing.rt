@@ -1,4 +1,4 @@
-//! Equality, order and hash of private pieces: those of their lists of texts.
+//! Equality, order, hash and `Debug` of private pieces: those of their lists of texts.
 
 ghost use Rattle.std.specs.Prelude.{Some, refl};
 ghost use Rattle.std.specs.Cmp.{on_equiv, on_total, on_po, on_per, partial_equiv_from_equiv};
@@ -10,6 +10,7 @@ ghost use Rattle.icu_locale_core_sets.specs.Orders.{lists_of_texts_po, lists_fed
 
 use crate::private::Private;
 use std::cmp::Ordering;
+use std::fmt;
 use std::hash::{Hash, Hasher};
 
 impl PartialEq for Private {
@@ -58,5 +59,11 @@ impl Hash for Private {
 
     fn hash<H: Hasher>(&self, state: &mut H) {
         self.as_slice().hash(state);
+    }
+}
+
+impl fmt::Debug for Private {
+    fn fmt<W: fmt::Write>(&self, f: &mut fmt::Formatter<W>) -> fmt::Result {
+        fmt::Debug::fmt(self.as_slice(), f)
     }
 }

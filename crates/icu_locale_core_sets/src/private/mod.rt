@@ -9,6 +9,9 @@ ghost use Rattle.icu_locale_core_grammar.specs.PartReaders.{MeansOwn, ReadsPriva
 ghost use Rattle.icu_locale_core_grammar.specs.WellFormed.{AreLower};
 ghost use Rattle.icu_locale_core_sets.specs.Reading.{IsRefused};
 
+mod comparing;
+mod printing;
+
 use icu_locale_core_grammar::ParseError;
 use icu_locale_core_subtags::SubtagIterator;
 use icu_locale_core_subtags::laws::subtags_are_words;

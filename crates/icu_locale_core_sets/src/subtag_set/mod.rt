@@ -7,7 +7,10 @@ ghost use Rattle.std.specs.Slice.Iter.{iter_rest};
 ghost use Rattle.icu_locale_core_grammar.specs.Collections.{contains_text, insert_text};
 ghost use Rattle.icu_locale_core_sets.specs.SubtagSets.{IsSubtagSet, remove_text};
 
-use crate::place::place_of;
+mod comparing;
+mod place;
+
+use self::place::place_of;
 use icu_locale_core_subtags::laws::subtags_are_words;
 use icu_locale_core_subtags::{SubtagOf, SubtagRule};
 use std::alloc::{AllocError, Global};
