@@ -2,8 +2,8 @@
 pub mod Parts
 pub mod Modes
 pub mod LanguageText
-pub mod LanguageOrder
+pub mod SameLanguage
 -- What the readers follow, piece by piece.
 pub mod LanguageStep
 -- What the impls prove.
-pub mod LanguageOrderLaws
+pub mod SameLanguageLaws

@@ -65,6 +65,37 @@ impl LanguageIdentifier {
         Self::from_triple(alloc, (language, None, None))
     }
 
+    /// The language `und` with this script, or alone: of `Latn` it is `und-Latn`. It takes no memory.
+    pub fn from_script(alloc: Global, script: Option<Script>) -> Self
+        ensures { result ≡ with_parts und_text script None [] }
+    {
+        Self::from_triple(alloc, (Language::default(), script, None))
+    }
+
+    /// The language `und` with this region, or alone: of `US` it is `und-US`. It takes no memory.
+    pub fn from_region(alloc: Global, region: Option<Region>) -> Self
+        ensures { result ≡ with_parts und_text None region [] }
+    {
+        Self::from_triple(alloc, (Language::default(), None, region))
+    }
+
+    /// The language `und`, and nothing else. It takes no memory.
+    pub fn unknown(alloc: Global) -> Self
+        ensures { result ≡ with_parts und_text None None [] }
+    {
+        Self::from_language(alloc, Language::default())
+    }
+
+    /// Whether this is the language `und`, and nothing else.
+    pub fn is_unknown(&self) -> bool
+        ensures { IsTrue result ↔ (self.now ≡ with_parts und_text None None []) }
+    {
+        self.language.is_unknown()
+            && self.script.is_none()
+            && self.region.is_none()
+            && self.variants.is_empty()
+    }
+
     /// The language, the script and the region: of `en-US-1996` they are `en`, none and `US`.
     pub fn triple(&self) -> (Language, Option<Script>, Option<Region>)
         ensures language { result.0 ≡ self.now.language }
@@ -73,6 +104,7 @@ impl LanguageIdentifier {
     {
         (self.language, self.script, self.region)
     }
+
     /// An equal identifier. `AllocError` is answered for memory alone.
     pub fn try_clone(&self) -> Result<Self, AllocError>
         ensures { IfOk result (λ id. id ≡ self.now) }

@@ -6,7 +6,7 @@ ghost use Rattle.icu_locale_core_grammar.specs.Pieces.{pieces};
 ghost use Rattle.icu_locale_core_grammar.specs.LanguagePart.{MeansLanguage};
 ghost use Rattle.icu_locale_core_grammar.specs.WellFormed.{IsNormalPiece, IsNormalLanguage};
 ghost use Rattle.icu_locale_core_langid.specs.LanguageText.{language_text};
-ghost use Rattle.icu_locale_core_langid.specs.LanguageOrder.{SameIsEqual, IsOrderOfLanguages};
+ghost use Rattle.icu_locale_core_langid.specs.SameLanguage.{SameIsEqual};
 
 use crate::language_identifier::LanguageIdentifier;
 use icu_locale_core_subtags::laws::subtags_are_words;
@@ -40,8 +40,7 @@ pub fn identifiers_read_back(id: &LanguageIdentifier)
     let _variants = id.variants.as_slice();
 }
 
-/// `==` holds exactly of equal identifiers; the order of `total_cmp` is a total one, and ties equal identifiers alone.
-pub fn comparing()
-    ensures same { SameIsEqual }
-    ensures order { IsOrderOfLanguages }
+/// `==` holds exactly of equal identifiers.
+pub fn same_is_equal()
+    ensures { SameIsEqual }
 {}
