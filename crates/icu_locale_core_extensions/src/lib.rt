@@ -13,9 +13,12 @@
 mod body;
 mod head;
 mod opening;
+mod other;
+mod singleton;
 mod transform;
 mod unicode;
 
 pub use crate::body::{BodyStage, Part, body_after, body_finish, opened_body};
+pub use crate::other::Other;
 pub use crate::transform::Transform;
 pub use crate::unicode::Unicode;

@@ -4,8 +4,9 @@ ghost use Rattle.std.specs.Prelude.{◌≡◌, ◌∷◌, [], ℕ, List, MatchOp
 ghost use Rattle.std.specs.Char.{to_ascii_lowercase};
 ghost use Rattle.icu_locale_core_grammar.specs.Pieces.{pieces};
 ghost use Rattle.icu_locale_core_grammar.specs.Subtags.{spells};
-ghost use Rattle.icu_locale_core_extensions.specs.Opening.{Opens};
+ghost use Rattle.icu_locale_core_extensions.specs.Opening.{Opens, OpensOther};
 
+use crate::singleton::OtherSingleton;
 use icu_locale_core_subtags::SubtagIterator;
 
 // Whether the piece is this one letter, in either case; the letter is given in lower case.
@@ -29,4 +30,17 @@ pub(crate) fn body_behind<'a>(code_units: &'a [u8], letter: u8) -> Option<Subtag
     }
     body.peek()?;
     Some(body)
+}
+
+// The singleton that has no rule of its own and the pieces behind it, where the text begins with one and has any.
+pub(crate) fn other_behind<'a>(code_units: &'a [u8]) -> Option<(OtherSingleton, SubtagIterator<'a>)>
+    ensures { MatchOption result ((singleton : List ℕ) (body : List (List ℕ)) → OpensOther (pieces code_units.now) singleton body → ⊥) (λ r. OpensOther (pieces code_units.now) r.0 r.1) }
+{
+    let (body, first) = SubtagIterator::new(code_units).next_const();
+    let first = first?;
+    let Ok(singleton) = OtherSingleton::try_from_utf8(first) else {
+        return None;
+    };
+    body.peek()?;
+    Some((singleton, body))
 }
