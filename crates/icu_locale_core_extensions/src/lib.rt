@@ -10,6 +10,7 @@
 //! ```
 #![tactic(auto)]
 
+mod blocks;
 mod body;
 mod head;
 mod opening;
@@ -18,6 +19,7 @@ mod singleton;
 mod transform;
 mod unicode;
 
+pub use crate::blocks::Blocks;
 pub use crate::body::{BodyStage, Part, body_after, body_finish, opened_body};
 pub use crate::other::Other;
 pub use crate::transform::Transform;
