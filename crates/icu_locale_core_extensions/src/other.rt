@@ -13,6 +13,7 @@ use crate::opening::other_behind;
 use crate::singleton::OtherSingleton;
 use icu_locale_core_entries::Step;
 use icu_locale_core_grammar::ParseError;
+use icu_locale_core_subtags::laws::subtags_are_words;
 use icu_locale_core_subtags::{Subtag, SubtagIterator};
 use std::alloc::{AllocError, Global};
 use std::cmp::Ordering;
@@ -64,6 +65,15 @@ impl Other {
         self.singleton.as_str()
     }
 
+    /// The singleton as a byte, in lower case: the byte of `a`.
+    #[tactic(auto, using(crate::proofs::SingletonByteLemmas::only_byte))]
+    pub fn get_ext_byte(&self) -> u8
+        ensures { result ∷ [] ≡ self.now.0 }
+    {
+        subtags_are_words(&self.singleton);
+        self.singleton.as_str().as_bytes()[0]
+    }
+
     /// The pieces: `foo`, `bar` of `a-foo-bar`.
     pub fn as_slice(&self) -> &[Subtag]
         ensures { result.now ≡ self.now.1 }
@@ -87,7 +97,11 @@ impl Other {
 }
 
 // The extension of this singleton with these pieces.
-fn read_body(alloc: Global, singleton: OtherSingleton, body: SubtagIterator<'_>) -> Result<Other, ParseError>
+fn read_body(
+    alloc: Global,
+    singleton: OtherSingleton,
+    body: SubtagIterator<'_>,
+) -> Result<Other, ParseError>
     ensures value { IfOk result (λ o. (singleton ≡ o.0) × MeansOther body.entry o.1) }
     ensures fault { IfErr result (IsRefused (MeansOther body.entry)) }
 {
