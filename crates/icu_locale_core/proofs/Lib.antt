@@ -1,0 +1,2 @@
+pub mod SingletonLemmas
+pub mod StageLemmas

@@ -1,0 +1,13 @@
+-- What a contract sees of the extensions of a locale: what they mean, and the private pieces.
+-- Defined in docs/tags.md, "Meaning".
+-- Cited by the calls of `Extensions` and `Locale`.
+use Rattle.std.specs.Prelude.{List, []}
+use Rattle.icu_locale_core_grammar.specs.Subtags.{Text}
+use Rattle.icu_locale_core_grammar.specs.Meaning.{ExtensionMeanings, no_extensions}
+
+pub record ExtensionsValue : Type 0 where
+  pub blocks : ExtensionMeanings
+  pub own : List Text
+
+abbrev pub nothing : ExtensionsValue
+nothing = record { blocks = no_extensions; own = [] }

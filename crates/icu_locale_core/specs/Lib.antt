@@ -1,0 +1,2 @@
+pub mod ExtensionsValue
+pub mod StageView

@@ -1,0 +1,18 @@
+use Rattle.std.proofs.Common.{sym, refl, ◌∙◌, inr}
+use Rattle.icu_locale_core_grammar.proofs.BodyReaders.{other_reader}
+use Rattle.icu_locale_core_entries.proofs.ReadingLemmas.{reading_goes_on, reading_meant, reading_refused}
+use Rattle.icu_locale_core_extensions.proofs.other.read_body.Goals as goal
+
+pub loop-piece-preserved : goal.loop-piece-preserved
+loop-piece-preserved c =
+    let taken = rw c.in-Ok-Taken.field-0-is at c.in-Ok-Taken.ensures.step in
+    let kept = rw c.in-Ok-Taken.field-0-is at c.in-Ok-Taken.ensures.singleton in
+    (reading_goes_on _ _ _ _ _ _ _ _ c.in-Some.ensures.steps c.loop-piece.invariant.0 taken, c.loop-piece.invariant.1 ∙ sym kept)
+
+pub returns-in-Ok-Refused-clause-fault : goal.returns-in-Ok-Refused-clause-fault
+returns-in-Ok-Refused-clause-fault c =
+    let refused = rw c.in-Ok-Refused.field-0-is at c.in-Ok-Refused.ensures.step in
+    inr (refl, reading_refused other_reader _ _ _ _ _ c.in-Some.ensures.steps c.loop-piece.invariant.0 refused.0)
+
+pub returns-clause-value : goal.returns-clause-value
+returns-clause-value c = (c.loop-piece.invariant.1, reading_meant other_reader _ _ _ _ c.in-None.ensures.steps.0 c.loop-piece.invariant.0 refl)

@@ -1,0 +1,14 @@
+use Rattle.std.proofs.Common.{refl, inr}
+use Rattle.icu_locale_core_grammar.specs.Meaning.{MeansUnicode}
+use Rattle.icu_locale_core_grammar.specs.Pieces.{pieces}
+use Rattle.icu_locale_core_grammar.specs.Subtags.{unicode_text}
+use Rattle.icu_locale_core_extensions.proofs.OpeningLemmas.{opened, refused_behind, each_error}
+use Rattle.icu_locale_core_extensions.proofs.unicode.Unicode.try_from_utf8.Goals as goal
+
+pub returns-in-Some-clause-fault : goal.returns-in-Some-clause-fault
+returns-in-Some-clause-fault c =
+    each_error _ _ c.read_body.result (λ e f. refused_behind unicode_text MeansUnicode (pieces c.args.code_units.now) c.in-Some.body e c.in-Some.ensures f) c.read_body.ensures.fault
+
+pub returns-in-None-clause-fault : goal.returns-in-None-clause-fault
+returns-in-None-clause-fault c =
+    inr (refl, λ m r. let o = opened unicode_text MeansUnicode (pieces c.args.code_units.now) m r in c.in-None.ensures o.0 o.1)

@@ -1,0 +1,4 @@
+pub mod Opening
+pub mod BodyView
+pub mod OtherSingleton
+pub mod Others

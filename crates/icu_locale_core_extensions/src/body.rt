@@ -1,0 +1,110 @@
+//! The pieces behind a singleton, read one at a time.
+
+ghost use Rattle.std.specs.Prelude.{◌≡◌, option_map, IfOk, IfSome};
+ghost use Rattle.icu_locale_core_grammar.specs.Subtags.{lower};
+ghost use Rattle.icu_locale_core_grammar.specs.TagStages.{body_after as stage_after, body_ends, opens};
+ghost use Rattle.icu_locale_core_entries.specs.Steps.{IsStep};
+ghost use Rattle.icu_locale_core_extensions.specs.BodyView.{body_view, body_key, part_view, KeepsKey, HasKey};
+
+use crate::head::{AttributesHead, LanguageHead};
+use crate::opening::is_letter;
+use crate::other::{Other, other_after};
+use crate::singleton::OtherSingleton;
+use crate::transform::Transform;
+use crate::unicode::Unicode;
+use icu_locale_core_entries::{HeadedStage, Step, headed_after, headed_finish};
+use icu_locale_core_langid::LanguageIdentifier;
+use icu_locale_core_sets::Attributes;
+use icu_locale_core_subtags::{transform, unicode};
+use std::alloc::{AllocError, Global};
+
+/// How far the pieces behind a singleton are read.
+#[derive(Drop)]
+pub enum BodyStage {
+    /// Behind `u`.
+    InUnicode(HeadedStage<Attributes, unicode::KeyRule>),
+    /// Behind `t`.
+    InTransform(HeadedStage<Option<LanguageIdentifier>, transform::KeyRule>),
+    /// Behind any other singleton but `x`.
+    InOther(Other),
+}
+
+/// An extension that was read.
+#[derive(Drop)]
+pub enum Part {
+    /// The extension `u`.
+    Unicode(Unicode),
+    /// The extension `t`.
+    Transform(Transform),
+    /// Any other.
+    Other(Other),
+}
+
+/// The stage behind a singleton, before the first piece; `None` where the piece is no singleton, or is `x`.
+pub fn opened_body(alloc: Global, singleton: &[u8]) -> Option<BodyStage>
+    ensures stage { option_map body_view result ≡ opens singleton.now }
+    ensures key { IfSome result (λ b. body_key b ≡ lower singleton.now) }
+{
+    if is_letter(singleton, b'u') {
+        return Some(BodyStage::InUnicode(HeadedStage::InHead(Attributes::new(alloc))));
+    }
+    if is_letter(singleton, b't') {
+        return Some(BodyStage::InTransform(HeadedStage::InHead(None)));
+    }
+    match OtherSingleton::try_from_utf8(singleton) {
+        Ok(singleton) => Some(BodyStage::InOther(Other::opened(alloc, singleton))),
+        Err(_) => None,
+    }
+}
+
+/// The stage after one more piece; a piece that does not fit leaves it as it was. `AllocError` is answered for memory alone.
+#[tactic(auto, unfolding(icu_locale_core_grammar::specs::TagStages::body_after))]
+pub fn body_after(
+    alloc: Global,
+    stage: BodyStage,
+    piece: &[u8],
+) -> Result<Step<BodyStage>, AllocError>
+    ensures step { IfOk result (IsStep stage_after body_view (body_view stage) piece.now) }
+    ensures key { IfOk result (KeepsKey (body_key stage)) }
+{
+    match stage {
+        BodyStage::InUnicode(stage) => match headed_after::<AttributesHead, unicode::KeyRule>(
+            alloc, stage, piece,
+        )? {
+            Step::Taken(stage) => Ok(Step::Taken(BodyStage::InUnicode(stage))),
+            Step::Refused(stage) => Ok(Step::Refused(BodyStage::InUnicode(stage))),
+        },
+        BodyStage::InTransform(stage) => match headed_after::<LanguageHead, transform::KeyRule>(
+            alloc, stage, piece,
+        )? {
+            Step::Taken(stage) => Ok(Step::Taken(BodyStage::InTransform(stage))),
+            Step::Refused(stage) => Ok(Step::Refused(BodyStage::InTransform(stage))),
+        },
+        BodyStage::InOther(other) => match other_after(other, piece)? {
+            Step::Taken(other) => Ok(Step::Taken(BodyStage::InOther(other))),
+            Step::Refused(other) => Ok(Step::Refused(BodyStage::InOther(other))),
+        },
+    }
+}
+
+/// The extension that was read; `None` where its last entry needs a value and has none. `AllocError` is answered for memory
+/// alone.
+pub fn body_finish(alloc: Global, stage: BodyStage) -> Result<Option<Part>, AllocError>
+    ensures part { IfOk result (λ part. option_map part_view part ≡ body_ends (body_view stage)) }
+    ensures key { IfOk result (λ part. IfSome part (HasKey (body_key stage))) }
+{
+    match stage {
+        BodyStage::InUnicode(stage) => match headed_finish(alloc, stage)? {
+            Some((attributes, keywords)) => Ok(Some(Part::Unicode(Unicode {
+                keywords,
+                attributes,
+            }))),
+            None => Ok(None),
+        },
+        BodyStage::InTransform(stage) => match headed_finish(alloc, stage)? {
+            Some((lang, fields)) => Ok(Some(Part::Transform(Transform { lang, fields }))),
+            None => Ok(None),
+        },
+        BodyStage::InOther(other) => Ok(Some(Part::Other(other))),
+    }
+}

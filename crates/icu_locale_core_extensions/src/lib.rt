@@ -1,0 +1,26 @@
+//! The extensions of a locale tag: `u` with attributes and keywords, `t` with a language part and fields, and any other.
+//!
+//! `u-foo-nu-thai` is the attribute `foo` and the keyword `nu` with the value `thai`. The rules are in docs/tags.md,
+//! "Extensions" and "Parts read alone".
+//!
+//! ```rust
+//! use icu_locale_core_extensions::Unicode;
+//!
+//! let unicode = Unicode::try_from_str(alloc, "u-FOO-nu-thai")?;      // attribute foo, keyword nu with thai
+//! ```
+#![tactic(auto)]
+
+mod blocks;
+mod body;
+mod head;
+mod opening;
+mod other;
+mod singleton;
+mod transform;
+mod unicode;
+
+pub use crate::blocks::Blocks;
+pub use crate::body::{BodyStage, Part, body_after, body_finish, opened_body};
+pub use crate::other::Other;
+pub use crate::transform::Transform;
+pub use crate::unicode::Unicode;

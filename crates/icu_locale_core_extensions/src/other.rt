@@ -1,0 +1,185 @@
+//! Extensions that have no rule of their own.
+
+ghost use Rattle.std.specs.Prelude.{◌≡◌, ℕ, ◌==◌, List, [], ◌∷◌, ◌++◌, length, take, drop, IfOk, IfErr, OnOk, OnErr, MatchOption};
+ghost use Rattle.icu_locale_core_grammar.specs.Collections.{put_first};
+ghost use Rattle.icu_locale_core_grammar.specs.PartReaders.{ReadsOther};
+ghost use Rattle.icu_locale_core_grammar.specs.TagStages.{other_after as pieces_after};
+ghost use Rattle.icu_locale_core_grammar.specs.Meaning.{MeansOther};
+ghost use Rattle.icu_locale_core_entries.specs.Steps.{IsStep};
+ghost use Rattle.icu_locale_core_sets.specs.Reading.{IsRefused};
+ghost use Rattle.icu_locale_core_extensions.specs.Others.{IsPlaceOf, IsThere, KeepsSingleton};
+
+use crate::opening::other_behind;
+use crate::singleton::OtherSingleton;
+use icu_locale_core_entries::Step;
+use icu_locale_core_grammar::ParseError;
+use icu_locale_core_subtags::laws::subtags_are_words;
+use icu_locale_core_subtags::{Subtag, SubtagIterator};
+use std::alloc::{AllocError, Global};
+use std::cmp::Ordering;
+use std::marker::Model;
+
+/// An extension that is neither `u`, `t` nor `x`: its singleton and its pieces, `a-foo-bar`.
+///
+/// Source: RFC 5646 (BCP 47), section 2.2.6.
+#[derive(Drop)]
+pub struct Other {
+    singleton: OtherSingleton,
+    subtags: Vec<Subtag>,
+}
+
+impl Model for Other {
+    ghost use Rattle.icu_locale_core_grammar.specs.Collections.{Entry};
+
+    ghost Value = { Entry };
+
+    ghost view = { λ o. (o.singleton, o.subtags.items) };
+}
+
+impl Other {
+    // The extension of this singleton, without a piece.
+    pub(crate) fn opened(alloc: Global, singleton: OtherSingleton) -> Self
+        ensures { result ≡ (singleton, []) }
+    {
+        Other {
+            singleton,
+            subtags: Vec::new(alloc),
+        }
+    }
+
+    // Puts one more piece behind the others.
+    pub(crate) fn push(&mut self, subtag: Subtag) -> Result<(), AllocError>
+        ensures ok { OnOk result (self.new ≡ (self.old.0, self.old.1 ++ subtag ∷ [])) }
+        ensures err { OnErr result (self.new ≡ self.old) }
+    {
+        let Ok(()) = self.subtags.push(subtag) else {
+            return Err(AllocError);
+        };
+        Ok(())
+    }
+
+    /// The singleton as text, in lower case: `a`.
+    pub fn get_ext_str(&self) -> &str
+        ensures { result.now ≡ self.now.0 }
+    {
+        self.singleton.as_str()
+    }
+
+    /// The singleton as a byte, in lower case: the byte of `a`.
+    #[tactic(auto, using(crate::proofs::SingletonByteLemmas::only_byte))]
+    pub fn get_ext_byte(&self) -> u8
+        ensures { result ∷ [] ≡ self.now.0 }
+    {
+        subtags_are_words(&self.singleton);
+        self.singleton.as_str().as_bytes()[0]
+    }
+
+    /// The pieces: `foo`, `bar` of `a-foo-bar`.
+    pub fn as_slice(&self) -> &[Subtag]
+        ensures { result.now ≡ self.now.1 }
+    {
+        self.subtags.as_slice()
+    }
+
+    /// Whether it has no piece; then it prints nothing.
+    pub fn is_empty(&self) -> bool
+        ensures { result ≡ (length self.now.1 == 0) }
+    {
+        self.subtags.is_empty()
+    }
+
+    /// Takes all pieces away.
+    pub fn clear(&mut self)
+        ensures { self.new ≡ (self.old.0, []) }
+    {
+        self.subtags.clear();
+    }
+}
+
+// The extension of this singleton with these pieces.
+fn read_body(
+    alloc: Global,
+    singleton: OtherSingleton,
+    body: SubtagIterator<'_>,
+) -> Result<Other, ParseError>
+    ensures value { IfOk result (λ o. (singleton ≡ o.0) × MeansOther body.entry o.1) }
+    ensures fault { IfErr result (IsRefused (MeansOther body.entry)) }
+{
+    let mut other = Other::opened(alloc, singleton);
+    for piece in body {
+        match other_after(other, piece) {
+            Ok(Step::Taken(next)) => other = next,
+            Ok(Step::Refused(_)) => return Err(ParseError::InvalidExtension),
+            Err(_) => return Err(ParseError::Memory),
+        }
+    }
+    Ok(other)
+}
+
+impl Other {
+    /// The extension in this text, with its singleton: `A-Foo-bar` has the singleton `a` and the pieces `foo`, `bar`.
+    ///
+    /// `InvalidExtension`: the text is no such extension; `a` alone is none, nor is one of `u`, `t` or `x`. `Memory`: there is
+    /// no memory.
+    pub fn try_from_str(alloc: Global, s: &str) -> Result<Self, ParseError>
+        ensures value { IfOk result (ReadsOther s.now) }
+        ensures fault { IfErr result (IsRefused (ReadsOther s.now)) }
+    {
+        Self::try_from_utf8(alloc, s.as_bytes())
+    }
+
+    /// The extension in these bytes, as `try_from_str`.
+    pub fn try_from_utf8(alloc: Global, code_units: &[u8]) -> Result<Self, ParseError>
+        ensures value { IfOk result (ReadsOther code_units.now) }
+        ensures fault { IfErr result (IsRefused (ReadsOther code_units.now)) }
+    {
+        match other_behind(code_units) {
+            Some(opened) => read_body(alloc, opened.0, opened.1),
+            None => Err(ParseError::InvalidExtension),
+        }
+    }
+}
+
+// The extension with one more piece.
+pub(crate) fn other_after(mut other: Other, piece: &[u8]) -> Result<Step<Other>, AllocError>
+    ensures step { IfOk result (IsStep pieces_after (λ o. o.1) other.1 piece.now) }
+    ensures singleton { IfOk result (KeepsSingleton other.0) }
+{
+    match Subtag::try_from_utf8(piece) {
+        Ok(subtag) => {
+            other.push(subtag)?;
+            Ok(Step::Taken(other))
+        }
+        Err(_) => Ok(Step::Refused(other)),
+    }
+}
+
+// Where an extension of this singleton goes into a list of extensions; `None` where one stands there.
+fn place_of(others: &[Other], singleton: &OtherSingleton) -> Option<usize>
+    ensures { MatchOption result (IsThere singleton.now others.now) (λ place. IsPlaceOf singleton.now others.now place) }
+{
+    for (index, held) in others.iter().enumerate() {
+        match singleton.cmp(&held.singleton) {
+            Ordering::Less => return Some(index),
+            Ordering::Equal => return None,
+            Ordering::Greater => {}
+        }
+    }
+    Some(others.len())
+}
+
+// Puts an extension into a list by its singleton, unless one stands there: then the list stays as it is.
+pub(crate) fn put_other(others: &mut Vec<Other>, other: Other) -> Result<(), AllocError>
+    ensures ok { OnOk result (others.new.items ≡ put_first other others.old.items) }
+    ensures err { OnErr result (others.new.items ≡ others.old.items) }
+{
+    match place_of(others.as_slice(), &other.singleton) {
+        None => Ok(()),
+        Some(place) => {
+            let Ok(()) = others.insert(place, other) else {
+                return Err(AllocError);
+            };
+            Ok(())
+        }
+    }
+}

@@ -1,0 +1,87 @@
+//! The extension `t`.
+
+ghost use Rattle.std.specs.Prelude.{◌≡◌, [], ◌∷◌, IfOk, IfErr};
+ghost use Rattle.icu_locale_core_grammar.specs.Meaning.{MeansTransform, no_transform};
+ghost use Rattle.icu_locale_core_grammar.specs.PartReaders.{ReadsTransform};
+ghost use Rattle.icu_locale_core_sets.specs.Reading.{IsRefused};
+
+use crate::head::LanguageHead;
+use crate::opening::body_behind;
+use icu_locale_core_entries::transform::Fields;
+use icu_locale_core_entries::{HeadedStage, Step, headed_after, headed_finish};
+use icu_locale_core_grammar::ParseError;
+use icu_locale_core_langid::LanguageIdentifier;
+use icu_locale_core_subtags::SubtagIterator;
+use icu_locale_core_subtags::transform::KeyRule;
+use std::alloc::Global;
+use std::marker::Model;
+
+/// A language part or none, and fields: `t-de-latn-m0-true`. Source: UTS 35, section 3.7.
+#[derive(Drop)]
+pub struct Transform {
+    /// The language part, where there is one.
+    pub lang: Option<LanguageIdentifier>,
+    /// The fields, by key.
+    pub fields: Fields,
+}
+
+impl Model for Transform {
+    ghost use Rattle.icu_locale_core_grammar.specs.Meaning.{TransformMeaning};
+
+    ghost Value = { TransformMeaning };
+
+    ghost view = { λ t. record { head = t.lang; entries = t.fields } };
+}
+
+// The language part and the fields that these pieces are.
+fn read_body(alloc: Global, body: SubtagIterator<'_>) -> Result<Transform, ParseError>
+    ensures value { IfOk result (MeansTransform body.entry) }
+    ensures fault { IfErr result (IsRefused (MeansTransform body.entry)) }
+{
+    let mut stage: HeadedStage<Option<LanguageIdentifier>, KeyRule> = HeadedStage::InHead(None);
+    for piece in body {
+        match headed_after::<LanguageHead, KeyRule>(alloc, stage, piece) {
+            Ok(Step::Taken(next)) => stage = next,
+            Ok(Step::Refused(_)) => return Err(ParseError::InvalidExtension),
+            Err(_) => return Err(ParseError::Memory),
+        }
+    }
+    match headed_finish(alloc, stage) {
+        Ok(Some((lang, fields))) => Ok(Transform { lang, fields }),
+        Ok(None) => Err(ParseError::InvalidExtension),
+        Err(_) => Err(ParseError::Memory),
+    }
+}
+
+impl Transform {
+    /// No language part and no field. It takes no memory.
+    pub fn new(alloc: Global) -> Self
+        ensures { result ≡ no_transform }
+    {
+        Transform {
+            lang: None,
+            fields: Fields::new(alloc),
+        }
+    }
+
+    /// The extension in this text, with its singleton: `t-DE-m0-true` has the language part `de` and the field `m0` without a value.
+    ///
+    /// `InvalidExtension`: the text is no such extension; `t` alone is none. `Memory`: there is no memory.
+    pub fn try_from_str(alloc: Global, s: &str) -> Result<Self, ParseError>
+        ensures value { IfOk result (ReadsTransform s.now) }
+        ensures fault { IfErr result (IsRefused (ReadsTransform s.now)) }
+    {
+        Self::try_from_utf8(alloc, s.as_bytes())
+    }
+
+    /// The extension in these bytes, as `try_from_str`.
+    pub fn try_from_utf8(alloc: Global, code_units: &[u8]) -> Result<Self, ParseError>
+        ensures value { IfOk result (ReadsTransform code_units.now) }
+        ensures fault { IfErr result (IsRefused (ReadsTransform code_units.now)) }
+    {
+        match body_behind(code_units, b't') {
+            Some(body) => read_body(alloc, body),
+            None => Err(ParseError::InvalidExtension),
+        }
+    }
+}

@@ -1,0 +1,90 @@
+//! The extension `u`.
+
+ghost use Rattle.std.specs.Prelude.{◌≡◌, [], ◌∷◌, IfOk, IfErr};
+ghost use Rattle.icu_locale_core_grammar.specs.Meaning.{MeansUnicode, no_unicode};
+ghost use Rattle.icu_locale_core_grammar.specs.PartReaders.{ReadsUnicode};
+ghost use Rattle.icu_locale_core_sets.specs.Reading.{IsRefused};
+
+use crate::head::AttributesHead;
+use crate::opening::body_behind;
+use icu_locale_core_entries::unicode::Keywords;
+use icu_locale_core_entries::{HeadedStage, Step, headed_after, headed_finish};
+use icu_locale_core_grammar::ParseError;
+use icu_locale_core_sets::Attributes;
+use icu_locale_core_subtags::SubtagIterator;
+use icu_locale_core_subtags::unicode::KeyRule;
+use std::alloc::Global;
+use std::marker::Model;
+
+/// Attributes and keywords: `u-foo-nu-thai`. Source: UTS 35, section 3.6.
+#[derive(Drop)]
+pub struct Unicode {
+    /// The keywords, by key.
+    pub keywords: Keywords,
+    /// The attributes, in byte order.
+    pub attributes: Attributes,
+}
+
+impl Model for Unicode {
+    ghost use Rattle.icu_locale_core_grammar.specs.Meaning.{UnicodeMeaning};
+
+    ghost Value = { UnicodeMeaning };
+
+    ghost view = { λ u. record { head = u.attributes; entries = u.keywords } };
+}
+
+// The attributes and keywords that these pieces are.
+fn read_body(alloc: Global, body: SubtagIterator<'_>) -> Result<Unicode, ParseError>
+    ensures value { IfOk result (MeansUnicode body.entry) }
+    ensures fault { IfErr result (IsRefused (MeansUnicode body.entry)) }
+{
+    let mut stage: HeadedStage<Attributes, KeyRule> = HeadedStage::InHead(Attributes::new(alloc));
+    for piece in body {
+        match headed_after::<AttributesHead, KeyRule>(alloc, stage, piece) {
+            Ok(Step::Taken(next)) => stage = next,
+            Ok(Step::Refused(_)) => return Err(ParseError::InvalidExtension),
+            Err(_) => return Err(ParseError::Memory),
+        }
+    }
+    match headed_finish(alloc, stage) {
+        Ok(Some((attributes, keywords))) => Ok(Unicode {
+            keywords,
+            attributes,
+        }),
+        Ok(None) => Err(ParseError::InvalidExtension),
+        Err(_) => Err(ParseError::Memory),
+    }
+}
+
+impl Unicode {
+    /// No attribute and no keyword. It takes no memory.
+    pub fn new(alloc: Global) -> Self
+        ensures { result ≡ no_unicode }
+    {
+        Unicode {
+            keywords: Keywords::new(alloc),
+            attributes: Attributes::new(alloc),
+        }
+    }
+
+    /// The extension in this text, with its singleton: `u-FOO-nu-thai` has the attribute `foo` and `nu` with `thai`.
+    ///
+    /// `InvalidExtension`: the text is no such extension; `u` alone is none. `Memory`: there is no memory.
+    pub fn try_from_str(alloc: Global, s: &str) -> Result<Self, ParseError>
+        ensures value { IfOk result (ReadsUnicode s.now) }
+        ensures fault { IfErr result (IsRefused (ReadsUnicode s.now)) }
+    {
+        Self::try_from_utf8(alloc, s.as_bytes())
+    }
+
+    /// The extension in these bytes, as `try_from_str`.
+    pub fn try_from_utf8(alloc: Global, code_units: &[u8]) -> Result<Self, ParseError>
+        ensures value { IfOk result (ReadsUnicode code_units.now) }
+        ensures fault { IfErr result (IsRefused (ReadsUnicode code_units.now)) }
+    {
+        match body_behind(code_units, b'u') {
+            Some(body) => read_body(alloc, body),
+            None => Err(ParseError::InvalidExtension),
+        }
+    }
+}
