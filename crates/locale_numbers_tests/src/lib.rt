@@ -9,3 +9,5 @@ mod books;
 mod examples;
 #[cfg(test)]
 mod program_words;
+#[cfg(test)]
+mod worked_rows;
