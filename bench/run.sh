@@ -14,26 +14,39 @@ rustc -O --edition 2021 -o "$made/plain" "$top/bench/plain/main.rs"
 : | "$top/locale_numbers" >/dev/null
 
 python3 - "$input" "$made" "$top/locale_numbers" <<'PYTHON'
-import os, resource, subprocess, sys, time
+import os, subprocess, sys, time
 
 source, made, program = sys.argv[1:]
 size = os.path.getsize(source)
 
 
+def peak(pid):
+    """The most memory that a process has held so far, in MB. (What wait4 tells counts the parent's too.)"""
+    with open(f"/proc/{pid}/status") as status:
+        return next((int(line.split()[1]) / 1024 for line in status if line.startswith("VmHWM:")), 0.0)
+
+
+def start(command, name):
+    with open(source, "rb") as given, open(f"{made}/{name}.out", "wb") as taken:
+        return subprocess.Popen(command, stdin=given, stdout=taken)
+
+
 def run(command, name):
-    """The least processor and wall time of five runs, and the largest memory of a child, in MB."""
-    best = None
+    """The least processor time and the least wall time of five runs, and the most memory of a sixth, in MB."""
+    spent, wall = [], []
     for _ in range(5):
-        with open(source, "rb") as given, open(f"{made}/{name}.out", "wb") as taken:
-            start = time.monotonic()
-            child = subprocess.Popen(command, stdin=given, stdout=taken)
-            _, status, used = os.wait4(child.pid, 0)
-            wall = time.monotonic() - start
+        began = time.monotonic()
+        child = start(command, name)
+        _, status, used = os.wait4(child.pid, 0)
+        wall.append(time.monotonic() - began)
+        spent.append(used.ru_utime + used.ru_stime)
         if status != 0:
             sys.exit(f"{name}: status {status}")
-        spent = used.ru_utime + used.ru_stime
-        best = (spent, wall, used.ru_maxrss / 1024) if best is None else min(best, (spent, wall, used.ru_maxrss / 1024))
-    return best
+    child, memory = start(command, name), 0.0
+    while child.poll() is None:
+        memory = max(memory, peak(child.pid))
+        time.sleep(0.002)
+    return min(spent), min(wall), memory
 
 
 cat = run(["cat"], "cat")
