@@ -14,39 +14,40 @@ rustc -O --edition 2021 -o "$made/plain" "$top/bench/plain/main.rs"
 : | "$top/locale_numbers" >/dev/null
 
 python3 - "$input" "$made" "$top/locale_numbers" <<'PYTHON'
-import os, subprocess, sys, time
+import os, shutil, subprocess, sys, time
 
 source, made, program = sys.argv[1:]
 size = os.path.getsize(source)
 
 
-def peak(pid):
-    """The most memory that a process has held so far, in MB. (What wait4 tells counts the parent's too.)"""
-    with open(f"/proc/{pid}/status") as status:
-        return next((int(line.split()[1]) / 1024 for line in status if line.startswith("VmHWM:")), 0.0)
-
-
-def start(command, name):
-    with open(source, "rb") as given, open(f"{made}/{name}.out", "wb") as taken:
-        return subprocess.Popen(command, stdin=given, stdout=taken)
-
-
 def run(command, name):
-    """The least processor time and the least wall time of five runs, and the most memory of a sixth, in MB."""
-    spent, wall = [], []
+    """The least processor and wall time of five runs."""
+    best = None
     for _ in range(5):
-        began = time.monotonic()
-        child = start(command, name)
-        _, status, used = os.wait4(child.pid, 0)
-        wall.append(time.monotonic() - began)
-        spent.append(used.ru_utime + used.ru_stime)
+        with open(source, "rb") as given, open(f"{made}/{name}.out", "wb") as taken:
+            start = time.monotonic()
+            child = subprocess.Popen(command, stdin=given, stdout=taken)
+            _, status, used = os.wait4(child.pid, 0)
+            wall = time.monotonic() - start
         if status != 0:
             sys.exit(f"{name}: status {status}")
-    child, memory = start(command, name), 0.0
-    while child.poll() is None:
-        memory = max(memory, peak(child.pid))
-        time.sleep(0.002)
-    return min(spent), min(wall), memory
+        spent = used.ru_utime + used.ru_stime
+        best = (spent, wall) if best is None else min(best, (spent, wall))
+    return best
+
+
+def memory(command):
+    """The most memory that the program held, in MB: asked of a program that has read all lines and still waits for more."""
+    with open(source, "rb") as given:
+        child = subprocess.Popen(command, stdin=subprocess.PIPE, stdout=subprocess.DEVNULL)
+        shutil.copyfileobj(given, child.stdin)
+        child.stdin.flush()
+        time.sleep(0.3)
+        with open(f"/proc/{child.pid}/status") as status:
+            held = next(int(line.split()[1]) for line in status if line.startswith("VmHWM:"))
+        child.stdin.close()
+        child.wait()
+    return held / 1024
 
 
 cat = run(["cat"], "cat")
@@ -58,6 +59,6 @@ print(f"answers           {'the same bytes' if same else 'DIFFERENT'}")
 print(f"processor, plain  {ours[0] / plain[0]:.2f} times the small program")
 print(f"processor, cat    {ours[0] / max(cat[0], 1e-3):.1f} times cat")
 print(f"wall, plain       {ours[1] / plain[1]:.2f} times the small program")
-print(f"memory            {ours[2]:.1f} MB at most (small program {plain[2]:.1f} MB)")
+print(f"memory            {memory([program]):.1f} MB at most (small program {memory([f'{made}/plain']):.1f} MB)")
 sys.exit(0 if same else 1)
 PYTHON

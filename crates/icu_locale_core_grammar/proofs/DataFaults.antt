@@ -8,7 +8,7 @@ use Rattle.icu_locale_core_grammar.specs.Collections.{Entry}
 use Rattle.icu_locale_core_grammar.specs.LanguagePart.{LanguageId}
 use Rattle.icu_locale_core_grammar.specs.Meaning.{TransformMeaning, no_transform, TagMeaning, MeansTag}
 use Rattle.icu_locale_core_grammar.specs.FaultyPiece.{IsAccepted, HasFault}
-use Rattle.icu_locale_core_grammar.specs.TagPreferences.{least_of, subdivision_entries, keyword_subdivision, subdivision_key, DataLocaleMeaning, preferences_of, language_priority}
+use Rattle.icu_locale_core_grammar.specs.TagPreferences.{least_of, subdivision_entries, keyword_subdivision, subdivision_key, DataLocaleMeaning, locale_preferences_of, language_priority}
 use Rattle.icu_locale_core_grammar.specs.DataTags.{HasOneVariant, IsDataTag, MeansDataLocale, IsRefusedTag, HasDataFault}
 use Rattle.icu_locale_core_grammar.specs.PartLaws.{DataHasMeaningOrFault, DataHasOneFault, DataHasNeverBoth}
 use Rattle.icu_locale_core_grammar.proofs.Runs as Runs
@@ -131,7 +131,7 @@ data_answered ps = by_answer (tag_answered ps)
     refused m a n (inr many) = (InvalidSubtag, inr (record { tag = m; means = a; refused = many }))
 
     by_tag : (m : TagMeaning) → MeansTag ps m → Decided (IsBare m) → ((d : DataLocaleMeaning) × MeansDataLocale ps d) ⊎ ((e : ParseError) × HasDataFault ps e)
-    by_tag m a (inl b) = inl (language_priority (preferences_of m), record { tag = m; means = a; is = bare_data m b; same = refl })
+    by_tag m a (inl b) = inl (language_priority (locale_preferences_of m), record { tag = m; means = a; is = bare_data m b; same = refl })
     by_tag m a (inr n) = inr (refused m a (λ e. n (data_bare m e)) (variants_decided m))
 
     by_answer : IsAccepted MeansTag ps ⊎ ((e : ParseError) × HasFault MeansTag ps e) → ((d : DataLocaleMeaning) × MeansDataLocale ps d) ⊎ ((e : ParseError) × HasDataFault ps e)

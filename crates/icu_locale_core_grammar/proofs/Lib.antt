@@ -27,6 +27,8 @@ pub mod NormalOrder
 pub mod NormalTags
 pub mod AnswerLemmas
 pub mod PreferenceLemmas
+pub mod OrderLemmas
+pub mod PreferenceChangeLemmas
 pub mod SingleReader
 pub mod SingleTags
 pub mod LanguageFaults

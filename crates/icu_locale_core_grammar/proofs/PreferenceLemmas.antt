@@ -11,7 +11,7 @@ use Rattle.icu_locale_core_grammar.specs.Pieces.{pieces}
 use Rattle.icu_locale_core_grammar.specs.Meaning.{MeansTag}
 use Rattle.icu_locale_core_grammar.specs.NormalText.{normal_text}
 use Rattle.icu_locale_core_grammar.specs.Collections.{first_there}
-use Rattle.icu_locale_core_grammar.specs.TagPreferences.{is_suffix, Subdivision, SpellsSubdivision, subdivision_at, subdivision_of, DataLocaleMeaning, data_meaning, preferences_of, language_priority}
+use Rattle.icu_locale_core_grammar.specs.TagPreferences.{is_suffix, Subdivision, SpellsSubdivision, subdivision_at, subdivision_of, DataLocaleMeaning, data_meaning, locale_preferences_of, language_priority}
 use Rattle.icu_locale_core_grammar.specs.DataTags.{MeansDataLocale}
 use Rattle.icu_locale_core_grammar.proofs.Runs as Runs
 use Rattle.icu_locale_core_grammar.proofs.TagReader.{tag_reader}
@@ -83,7 +83,7 @@ one_subdivision text s t a b =
 
 pub one_data_meaning : (ps : List Text) (d e : DataLocaleMeaning) → MeansDataLocale ps d → MeansDataLocale ps e → d ≡ e
 one_data_meaning ps d e a b =
-    sym a.same ∙ ap (λ m. language_priority (preferences_of m)) (Runs.one_meaning tag_reader ps a.tag b.tag a.means b.means) ∙ b.same
+    sym a.same ∙ ap (λ m. language_priority (locale_preferences_of m)) (Runs.one_meaning tag_reader ps a.tag b.tag a.means b.means) ∙ b.same
 
 pub data_reads_back : (ps : List Text) (d : DataLocaleMeaning) → MeansDataLocale ps d → MeansDataLocale (pieces (normal_text (data_meaning d))) d
 data_reads_back ps d a =

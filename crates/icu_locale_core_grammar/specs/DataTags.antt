@@ -7,21 +7,21 @@ use Rattle.icu_locale_core_grammar.specs.declared.error.ParseError.TheVariants.{
 use Rattle.icu_locale_core_grammar.specs.Subtags.{Text}
 use Rattle.icu_locale_core_grammar.specs.Meaning.{TagMeaning, MeansTag}
 use Rattle.icu_locale_core_grammar.specs.FaultyPiece.{HasFault}
-use Rattle.icu_locale_core_grammar.specs.TagPreferences.{DataLocaleMeaning, data_meaning, preferences_of, language_priority}
+use Rattle.icu_locale_core_grammar.specs.TagPreferences.{DataLocaleMeaning, data_meaning, locale_preferences_of, language_priority}
 
 abbrev pub HasOneVariant : TagMeaning → Type 0
 HasOneVariant m = length m.front.variants ≤ 1
 
 -- the tag is its own data locale: nothing else is said
 abbrev pub IsDataTag : TagMeaning → Type 0
-IsDataTag m = data_meaning (language_priority (preferences_of m)) ≡ m
+IsDataTag m = data_meaning (language_priority (locale_preferences_of m)) ≡ m
 
 -- these pieces are a tag that is a data locale
 pub record MeansDataLocale (ps : List Text) (d : DataLocaleMeaning) : Type 0 where
   pub tag : TagMeaning
   pub means : MeansTag ps tag
   pub is : IsDataTag tag
-  pub same : language_priority (preferences_of tag) ≡ d
+  pub same : language_priority (locale_preferences_of tag) ≡ d
 
 -- a tag that is none: too many variants, or else an extension that may not stand
 abbrev pub IsRefusedTag : TagMeaning → ParseError → Type 0

@@ -8,7 +8,7 @@ use Rattle.icu_locale_core_grammar.specs.Pieces.{pieces, joined_text}
 use Rattle.icu_locale_core_grammar.specs.LanguagePart.{LanguageId}
 use Rattle.icu_locale_core_grammar.specs.Meaning.{TagMeaning}
 use Rattle.icu_locale_core_grammar.specs.NormalText.{language_pieces, normal_text}
-use Rattle.icu_locale_core_grammar.specs.TagPreferences.{preferences_of, data_meaning, language_priority, region_priority}
+use Rattle.icu_locale_core_grammar.specs.TagPreferences.{locale_preferences_of, data_meaning, language_priority, region_priority}
 use Rattle.icu_locale_core_grammar.specs.SingleVariant.{SingleMeaning, single_tag, InLanguage, single_after, single_ends, single_fault}
 use Rattle.icu_locale_core_grammar.specs.TagStages.{language_after, language_ends, language_fault, tag_start, tag_after, tag_ends, tag_fault}
 
@@ -52,10 +52,10 @@ single_answer text = shown_by single_text (answer_from single_after single_ends 
 -- ---- preferences, shown by the text of the locale that data is asked for
 
 abbrev pub language_first_text : TagMeaning → Text
-language_first_text m = normal_text (data_meaning (language_priority (preferences_of m)))
+language_first_text m = normal_text (data_meaning (language_priority (locale_preferences_of m)))
 
 abbrev pub region_first_text : TagMeaning → Text
-region_first_text m = normal_text (data_meaning (region_priority (preferences_of m)))
+region_first_text m = normal_text (data_meaning (region_priority (locale_preferences_of m)))
 
 abbrev pub language_first_answer : Text → Result Text ParseError
 language_first_answer text = shown_by language_first_text (tag_answer text)

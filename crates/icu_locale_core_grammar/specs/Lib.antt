@@ -13,6 +13,8 @@ pub mod PartialReading
 pub mod TagPreferences
 pub mod DataTags
 pub mod SingleVariant
+pub mod TagOrder
+pub mod PreferenceChanges
 -- What the readers follow, piece by piece.
 pub mod Stepping
 pub mod TagStages
@@ -21,3 +23,5 @@ pub mod KnownRows
 pub mod CollectionLaws
 pub mod TagLaws
 pub mod PartLaws
+pub mod OrderLaws
+pub mod PreferenceLaws

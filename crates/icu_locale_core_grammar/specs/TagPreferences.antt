@@ -60,13 +60,18 @@ abbrev pub least_of : List Text → Option Text
 least_of [] = None
 least_of (t ∷ ts) = Some t
 
-pub record Preferences : Type 0 where
+-- what a locale says of itself
+pub record LocalePreferencesMeaning : Type 0 where
   pub language : Text
   pub script : Option Text
   pub region : Option Text
   pub variant : Option Text
   pub subdivision : Option Subdivision
   pub region_override : Option Subdivision
+
+-- and its numbering system
+pub record Preferences : Type 0 where
+  pub locale : LocalePreferencesMeaning
   pub numbering_system : Option Text
 
 -- the one piece of a keyword's value, if there is one
@@ -76,16 +81,18 @@ keyword_piece key es = option_and_then one_piece (value_at key es)
 abbrev pub keyword_subdivision : Text → List Entry → Option Subdivision
 keyword_subdivision key es = option_and_then subdivision_of (keyword_piece key es)
 
-abbrev pub preferences_of : TagMeaning → Preferences
-preferences_of m = record {
+abbrev pub locale_preferences_of : TagMeaning → LocalePreferencesMeaning
+locale_preferences_of m = record {
   language = m.front.language;
   script = m.front.script;
   region = m.front.region;
   variant = least_of m.front.variants;
   subdivision = keyword_subdivision subdivision_key m.blocks.unicode.entries;
   region_override = keyword_subdivision override_key m.blocks.unicode.entries;
-  numbering_system = keyword_piece numbering_key m.blocks.unicode.entries;
 }
+
+abbrev pub preferences_of : TagMeaning → Preferences
+preferences_of m = record { locale = locale_preferences_of m; numbering_system = keyword_piece numbering_key m.blocks.unicode.entries }
 
 -- ---- the locale that data is asked for
 
@@ -96,15 +103,15 @@ pub record DataLocaleMeaning : Type 0 where
   pub variant : Option Text
   pub subdivision : Option Subdivision
 
-abbrev pub language_priority : Preferences → DataLocaleMeaning
+abbrev pub language_priority : LocalePreferencesMeaning → DataLocaleMeaning
 language_priority p = record { language = p.language; script = p.script; region = p.region; variant = p.variant; subdivision = p.subdivision }
 
 -- region and subdivision from the override, where there is one
-abbrev pub overridden : Preferences → Option Subdivision → DataLocaleMeaning
+abbrev pub overridden : LocalePreferencesMeaning → Option Subdivision → DataLocaleMeaning
 overridden p None = language_priority p
 overridden p (Some s) = record { language = p.language; script = p.script; region = Some s.region; variant = p.variant; subdivision = Some s }
 
-abbrev pub region_priority : Preferences → DataLocaleMeaning
+abbrev pub region_priority : LocalePreferencesMeaning → DataLocaleMeaning
 region_priority p = overridden p p.region_override
 
 -- the keywords of a data locale

@@ -15,6 +15,8 @@
 mod error;
 pub mod known_rows;
 pub mod laws;
+pub mod order_laws;
 pub mod part_laws;
+pub mod preference_laws;
 
 pub use crate::error::ParseError;
