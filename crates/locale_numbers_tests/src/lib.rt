@@ -8,4 +8,14 @@ mod books;
 #[cfg(test)]
 mod examples;
 #[cfg(test)]
+mod fakes;
+#[cfg(test)]
+mod faulty_io;
+#[cfg(test)]
+mod program;
+#[cfg(test)]
 mod program_words;
+#[cfg(test)]
+mod running;
+#[cfg(test)]
+mod worked_rows;
