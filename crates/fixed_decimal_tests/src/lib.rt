@@ -5,4 +5,6 @@
 #[cfg(test)]
 mod examples;
 #[cfg(test)]
+mod rounding;
+#[cfg(test)]
 mod texts;
