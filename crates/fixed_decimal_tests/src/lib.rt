@@ -3,7 +3,11 @@
 #![tactic(auto)]
 
 #[cfg(test)]
+mod ends;
+#[cfg(test)]
 mod examples;
+#[cfg(test)]
+mod increments;
 #[cfg(test)]
 mod rounding;
 #[cfg(test)]

@@ -1,5 +1,5 @@
-// Roundings: the multiple taken, and the range shown.
-use fixed_decimal::{Decimal, RoundingIncrement, SignedRoundingMode, UnsignedRoundingMode};
+// Roundings in the nine modes.
+use fixed_decimal::{Decimal, SignedRoundingMode, UnsignedRoundingMode};
 use std::alloc::Global;
 use std::test::Fail;
 use writeable::Writeable;
@@ -13,19 +13,6 @@ fn rounded(
 ) -> Result<String, Fail> {
     let mut number = Decimal::try_from_str(alloc, text)?;
     number.round_with_mode(position, mode);
-    Ok(number.write_to_string(alloc)?)
-}
-
-// The text of a number rounded to a multiple of an increment.
-fn rounded_to(
-    alloc: Global,
-    text: &str,
-    position: i16,
-    mode: SignedRoundingMode,
-    increment: RoundingIncrement,
-) -> Result<String, Fail> {
-    let mut number = Decimal::try_from_str(alloc, text)?;
-    number.round_with_mode_and_increment(position, mode, increment)?;
     Ok(number.write_to_string(alloc)?)
 }
 
@@ -193,6 +180,23 @@ fn half_even_takes_a_tie_to_the_even(rt: HostRuntime) -> Result<(), Fail> {
         ("-15", 1, "-20"),
         ("25", 1, "20"),
         ("14", 1, "10"),
+    ] {
+        let answer = rounded(rt.alloc(), text, position, mode)?;
+        assert_eq!(rt; answer.as_str(), want, "{text} at {position}");
+    }
+    Ok(())
+}
+
+#[test]
+fn positions_apart_from_the_digits_widen_the_range(rt: HostRuntime) -> Result<(), Fail> {
+    let mode = SignedRoundingMode::Unsigned(UnsignedRoundingMode::Expand);
+    for (text, position, want) in [
+        ("99.999", 4, "10000"),
+        ("1.5", -3, "1.500"),
+        ("0012", 1, "0020"),
+        ("0", 3, "000"),
+        ("99999999", 1, "100000000"),
+        ("0.0001", 2, "100"),
     ] {
         let answer = rounded(rt.alloc(), text, position, mode)?;
         assert_eq!(rt; answer.as_str(), want, "{text} at {position}");
