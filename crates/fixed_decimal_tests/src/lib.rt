@@ -11,4 +11,8 @@ mod increments;
 #[cfg(test)]
 mod rounding;
 #[cfg(test)]
+mod shifts_and_trims;
+#[cfg(test)]
+mod signs;
+#[cfg(test)]
 mod texts;
