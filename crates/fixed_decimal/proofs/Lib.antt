@@ -1,2 +1,4 @@
 pub mod SignedTextLemmas
+pub mod WritingLemmas
 pub use Rattle.fixed_decimal_unsigned.proofs.TextPartsLemmas
+pub use Rattle.fixed_decimal_unsigned.proofs.WritingLemmas as UnsignedWritingLemmas
