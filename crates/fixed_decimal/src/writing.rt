@@ -1,6 +1,8 @@
-ghost use Rattle.std.specs.Prelude.{◌≡◌, ◌≤◌, ◌++◌, false, is_err, length, OnOk, OnErr};
+ghost use Rattle.std.specs.Prelude.{◌≡◌, ◌≤◌, ◌++◌, false, is_err, length, map, OnOk, OnErr};
 ghost use Rattle.writeable.specs.AnnotatedText.{bytes};
 ghost use Rattle.writeable.specs.Taking.{HasBegun};
+ghost use Rattle.fixed_decimal_unsigned.specs.Number.{whole_digits, fraction_digits};
+ghost use Rattle.fixed_decimal_unsigned.specs.NumberText.{character, behind_point};
 ghost use Rattle.fixed_decimal.specs.SignedText.{sign_text, signed_text_of};
 
 use crate::decimal::Decimal;
@@ -31,6 +33,17 @@ fn write_sign<S: Sink>(sign: Sign, sink: &mut S) -> Result<(), Error>
     sink.write_str(text_of_sign(sign))
 }
 
+// Writes a decimal, one part behind the other.
+fn write_parts<S: Sink>(decimal: &Decimal, sink: &mut S) -> Result<(), Error>
+    requires { S.refused sink.old ≡ false }
+    ensures ok { OnOk result (S.takes sink.old (bytes (sign_text decimal.now.sign) ++ (bytes (map character (whole_digits decimal.now.absolute)) ++ bytes (behind_point (map character (fraction_digits decimal.now.absolute))))) sink.new) }
+    ensures refused { S.refused sink.new ≡ is_err result }
+    ensures begun { OnErr result (HasBegun S.takes S.lacks_room sink.old (bytes (sign_text decimal.now.sign) ++ (bytes (map character (whole_digits decimal.now.absolute)) ++ bytes (behind_point (map character (fraction_digits decimal.now.absolute))))) sink.new) }
+{
+    write_sign(decimal.sign, sink)?;
+    decimal.absolute.write_to(sink)
+}
+
 // The number of bytes of a decimal's text.
 #[tactic(auto, using(crate::proofs::WritingLemmas::number_fits, crate::proofs::WritingLemmas::sign_fits))]
 pub fn text_length(decimal: &Decimal) -> usize
@@ -46,20 +59,17 @@ impl Writeable for Signed<UnsignedDecimal> {
     ghost use Rattle.std.specs.Prelude.{◌≡◌, ◌++◌, Some, length, map};
     ghost use Rattle.writeable.specs.AnnotatedText.{bytes, text_of as written};
     ghost use Rattle.writeable.specs.LengthHint.{IsWithinHint};
-    ghost use Rattle.fixed_decimal_unsigned.specs.Number.{whole_digits, fraction_digits};
-    ghost use Rattle.fixed_decimal_unsigned.specs.NumberText.{character, behind_point};
-    ghost use Rattle.fixed_decimal.specs.SignedText.{sign_text, signed_text_of};
+    ghost use Rattle.fixed_decimal.specs.SignedText.{signed_text_of};
 
-    ghost events = { λ d. bytes (sign_text d.sign) ++ (bytes (map character (whole_digits d.absolute)) ++ bytes (behind_point (map character (fraction_digits d.absolute)))) };
+    ghost events = { λ d. bytes (signed_text_of d) };
 
     fn write_to<S: Sink>(&self, sink: &mut S) -> Result<(), Error> {
-        write_sign(self.sign, sink)?;
-        self.absolute.write_to(sink)
+        write_parts(self, sink)
     }
 
-    #[tactic(auto, using(crate::proofs::WritingLemmas::events_length))]
+    #[tactic(auto, using(writeable::proofs::AnnotatedTextLemmas::text_of_bytes))]
     fn writeable_length_hint(&self) -> LengthHint
-        ensures within { IsWithinHint result (length (written (bytes (sign_text self.now.sign) ++ (bytes (map character (whole_digits self.now.absolute)) ++ bytes (behind_point (map character (fraction_digits self.now.absolute))))))) }
+        ensures within { IsWithinHint result (length (written (bytes (signed_text_of self.now)))) }
         ensures low { result.low ≡ length (signed_text_of self.now) }
         ensures high { result.high ≡ Some (length (signed_text_of self.now)) }
     {
@@ -73,7 +83,7 @@ impl fmt::Display for Signed<UnsignedDecimal> {
 
     ghost output = { λ d. Some (signed_text_of d) };
 
-    #[tactic(auto, using(crate::proofs::WritingLemmas::events_text))]
+    #[tactic(auto, using(writeable::proofs::AnnotatedTextLemmas::text_of_bytes))]
     fn fmt<W: fmt::Write>(&self, f: &mut fmt::Formatter<W>) -> fmt::Result {
         display(self, f)
     }
