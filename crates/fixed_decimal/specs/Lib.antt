@@ -1,3 +1,5 @@
+pub mod IntegerText
+pub mod RefusalNumbers
 pub mod SignedRounding
 pub mod SignedText
 pub mod SignedValue

@@ -3,6 +3,8 @@
 #![tactic(auto)]
 
 mod decimal;
+mod error;
+mod integer;
 mod integers;
 mod modes;
 mod rounding;
@@ -12,9 +14,11 @@ mod signed;
 mod writing;
 
 pub use decimal::Decimal;
+pub use error::LimitError;
 pub use fixed_decimal_unsigned::{
     ParseError, RoundingIncrement, Turns, UnsignedDecimal, UnsignedRoundingMode,
 };
+pub use integer::FixedInteger;
 pub use modes::SignedRoundingMode;
 pub use sign::{Sign, SignDisplay};
 pub use signed::Signed;
