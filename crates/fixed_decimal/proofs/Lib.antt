@@ -1,4 +1,7 @@
+pub mod CompactTextLemmas
+pub mod PlainTextLemmas
 pub mod SignedTextLemmas
 pub mod WritingLemmas
 pub use Rattle.fixed_decimal_unsigned.proofs.TextPartsLemmas
 pub use Rattle.fixed_decimal_unsigned.proofs.WritingLemmas as UnsignedWritingLemmas
+pub use Rattle.fixed_decimal_unsigned.proofs.SpelledLemmas

@@ -1,4 +1,7 @@
+pub mod CompactText
 pub mod IntegerText
+pub mod PlainParts
+pub mod PlainText
 pub mod RefusalNumbers
 pub mod SignedRounding
 pub mod SignedText

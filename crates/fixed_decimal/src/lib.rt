@@ -2,17 +2,20 @@
 
 #![tactic(auto)]
 
+mod compact;
 mod decimal;
 mod error;
 mod integer;
 mod integers;
 mod modes;
+mod plain_text;
 mod rounding;
 mod sign;
 mod sign_choice;
 mod signed;
 mod writing;
 
+pub use compact::CompactDecimal;
 pub use decimal::Decimal;
 pub use error::LimitError;
 pub use fixed_decimal_unsigned::{
