@@ -1,4 +1,4 @@
-ghost use Rattle.std.specs.Prelude.{◌≡◌, ◌<◌, ◌≤◌, ◌++◌, ◌↔◌, false, is_err, length, map, IsTrue, IfOk, IfSome, IfNone, IsErrOf, OnOk, OnErr};
+ghost use Rattle.std.specs.Prelude.{◌≡◌, ◌<◌, ◌≤◌, ◌++◌, ◌↔◌, codes, false, is_err, length, map, IsTrue, IfOk, IfSome, IfNone, IsErrOf, OnOk, OnErr};
 ghost use Rattle.std.specs.Char.{digit_value};
 ghost use Rattle.std.specs.Int.Digits.{digits_of};
 ghost use Rattle.writeable.specs.AnnotatedText.{bytes};
@@ -10,9 +10,12 @@ ghost use Rattle.fixed_decimal.specs.SignedText.{signed_text_of};
 
 use crate::decimal::Decimal;
 use crate::plain_text::split_mark;
+use crate::writing::text_length;
 use fixed_decimal_unsigned::ParseError;
 use std::alloc::{AllocError, Global};
+use std::fmt;
 use std::marker::Model;
+use writeable::{Error, LengthHint, Sink, Writeable, display};
 
 /// A decimal with an exponent that is shown beside it: `1.2c6` is 1.2 million.
 #[derive(Debug, Drop)]
@@ -92,7 +95,11 @@ fn exponent_of(digits: &[u8]) -> Option<u8>
     for c in digits {
         number = (number * 10 + digit_of(*c) as u16).min(256);
     }
-    if number < 256 { Some(number as u8) } else { None }
+    if number < 256 {
+        Some(number as u8)
+    } else {
+        None
+    }
 }
 
 impl CompactDecimal {
@@ -158,5 +165,111 @@ impl CompactDecimal {
             }),
             None => Err(ParseError::Limit),
         }
+    }
+}
+
+// Writes the digits of a number, none for 0.
+#[tactic(auto, using(crate::proofs::CompactWritingLemmas::next_digit, crate::proofs::CompactWritingLemmas::no_digits))]
+fn write_number<S: Sink>(number: u8, sink: &mut S) -> Result<(), Error>
+    requires { S.refused sink.old ≡ false }
+    ensures ok { OnOk result (S.takes sink.old (bytes (map character (digits_of 10 number))) sink.new) }
+    ensures refused { S.refused sink.new ≡ is_err result }
+    ensures begun { OnErr result (HasBegun S.takes S.lacks_room sink.old (bytes (map character (digits_of 10 number))) sink.new) }
+{
+    if number == 0 {
+        return Ok(());
+    }
+    write_number(number / 10, sink)?;
+    sink.write_char((b'0' + number % 10) as char)
+}
+
+// Writes the mark and an exponent.
+fn write_mark<S: Sink>(exponent: u8, sink: &mut S) -> Result<(), Error>
+    requires { S.refused sink.old ≡ false }
+    ensures ok { OnOk result (S.takes sink.old (bytes (codes "c") ++ bytes (map character (digits_of 10 exponent))) sink.new) }
+    ensures refused { S.refused sink.new ≡ is_err result }
+    ensures begun { OnErr result (HasBegun S.takes S.lacks_room sink.old (bytes (codes "c") ++ bytes (map character (digits_of 10 exponent))) sink.new) }
+{
+    sink.write_str("c")?;
+    write_number(exponent, sink)
+}
+
+// Writes the mark and an exponent, or nothing where it is 0.
+#[tactic(auto, using(crate::proofs::CompactWritingLemmas::exponent_events, crate::proofs::CompactWritingLemmas::no_exponent_events))]
+fn write_exponent<S: Sink>(exponent: u8, sink: &mut S) -> Result<(), Error>
+    requires { S.refused sink.old ≡ false }
+    ensures ok { OnOk result (S.takes sink.old (bytes (behind_compact_mark (map character (digits_of 10 exponent)))) sink.new) }
+    ensures refused { S.refused sink.new ≡ is_err result }
+    ensures begun { OnErr result (HasBegun S.takes S.lacks_room sink.old (bytes (behind_compact_mark (map character (digits_of 10 exponent)))) sink.new) }
+{
+    if exponent == 0 {
+        return Ok(());
+    }
+    write_mark(exponent, sink)
+}
+
+// Writes a compact decimal, one part behind the other.
+fn write_parts<S: Sink>(compact: &CompactDecimal, sink: &mut S) -> Result<(), Error>
+    requires { S.refused sink.old ≡ false }
+    ensures ok { OnOk result (S.takes sink.old (bytes (signed_text_of compact.now.significand) ++ bytes (behind_compact_mark (map character (digits_of 10 compact.now.exponent)))) sink.new) }
+    ensures refused { S.refused sink.new ≡ is_err result }
+    ensures begun { OnErr result (HasBegun S.takes S.lacks_room sink.old (bytes (signed_text_of compact.now.significand) ++ bytes (behind_compact_mark (map character (digits_of 10 compact.now.exponent)))) sink.new) }
+{
+    compact.significand.write_to(sink)?;
+    write_exponent(compact.exponent, sink)
+}
+
+// The number of bytes of an exponent behind its mark, none for 0.
+#[tactic(auto, using(crate::proofs::CompactWritingLemmas::no_exponent_length, crate::proofs::CompactWritingLemmas::one_digit_length, crate::proofs::CompactWritingLemmas::two_digits_length, crate::proofs::CompactWritingLemmas::three_digits_length))]
+fn exponent_length(exponent: u8) -> usize
+    ensures value { result ≡ length (behind_compact_mark (map character (digits_of 10 exponent))) }
+    ensures few { result ≤ 4 }
+{
+    match exponent {
+        0 => 0,
+        1..=9 => 2,
+        10..=99 => 3,
+        _ => 4,
+    }
+}
+
+// The number of bytes of a compact decimal's text.
+fn compact_length(compact: &CompactDecimal) -> usize
+    ensures { result ≡ length (compact_text_of compact.now) }
+{
+    text_length(&compact.significand) + exponent_length(compact.exponent)
+}
+
+impl Writeable for CompactDecimal {
+    ghost use Rattle.std.specs.Prelude.{◌≡◌, Some, length};
+    ghost use Rattle.writeable.specs.AnnotatedText.{bytes, text_of as written};
+    ghost use Rattle.writeable.specs.LengthHint.{IsWithinHint};
+    ghost use Rattle.fixed_decimal.specs.CompactText.{compact_text_of};
+
+    ghost events = { λ v. bytes (compact_text_of v) };
+
+    fn write_to<S: Sink>(&self, sink: &mut S) -> Result<(), Error> {
+        write_parts(self, sink)
+    }
+
+    #[tactic(auto, using(writeable::proofs::AnnotatedTextLemmas::text_of_bytes))]
+    fn writeable_length_hint(&self) -> LengthHint
+        ensures within { IsWithinHint result (length (written (bytes (compact_text_of self.now)))) }
+        ensures low { result.low ≡ length (compact_text_of self.now) }
+        ensures high { result.high ≡ Some (length (compact_text_of self.now)) }
+    {
+        LengthHint::exact(compact_length(self))
+    }
+}
+
+impl fmt::Display for CompactDecimal {
+    ghost use Rattle.std.specs.Prelude.{Some};
+    ghost use Rattle.fixed_decimal.specs.CompactText.{compact_text_of};
+
+    ghost output = { λ v. Some (compact_text_of v) };
+
+    #[tactic(auto, using(writeable::proofs::AnnotatedTextLemmas::text_of_bytes))]
+    fn fmt<W: fmt::Write>(&self, f: &mut fmt::Formatter<W>) -> fmt::Result {
+        display(self, f)
     }
 }
