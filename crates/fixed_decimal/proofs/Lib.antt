@@ -1,3 +1,4 @@
+pub mod SignedReadOnceLemmas
 pub mod CompactWritingLemmas
 pub mod CompactTextLemmas
 pub mod PlainTextLemmas

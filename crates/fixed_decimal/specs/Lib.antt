@@ -3,10 +3,12 @@ pub mod IntegerText
 pub mod PlainParts
 pub mod PlainText
 pub mod RefusalNumbers
+pub mod ScientificText
 pub mod SignedRounding
 pub mod SignedText
 pub mod SignedValue
 pub mod SignChoice
+pub mod TextLaws
 pub mod WholeNumbers
 pub use Rattle.fixed_decimal_unsigned.specs.ErrorNumbers
 pub use Rattle.fixed_decimal_unsigned.specs.Integers

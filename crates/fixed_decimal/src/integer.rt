@@ -1,10 +1,11 @@
-ghost use Rattle.std.specs.Prelude.{◌≡◌, ◌<◌, IfOk, IsErrOf};
+ghost use Rattle.std.specs.Prelude.{◌≡◌, ◌<◌, ◌≤◌, length, IfOk, IsErrOf};
 ghost use Rattle.fixed_decimal.specs.IntegerText.{ShowsNoFraction, ReadsInteger, IsBeyondInteger};
-ghost use Rattle.fixed_decimal.specs.SignedText.{IsNoSignedText};
+ghost use Rattle.fixed_decimal.specs.SignedText.{IsNoSignedText, signed_text_of};
 ghost use Rattle.fixed_decimal.specs.WholeNumbers.{IsWhole, IsSignedWhole};
 
 use crate::decimal::Decimal;
 use crate::error::LimitError;
+use crate::writing::text_length;
 use fixed_decimal_unsigned::ParseError;
 use std::alloc::{AllocError, Global};
 use std::fmt;
@@ -87,6 +88,14 @@ impl FixedInteger {
         ensures whole { ShowsNoFraction result }
     {
         self.decimal
+    }
+
+    // The number of bytes of the text.
+    pub(crate) fn text_length(&self) -> usize
+        ensures value { result ≡ length (signed_text_of self.now) }
+        ensures few { result ≤ 65538 }
+    {
+        text_length(&self.decimal)
     }
 
     /// The same number in a value of its own. Memory is taken where the number has more than eight digits.

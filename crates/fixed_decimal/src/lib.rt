@@ -7,9 +7,11 @@ mod decimal;
 mod error;
 mod integer;
 mod integers;
+pub mod laws;
 mod modes;
 mod plain_text;
 mod rounding;
+mod scientific;
 mod sign;
 mod sign_choice;
 mod signed;
@@ -23,5 +25,6 @@ pub use fixed_decimal_unsigned::{
 };
 pub use integer::FixedInteger;
 pub use modes::SignedRoundingMode;
+pub use scientific::ScientificDecimal;
 pub use sign::{Sign, SignDisplay};
 pub use signed::Signed;
