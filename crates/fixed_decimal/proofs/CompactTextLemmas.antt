@@ -22,7 +22,7 @@ capped_more text i n l h =
     ap (λ k. min (k * 10 + digit_value (get_or text i 0)) 256) h ∙ capped_step (spelled (take i text)) (digit_value (get_or text i 0))
     ∙ ap (λ k. min k 256) (sym (digits_value_more 10 text i l))
 
-behind_marked : (digits : List ℕ) → StartsWithMark (behind_compact_mark digits)
+pub behind_marked : (digits : List ℕ) → StartsWithMark (behind_compact_mark digits)
 behind_marked [] = tt
 behind_marked (d ∷ ds) = inl refl
 

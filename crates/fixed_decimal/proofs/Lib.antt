@@ -1,3 +1,5 @@
+pub mod CompactReadOnceLemmas
+pub mod ScientificTextLemmas
 pub mod SignedReadOnceLemmas
 pub mod CompactWritingLemmas
 pub mod CompactTextLemmas

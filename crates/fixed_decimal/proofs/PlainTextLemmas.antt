@@ -69,4 +69,4 @@ plain_printed v =
     let part = map character (fraction_digits v.absolute) in
     plain_append (sign_text v.sign) (text_of v.absolute) (plain_sign v.sign)
     (plain_append whole (behind_point part) (plain_digits whole (printed_digits v.absolute.count 32768 (v.absolute.high - 32767)))
-        (plain_fraction part (plain_digits part (printed_digits v.absolute.count v.absolute.low (32768 - v.absolute.low)))))
+    (plain_fraction part (plain_digits part (printed_digits v.absolute.count v.absolute.low (32768 - v.absolute.low)))))
