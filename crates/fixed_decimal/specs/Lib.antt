@@ -4,6 +4,7 @@ pub mod PlainParts
 pub mod PlainText
 pub mod RefusalNumbers
 pub mod ScientificText
+pub mod SignedEquality
 pub mod SignedRounding
 pub mod SignedText
 pub mod SignedValue

@@ -7,6 +7,9 @@ ghost use Rattle.fixed_decimal_unsigned.specs.NumberText.{AreDigits, spelled, ch
 ghost use Rattle.fixed_decimal.specs.CompactText.{SpellsCompact, ReadsCompact, IsBeyondCompact, IsNoCompactText, behind_compact_mark, compact_text_of};
 ghost use Rattle.fixed_decimal.specs.PlainParts.{IsCompactExponent, IsNotCompact};
 ghost use Rattle.fixed_decimal.specs.SignedText.{signed_text_of};
+ghost use Rattle.std.specs.Cmp.Rules.{comparing};
+ghost use Rattle.std.proofs.Common.{rules};
+ghost use Rattle.fixed_decimal.specs.SignedEquality.{are_equal_compact};
 
 use crate::decimal::Decimal;
 use crate::plain_text::split_mark;
@@ -272,4 +275,19 @@ impl fmt::Display for CompactDecimal {
     fn fmt<W: fmt::Write>(&self, f: &mut fmt::Formatter<W>) -> fmt::Result {
         display(self, f)
     }
+}
+
+/// Two compact numbers are equal where their printed texts are: `1c3` and `1000` are not.
+impl PartialEq for CompactDecimal {
+    ghost eq = { are_equal_compact };
+
+    ghost laws = { Prim.search (comparing, rules) };
+
+    fn eq(&self, other: &CompactDecimal) -> bool {
+        self.significand == other.significand && self.exponent == other.exponent
+    }
+}
+
+impl Eq for CompactDecimal {
+    ghost laws = { Prim.search (comparing, rules) };
 }

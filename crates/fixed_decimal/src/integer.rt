@@ -2,6 +2,9 @@ ghost use Rattle.std.specs.Prelude.{◌≡◌, ◌<◌, ◌≤◌, length, IfOk,
 ghost use Rattle.fixed_decimal.specs.IntegerText.{ShowsNoFraction, ReadsInteger, IsBeyondInteger};
 ghost use Rattle.fixed_decimal.specs.SignedText.{IsNoSignedText, signed_text_of};
 ghost use Rattle.fixed_decimal.specs.WholeNumbers.{IsWhole, IsSignedWhole};
+ghost use Rattle.std.specs.Cmp.Rules.{comparing};
+ghost use Rattle.std.proofs.Common.{rules};
+ghost use Rattle.fixed_decimal.specs.SignedEquality.{are_equal_decimals};
 
 use crate::decimal::Decimal;
 use crate::error::LimitError;
@@ -229,4 +232,19 @@ impl fmt::Display for FixedInteger {
     fn fmt<W: fmt::Write>(&self, f: &mut fmt::Formatter<W>) -> fmt::Result {
         display(self, f)
     }
+}
+
+/// Two whole numbers are equal where their printed texts are: `07` and `7` are not.
+impl PartialEq for FixedInteger {
+    ghost eq = { are_equal_decimals };
+
+    ghost laws = { Prim.search (comparing, rules) };
+
+    fn eq(&self, other: &FixedInteger) -> bool {
+        self.decimal == other.decimal
+    }
+}
+
+impl Eq for FixedInteger {
+    ghost laws = { Prim.search (comparing, rules) };
 }

@@ -3,6 +3,7 @@
 #![tactic(auto)]
 
 mod compact;
+mod comparing;
 mod decimal;
 mod error;
 mod integer;

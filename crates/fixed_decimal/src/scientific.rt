@@ -5,6 +5,9 @@ ghost use Rattle.fixed_decimal_unsigned.specs.declared.ParseError.{ParseError};
 ghost use Rattle.fixed_decimal.specs.PlainParts.{IsNotScientific, without_limit};
 ghost use Rattle.fixed_decimal.specs.ScientificText.{SpellsScientific, ReadsScientific, IsNoScientificText, scientific_text_of};
 ghost use Rattle.fixed_decimal.specs.SignedText.{signed_text_of};
+ghost use Rattle.std.specs.Cmp.Rules.{comparing};
+ghost use Rattle.std.proofs.Common.{rules};
+ghost use Rattle.fixed_decimal.specs.SignedEquality.{are_equal_scientific};
 
 use crate::decimal::Decimal;
 use crate::integer::FixedInteger;
@@ -179,4 +182,19 @@ impl fmt::Display for ScientificDecimal {
     fn fmt<W: fmt::Write>(&self, f: &mut fmt::Formatter<W>) -> fmt::Result {
         display(self, f)
     }
+}
+
+/// Two scientific numbers are equal where their printed texts are: `1e3` and `10e2` are not.
+impl PartialEq for ScientificDecimal {
+    ghost eq = { are_equal_scientific };
+
+    ghost laws = { Prim.search (comparing, rules) depth 9 };
+
+    fn eq(&self, other: &ScientificDecimal) -> bool {
+        self.significand == other.significand && self.exponent == other.exponent
+    }
+}
+
+impl Eq for ScientificDecimal {
+    ghost laws = { Prim.search (comparing, rules) depth 9 };
 }
