@@ -1,3 +1,4 @@
+pub mod SignedEqualityLemmas
 pub mod CompactReadOnceLemmas
 pub mod ScientificTextLemmas
 pub mod SignedReadOnceLemmas

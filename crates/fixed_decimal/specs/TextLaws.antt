@@ -1,11 +1,13 @@
 -- Laws that join texts and decimals, whole numbers, compact and scientific numbers.
 -- Defined in docs/numbers.md, "Laws".
 -- Cited by the functions of the module `laws`.
-use Rattle.std.specs.Prelude.{◌≡◌, ℕ, List}
+use Rattle.std.specs.Prelude.{◌≡◌, ℕ, Bool, List}
+use Rattle.std.specs.Bool.{Decides}
 use Rattle.fixed_decimal_unsigned.specs.Number.{Number, IsNumber}
 use Rattle.fixed_decimal.specs.CompactText.{CompactValue, IsCompact, ReadsCompact, IsBeyondCompact, compact_text_of}
 use Rattle.fixed_decimal.specs.IntegerText.{ShowsNoFraction, ReadsInteger, IsBeyondInteger}
 use Rattle.fixed_decimal.specs.ScientificText.{ScientificValue, IsScientific, ReadsScientific, scientific_text_of}
+use Rattle.fixed_decimal.specs.SignedEquality.{are_equal_decimals, are_equal_compact, are_equal_scientific}
 use Rattle.fixed_decimal.specs.SignedText.{ReadsSigned, IsBeyondSigned, signed_text_of}
 use Rattle.fixed_decimal.specs.SignedValue.{SignedValue}
 
@@ -51,3 +53,17 @@ PrintedCompactsReadBack = ReadsBack IsCompact ReadsCompact compact_text_of
 
 abbrev pub PrintedScientificsReadBack : Type 0
 PrintedScientificsReadBack = ReadsBack IsScientific ReadsScientific scientific_text_of
+
+-- `==` answers true for one value and no others, and for one printed text and no others
+pub record IsEqualityOfTexts {V : Type 0} (equal : V → V → Bool) (IsValue : V → Type 0) (printed : V → List ℕ) : Type 0 where
+  pub values : (a b : V) → Decides (equal a b) (a ≡ b)
+  pub texts : (a b : V) → IsValue a → IsValue b → Decides (equal a b) (printed a ≡ printed b)
+
+abbrev pub DecimalEqualityIsThatOfTexts : Type 0
+DecimalEqualityIsThatOfTexts = IsEqualityOfTexts are_equal_decimals IsDecimal signed_text_of
+
+abbrev pub CompactEqualityIsThatOfTexts : Type 0
+CompactEqualityIsThatOfTexts = IsEqualityOfTexts are_equal_compact IsCompact compact_text_of
+
+abbrev pub ScientificEqualityIsThatOfTexts : Type 0
+ScientificEqualityIsThatOfTexts = IsEqualityOfTexts are_equal_scientific IsScientific scientific_text_of

@@ -1,5 +1,6 @@
 ghost use Rattle.std.specs.Prelude.{◌≡◌, ◌++◌, IfOk, IsErrOf};
 ghost use Rattle.fixed_decimal_unsigned.specs.Shifts.{plain_zero};
+ghost use Rattle.fixed_decimal.specs.WholeNumbers.{IsWhole};
 ghost use Rattle.fixed_decimal.specs.SignedText.{sign_text, ReadsSigned, IsBeyondSigned, IsNoSignedText, StartsNoSign};
 
 use crate::sign::Sign;
@@ -36,6 +37,16 @@ impl Signed<UnsignedDecimal> {
         ensures { result ≡ record { sign = Sign.None; absolute = plain_zero } }
     {
         Decimal::new(Sign::None, UnsignedDecimal::zero(alloc))
+    }
+
+    /// The number one without a sign, shown as `1`. It takes no memory.
+    pub fn one(alloc: Global) -> Decimal
+        ensures { IsWhole 1 result }
+    {
+        Signed {
+            sign: Sign::None,
+            absolute: UnsignedDecimal::one(alloc),
+        }
     }
 
     /// The same number in a value of its own. Memory is taken where the number has more than eight digits.

@@ -1,5 +1,5 @@
 //! Laws on texts and numbers. No call is made: each clause is the law.
-ghost use Rattle.fixed_decimal.specs.TextLaws.{DecimalTextsReadOnce, IntegerTextsReadOnce, CompactTextsReadOnce, ScientificTextsReadOnce, PrintedDecimalsReadBack, PrintedIntegersReadBack, PrintedCompactsReadBack, PrintedScientificsReadBack};
+ghost use Rattle.fixed_decimal.specs.TextLaws.{DecimalTextsReadOnce, IntegerTextsReadOnce, CompactTextsReadOnce, ScientificTextsReadOnce, PrintedDecimalsReadBack, PrintedIntegersReadBack, PrintedCompactsReadBack, PrintedScientificsReadBack, DecimalEqualityIsThatOfTexts, CompactEqualityIsThatOfTexts, ScientificEqualityIsThatOfTexts};
 
 /// A text spells at most one decimal, and is not both within the limits and beyond them.
 pub fn decimal_texts_read_once()
@@ -39,4 +39,19 @@ pub fn printed_compacts_read_back()
 /// The printed text of a scientific number reads back as it; scientific numbers with one printed text are one.
 pub fn printed_scientifics_read_back()
     ensures { PrintedScientificsReadBack }
+{}
+
+/// Decimals are equal where their printed texts are, and nowhere else. So are whole numbers, which have this equality too.
+pub fn decimal_equality_is_that_of_texts()
+    ensures { DecimalEqualityIsThatOfTexts }
+{}
+
+/// Compact numbers are equal where their printed texts are, and nowhere else.
+pub fn compact_equality_is_that_of_texts()
+    ensures { CompactEqualityIsThatOfTexts }
+{}
+
+/// Scientific numbers are equal where their printed texts are, and nowhere else.
+pub fn scientific_equality_is_that_of_texts()
+    ensures { ScientificEqualityIsThatOfTexts }
 {}

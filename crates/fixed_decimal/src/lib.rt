@@ -2,6 +2,7 @@
 
 #![tactic(auto)]
 
+mod adjusting;
 mod compact;
 mod comparing;
 mod decimal;
@@ -22,7 +23,7 @@ pub use compact::CompactDecimal;
 pub use decimal::Decimal;
 pub use error::LimitError;
 pub use fixed_decimal_unsigned::{
-    ParseError, RoundingIncrement, Turns, UnsignedDecimal, UnsignedRoundingMode,
+    ConcatenateError, ParseError, RoundingIncrement, Turns, UnsignedDecimal, UnsignedRoundingMode,
 };
 pub use integer::FixedInteger;
 pub use modes::SignedRoundingMode;
