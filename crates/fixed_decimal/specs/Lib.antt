@@ -1,3 +1,4 @@
+pub mod Calls
 pub mod CompactText
 pub mod IntegerText
 pub mod PlainParts

@@ -3,6 +3,8 @@
 #![tactic(auto)]
 
 mod adjusting;
+mod call;
+mod calls;
 mod compact;
 mod comparing;
 mod decimal;
@@ -19,6 +21,8 @@ mod sign_choice;
 mod signed;
 mod writing;
 
+pub use call::{Call, CallsError};
+pub use calls::run_calls;
 pub use compact::CompactDecimal;
 pub use decimal::Decimal;
 pub use error::LimitError;
