@@ -6,6 +6,7 @@ pub mod PlainText
 pub mod RefusalNumbers
 pub mod ScientificText
 pub mod SignedEquality
+pub mod SignedOrder
 pub mod SignedRounding
 pub mod SignedText
 pub mod SignedValue

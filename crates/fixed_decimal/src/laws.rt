@@ -1,4 +1,5 @@
 //! Laws on texts and numbers. No call is made: each clause is the law.
+ghost use Rattle.fixed_decimal.specs.SignedOrder.{SignedModesGoByOrder};
 ghost use Rattle.fixed_decimal.specs.TextLaws.{DecimalTextsReadOnce, IntegerTextsReadOnce, CompactTextsReadOnce, ScientificTextsReadOnce, PrintedDecimalsReadBack, PrintedIntegersReadBack, PrintedCompactsReadBack, PrintedScientificsReadBack, DecimalEqualityIsThatOfTexts, CompactEqualityIsThatOfTexts, ScientificEqualityIsThatOfTexts};
 
 /// A text spells at most one decimal, and is not both within the limits and beyond them.
@@ -54,4 +55,11 @@ pub fn compact_equality_is_that_of_texts()
 /// Scientific numbers are equal where their printed texts are, and nowhere else.
 pub fn scientific_equality_is_that_of_texts()
     ensures { ScientificEqualityIsThatOfTexts }
+{}
+
+/// Rounding goes by order: `Ceil` takes the least multiple that is not smaller than the signed
+/// number, `Floor` the greatest that is not larger, `HalfCeil` and `HalfFloor` the nearest, with a
+/// tie upwards and downwards.
+pub fn signed_modes_go_by_order()
+    ensures { SignedModesGoByOrder }
 {}
