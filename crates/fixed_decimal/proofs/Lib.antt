@@ -1,3 +1,4 @@
+pub mod KnownValues
 pub mod SignedOrderLemmas
 pub mod SignedEqualityLemmas
 pub mod CompactReadOnceLemmas
