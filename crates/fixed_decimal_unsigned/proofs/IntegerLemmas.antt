@@ -59,3 +59,11 @@ integer_made ds number left zeros count low high top pos e n last tens first ec 
 pub some_digits : (ds : List ℕ) (left : ℕ) → number_from_digits 10 ds ≡ left → 0 < left % 10 → 0 < length ds
 some_digits [] left e l = let z : 0 ≡ left = e in absurd (omega arith)
 some_digits (c ∷ cs) left e l = omega arith
+
+-- the number of the one digit 1 at the place of the ones
+pub one_made : (ds : List ℕ) → ds ≡ 1 ∷ [] → IsInteger 1 (number_made (count_of ds 32768) 32768 32768)
+one_made ds e =
+    let len : length ds ≡ 1 = ap length e in
+    let first : 0 < length ds → 0 < get_or ds 0 0 = λ _. subst (λ xs. 0 < get_or xs 0 0) (sym e) (omega arith) in
+    integer_made ds 1 1 0 (count_of ds 32768) 32768 32768 32768 (omega arith) (ap (number_from_digits 10) e) refl (omega arith) (subst (AllBelowBase 10) (sym e) (omega arith, tt)) first
+    (ap (λ k. number_from_digits 10 ds * 10 ^ (32768 + 1 - k)) len) refl refl (omega arith) (omega arith)

@@ -15,4 +15,8 @@ pub mod RangeLemmas
 pub mod ShiftLemmas
 pub mod CutLemmas
 pub mod IntegerLemmas
+pub mod EqualityLemmas
+pub mod NonzeroLemmas
+pub mod ConcatenationLemmas
+pub mod KnownValues
 pub mod WritingLemmas

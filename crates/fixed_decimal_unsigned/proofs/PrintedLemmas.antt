@@ -9,7 +9,7 @@ use Rattle.fixed_decimal_unsigned.specs.Number.{Number, IsNumber, digit, digits_
 use Rattle.fixed_decimal_unsigned.specs.NumberText.{AreDigits, spelled, behind_point, character, small_mark, Parts, SpellsExponent, Spells, number_of, number_at, mantissa_of, up_of, down_of, AreEndsIn, Reads, text_of}
 use Rattle.fixed_decimal_unsigned.proofs.TenLemmas.{tens_positive, tens_split, tens_next}
 use Rattle.fixed_decimal_unsigned.proofs.MantissaLemmas.{spelled_from, number_made, same_number}
-use Rattle.fixed_decimal_unsigned.proofs.ReadOnceLemmas.{same_at}
+use Rattle.fixed_decimal_unsigned.proofs.ReadOnceLemmas.{same_at, reads_once}
 
 pub digit_below_ten : (count p : ℕ) → digit count p < 10
 digit_below_ten count p = mod-lt (count / 10 ^ p) {m = 10} (omega arith)
@@ -147,3 +147,7 @@ text_without_fraction v o l =
     let part = printed_length v.count v.low (32768 - v.low) in
     let behind = behind_none (map character (fraction_digits v)) (omega arith) in
     omega (arith, length-append (map character (whole_digits v)) (behind_point (map character (fraction_digits v))))
+
+-- numbers with one printed text are one number
+pub texts_tell : (a b : Number) → IsNumber a → IsNumber b → text_of a ≡ text_of b → a ≡ b
+texts_tell a b h k e = reads_once (text_of a) a b (reads_printed a h) (subst (λ t. Reads t b) (sym e) (reads_printed b k))

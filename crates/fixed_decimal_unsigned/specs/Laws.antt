@@ -2,6 +2,8 @@
 -- Defined in docs/numbers.md, "Laws".
 -- Cited by the functions of the module `laws`.
 use Rattle.std.specs.Prelude.{◌≡◌, ℕ, List}
+use Rattle.std.specs.Bool.{Decides}
+use Rattle.fixed_decimal_unsigned.specs.Equality.{are_equal}
 use Rattle.fixed_decimal_unsigned.specs.Number.{Number, IsNumber}
 use Rattle.fixed_decimal_unsigned.specs.NumberText.{Reads, IsBeyond, text_of}
 
@@ -20,3 +22,11 @@ PrintedTextsReadBack = (v : Number) → IsNumber v → Reads (text_of v) v
 -- texts tell numbers apart
 abbrev pub EqualTextsAreEqualNumbers : Type 0
 EqualTextsAreEqualNumbers = (a b : Number) → IsNumber a → IsNumber b → text_of a ≡ text_of b → a ≡ b
+
+-- `==` answers true for one number and no others
+abbrev pub EqualityIsIdentity : Type 0
+EqualityIsIdentity = (a b : Number) → Decides (are_equal a b) (a ≡ b)
+
+-- and for one printed text and no others
+abbrev pub EqualityIsThatOfTexts : Type 0
+EqualityIsThatOfTexts = (a b : Number) → IsNumber a → IsNumber b → Decides (are_equal a b) (text_of a ≡ text_of b)

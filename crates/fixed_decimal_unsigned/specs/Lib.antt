@@ -1,8 +1,11 @@
 pub mod BorrowedParts
+pub mod Concatenation
+pub mod Equality
 pub mod ErrorNumbers
 pub mod Integers
 pub mod Laws
 pub mod Number
+pub mod NonzeroPlaces
 pub mod NumberText
 pub mod Range
 pub mod Rounding

@@ -1,5 +1,6 @@
 // The digits of a number: this file alone knows how they lie in memory.
 ghost use Rattle.std.specs.Prelude.{◌≡◌, ◌==◌, ◌+◌, ◌-◌, ◌<◌, ◌≤◌, [], ◌∷◌, ◌++◌, length, slice_index, slice_get, take, drop, IsOk, IfOk, OnOk, OnErr};
+ghost use Rattle.std.specs.Bool.{Decides};
 
 use smallvec::SmallVec;
 use std::alloc::{AllocError, Global};
@@ -123,6 +124,13 @@ impl Digits {
         let left = self.kept.len() - count;
         self.kept.as_mut_slice().rotate_left(count);
         self.kept.truncate(left);
+    }
+
+    // Whether the digits are those of another list.
+    pub fn is_same(&self, other: &Digits) -> bool
+        ensures { Decides result (self.now.items ≡ other.now.items) }
+    {
+        self.kept.as_slice() == other.kept.as_slice()
     }
 
     // The same digits in a list of their own.

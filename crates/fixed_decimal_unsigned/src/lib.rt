@@ -5,12 +5,15 @@
 
 #![tactic(auto)]
 
+mod comparing;
+mod concatenation;
 mod cutting;
 mod digits;
 mod error;
 mod integers;
 pub mod laws;
 mod modes;
+mod nonzero;
 mod places;
 mod reading;
 mod rounding;
@@ -25,7 +28,7 @@ mod turns;
 mod unsigned_decimal;
 mod writing;
 
-pub use error::ParseError;
+pub use error::{ConcatenateError, ParseError};
 pub use modes::{RoundingIncrement, UnsignedRoundingMode};
 pub use turns::Turns;
 pub use unsigned_decimal::UnsignedDecimal;

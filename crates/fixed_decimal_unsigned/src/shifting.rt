@@ -49,7 +49,9 @@ impl UnsignedDecimal {
         self.high = ONES;
     }
 
-    /// Multiplies by ten to the power `delta`, the digits shown with it.
+    /// Multiplies by ten to the power `delta`, the digits shown with it: `12` and 2 give `1200`.
+    ///
+    /// The number becomes zero, shown `0`, where an end of the range would pass magnitudes -32768 to 32767.
     pub fn multiply_pow10(&mut self, delta: i16)
         ensures { Shifts delta self.old self.new }
     {
@@ -64,5 +66,13 @@ impl UnsignedDecimal {
         self.top = moved_top(&self.digits, self.top, delta);
         self.low = moved_place(self.low, delta).min(ONES);
         self.high = moved_place(self.high, delta).max(ONES);
+    }
+
+    /// The number times ten to the power `delta`, the digits shown with it: `12` and 2 give `1200`.
+    pub fn multiplied_pow10(mut self, delta: i16) -> UnsignedDecimal
+        ensures { Shifts delta self result }
+    {
+        self.multiply_pow10(delta);
+        self
     }
 }

@@ -15,21 +15,21 @@ fn end_below(digits: &Digits, top: u16, most: u16) -> u16
 }
 
 impl UnsignedDecimal {
-    /// Takes the zeros away that the number begins with.
+    /// Takes the zeros away that the number begins with: `012` becomes `12`.
     pub fn trim_start(&mut self)
         ensures { TrimsStart self.old self.new }
     {
         self.high = self.top.max(ONES);
     }
 
-    /// Takes the zeros away that the number ends in behind the point.
+    /// Takes the zeros away that the number ends in behind the point: `1.20` becomes `1.2`, and `120` stays.
     pub fn trim_end(&mut self)
         ensures { TrimsEnd self.old self.new }
     {
         self.low = end_below(&self.digits, self.top, ONES);
     }
 
-    /// Takes the zeros behind the point away where there is no other digit behind it.
+    /// Takes the zeros behind the point away where there is no other digit behind it: `1.00` becomes `1`, and `1.20` stays.
     pub fn trim_end_if_integer(&mut self)
         ensures { TrimsWhole self.old self.new }
     {
@@ -38,7 +38,9 @@ impl UnsignedDecimal {
         }
     }
 
-    /// Shows zeros before the number up to a position, or no more than it needs.
+    /// Shows zeros before the number up to a position, or no more than it needs: `12` and 4 give `0012`.
+    ///
+    /// A position of 0 or below changes nothing.
     pub fn pad_start(&mut self, position: i16)
         ensures { PadsStart (place position) self.old self.new }
     {
@@ -48,7 +50,9 @@ impl UnsignedDecimal {
         }
     }
 
-    /// Shows zeros behind the number down to a position, or no more than it needs.
+    /// Shows zeros behind the number down to a position, or no more than it needs: `12` and -2 give `12.00`.
+    ///
+    /// A position above 0 changes nothing.
     pub fn pad_end(&mut self, position: i16)
         ensures { PadsEnd (place position) self.old self.new }
     {
@@ -56,5 +60,45 @@ impl UnsignedDecimal {
         if place <= ONES {
             self.low = end_below(&self.digits, self.top, place);
         }
+    }
+
+    /// The number without the zeros that it begins with: `012` gives `12`.
+    pub fn trimmed_start(mut self) -> UnsignedDecimal
+        ensures { TrimsStart self result }
+    {
+        self.trim_start();
+        self
+    }
+
+    /// The number without the zeros that it ends in behind the point: `1.20` gives `1.2`.
+    pub fn trimmed_end(mut self) -> UnsignedDecimal
+        ensures { TrimsEnd self result }
+    {
+        self.trim_end();
+        self
+    }
+
+    /// The number without the zeros behind the point where there is no other digit behind it: `1.00` gives `1`, `1.20` itself.
+    pub fn trimmed_end_if_integer(mut self) -> UnsignedDecimal
+        ensures { TrimsWhole self result }
+    {
+        self.trim_end_if_integer();
+        self
+    }
+
+    /// The number with zeros before it up to a position, or no more than it needs: `12` and 4 give `0012`.
+    pub fn padded_start(mut self, position: i16) -> UnsignedDecimal
+        ensures { PadsStart (place position) self result }
+    {
+        self.pad_start(position);
+        self
+    }
+
+    /// The number with zeros behind it down to a position, or no more than it needs: `12` and -2 give `12.00`.
+    pub fn padded_end(mut self, position: i16) -> UnsignedDecimal
+        ensures { PadsEnd (place position) self result }
+    {
+        self.pad_end(position);
+        self
     }
 }

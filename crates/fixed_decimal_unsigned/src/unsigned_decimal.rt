@@ -1,6 +1,7 @@
 ghost use Rattle.std.specs.Prelude.{◌≡◌, ◌==◌, ◌+◌, ◌<◌, ◌↔◌, IsTrue, IfOk, false};
 ghost use Rattle.std.specs.Range.{range_inclusive_start, range_inclusive_end, range_inclusive_exhausted};
 ghost use Rattle.fixed_decimal_unsigned.specs.Number.{place, digit, IsNumber};
+ghost use Rattle.fixed_decimal_unsigned.specs.Integers.{IsInteger};
 
 use crate::digits::Digits;
 use crate::places::{ONES, magnitude_of, place_of};
@@ -39,6 +40,20 @@ impl UnsignedDecimal {
     {
         UnsignedDecimal {
             digits: Digits::new(alloc),
+            top: ONES,
+            low: ONES,
+            high: ONES,
+        }
+    }
+
+    /// The number one, shown as `1`. It takes no memory.
+    pub fn one(alloc: Global) -> UnsignedDecimal
+        ensures { IsInteger 1 result }
+    {
+        let mut digits = Digits::new(alloc);
+        digits.push_reserved(1);
+        UnsignedDecimal {
+            digits,
             top: ONES,
             low: ONES,
             high: ONES,

@@ -1,0 +1,69 @@
+-- The highest and the lowest place with a digit that is not zero: those of the first and the last kept digit.
+use Rattle.std.proofs.Common.{◌≡◌, ℕ, ℤ, pos, negsuc, ◌+◌, ◌-◌, ◌*◌, ◌%◌, ◌^◌, ◌<◌, ◌≤◌, ◌⊎◌, List, length, get_or, take, refl, sym, ap, ◌∙◌, subst, arith, ⊎_elim}
+use Rattle.std.proofs.Math.Nat.{eq-zero-or-pos}
+use Rattle.std.proofs.lemmas.Bool.{cases_lt}
+use Rattle.std.proofs.lemmas.List.{take_all}
+use Rattle.std.specs.Int.Digits.{number_from_digits, AllBelowBase}
+use Rattle.fixed_decimal_unsigned.specs.Number.{Number, digit, place}
+use Rattle.fixed_decimal_unsigned.specs.NonzeroPlaces.{IsFirstPlace, IsLastPlace}
+use Rattle.fixed_decimal_unsigned.specs.RoundingSteps.{IsTrimmed}
+use Rattle.fixed_decimal_unsigned.specs.Stored.{count_of, IsStored}
+use Rattle.fixed_decimal_unsigned.proofs.TenLemmas.{digit_under}
+use Rattle.fixed_decimal_unsigned.proofs.LoopLemmas.{front_last}
+use Rattle.fixed_decimal_unsigned.proofs.StoredLemmas.{digit_inside, digit_over, count_none, count_positive}
+use Rattle.fixed_decimal_unsigned.proofs.MantissaLemmas.{number_made}
+use Rattle.fixed_decimal_unsigned.proofs.RangeLemmas.{trimmed_of}
+
+at_index : (ds : List ℕ) (i j : ℕ) → i ≡ j → 0 < get_or ds i 0 → 0 < get_or ds j 0
+at_index ds i j e h = subst (λ k. 0 < get_or ds k 0) e h
+
+pub first_place : (ds : List ℕ) (top : ℕ) → IsTrimmed ds top → 0 < length ds → IsFirstPlace (count_of ds top) top
+first_place ds top h p =
+    let at : digit (count_of ds top) top ≡ get_or ds (top - top) 0 = digit_inside ds top top h.tens h.room (omega arith) (omega arith) in
+    let some : 0 < get_or ds (top - top) 0 = at_index ds 0 (top - top) (omega arith) (h.first p) in
+    record {
+      nonzero = omega arith;
+      highest = λ other some. ⊎_elim (λ over. let z = digit_over ds top other h.tens h.room over in absurd (omega arith)) (λ under. under) (cases_lt top other);
+    }
+
+last_digit : (ds : List ℕ) → AllBelowBase 10 ds → 0 < length ds → number_from_digits 10 ds % 10 ≡ get_or ds (length ds - 1) 0
+last_digit ds h p = ap (λ xs. number_from_digits 10 xs % 10) (sym (take_all (length ds) ds (omega arith))) ∙ front_last ds (length ds) h p (omega arith)
+
+pub last_place : (ds : List ℕ) (top : ℕ) → IsTrimmed ds top → 0 < length ds → IsLastPlace (count_of ds top) (top + 1 - length ds)
+last_place ds top h p =
+    let room : length ds ≤ top + 1 = h.room in
+    let at : digit (count_of ds top) (top + 1 - length ds) ≡ get_or ds (top - (top + 1 - length ds)) 0 = digit_inside ds top (top + 1 - length ds) h.tens room (omega arith) (omega arith) in
+    let last : 0 < get_or ds (length ds - 1) 0 = subst (λ x. 0 < x) (last_digit ds h.tens p) (h.last p) in
+    let some : 0 < get_or ds (top - (top + 1 - length ds)) 0 = at_index ds (length ds - 1) (top - (top + 1 - length ds)) (omega arith) last in
+    record {
+      nonzero = omega arith;
+      lowest = λ other some. ⊎_elim (λ under. let z = digit_under (number_from_digits 10 ds) (top + 1 - length ds) other under in absurd (omega arith)) (λ over. over) (cases_lt other (top + 1 - length ds));
+    }
+
+-- only magnitude 0 stands at the place of the ones
+pub ones_only : (r : ℤ) → place r ≡ 32768 → r ≡ pos 0
+ones_only (pos n) e = let z : n ≡ 0 = omega (arith, e) in ap pos z
+ones_only (negsuc n) e = absurd (omega (arith, e))
+
+none_kept : (ds : List ℕ) (top : ℕ) → IsTrimmed ds top → count_of ds top ≡ 0 → length ds ≡ 0
+none_kept ds top h z = ⊎_elim (λ e. e) (λ p. let some = count_positive ds top p (h.first p) in absurd (omega arith)) (eq-zero-or-pos (length ds))
+
+pub some_kept : (ds : List ℕ) (top : ℕ) → 0 < count_of ds top → 0 < length ds
+some_kept ds top p = ⊎_elim (λ e. let z = count_none ds top e in absurd (omega arith)) (λ h. h) (eq-zero-or-pos (length ds))
+
+module _ (ds : List ℕ) (top low high : ℕ) (s : IsStored ds top low high) (old : Number) (e : number_made (count_of ds top) low high ≡ old) (r : ℤ) where
+  kept : IsTrimmed ds top
+  kept = trimmed_of ds top low high s
+
+  pub start_of_zero : place r ≡ top → old.count ≡ 0 → r ≡ pos 0
+  start_of_zero at z = ones_only r (at ∙ s.zero_top (none_kept ds top kept (ap (λ v. v.count) e ∙ z)))
+
+  pub start_of_some : place r ≡ top → 0 < old.count → IsFirstPlace old.count (place r)
+  start_of_some at p =
+      subst (IsFirstPlace old.count) (sym at) (subst (λ v. IsFirstPlace v.count top) e (first_place ds top kept (some_kept ds top (subst (λ v. 0 < v.count) (sym e) p))))
+
+  pub end_of_none : 0 < length ds → old.count ≡ 0 → r ≡ pos 0
+  end_of_none p z = let none = none_kept ds top kept (ap (λ v. v.count) e ∙ z) in absurd (omega arith)
+
+  pub end_of_some : 0 < length ds → place r ≡ top + 1 - length ds → IsLastPlace old.count (place r)
+  end_of_some p at = subst (IsLastPlace old.count) (sym at) (subst (λ v. IsLastPlace v.count (top + 1 - length ds)) e (last_place ds top kept p))
