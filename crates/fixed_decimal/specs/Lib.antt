@@ -1,7 +1,17 @@
+pub mod Calls
+pub mod CompactText
+pub mod IntegerText
+pub mod PlainParts
+pub mod PlainText
+pub mod RefusalNumbers
+pub mod ScientificText
+pub mod SignedEquality
+pub mod SignedOrder
 pub mod SignedRounding
 pub mod SignedText
 pub mod SignedValue
 pub mod SignChoice
+pub mod TextLaws
 pub mod WholeNumbers
 pub use Rattle.fixed_decimal_unsigned.specs.ErrorNumbers
 pub use Rattle.fixed_decimal_unsigned.specs.Integers

@@ -1,10 +1,12 @@
 ghost use Rattle.std.specs.Prelude.{◌≡◌, ◌++◌, IfOk, IsErrOf};
+ghost use Rattle.fixed_decimal_unsigned.specs.Shifts.{plain_zero};
+ghost use Rattle.fixed_decimal.specs.WholeNumbers.{IsWhole};
 ghost use Rattle.fixed_decimal.specs.SignedText.{sign_text, ReadsSigned, IsBeyondSigned, IsNoSignedText, StartsNoSign};
 
 use crate::sign::Sign;
 use crate::signed::Signed;
 use fixed_decimal_unsigned::{ParseError, UnsignedDecimal};
-use std::alloc::Global;
+use std::alloc::{AllocError, Global};
 
 /// A decimal number with a sign, a visible range of magnitudes, and digits.
 pub type Decimal = Signed<UnsignedDecimal>;
@@ -28,6 +30,31 @@ impl Signed<UnsignedDecimal> {
         ensures value { result.absolute ≡ absolute }
     {
         Signed { sign, absolute }
+    }
+
+    /// The number zero without a sign, shown as `0`. It takes no memory.
+    pub fn zero(alloc: Global) -> Decimal
+        ensures { result ≡ record { sign = Sign.None; absolute = plain_zero } }
+    {
+        Decimal::new(Sign::None, UnsignedDecimal::zero(alloc))
+    }
+
+    /// The number one without a sign, shown as `1`. It takes no memory.
+    pub fn one(alloc: Global) -> Decimal
+        ensures { IsWhole 1 result }
+    {
+        Signed {
+            sign: Sign::None,
+            absolute: UnsignedDecimal::one(alloc),
+        }
+    }
+
+    /// The same number in a value of its own. Memory is taken where the number has more than eight digits.
+    pub fn try_clone(&self) -> Result<Decimal, AllocError>
+        ensures { IfOk result (λ v. v ≡ self.now) }
+    {
+        let absolute = self.absolute.try_clone()?;
+        Ok(Decimal::new(self.sign, absolute))
     }
 
     /// The number that a text spells, with its sign.

@@ -7,7 +7,7 @@ use std::marker::Model;
 use std::ops::{Deref, DerefMut};
 
 /// A value with a sign: `-12.3` is `Negative` and the unsigned `12.3`.
-#[derive(Drop)]
+#[derive(Debug, Drop)]
 pub struct Signed<T> {
     /// The sign as it is written; zero may have one.
     pub sign: Sign,

@@ -3,6 +3,16 @@
 #![tactic(auto)]
 
 #[cfg(test)]
+mod ends;
+#[cfg(test)]
 mod examples;
+#[cfg(test)]
+mod increments;
+#[cfg(test)]
+mod rounding;
+#[cfg(test)]
+mod shifts_and_trims;
+#[cfg(test)]
+mod signs;
 #[cfg(test)]
 mod texts;

@@ -1,63 +1,165 @@
-// Texts and the numbers that they spell.
-use fixed_decimal::{Decimal, ParseError, Sign};
+// Texts, and the numbers that they spell.
+use fixed_decimal::{Decimal, Sign, UnsignedDecimal};
 use std::alloc::Global;
+use std::process::Abort;
 use std::test::Fail;
+use writeable::Writeable;
 
-// The sign and the range of a text's number, or the number of its refusal.
-fn range_of(alloc: Global, text: &str) -> Result<(i16, i16), u8> {
-    match Decimal::try_from_str(alloc, text) {
-        Ok(decimal) => {
-            let range = decimal.magnitude_range();
-            Ok((*range.start(), *range.end()))
-        }
-        Err(refused) => Err(refused.number()),
+// Asserts what is printed of each text's number.
+fn prints(rt: &impl Abort, alloc: Global, rows: &[(&str, &str)]) -> Result<(), Fail> {
+    for (text, want) in rows {
+        let number = Decimal::try_from_str(alloc, text)?;
+        let answer = number.write_to_string(alloc)?;
+        assert_eq!(rt; answer.as_str(), *want, "{text}");
     }
+    Ok(())
 }
 
-fn units(alloc: Global, text: &str) -> Result<u8, ParseError> {
-    let decimal = Decimal::try_from_str(alloc, text)?;
-    Ok(decimal.digit_at(0))
+// Asserts the number of each text's refusal.
+fn refuses(rt: &impl Abort, alloc: Global, want: u8, texts: &[&str]) -> Result<(), Fail> {
+    for text in texts {
+        let refused = Decimal::try_from_str(alloc, text)
+            .err()
+            .ok_or("it is accepted")?;
+        assert_eq!(rt; refused.number(), want, "{text}");
+    }
+    Ok(())
+}
+
+// The sign and the range of a text's number.
+fn range_of(alloc: Global, text: &str) -> Result<(i16, i16), Fail> {
+    let number = Decimal::try_from_str(alloc, text)?;
+    let range = number.magnitude_range();
+    Ok((*range.start(), *range.end()))
 }
 
 #[test]
-fn texts_name_ranges(rt: HostRuntime) -> Result<(), Fail> {
+fn texts_print_as_they_are_read(rt: HostRuntime) -> Result<(), Fail> {
+    prints(
+        &rt,
+        rt.alloc(),
+        &[
+            ("0", "0"),
+            ("-987654.321", "-987654.321"),
+            ("+0012", "+0012"),
+            ("0.50", "0.50"),
+            (".5", "0.5"),
+            ("-.05", "-0.05"),
+            ("000.000", "000.000"),
+        ],
+    )
+}
+
+#[test]
+fn an_exponent_moves_both_ends(rt: HostRuntime) -> Result<(), Fail> {
+    prints(
+        &rt,
+        rt.alloc(),
+        &[
+            (".5e1", "5"),
+            ("0.50e1", "05.0"),
+            ("1E3", "1000"),
+            ("12e-3", "0.012"),
+            ("5e-0", "5"),
+            ("0e5", "0"),
+            // of zero it is ignored, whatever its size
+            ("0e99999", "0"),
+            ("00.0e-99999999999999999999", "00.0"),
+        ],
+    )
+}
+
+#[test]
+fn ends_of_the_magnitudes_are_accepted(rt: HostRuntime) -> Result<(), Fail> {
     for (text, want) in [
-        ("0", Ok((0, 0))),
-        ("05", Ok((0, 1))),
-        ("0.50", Ok((-2, 0))),
-        (".5", Ok((-1, 0))),
-        ("10e32766", Ok((0, 32767))),
-        ("1e-32768", Ok((-32768, 0))),
-        // the exponent of zero is ignored
-        ("0e99999", Ok((0, 0))),
-        ("00.0e7", Ok((-1, 1))),
-        ("0.50e1", Ok((-1, 1))),
-        (".5e1", Ok((0, 0))),
-        ("10e32767", Err(1)),
-        ("0.1e-32768", Err(1)),
-        ("1e32768", Err(1)),
-        ("1e99999999999999999999", Err(1)),
-        ("", Err(2)),
-        ("5.", Err(2)),
-        ("1e", Err(2)),
-        ("1e+5", Err(2)),
-        ("--5", Err(2)),
-        ("1,2", Err(2)),
+        ("1e-32768", (-32768, 0)),
+        ("10e32766", (0, 32767)),
+        ("9e32767", (0, 32767)),
+        ("0.1e-32767", (-32768, 0)),
+        ("0.01e32767", (0, 32767)),
     ] {
-        assert_eq!(rt; range_of(rt.alloc(), text), want, "{text}");
+        assert_eq!(rt; range_of(rt.alloc(), text)?, want, "{text}");
     }
     Ok(())
 }
 
 #[test]
+fn texts_past_the_magnitudes_are_limit(rt: HostRuntime) -> Result<(), Fail> {
+    refuses(
+        &rt,
+        rt.alloc(),
+        1,
+        &[
+            "0.1e-32768",
+            "1e32768",
+            "10e32767",
+            "01e32767",
+            "1e-32769",
+            // the exponent itself has limits
+            "0.01e32768",
+            "1e99999999999999999999",
+        ],
+    )
+}
+
+#[test]
+fn texts_outside_the_grammar_are_syntax(rt: HostRuntime) -> Result<(), Fail> {
+    refuses(
+        &rt,
+        rt.alloc(),
+        2,
+        &["", "-", ".", "5.", "5.e3", "1.2.3", "--5", "+-5"],
+    )?;
+    refuses(
+        &rt,
+        rt.alloc(),
+        2,
+        &["1,2", " 5", "1\r", "1c3", "x", "٥", "1_0", "0x1"],
+    )
+}
+
+#[test]
+fn exponents_outside_the_grammar_are_syntax(rt: HostRuntime) -> Result<(), Fail> {
+    refuses(
+        &rt,
+        rt.alloc(),
+        2,
+        &["1e", "1e+5", "e5", "1e--5", "1e5.", "1ee5", "1e5e5", "1e-"],
+    )
+}
+
+#[test]
+fn an_unsigned_text_has_no_sign(rt: HostRuntime) -> Result<(), Fail> {
+    for (text, want) in [("-5", 2), ("+5", 2), ("1e32768", 1), ("5.", 2)] {
+        let refused = UnsignedDecimal::try_from_str(rt.alloc(), text)
+            .err()
+            .ok_or("it is accepted")?;
+        assert_eq!(rt; refused.number(), want, "{text}");
+    }
+    let number = UnsignedDecimal::try_from_utf8(rt.alloc(), b"012.30")?;
+    assert_eq!(rt; number.write_to_string(rt.alloc())?.as_str(), "012.30");
+    Ok(())
+}
+
+#[test]
+fn too_many_digits_are_limit(rt: HostRuntime) -> Result<(), Fail> {
+    let mut text = String::new(rt.alloc());
+    for _ in 0..32768 {
+        text.push('9')?;
+    }
+    let longest = Decimal::try_from_str(rt.alloc(), text.as_str())?;
+    assert_eq!(rt; longest.digit_at(32767), 9);
+    text.push('9')?;
+    refuses(&rt, rt.alloc(), 1, &[text.as_str()])
+}
+
+#[test]
 fn digits_are_those_of_the_text(rt: HostRuntime) -> Result<(), Fail> {
-    assert_eq!(rt; units(rt.alloc(), "-1234.5")?, 4);
-    assert_eq!(rt; units(rt.alloc(), "-1234.5e1")?, 5);
-    let decimal = Decimal::try_from_str(rt.alloc(), "+12.30")?;
-    assert_eq!(rt; decimal.sign(), Sign::Positive);
-    assert_eq!(rt; decimal.digit_at(1), 1);
-    assert_eq!(rt; decimal.digit_at(-1), 3);
-    assert_eq!(rt; decimal.digit_at(5), 0);
-    assert_eq!(rt; decimal.is_zero(), false);
+    let number = Decimal::try_from_utf8(rt.alloc(), b"+12.30")?;
+    assert_eq!(rt; number.sign(), Sign::Positive);
+    assert_eq!(rt; number.is_zero(), false);
+    for (magnitude, want) in [(1, 1), (0, 2), (-1, 3), (-2, 0), (5, 0), (-32768, 0)] {
+        assert_eq!(rt; number.digit_at(magnitude), want, "at {magnitude}");
+    }
     Ok(())
 }

@@ -40,7 +40,7 @@ impl<const N: usize> Model for TinyAsciiStr<N> {
 }
 
 impl<const N: usize> TinyAsciiStr<N> {
-    /// The empty text.
+    /// The empty text: its `len` is 0 at every N.
     pub const EMPTY: Self = TinyAsciiStr { bytes: [0; N] };
 
     /// The text of these bytes, which the caller knows to be a text and then NULs.
@@ -70,7 +70,7 @@ impl<const N: usize> TinyAsciiStr<N> {
         unsafe { str::from_utf8_unchecked(self.as_utf8()) }
     }
 
-    /// The text's bytes, without the NULs that fill the value.
+    /// The text's bytes, without the NULs that fill the value: `[97, 98]` of `ab`.
     pub fn as_utf8(&self) -> &[u8]
         ensures value { result.now ≡ self.now }
         ensures small { IsSmall N result.now }
@@ -78,7 +78,7 @@ impl<const N: usize> TinyAsciiStr<N> {
         &self.bytes[..self.len()]
     }
 
-    /// The N bytes of the value: the text, then NULs.
+    /// The N bytes of the value: the text, then NULs. Of `ab` at 4 they are `[97, 98, 0, 0]`.
     pub fn all_bytes(&self) -> &[u8; N]
         ensures value { result.now ≡ padded N self.now }
         ensures small { IsSmall N self.now }
@@ -88,7 +88,7 @@ impl<const N: usize> TinyAsciiStr<N> {
         &self.bytes
     }
 
-    /// How many characters the text has: 0 to N.
+    /// How many characters the text has, 0 to N: 2 of `ab`.
     pub fn len(&self) -> usize
         ensures value { result ≡ length self.now }
         ensures bound { result ≤ N }
@@ -96,7 +96,7 @@ impl<const N: usize> TinyAsciiStr<N> {
         text_len(&self.bytes)
     }
 
-    /// Whether the text has no character.
+    /// Whether the text has no character: not of `ab`.
     pub fn is_empty(&self) -> bool
         ensures { result ≡ (length self.now == 0) }
     {

@@ -54,7 +54,7 @@ impl<const N: usize> TinyAsciiStr<N> {
         bytes::is_title(self.as_utf8())
     }
 
-    /// Whether every character is a letter, and lower case leaves the text as it is.
+    /// Whether every character is a letter, and lower case leaves the text as it is: of `ab`, not of `a1`.
     pub fn is_ascii_alphabetic_lowercase(&self) -> bool
         ensures value { result ≡ list_all is_ascii_lowercase self.now }
         ensures both { result ≡ (list_all is_ascii_alphabetic self.now && list_all is_not_uppercase self.now) }
@@ -62,7 +62,7 @@ impl<const N: usize> TinyAsciiStr<N> {
         bytes::are_lowercase(self.as_utf8())
     }
 
-    /// Whether every character is a letter, and upper case leaves the text as it is.
+    /// Whether every character is a letter, and upper case leaves the text as it is: of `AB`, not of `A1`.
     pub fn is_ascii_alphabetic_uppercase(&self) -> bool
         ensures value { result ≡ list_all is_ascii_uppercase self.now }
         ensures both { result ≡ (list_all is_ascii_alphabetic self.now && list_all is_not_lowercase self.now) }
@@ -70,7 +70,7 @@ impl<const N: usize> TinyAsciiStr<N> {
         bytes::are_uppercase(self.as_utf8())
     }
 
-    /// Whether every character is a letter, and title case leaves the text as it is.
+    /// Whether every character is a letter, and title case leaves the text as it is: of `Ab`, not of `1b`.
     pub fn is_ascii_alphabetic_titlecase(&self) -> bool
         ensures value { result ≡ is_in_class is_ascii_uppercase is_ascii_lowercase self.now }
         ensures both { result ≡ (list_all is_ascii_alphabetic self.now && is_in_class is_not_lowercase is_not_uppercase self.now) }

@@ -9,7 +9,7 @@ use crate::faults::is_form;
 use crate::{TinyAsciiStr, UleError};
 
 impl<const N: usize> TinyAsciiStr<N> {
-    /// N bytes 255, which are the form of no text where N is above 0.
+    /// N bytes 255, which are the form of no text where N is above 0: `[255, 255]` at 2.
     pub const NICHE_BIT_PATTERN: [u8; N] = [255; N];
 
     /// The value's N bytes: the text, then NULs. `ab` at 4 gives `[97, 98, 0, 0]`.

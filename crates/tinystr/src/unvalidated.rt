@@ -46,7 +46,7 @@ impl<const N: usize> UnvalidatedTinyAsciiStr<N> {
         Ok(UnvalidatedTinyAsciiStr { bytes: all })
     }
 
-    /// These N bytes, whatever they are.
+    /// These N bytes, whatever they are: `[0, 200]` at 2.
     pub fn from_utf8_unchecked(bytes: [u8; N]) -> Self
         ensures { result ≡ bytes.entry }
     {
@@ -54,6 +54,8 @@ impl<const N: usize> UnvalidatedTinyAsciiStr<N> {
     }
 
     /// The text of these bytes, or the fault that `TinyAsciiStr::try_from_raw` names.
+    ///
+    /// `[97, 0]` is `a`; `[0, 200]` is `NonAscii`, and `[0, 97]` `ContainsNull`.
     pub fn try_into_tinystr(self) -> Result<TinyAsciiStr<N>, ParseError>
         ensures succeeds { IsOk result ↔ IsForm N self.entry }
         ensures value { IfOk result (λ text. text ≡ text_of self.entry) }
@@ -62,14 +64,16 @@ impl<const N: usize> UnvalidatedTinyAsciiStr<N> {
         TinyAsciiStr::<N>::try_from_raw(self.bytes)
     }
 
-    /// The N bytes.
+    /// The N bytes: `[200, 0]` of the value that `[200]` gives at 2.
     pub fn to_bytes(self) -> [u8; N]
         ensures { result ≡ self.entry }
     {
         self.bytes
     }
 
-    /// The value of N bytes; another count is `Length` of that count.
+    /// The value of N bytes, whatever they are: `[0, 200]` at 2. `[97]` at 2 is `Length(1)`.
+    ///
+    /// Only a count of bytes other than N is refused, as `Length` of that count.
     pub fn from_bytes(bytes: &[u8]) -> Result<Self, UleError>
         ensures succeeds { IsOk result ↔ (length bytes.now ≡ N) }
         ensures value { IfOk result (λ all. all ≡ bytes.now) }
@@ -83,7 +87,9 @@ impl<const N: usize> UnvalidatedTinyAsciiStr<N> {
         Ok(UnvalidatedTinyAsciiStr { bytes: all })
     }
 
-    /// Whether the bytes are values one after another: N divides their count, else `Length` of it.
+    /// Whether the bytes are values one after another: four bytes at 2 are, three are `Length(3)`.
+    ///
+    /// Only a count of bytes that N does not divide is refused, as `Length` of that count.
     pub fn validate_bytes(bytes: &[u8]) -> Result<(), UleError>
         requires { 0 < N }
         ensures succeeds { IsOk result ↔ (length bytes.now % N ≡ 0) }
@@ -96,7 +102,7 @@ impl<const N: usize> UnvalidatedTinyAsciiStr<N> {
     }
 }
 
-/// N NULs, the form of the empty text.
+/// N NULs, the form of the empty text: `[0, 0]` at 2.
 impl<const N: usize> Default for UnvalidatedTinyAsciiStr<N> {
     ghost is_default = { λ s. s ≡ replicate N NUL };
 
@@ -115,7 +121,7 @@ impl<const N: usize> From<TinyAsciiStr<N>> for UnvalidatedTinyAsciiStr<N> {
 }
 
 impl<const N: usize> TinyAsciiStr<N> {
-    /// The value's N bytes, as bytes that were not looked at.
+    /// The value's N bytes, as bytes that were not looked at: `[97, 98, 0, 0]` of `ab` at 4.
     pub fn to_unvalidated(self) -> UnvalidatedTinyAsciiStr<N>
         ensures { result ≡ padded N self.entry }
     {

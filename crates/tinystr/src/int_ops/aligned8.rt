@@ -50,7 +50,7 @@ impl Aligned8 {
         TinyAsciiStr::<8>::from_utf8_unchecked(self.word.to_le_bytes())
     }
 
-    /// How many characters the text has: 0 to 8.
+    /// How many characters the text has, 0 to 8: 2 of `ab`.
     pub fn len(&self) -> usize
         ensures { result ≡ length self.now }
     {
@@ -102,7 +102,7 @@ impl Aligned8 {
         self.text().is_ascii_titlecase()
     }
 
-    /// Whether every character is a letter, and lower case leaves the text as it is.
+    /// Whether every character is a letter, and lower case leaves the text as it is: of `ab`, not of `a1`.
     pub fn is_ascii_alphabetic_lowercase(&self) -> bool
         ensures value { result ≡ list_all is_ascii_lowercase self.now }
         ensures both { result ≡ (list_all is_ascii_alphabetic self.now && list_all is_not_uppercase self.now) }
@@ -110,7 +110,7 @@ impl Aligned8 {
         self.text().is_ascii_alphabetic_lowercase()
     }
 
-    /// Whether every character is a letter, and upper case leaves the text as it is.
+    /// Whether every character is a letter, and upper case leaves the text as it is: of `AB`, not of `A1`.
     pub fn is_ascii_alphabetic_uppercase(&self) -> bool
         ensures value { result ≡ list_all is_ascii_uppercase self.now }
         ensures both { result ≡ (list_all is_ascii_alphabetic self.now && list_all is_not_lowercase self.now) }
@@ -118,7 +118,7 @@ impl Aligned8 {
         self.text().is_ascii_alphabetic_uppercase()
     }
 
-    /// Whether every character is a letter, and title case leaves the text as it is.
+    /// Whether every character is a letter, and title case leaves the text as it is: of `Ab`, not of `1b`.
     pub fn is_ascii_alphabetic_titlecase(&self) -> bool
         ensures value { result ≡ is_in_class is_ascii_uppercase is_ascii_lowercase self.now }
         ensures both { result ≡ (list_all is_ascii_alphabetic self.now && is_in_class is_not_lowercase is_not_uppercase self.now) }

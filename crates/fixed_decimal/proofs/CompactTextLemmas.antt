@@ -1,0 +1,58 @@
+-- A compact text has one front and one list of digits, and its digits spell a number that is capped.
+use Rattle.std.proofs.Common.{◌≡◌, ℕ, zero, suc, ◌+◌, ◌*◌, ◌<◌, ◌≤◌, min, List, [], ◌∷◌, ◌++◌, length, get_or, take, refl, sym, ap, ◌∙◌, subst, arith, inl}
+use Rattle.std.proofs.lemmas.Int.Digits.{digits_value_more}
+use Rattle.std.specs.Char.{digit_value}
+use Rattle.fixed_decimal_unsigned.specs.NumberText.{AreDigits, spelled}
+use Rattle.fixed_decimal_unsigned.proofs.SpelledLemmas.{digits_at}
+use Rattle.fixed_decimal_unsigned.proofs.TextPartsLemmas.{cons_head, cons_tail}
+use Rattle.fixed_decimal.specs.PlainText.{compact_mark, MarksExponent, HasNoMark}
+use Rattle.fixed_decimal.specs.PlainParts.{StartsWithMark, IsCompactExponent, IsNotCompact}
+use Rattle.fixed_decimal.specs.CompactText.{behind_compact_mark, StartsNoZero, SpellsCompact, IsNoCompactText}
+use Rattle.fixed_decimal.specs.SignedText.{IsNoSignedText}
+use Rattle.fixed_decimal.proofs.PlainTextLemmas.{plain_fronts}
+
+pub digit_at : (text : List ℕ) (i : ℕ) → AreDigits text → i < length text → digit_value (get_or text i 0) < 10
+digit_at text i h l = digits_at text i h l
+
+capped_step : (n d : ℕ) → min (min n 256 * 10 + d) 256 ≡ min (n * 10 + d) 256
+capped_step n d = omega arith
+
+pub capped_more : (text : List ℕ) (i n : ℕ) → i < length text → n ≡ min (spelled (take i text)) 256 → min (n * 10 + digit_value (get_or text i 0)) 256 ≡ min (spelled (take (i + 1) text)) 256
+capped_more text i n l h =
+    ap (λ k. min (k * 10 + digit_value (get_or text i 0)) 256) h ∙ capped_step (spelled (take i text)) (digit_value (get_or text i 0))
+    ∙ ap (λ k. min k 256) (sym (digits_value_more 10 text i l))
+
+pub behind_marked : (digits : List ℕ) → StartsWithMark (behind_compact_mark digits)
+behind_marked [] = tt
+behind_marked (d ∷ ds) = inl refl
+
+-- the parts of a compact text are those that the steps of reading found
+pub found_compact : (text front rest : List ℕ) → text ≡ front ++ rest → HasNoMark front → StartsWithMark rest → (other digits : List ℕ) → SpellsCompact text other digits → (front ≡ other) × (rest ≡ behind_compact_mark digits)
+found_compact text front rest e p m other digits h =
+    plain_fronts front rest other (behind_compact_mark digits) p h.plain m (behind_marked digits) (sym e ∙ h.whole)
+
+not_marked : (mark : ℕ) (tail digits : List ℕ) → ¬ (mark ≡ compact_mark) → mark ∷ tail ≡ behind_compact_mark digits → ⊥
+not_marked mark tail [] ne e = cc
+not_marked mark tail (d ∷ ds) ne e = ne (cons_head mark compact_mark tail (d ∷ ds) e)
+
+-- another mark than that of a compact text
+pub other_mark : (text front tail : List ℕ) (mark : ℕ) → text ≡ front ++ (mark ∷ tail) → HasNoMark front → MarksExponent mark → ¬ (mark ≡ compact_mark) → IsNotCompact text
+other_mark text front tail mark e p m ne other digits h = not_marked mark tail digits ne (found_compact text front (mark ∷ tail) e p m other digits h).1
+
+behind_is : (mark : ℕ) (tail digits : List ℕ) → mark ∷ tail ≡ behind_compact_mark digits → AreDigits digits → StartsNoZero digits → IsCompactExponent tail
+behind_is mark tail [] e are first = absurd (cc)
+behind_is mark tail (d ∷ ds) e are first =
+    subst IsCompactExponent (sym (cons_tail mark compact_mark tail (d ∷ ds) e)) (record { some = omega arith; are_digits = are; first = first })
+
+-- what stands behind the mark is no exponent
+pub no_compact_exponent : (text front tail : List ℕ) (mark : ℕ) → text ≡ front ++ (mark ∷ tail) → HasNoMark front → MarksExponent mark → ¬ (IsCompactExponent tail) → IsNotCompact text
+no_compact_exponent text front tail mark e p m lacks other digits h =
+    lacks (behind_is mark tail digits (found_compact text front (mark ∷ tail) e p m other digits h).1 h.are_digits h.first)
+
+-- a front that is no number's text
+pub no_compact_text : (text front digits : List ℕ) → SpellsCompact text front digits → IsNoSignedText front → IsNoCompactText text
+no_compact_text text front digits s lacks other more h =
+    subst IsNoSignedText (found_compact text front (behind_compact_mark digits) s.whole s.plain (behind_marked digits) other more h).0 lacks
+
+pub not_compact_text : (text : List ℕ) → IsNotCompact text → IsNoCompactText text
+not_compact_text text lacks front digits h = absurd (lacks front digits h)

@@ -1,0 +1,247 @@
+-- Rows of docs/numbers.md, so that a wrong definition does not pass. Roundings are in units of which ten make the unit at the position.
+use Rattle.std.proofs.Common.{◌≡◌, ◌≢◌, ℕ, zero, suc, ◌+◌, ◌-◌, ◌*◌, ◌^◌, ◌<◌, ◌≤◌, ◌⊎◌, Bool, true, false, inl, inr, List, [], ◌∷◌, ◌++◌, codes, refl, sym, ap, ◌∙◌, subst, arith, lit≤, lit<}
+use Rattle.std.specs.Prelude.{ℤ, pos, negsuc, ◌-ℤ◌, ◌≤ℤ◌, nat_abs}
+use Rattle.std.proofs.lemmas.Int.{ints}
+use Rattle.fixed_decimal_unsigned.specs.Number.{Number}
+use Rattle.fixed_decimal_unsigned.specs.NumberText.{Parts, Spells, Reads, IsBeyond, digit_zero}
+use Rattle.fixed_decimal_unsigned.proofs.TextPartsLemmas.{cons_head, cons_tail}
+use Rattle.fixed_decimal.specs.Calls.{Makes, Run}
+use Rattle.fixed_decimal.specs.CompactText.{CompactValue, behind_compact_mark, StartsNoZero, SpellsCompact, ReadsCompact, IsBeyondCompact, IsNoCompactText, compact_text_of}
+use Rattle.fixed_decimal.specs.IntegerText.{ReadsInteger, ReadsFraction}
+use Rattle.fixed_decimal.specs.PlainText.{MarksExponent, HasNoMark, compact_mark}
+use Rattle.fixed_decimal.specs.ScientificText.{ScientificValue, ReadsScientific, scientific_text_of}
+use Rattle.fixed_decimal.specs.SignChoice.{chosen_sign}
+use Rattle.fixed_decimal.specs.SignedEquality.{are_equal_decimals, are_equal_compact}
+use Rattle.fixed_decimal.specs.SignedOrder.{IsFloor, IsCeil, IsNearestSigned, IsRoundedByOrder}
+use Rattle.fixed_decimal.specs.SignedText.{ReadsSigned, signed_text_of}
+use Rattle.fixed_decimal.specs.SignedValue.{SignedValue}
+use Rattle.fixed_decimal.specs.declared.call.Call.TheVariants.{SetSign, ApplySignDisplay}
+use Rattle.fixed_decimal.specs.declared.modes.SignedRoundingMode.TheVariants.{Ceil, Floor, HalfCeil, HalfFloor}
+use Rattle.fixed_decimal.specs.declared.sign.Sign.TheVariants.{None, Negative, Positive}
+use Rattle.fixed_decimal.specs.declared.sign.SignDisplay.TheVariants as choice
+use Rattle.fixed_decimal.proofs.CompactTextLemmas.{found_compact}
+
+-- the choice of sign
+
+minus_stays : chosen_sign choice.Auto Negative false ≡ Negative
+minus_stays = refl
+
+plus_goes : chosen_sign choice.Auto Positive false ≡ None
+plus_goes = refl
+
+plus_comes : chosen_sign choice.Always None true ≡ Positive
+plus_comes = refl
+
+none_at_zero : chosen_sign choice.ExceptZero Negative true ≡ None
+none_at_zero = refl
+
+plus_but_at_zero : chosen_sign choice.ExceptZero None false ≡ Positive
+plus_but_at_zero = refl
+
+minus_of_zero_goes : chosen_sign choice.Negative Negative true ≡ None
+minus_of_zero_goes = refl
+
+plus_never : chosen_sign choice.Negative Positive false ≡ None
+plus_never = refl
+
+-- texts
+
+-- 12.3 with the magnitudes 2 and -2 shown too, the ones, and 1.0
+padded : Number
+padded = record { count = 123 * 10 ^ 32767; low = 32766; high = 32770 }
+
+one : Number
+one = record { count = 1 * 10 ^ 32768; low = 32768; high = 32768 }
+
+one_and_tenths : Number
+one_and_tenths = record { count = 10 * 10 ^ 32767; low = 32767; high = 32768 }
+
+minus_text : signed_text_of (record { sign = Negative; absolute = padded }) ≡ codes "-012.30"
+unfolding padded
+minus_text = refl
+
+plus_text : signed_text_of (record { sign = Positive; absolute = one }) ≡ codes "+1"
+unfolding one
+plus_text = refl
+
+one_read : Reads (codes "1") one
+unfolding one
+one_read = record {
+  parts = record { integer = codes "1"; fraction = []; negative = false; exponent = [] };
+  spells = record {
+    last = [];
+    whole = refl;
+    integer_digits = (lit≤ tt, tt);
+    fraction_digits = tt;
+    some = lit≤ tt;
+    power = record { mark = 101; is_mark = inl refl; digits = tt; whole = refl };
+  };
+  within = record { exponent_high = lit≤ tt; exponent_low = lit≤ tt; first = lit≤ tt; last = lit≤ tt };
+  is = refl;
+}
+
+minus_one_read : ReadsSigned (codes "-1") (record { sign = Negative; absolute = one })
+minus_one_read = record { rest = codes "1"; whole = refl; reads = one_read }
+
+plain_one_read : ReadsSigned (codes "1") (record { sign = None; absolute = one })
+plain_one_read = record { rest = codes "1"; whole = refl; reads = one_read }
+
+whole_one : ReadsInteger (codes "-1") (record { sign = Negative; absolute = one })
+unfolding one
+whole_one = record { reads = minus_one_read; whole = refl }
+
+-- `10e-1` shows a digit behind the point
+tenths_shown : ReadsFraction (codes "10e-1")
+unfolding one_and_tenths
+tenths_shown = record {
+  number = record { sign = None; absolute = one_and_tenths };
+  reads = record {
+    rest = codes "10e-1";
+    whole = refl;
+    reads = record {
+      parts = record { integer = codes "10"; fraction = []; negative = true; exponent = codes "1" };
+      spells = record {
+        last = codes "e-1";
+        whole = refl;
+        integer_digits = (lit≤ tt, (lit≤ tt, tt));
+        fraction_digits = tt;
+        some = lit≤ tt;
+        power = record { mark = 101; is_mark = inl refl; digits = (lit≤ tt, tt); whole = refl };
+      };
+      within = record { exponent_high = lit≤ tt; exponent_low = lit≤ tt; first = lit≤ tt; last = lit≤ tt };
+      is = refl;
+    };
+  };
+  below = lit≤ tt;
+}
+
+-- compact texts
+
+one_digit_plain : HasNoMark (codes "1")
+one_digit_plain = (no_letter, tt)
+  where
+    no_letter : ¬ (MarksExponent 49)
+    no_letter (inl e) = omega arith
+    no_letter (inr (inl e)) = omega arith
+    no_letter (inr (inr e)) = omega arith
+
+not_zero : ¬ (50 ≡ digit_zero)
+not_zero e = omega arith
+
+compact_printed : compact_text_of (record { significand = record { sign = None; absolute = one }; exponent = 12 }) ≡ codes "1c12"
+unfolding one
+compact_printed = refl
+
+no_exponent_printed : compact_text_of (record { significand = record { sign = Negative; absolute = one }; exponent = 0 }) ≡ codes "-1"
+unfolding one
+no_exponent_printed = refl
+
+beyond_spelled : SpellsCompact (codes "1c256") (codes "1") (codes "256")
+beyond_spelled = record { whole = refl; plain = one_digit_plain; are_digits = (lit≤ tt, (lit≤ tt, (lit≤ tt, tt))); first = not_zero }
+
+exponent_256 : IsBeyondCompact (codes "1c256")
+exponent_256 = record {
+  front = codes "1";
+  digits = codes "256";
+  spells = beyond_spelled;
+  beyond = inr (record { number = record { sign = None; absolute = one }; reads = plain_one_read; above = lit≤ tt });
+}
+
+compact_read : ReadsCompact (codes "1c255") (record { significand = record { sign = None; absolute = one }; exponent = 255 })
+compact_read = record {
+  front = codes "1";
+  digits = codes "255";
+  spells = record { whole = refl; plain = one_digit_plain; are_digits = (lit≤ tt, (lit≤ tt, (lit≤ tt, tt))); first = not_zero };
+  significand = plain_one_read;
+  exponent = refl;
+  fits = lit≤ tt;
+}
+
+starts_with_zero : (digits : List ℕ) → codes "c06" ≡ behind_compact_mark digits → StartsNoZero digits → ⊥
+starts_with_zero [] e first = absurd (cc)
+starts_with_zero (d ∷ ds) e first = first (sym (cons_head 48 d (codes "6") ds (cons_tail 99 compact_mark (codes "06") (d ∷ ds) e)))
+
+leading_zero : IsNoCompactText (codes "1c06")
+leading_zero front digits h = absurd (starts_with_zero digits (found_compact (codes "1c06") (codes "1") (codes "c06") refl one_digit_plain (inl refl) front digits h).1 h.first)
+
+no_compact_mark : (digits : List ℕ) → codes "e3" ≡ behind_compact_mark digits → ⊥
+no_compact_mark [] e = absurd (cc)
+no_compact_mark (d ∷ ds) e = let bad : 101 + 0 ≡ 99 = cons_head 101 compact_mark (codes "3") (d ∷ ds) e in omega arith
+
+small_mark_refused : IsNoCompactText (codes "1e3")
+small_mark_refused front digits h = absurd (no_compact_mark digits (found_compact (codes "1e3") (codes "1") (codes "e3") refl one_digit_plain (inr (inl refl)) front digits h).1)
+
+-- scientific texts
+
+scientific_printed : scientific_text_of (record { significand = record { sign = None; absolute = padded }; exponent = record { sign = Negative; absolute = one } }) ≡ codes "012.30e-1"
+unfolding padded one
+scientific_printed = refl
+
+minus_plain : HasNoMark (codes "-1")
+minus_plain = (no_letter, one_digit_plain)
+  where
+    no_letter : ¬ (MarksExponent 45)
+    no_letter (inl e) = omega arith
+    no_letter (inr (inl e)) = omega arith
+    no_letter (inr (inr e)) = omega arith
+
+scientific_read : ReadsScientific (codes "1e-1") (record { significand = record { sign = None; absolute = one }; exponent = record { sign = Negative; absolute = one } })
+scientific_read = record {
+  left = codes "1";
+  right = codes "-1";
+  spells = record { whole = refl; left_plain = one_digit_plain; right_plain = minus_plain };
+  significand = plain_one_read;
+  exponent = whole_one;
+}
+
+-- equality
+
+signs_tell : are_equal_decimals (record { sign = None; absolute = one }) (record { sign = Positive; absolute = one }) ≡ false
+signs_tell = refl
+
+exponents_tell : are_equal_compact (record { significand = record { sign = None; absolute = one }; exponent = 3 }) (record { significand = record { sign = None; absolute = one }; exponent = 4 }) ≡ false
+unfolding one
+exponents_tell = refl
+
+-- roundings by order, of -21 and of the tie -25
+
+floor_goes_down : IsRoundedByOrder Floor 10 (negsuc 20) (negsuc 29)
+floor_goes_down = record { multiple = (3, refl); under = omega (arith, ints); greatest = below_21 }
+  where
+    below_21 : (other : ℤ) → (count : ℕ) × (nat_abs other ≡ count * 10) → other ≤ℤ negsuc 20 → other ≤ℤ negsuc 29
+    below_21 (pos k) d l = omega (arith, ints)
+    below_21 (negsuc k) d l = let is = d.1 in omega (arith, ints)
+
+ceil_goes_up : IsRoundedByOrder Ceil 10 (negsuc 20) (negsuc 19)
+ceil_goes_up = record { multiple = (2, refl); over = omega (arith, ints); least = above_21 }
+  where
+    above_21 : (other : ℤ) → (count : ℕ) × (nat_abs other ≡ count * 10) → negsuc 20 ≤ℤ other → negsuc 19 ≤ℤ other
+    above_21 (pos k) d l = omega (arith, ints)
+    above_21 (negsuc k) d l = let is = d.1 in omega (arith, ints)
+
+tie_goes_up : IsRoundedByOrder HalfCeil 10 (negsuc 24) (negsuc 19)
+tie_goes_up = record { multiple = (2, refl); nearest = near; tied = tie }
+  where
+    near : (other : ℤ) → (count : ℕ) × (nat_abs other ≡ count * 10) → nat_abs (negsuc 24 -ℤ negsuc 19) ≤ nat_abs (negsuc 24 -ℤ other)
+    near (pos k) d = omega (arith, ints)
+    near (negsuc k) d = let is = d.1 in omega (arith, ints)
+
+    tie : (other : ℤ) → (count : ℕ) × (nat_abs other ≡ count * 10) → other ≢ negsuc 19 → nat_abs (negsuc 24 -ℤ other) ≡ nat_abs (negsuc 24 -ℤ negsuc 19) → other ≤ℤ negsuc 19
+    tie (pos k) d ne e = absurd (omega (arith, ints))
+    tie (negsuc k) d ne e = omega (arith, ints)
+
+tie_goes_down : IsRoundedByOrder HalfFloor 10 (negsuc 24) (negsuc 29)
+tie_goes_down = record { multiple = (3, refl); nearest = near; tied = tie }
+  where
+    near : (other : ℤ) → (count : ℕ) × (nat_abs other ≡ count * 10) → nat_abs (negsuc 24 -ℤ negsuc 29) ≤ nat_abs (negsuc 24 -ℤ other)
+    near (pos k) d = omega (arith, ints)
+    near (negsuc k) d = let is = d.1 in omega (arith, ints)
+
+    tie : (other : ℤ) → (count : ℕ) × (nat_abs other ≡ count * 10) → other ≢ negsuc 29 → nat_abs (negsuc 24 -ℤ other) ≡ nat_abs (negsuc 24 -ℤ negsuc 29) → negsuc 29 ≤ℤ other
+    tie (pos k) d ne e = absurd (omega (arith, ints))
+    tie (negsuc k) d ne e = omega (arith, ints)
+
+-- calls
+
+signs_in_turn : Run (SetSign Negative ∷ (ApplySignDisplay choice.Never ∷ [])) (record { sign = Positive; absolute = one }) (record { sign = None; absolute = one })
+signs_in_turn = (record { sign = Negative; absolute = one }, (refl, (record { sign = None; absolute = one }, (refl, refl))))

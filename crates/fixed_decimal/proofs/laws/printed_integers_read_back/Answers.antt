@@ -1,0 +1,9 @@
+use Rattle.fixed_decimal.specs.SignedText.{ReadsSigned, signed_text_of}
+use Rattle.fixed_decimal.proofs.SignedReadOnceLemmas.{signed_reads_once, signed_printed, same_printed}
+use Rattle.fixed_decimal.proofs.laws.printed_integers_read_back.Goals as goal
+
+pub returns : goal.returns
+returns c = record {
+  back = λ v h. record { reads = signed_printed v h.decimal; whole = h.whole };
+  equal = λ a b h k e. same_printed ReadsSigned (signed_text_of a) (signed_text_of b) a b signed_reads_once (signed_printed a h.decimal) (signed_printed b k.decimal) e;
+}

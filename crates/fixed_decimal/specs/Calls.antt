@@ -1,0 +1,36 @@
+-- What a list of calls makes of a decimal: each call's own definition, one after the other.
+-- Defined in docs/numbers.md, "Runs of calls".
+-- Cited by `run_calls`.
+use Rattle.std.specs.Prelude.{◌≡◌, ℕ, ◌==◌, List, [], ◌∷◌}
+use Rattle.fixed_decimal_unsigned.specs.Number.{Number, place}
+use Rattle.fixed_decimal_unsigned.specs.Shifts.{Shifts, TrimsStart, TrimsEnd, TrimsWhole, PadsStart, PadsEnd, Cuts}
+use Rattle.fixed_decimal.specs.SignChoice.{chosen_sign}
+use Rattle.fixed_decimal.specs.SignedRounding.{RoundsSigned}
+use Rattle.fixed_decimal.specs.SignedText.{ReadsSigned}
+use Rattle.fixed_decimal.specs.SignedValue.{SignedValue, OnAbsolute}
+use Rattle.fixed_decimal.specs.declared.call.Call.{Call}
+use Rattle.fixed_decimal.specs.declared.call.Call.TheVariants.{MultiplyPow10, TrimStart, TrimEnd, TrimEndIfInteger, PadStart, PadEnd, SetMaxPosition, Round, SetSign, ApplySignDisplay}
+
+-- one call makes the new decimal of the old one
+abbrev pub Makes : Call → SignedValue Number → SignedValue Number → Type 0
+Makes (MultiplyPow10 delta) old new = OnAbsolute (Shifts delta) old new
+Makes TrimStart old new = OnAbsolute TrimsStart old new
+Makes TrimEnd old new = OnAbsolute TrimsEnd old new
+Makes TrimEndIfInteger old new = OnAbsolute TrimsWhole old new
+Makes (PadStart position) old new = OnAbsolute (PadsStart (place position)) old new
+Makes (PadEnd position) old new = OnAbsolute (PadsEnd (place position)) old new
+Makes (SetMaxPosition position) old new = OnAbsolute (Cuts (place position)) old new
+Makes (Round position mode increment) old new = RoundsSigned mode increment (place position) old new
+Makes (SetSign sign) old new = new ≡ record { sign = sign; absolute = old.absolute }
+Makes (ApplySignDisplay choice) old new = new ≡ record { sign = chosen_sign choice old.sign (old.absolute.count == 0); absolute = old.absolute }
+
+-- the calls make the new decimal of the old one, each of what the one before it left
+abbrev pub Run : List Call → SignedValue Number → SignedValue Number → Type 0
+Run [] old new = new ≡ old
+Run (call ∷ calls) old new = (next : SignedValue Number) × (Makes call old next × Run calls next new)
+
+-- the calls make the decimal of the one that the text spells
+pub record RunsFrom (text : List ℕ) (calls : List Call) (new : SignedValue Number) : Type 0 where
+  pub read : SignedValue Number
+  pub reads : ReadsSigned text read
+  pub run : Run calls read new

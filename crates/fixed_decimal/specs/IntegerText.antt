@@ -1,0 +1,26 @@
+-- Which text spells which whole number: a decimal's text that shows no digit behind the point.
+-- Defined in docs/numbers.md, "Whole numbers as a type".
+-- Cited by `try_from_str`, `try_from_utf8` and `try_from` of `FixedInteger`.
+use Rattle.std.specs.Prelude.{◌≡◌, ℕ, ◌<◌, ◌⊎◌, List}
+use Rattle.fixed_decimal_unsigned.specs.Number.{Number}
+use Rattle.fixed_decimal.specs.SignedText.{ReadsSigned, IsBeyondSigned}
+use Rattle.fixed_decimal.specs.SignedValue.{SignedValue}
+
+-- no digit behind the point is shown
+abbrev pub ShowsNoFraction : SignedValue Number → Type 0
+ShowsNoFraction v = v.absolute.low ≡ 32768
+
+-- the text spells the whole number
+pub record ReadsInteger (text : List ℕ) (v : SignedValue Number) : Type 0 where
+  pub reads : ReadsSigned text v
+  pub whole : ShowsNoFraction v
+
+-- the text spells a number that shows digits behind the point
+pub record ReadsFraction (text : List ℕ) : Type 0 where
+  pub number : SignedValue Number
+  pub reads : ReadsSigned text number
+  pub below : number.absolute.low < 32768
+
+-- the text spells a number beyond the limits, or one that shows digits behind the point
+abbrev pub IsBeyondInteger : List ℕ → Type 0
+IsBeyondInteger text = IsBeyondSigned text ⊎ ReadsFraction text

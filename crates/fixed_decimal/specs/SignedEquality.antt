@@ -1,0 +1,32 @@
+-- When `==` answers that two values are one: sign and absolute value, or significand and exponent, are equal.
+-- Defined in docs/numbers.md, "The number".
+-- Cited by the equality of `Signed`, `FixedInteger`, `CompactDecimal` and `ScientificDecimal`, and by the laws that it is that of the printed texts.
+use Rattle.std.specs.Prelude.{ℕ, ◌==◌, Bool}
+use Rattle.std.specs.Ordering.{eq_of_both, on}
+use Rattle.fixed_decimal_unsigned.specs.Equality.{are_equal}
+use Rattle.fixed_decimal_unsigned.specs.Number.{Number}
+use Rattle.fixed_decimal.specs.CompactText.{CompactValue}
+use Rattle.fixed_decimal.specs.ScientificText.{ScientificValue}
+use Rattle.fixed_decimal.specs.SignedValue.{SignedValue}
+use Rattle.fixed_decimal.specs.declared.sign.Sign.{Sign}
+use Rattle.fixed_decimal.specs.declared.sign.Sign.TheVariants.{None, Negative, Positive}
+
+-- a number for each sign
+abbrev pub sign_number : Sign → ℕ
+sign_number None = 0
+sign_number Negative = 1
+sign_number Positive = 2
+
+-- the signs are equal, and so are the absolute values
+abbrev pub are_equal_signed : {T : Type 0} → (T → T → Bool) → SignedValue T → SignedValue T → Bool
+are_equal_signed equal = eq_of_both (on (λ v. sign_number v.sign) ◌==◌) (on (λ v. v.absolute) equal)
+
+abbrev pub are_equal_decimals : SignedValue Number → SignedValue Number → Bool
+are_equal_decimals = are_equal_signed are_equal
+
+-- the significands are equal, and so are the exponents
+abbrev pub are_equal_compact : CompactValue → CompactValue → Bool
+are_equal_compact = eq_of_both (on (λ v. v.significand) are_equal_decimals) (on (λ v. v.exponent) ◌==◌)
+
+abbrev pub are_equal_scientific : ScientificValue → ScientificValue → Bool
+are_equal_scientific = eq_of_both (on (λ v. v.significand) are_equal_decimals) (on (λ v. v.exponent) are_equal_decimals)

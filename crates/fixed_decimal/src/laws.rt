@@ -1,0 +1,65 @@
+//! Laws on texts and numbers. No call is made: each clause is the law.
+ghost use Rattle.fixed_decimal.specs.SignedOrder.{SignedModesGoByOrder};
+ghost use Rattle.fixed_decimal.specs.TextLaws.{DecimalTextsReadOnce, IntegerTextsReadOnce, CompactTextsReadOnce, ScientificTextsReadOnce, PrintedDecimalsReadBack, PrintedIntegersReadBack, PrintedCompactsReadBack, PrintedScientificsReadBack, DecimalEqualityIsThatOfTexts, CompactEqualityIsThatOfTexts, ScientificEqualityIsThatOfTexts};
+
+/// A text spells at most one decimal, and is not both within the limits and beyond them.
+pub fn decimal_texts_read_once()
+    ensures { DecimalTextsReadOnce }
+{}
+
+/// A text spells at most one whole number, and is not both within the limits and beyond them.
+pub fn integer_texts_read_once()
+    ensures { IntegerTextsReadOnce }
+{}
+
+/// A text spells at most one compact number, and is not both within the limits and beyond them.
+pub fn compact_texts_read_once()
+    ensures { CompactTextsReadOnce }
+{}
+
+/// A text spells at most one scientific number.
+pub fn scientific_texts_read_once()
+    ensures { ScientificTextsReadOnce }
+{}
+
+/// The printed text of a decimal reads back as it; decimals with one printed text are one.
+pub fn printed_decimals_read_back()
+    ensures { PrintedDecimalsReadBack }
+{}
+
+/// The printed text of a whole number reads back as it; whole numbers with one printed text are one.
+pub fn printed_integers_read_back()
+    ensures { PrintedIntegersReadBack }
+{}
+
+/// The printed text of a compact number reads back as it; compact numbers with one printed text are one.
+pub fn printed_compacts_read_back()
+    ensures { PrintedCompactsReadBack }
+{}
+
+/// The printed text of a scientific number reads back as it; scientific numbers with one printed text are one.
+pub fn printed_scientifics_read_back()
+    ensures { PrintedScientificsReadBack }
+{}
+
+/// Decimals are equal where their printed texts are, and nowhere else. So are whole numbers, which have this equality too.
+pub fn decimal_equality_is_that_of_texts()
+    ensures { DecimalEqualityIsThatOfTexts }
+{}
+
+/// Compact numbers are equal where their printed texts are, and nowhere else.
+pub fn compact_equality_is_that_of_texts()
+    ensures { CompactEqualityIsThatOfTexts }
+{}
+
+/// Scientific numbers are equal where their printed texts are, and nowhere else.
+pub fn scientific_equality_is_that_of_texts()
+    ensures { ScientificEqualityIsThatOfTexts }
+{}
+
+/// Rounding goes by order: `Ceil` takes the least multiple that is not smaller than the signed
+/// number, `Floor` the greatest that is not larger, `HalfCeil` and `HalfFloor` the nearest, with a
+/// tie upwards and downwards.
+pub fn signed_modes_go_by_order()
+    ensures { SignedModesGoByOrder }
+{}
