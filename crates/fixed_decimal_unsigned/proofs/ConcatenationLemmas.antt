@@ -1,6 +1,5 @@
 -- Digits behind other digits, with zeros between them.
-use Rattle.std.proofs.Common.{◌≡◌, ℕ, zero, suc, ◌+◌, ◌-◌, ◌*◌, ◌/◌, ◌%◌, ◌^◌, ◌<◌, ◌≤◌, ◌==◌, max, min, false, List, [], ◌∷◌, ◌++◌, length, length-append, get_or, replicate, true≢false, Result, Ok, Err, is_ok, refl, sym, ap, ◌∙◌, subst, arith}
-use Rattle.std.proofs.Math.Nat.{add-mul-mod_self_right}
+use Rattle.std.proofs.Common.{◌≡◌, ℕ, zero, suc, ◌+◌, ◌-◌, ◌*◌, ◌%◌, ◌^◌, ◌<◌, ◌≤◌, ◌==◌, max, min, false, List, [], ◌∷◌, ◌++◌, length, length-append, get_or, replicate, true≢false, Result, Ok, Err, is_ok, refl, sym, ap, ◌∙◌, subst, arith}
 use Rattle.std.proofs.lemmas.Bool.Decides.{nat_tests}
 use Rattle.std.proofs.lemmas.List.{length-replicate}
 use Rattle.std.specs.Int.Digits.{number_from_digits, AllBelowBase}
@@ -15,6 +14,7 @@ use Rattle.fixed_decimal_unsigned.specs.RoundingSteps.{IsTrimmed}
 use Rattle.fixed_decimal_unsigned.specs.Stored.{count_of, IsStored}
 use Rattle.fixed_decimal_unsigned.proofs.TenLemmas.{tens_split, tens_next}
 use Rattle.fixed_decimal_unsigned.proofs.DigitsLemmas.{number_joined, number_cons}
+use Rattle.fixed_decimal_unsigned.proofs.CutLemmas.{no_front, tail_last}
 use Rattle.fixed_decimal_unsigned.proofs.MantissaLemmas.{number_made}
 use Rattle.fixed_decimal_unsigned.proofs.NonzeroLemmas.{first_place, last_place, some_kept}
 use Rattle.fixed_decimal_unsigned.proofs.RangeLemmas.{trimmed_of, holds_length}
@@ -22,9 +22,6 @@ use Rattle.fixed_decimal_unsigned.proofs.RangeLemmas.{trimmed_of, holds_length}
 -- the digits of two numbers with so many zeros between them
 abbrev pub joined : List ℕ → ℕ → List ℕ → List ℕ
 joined ds zeros es = ds ++ (replicate zeros 0 ++ es)
-
-no_front : (r t : ℕ) → 0 * t + r ≡ r
-no_front r t = omega arith
 
 zeros_before : (zeros : ℕ) (es : List ℕ) → number_from_digits 10 (replicate zeros 0 ++ es) ≡ number_from_digits 10 es
 zeros_before zero es = refl
@@ -66,13 +63,9 @@ first_joined : (ds es : List ℕ) → 0 < length ds → 0 < get_or ds 0 0 → 0 
 first_joined [] es p f = absurd (omega arith)
 first_joined (d ∷ ds) es p f = f
 
-turned : (a k u b : ℕ) → u ≡ k * 10 → a * u + b ≡ b + a * k * 10
-turned a k u b e = omega (arith, ap (λ x. a * x) e)
-
 last_joined : (m n k : ℕ) → 0 < k → (m * 10 ^ k + n) % 10 ≡ n % 10
 last_joined m n k p =
-    let e : k - 1 + 1 ≡ k = omega arith in
-    ap (λ x. x % 10) (turned m (10 ^ (k - 1)) (10 ^ k) n (ap (λ j. 10 ^ j) (sym e) ∙ tens_next (k - 1))) ∙ add-mul-mod_self_right n (m * 10 ^ (k - 1)) 10
+    let e : k - 1 + 1 ≡ k = omega arith in tail_last m (10 ^ (k - 1)) (10 ^ k) n (ap (λ j. 10 ^ j) (sym e) ∙ tens_next (k - 1))
 
 pub joined_trimmed : (ds es : List ℕ) (top u zeros : ℕ) → IsTrimmed ds top → IsTrimmed es u → 0 < length ds → 0 < length es → u + 1 + zeros + length ds ≡ top + 1 → IsTrimmed (joined ds zeros es) top
 joined_trimmed ds es top u zeros h k p q at =

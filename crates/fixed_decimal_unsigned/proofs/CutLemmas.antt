@@ -1,5 +1,5 @@
 -- Digits behind a front that is cut away, and the zeros that they begin with.
-use Rattle.std.proofs.Common.{◌≡◌, ℕ, zero, suc, ◌+◌, ◌-◌, ◌*◌, ◌/◌, ◌%◌, ◌^◌, ◌<◌, ◌≤◌, ◌⊎◌, max, min, List, [], ◌∷◌, length, length-drop, get_or, take, drop, drop-cons, add-one, refl, sym, ap, ◌∙◌, subst, arith, inl, inr, ⊎_elim}
+use Rattle.std.proofs.Common.{◌≡◌, ℕ, suc, ◌+◌, ◌-◌, ◌*◌, ◌/◌, ◌%◌, ◌^◌, ◌<◌, ◌≤◌, max, min, List, [], ◌∷◌, length, length-drop, get_or, take, drop, drop-cons, add-one, refl, sym, ap, ◌∙◌, subst, arith, ⊎_elim}
 use Rattle.std.proofs.Math.Nat.{zero-mul, div-add-mod', mod-lt, mod-eq_of_lt, mul-lt-mul_of_pos_right, add-mul-mod_self_right}
 use Rattle.std.proofs.lemmas.Nat.{mod-mul-add}
 use Rattle.std.proofs.lemmas.Bool.{cases_lt}
@@ -15,7 +15,7 @@ use Rattle.fixed_decimal_unsigned.proofs.LoopLemmas.{front_last}
 use Rattle.fixed_decimal_unsigned.proofs.StoredLemmas.{count_below}
 use Rattle.fixed_decimal_unsigned.proofs.MantissaLemmas.{number_made}
 
-no_front : (r t : ℕ) → 0 * t + r ≡ r
+pub no_front : (r t : ℕ) → 0 * t + r ≡ r
 no_front r t = omega arith
 
 pub zero_skipped : (ds : List ℕ) (i : ℕ) → i < length ds → get_or ds i 0 ≡ 0 → number_from_digits 10 (drop i ds) ≡ number_from_digits 10 (drop (i + 1) ds)
@@ -81,7 +81,7 @@ first_left ds top start h sl found =
     ap (λ x. x % 10) (sym (front_all ds (start + 1) all)) ∙ front_last ds (start + 1) h.tens (omega arith) (omega arith) ∙ ap (λ k. get_or ds k 0) e in
     omega arith) (cases_lt (start + 1) (length ds)))
 
-tail_last : (a k u b : ℕ) → u ≡ k * 10 → (a * u + b) % 10 ≡ b % 10
+pub tail_last : (a k u b : ℕ) → u ≡ k * 10 → (a * u + b) % 10 ≡ b % 10
 tail_last a k u b e = ap (λ x. x % 10) (shape a k u b e) ∙ mod_added (a * k) b
 
 pub cut_trimmed : (ds new : List ℕ) (top start t : ℕ) → IsTrimmed ds top → start < length ds → new ≡ drop start ds → (start + 1 < length ds → 0 < get_or ds start 0) → t ≡ top - start → IsTrimmed new t

@@ -1,13 +1,13 @@
 -- Rows of docs/numbers.md, so that a wrong definition does not pass. Where a row needs no real size it is in small units: there the ones do not stand at place 32768.
-use Rattle.std.proofs.Common.{◌≡◌, ◌≢◌, ℕ, zero, suc, pos, negsuc, ◌+◌, ◌-◌, ◌*◌, ◌/◌, ◌%◌, ◌^◌, ◌<◌, ◌≤◌, ◌⊎◌, Bool, true, false, inl, inr, List, [], ◌∷◌, ◌++◌, length, codes, refl, sym, ap, ◌∙◌, subst, arith, lit≤, length-append, ⊎_elim}
+use Rattle.std.proofs.Common.{◌≡◌, ℕ, zero, suc, pos, negsuc, ◌+◌, ◌*◌, ◌%◌, ◌^◌, ◌<◌, ◌≤◌, false, inl, List, [], ◌∷◌, ◌++◌, length, codes, refl, ap, subst, arith, lit≤, length-append, ⊎_elim}
 use Rattle.std.proofs.lemmas.Bool.{cases_lt}
-use Rattle.fixed_decimal_unsigned.specs.Number.{Number, place, digit, whole_digits, fraction_digits, IsNumber}
-use Rattle.fixed_decimal_unsigned.specs.NumberText.{Parts, SpellsExponent, Spells, Reads, IsBeyond, IsNoText, IsWithin, AreEndsIn, number_of, text_of, behind_point}
-use Rattle.fixed_decimal_unsigned.specs.Rounding.{IsMultiple, IsTruncated, IsExpanded, IsNearest, IsRounded, increment_number}
+use Rattle.fixed_decimal_unsigned.specs.Number.{Number, place, digit}
+use Rattle.fixed_decimal_unsigned.specs.NumberText.{Parts, Spells, Reads, IsBeyond, IsNoText, IsWithin, AreEndsIn, text_of, behind_point}
+use Rattle.fixed_decimal_unsigned.specs.Rounding.{IsRounded, increment_number}
 use Rattle.fixed_decimal_unsigned.specs.declared.modes.UnsignedRoundingMode.TheVariants.{Expand, Trunc, HalfExpand, HalfTrunc, HalfEven}
 use Rattle.fixed_decimal_unsigned.specs.declared.modes.RoundingIncrement.TheVariants.{MultiplesOf25}
-use Rattle.fixed_decimal_unsigned.specs.Range.{IsHighest, IsLowest, HoldsDigits}
-use Rattle.fixed_decimal_unsigned.specs.Shifts.{KeepsPlaces, IsShifted, Shifts, TrimsEnd, Cuts, plain_zero}
+use Rattle.fixed_decimal_unsigned.specs.Range.{IsHighest, IsLowest}
+use Rattle.fixed_decimal_unsigned.specs.Shifts.{Shifts, Cuts, plain_zero}
 use Rattle.fixed_decimal_unsigned.specs.NonzeroPlaces.{IsFirstPlace, IsLastPlace}
 use Rattle.fixed_decimal_unsigned.specs.Concatenation.{Overlaps, Concatenates}
 use Rattle.fixed_decimal_unsigned.specs.Equality.{are_equal}

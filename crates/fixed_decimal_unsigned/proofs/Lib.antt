@@ -17,6 +17,7 @@ pub mod CutLemmas
 pub mod IntegerLemmas
 pub mod EqualityLemmas
 pub mod NonzeroLemmas
+pub mod LongLemmas
 pub mod ConcatenationLemmas
 pub mod KnownValues
 pub mod WritingLemmas

@@ -1,15 +1,13 @@
 -- A mantissa: its two parts one behind the other, and its zeros at the end.
-use Rattle.std.proofs.Common.{◌≡◌, ℕ, zero, suc, ◌+◌, ◌-◌, ◌*◌, ◌%◌, ◌^◌, ◌<◌, ◌≤◌, ◌==◌, min, max, List, [], ◌∷◌, ◌++◌, length, map, refl, sym, ap, ◌∙◌, subst, arith}
+use Rattle.std.proofs.Common.{◌≡◌, ℕ, zero, suc, ◌+◌, ◌-◌, ◌*◌, ◌%◌, ◌^◌, ◌<◌, ◌≤◌, ◌==◌, min, max, List, [], ◌∷◌, ◌++◌, length, refl, sym, ap, ◌∙◌, arith}
 use Rattle.std.proofs.Math.Nat.{pow-suc, zero-mul, mul_assoc, mul-pos, add-mul-mod_self_right}
 use Rattle.std.proofs.lemmas.List.{append-nil}
-use Rattle.std.proofs.lemmas.Int.Digits.{digits_value_is}
 use Rattle.std.specs.Char.{digit_value}
 use Rattle.std.specs.Str.Parse.{digits_value_after}
 use Rattle.fixed_decimal_unsigned.specs.Number.{Number}
-use Rattle.fixed_decimal_unsigned.specs.NumberText.{AreDigits, spelled, AreEndsIn, number_at}
+use Rattle.fixed_decimal_unsigned.specs.NumberText.{spelled, AreEndsIn, number_at}
 use Rattle.fixed_decimal_unsigned.proofs.TenLemmas.{tens_split, tens_next, tens_positive}
 use Rattle.fixed_decimal_unsigned.proofs.StoredLemmas.{positive_tested}
-use Rattle.fixed_decimal_unsigned.proofs.TextPartsLemmas.{empty_of}
 
 pub spelled_after : (xs ys : List ℕ) (n : ℕ) → digits_value_after 10 (digits_value_after 10 n xs) ys ≡ digits_value_after 10 n (xs ++ ys)
 spelled_after [] ys n = refl

@@ -1,5 +1,5 @@
 -- The two digits at a rounding's place: what stands above them, what below, and the multiple that they become.
-use Rattle.std.proofs.Common.{◌≡◌, ◌≢◌, ℕ, zero, suc, ◌+◌, ◌-◌, ◌*◌, ◌/◌, ◌%◌, ◌^◌, ◌<◌, ◌≤◌, ◌⊎◌, Bool, true, false, cond, nat_eq, List, [], ◌∷◌, ◌++◌, length, take, refl, sym, ap, ◌∙◌, subst, arith, inl, inr, ⊎_elim}
+use Rattle.std.proofs.Common.{◌≡◌, ◌≢◌, ℕ, zero, suc, ◌+◌, ◌-◌, ◌*◌, ◌/◌, ◌%◌, ◌^◌, ◌<◌, ◌≤◌, ◌⊎◌, Bool, true, false, cond, nat_eq, List, length, take, refl, sym, ap, ◌∙◌, subst, arith, inl, inr, ⊎_elim}
 use Rattle.std.proofs.Math.Nat.{mul-le-mul_right, div-add-mod', mod-lt, div-div-eq-div-mul, div-eq_of_lt, zero-mod, mul-mod_left, mul-div_cancel, mul-pos, mul-add-mod_self_right}
 use Rattle.std.proofs.lemmas.Bool.{cases_lt}
 use Rattle.std.specs.Int.Digits.{number_from_digits, AllBelowBase}
@@ -8,8 +8,8 @@ use Rattle.fixed_decimal_unsigned.specs.declared.modes.UnsignedRoundingMode.{Uns
 use Rattle.std.proofs.lemmas.Bool.Decides.{nat_tests}
 use Rattle.fixed_decimal_unsigned.specs.declared.modes.RoundingIncrement.{RoundingIncrement}
 use Rattle.fixed_decimal_unsigned.specs.declared.modes.RoundingIncrement.TheVariants.{MultiplesOf1, MultiplesOf2, MultiplesOf5, MultiplesOf25}
-use Rattle.fixed_decimal_unsigned.specs.Rounding.{IsMultiple, IsRounded, increment_number}
-use Rattle.fixed_decimal_unsigned.specs.RoundingSteps.{Compares, IsTrimmed, takes_upper_of}
+use Rattle.fixed_decimal_unsigned.specs.Rounding.{IsRounded, increment_number}
+use Rattle.fixed_decimal_unsigned.specs.RoundingSteps.{Compares, takes_upper_of}
 use Rattle.fixed_decimal_unsigned.specs.Stored.{count_of}
 use Rattle.fixed_decimal_unsigned.proofs.TenLemmas.{tens_positive, tens_split, tens_apart, quotient_kept, mod_below_power, digit_under}
 use Rattle.fixed_decimal_unsigned.proofs.DigitsLemmas.{number_quotient}

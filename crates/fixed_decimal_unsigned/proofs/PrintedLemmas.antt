@@ -1,13 +1,13 @@
 -- The printed text of a number spells that number.
 use Rattle.std.proofs.Common.{◌≡◌, ℕ, zero, suc, ◌+◌, ◌-◌, ◌*◌, ◌/◌, ◌%◌, ◌^◌, ◌<◌, ◌≤◌, min, max, ◌==◌, ◌||◌, Bool, true, false, cond, List, [], ◌∷◌, ◌++◌, length, length-append, map, refl, sym, ap, ◌∙◌, subst, arith, inl}
 use Rattle.std.proofs.Math.Nat.{mod-lt, mod-eq_of_lt, div-div-eq-div-mul, mod-one, div-add-mod', pow-suc, zero-add, suc-add}
-use Rattle.std.proofs.lemmas.Nat.{div_below, mod-mul-add}
-use Rattle.std.proofs.lemmas.List.{append-nil, map-append, length-map}
+use Rattle.std.proofs.lemmas.Nat.{div_below}
+use Rattle.std.proofs.lemmas.List.{append-nil, map-append}
 use Rattle.std.proofs.lemmas.Bool.Decides.{nat_tests}
 use Rattle.std.specs.Char.{digit_value}
 use Rattle.fixed_decimal_unsigned.specs.Number.{Number, IsNumber, digit, digits_down, whole_digits, fraction_digits}
-use Rattle.fixed_decimal_unsigned.specs.NumberText.{AreDigits, spelled, behind_point, character, small_mark, Parts, SpellsExponent, Spells, number_of, number_at, mantissa_of, up_of, down_of, AreEndsIn, Reads, text_of}
-use Rattle.fixed_decimal_unsigned.proofs.TenLemmas.{tens_positive, tens_split, tens_next}
+use Rattle.fixed_decimal_unsigned.specs.NumberText.{AreDigits, spelled, behind_point, character, small_mark, Parts, number_at, mantissa_of, up_of, down_of, AreEndsIn, Reads, text_of}
+use Rattle.fixed_decimal_unsigned.proofs.TenLemmas.{tens_positive, tens_split}
 use Rattle.fixed_decimal_unsigned.proofs.MantissaLemmas.{spelled_from, number_made, same_number}
 use Rattle.fixed_decimal_unsigned.proofs.ReadOnceLemmas.{same_at, reads_once}
 

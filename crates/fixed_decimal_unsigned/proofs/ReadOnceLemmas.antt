@@ -1,9 +1,8 @@
 -- A text spells at most one number.
-use Rattle.std.proofs.Common.{◌≡◌, ℕ, zero, suc, ◌+◌, ◌-◌, ◌*◌, ◌^◌, ◌<◌, ◌≤◌, ◌==◌, ◌||◌, Bool, true, false, cond, List, [], ◌∷◌, ◌++◌, length, refl, sym, ap, ◌∙◌, subst, arith}
+use Rattle.std.proofs.Common.{◌≡◌, ℕ, ◌+◌, ◌<◌, ◌==◌, ◌||◌, Bool, true, false, cond, List, [], ◌∷◌, ◌++◌, length, refl, sym, ap, ◌∙◌, subst, arith}
 use Rattle.std.specs.Char.{digit_value}
 use Rattle.fixed_decimal_unsigned.specs.Number.{Number}
-use Rattle.fixed_decimal_unsigned.specs.NumberText.{AreDigits, spelled, behind_mark, minus_if, minus, Parts, SpellsExponent, Spells, number_of, number_at, mantissa_of, up_of, down_of, Reads, IsWithin, AreEndsIn, IsBeyond}
-use Rattle.fixed_decimal_unsigned.specs.TextParts.{StartsNoDigit, StartsNoPoint}
+use Rattle.fixed_decimal_unsigned.specs.NumberText.{AreDigits, spelled, behind_mark, minus_if, minus, Parts, Spells, number_of, number_at, mantissa_of, up_of, down_of, Reads, AreEndsIn, IsBeyond}
 use Rattle.fixed_decimal_unsigned.proofs.TextPartsLemmas.{cons_head, cons_tail, found_parts, exponent_no_digit, exponent_no_point}
 
 -- two exponents of one text have the same digits, and the same sign where there are digits

@@ -1,16 +1,16 @@
 -- Shifts, trims and pads: the range that the code sets is the one that the definition names.
-use Rattle.std.proofs.Common.{◌≡◌, ℕ, ℤ, zero, suc, ◌+◌, ◌-◌, ◌*◌, ◌/◌, ◌%◌, ◌^◌, ◌<◌, ◌≤◌, ◌⊎◌, max, min, List, [], ◌∷◌, length, get_or, refl, sym, ap, ◌∙◌, subst, arith, inl, inr, ⊎_elim}
-use Rattle.std.proofs.Math.Nat.{zero-mul, mul_assoc, eq-zero-or-pos}
+use Rattle.std.proofs.Common.{◌≡◌, ℕ, ℤ, ◌+◌, ◌-◌, ◌*◌, ◌^◌, ◌<◌, ◌≤◌, max, min, List, [], ◌∷◌, length, refl, sym, ap, ◌∙◌, subst, arith}
+use Rattle.std.proofs.Math.Nat.{zero-mul, mul_assoc}
 use Rattle.std.proofs.lemmas.Nat.{pow-add}
 use Rattle.std.specs.Int.Digits.{number_from_digits}
 use Rattle.fixed_decimal_unsigned.specs.Number.{Number}
 use Rattle.fixed_decimal_unsigned.specs.RoundingSteps.{IsTrimmed}
 use Rattle.fixed_decimal_unsigned.specs.Range.{IsHighest, IsLowest}
-use Rattle.fixed_decimal_unsigned.specs.Shifts.{rise, fall, KeepsPlaces, IsShifted, Shifts, TrimsStart, TrimsEnd, TrimsWhole, PadsStart, PadsEnd}
+use Rattle.fixed_decimal_unsigned.specs.Shifts.{rise, fall, Shifts, TrimsStart, TrimsEnd, TrimsWhole, PadsStart, PadsEnd}
 use Rattle.fixed_decimal_unsigned.specs.Stored.{count_of, IsStored}
 use Rattle.fixed_decimal_unsigned.proofs.TenLemmas.{mod_below_power}
 use Rattle.fixed_decimal_unsigned.proofs.RangeLemmas.{trimmed_of, whole_room, highest_is}
-use Rattle.fixed_decimal_unsigned.proofs.MantissaLemmas.{number_made, same_number}
+use Rattle.fixed_decimal_unsigned.proofs.MantissaLemmas.{number_made}
 
 pub lowest_is : (ds : List ℕ) (top most : ℕ) → IsTrimmed ds top → most ≤ 32768 → IsLowest most (count_of ds top) (min most (top + 1 - length ds))
 lowest_is [] top most h l = record {

@@ -1,10 +1,10 @@
 -- The count that stored digits spell: its size, and its digit at a place.
-use Rattle.std.proofs.Common.{◌≡◌, ℕ, zero, suc, ◌+◌, ◌-◌, ◌*◌, ◌/◌, ◌%◌, ◌^◌, ◌<◌, ◌≤◌, ◌==◌, List, [], ◌∷◌, ◌++◌, length, get_or, take, drop, refl, sym, ap, ◌∙◌, subst, arith}
+use Rattle.std.proofs.Common.{◌≡◌, ℕ, ◌+◌, ◌-◌, ◌/◌, ◌%◌, ◌^◌, ◌<◌, ◌≤◌, ◌==◌, List, [], ◌∷◌, length, get_or, refl, sym, ap, ◌∙◌, subst, arith}
 use Rattle.std.proofs.Math.Nat.{mul-lt-mul_of_pos_right, mul-le-mul_right, mul-pos, zero-mul}
 use Rattle.std.proofs.lemmas.Bool.Decides.{nat_tests}
 use Rattle.std.specs.Int.Digits.{number_from_digits, AllBelowBase}
 use Rattle.std.proofs.lemmas.Int.Digits.{number_lt}
-use Rattle.fixed_decimal_unsigned.specs.Number.{digit, Number, IsNumber}
+use Rattle.fixed_decimal_unsigned.specs.Number.{digit, IsNumber}
 use Rattle.fixed_decimal_unsigned.specs.Stored.{count_of, IsStored}
 use Rattle.fixed_decimal_unsigned.proofs.TenLemmas.{tens_positive, tens_apart, tens_split, digit_above, digit_under, mod_below_power, quotient_kept}
 use Rattle.fixed_decimal_unsigned.proofs.DigitsLemmas.{number_positive, number_reaches, number_digit}

@@ -1,6 +1,6 @@
 -- Powers of ten, and quotients by them.
-use Rattle.std.proofs.Common.{◌≡◌, ℕ, zero, suc, ◌+◌, ◌-◌, ◌*◌, ◌/◌, ◌%◌, ◌^◌, ◌<◌, ◌≤◌, refl, sym, ap, ◌∙◌, subst, arith}
-use Rattle.std.proofs.Math.Nat.{one-le-pow, pow-le-pow_right, pow-suc, div-eq_of_lt, mul-mod_left, mul-div_cancel, zero-mod, mul_assoc, mul-le-mul_right, mul-add-div_right, div-div-eq-div-mul, mul-lt-mul_of_pos_right, le-mul_of_pos_right}
+use Rattle.std.proofs.Common.{◌≡◌, ℕ, suc, ◌+◌, ◌-◌, ◌*◌, ◌/◌, ◌%◌, ◌^◌, ◌<◌, ◌≤◌, sym, ap, ◌∙◌, arith}
+use Rattle.std.proofs.Math.Nat.{one-le-pow, pow-le-pow_right, pow-suc, div-eq_of_lt, mul-mod_left, mul-div_cancel, zero-mod, mul_assoc, div-div-eq-div-mul}
 use Rattle.std.proofs.lemmas.Nat.{pow-add}
 
 pub tens_positive : (k : ℕ) → 0 < 10 ^ k

@@ -1,10 +1,10 @@
 -- A text has one list of parts: digits end where no digit follows, a point begins a fraction, a mark an exponent.
-use Rattle.std.proofs.Common.{◌≡◌, ℕ, zero, suc, ◌+◌, ◌<◌, ◌≤◌, ◌⊎◌, ◌==◌, Bool, true, false, List, [], ◌∷◌, ◌++◌, length, refl, sym, ap, ◌∙◌, subst, arith, inl, inr}
+use Rattle.std.proofs.Common.{◌≡◌, ℕ, ◌+◌, ◌<◌, ◌⊎◌, ◌==◌, Bool, true, false, List, [], ◌∷◌, ◌++◌, length, refl, sym, ap, ◌∙◌, subst, arith, inl, inr}
 use Rattle.std.proofs.lemmas.List.{append-nil}
 use Rattle.std.proofs.lemmas.Bool.Decides.{nat_tests}
 use Rattle.std.specs.Char.{digit_value}
-use Rattle.fixed_decimal_unsigned.specs.NumberText.{AreDigits, behind_point, behind_mark, minus_if, minus, point, small_mark, capital_mark, Parts, SpellsExponent, Spells, IsNoText}
-use Rattle.fixed_decimal_unsigned.specs.TextParts.{StartsNoDigit, StartsNoPoint, StartsNoMinus, IsNoFraction, IsNoExponent, IsMark}
+use Rattle.fixed_decimal_unsigned.specs.NumberText.{AreDigits, behind_point, minus_if, minus, point, small_mark, capital_mark, Parts, SpellsExponent, Spells, IsNoText}
+use Rattle.fixed_decimal_unsigned.specs.TextParts.{StartsNoDigit, StartsNoPoint, StartsNoMinus, IsNoFraction, IsNoExponent}
 
 pub cons_head : (c d : ℕ) (cs ds : List ℕ) → c ∷ cs ≡ d ∷ ds → c ≡ d
 cons_head c d cs ds e = cc

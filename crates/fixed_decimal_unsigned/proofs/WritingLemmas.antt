@@ -1,8 +1,8 @@
 -- Digits written one a call: the events of the first digit, and of the rest.
-use Rattle.std.proofs.Common.{◌≡◌, ℕ, zero, suc, ◌+◌, ◌-◌, ◌<◌, ◌≤◌, List, [], ◌∷◌, ◌++◌, length, map, refl, sym, ap, ◌∙◌, subst, arith}
+use Rattle.std.proofs.Common.{◌≡◌, ℕ, zero, suc, ◌+◌, ◌-◌, ◌<◌, ◌≤◌, List, [], ◌∷◌, ◌++◌, length, map, refl, sym, ap, ◌∙◌, arith}
 use Rattle.std.specs.Char.{encode_utf8}
 use Rattle.std.proofs.lemmas.Str.{encode_ascii}
-use Rattle.writeable.specs.AnnotatedText.{Event, byte, bytes, text_of as written}
+use Rattle.writeable.specs.AnnotatedText.{byte, bytes, text_of as written}
 use Rattle.writeable.proofs.AnnotatedTextLemmas.{text_of_bytes}
 use Rattle.fixed_decimal_unsigned.specs.Number.{Number, digit, digits_down, whole_digits, fraction_digits}
 use Rattle.fixed_decimal_unsigned.specs.NumberText.{character, behind_point, point, text_of as printed}

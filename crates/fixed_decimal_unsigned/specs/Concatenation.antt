@@ -4,7 +4,7 @@
 use Rattle.std.specs.Prelude.{◌≡◌, ℕ, ◌+◌, ◌<◌, ◌≤◌, min, max}
 use Rattle.fixed_decimal_unsigned.specs.Number.{Number}
 use Rattle.fixed_decimal_unsigned.specs.NonzeroPlaces.{IsFirstPlace, IsLastPlace}
-use Rattle.fixed_decimal_unsigned.specs.Range.{HoldsDigits}
+use Rattle.fixed_decimal_unsigned.specs.Range.{IsLong}
 use Rattle.fixed_decimal_unsigned.specs.declared.error.ConcatenateError.{ConcatenateError}
 use Rattle.fixed_decimal_unsigned.specs.declared.error.ConcatenateError.TheVariants.{Overlap, Memory}
 
@@ -26,7 +26,7 @@ pub record Concatenates (a b new : Number) : Type 0 where
 pub record MayWantMemory (a b : Number) : Type 0 where
   pub front : 0 < a.count
   pub behind : 0 < b.count
-  pub long : (low : ℕ) → ¬ (HoldsDigits (a.count + b.count) low 8)
+  pub long : IsLong (a.count + b.count)
 
 -- what a refusal hands back
 abbrev pub handed_back : {T : Type 0} → ConcatenateError T → T

@@ -1,7 +1,7 @@
 -- When `==` answers that two numbers are one.
 -- Defined in docs/numbers.md, "The number".
 -- Cited by the equality of `UnsignedDecimal`, and by the law that it is that of the printed texts.
-use Rattle.std.specs.Prelude.{ℕ, ◌==◌, Bool}
+use Rattle.std.specs.Prelude.{◌==◌, Bool}
 use Rattle.std.specs.Ordering.{eq_of_both, on}
 use Rattle.fixed_decimal_unsigned.specs.Number.{Number}
 

@@ -4,6 +4,7 @@
 use Rattle.std.specs.Prelude.{◌≡◌, ℕ, ◌+◌, ◌-◌, ◌*◌, ◌^◌, ◌<◌, ◌≤◌, ◌==◌, ◌||◌, ◌⊎◌, min, max, Bool, true, false, cond, List, [], ◌∷◌, ◌++◌, length, map}
 use Rattle.std.specs.Str.Parse.{AllDigits, digits_value}
 use Rattle.fixed_decimal_unsigned.specs.Number.{Number, whole_digits, fraction_digits}
+use Rattle.fixed_decimal_unsigned.specs.Range.{IsLong}
 
 -- the characters that a text may hold beside digits, and the first digit
 abbrev pub point : ℕ
@@ -111,6 +112,12 @@ pub record IsBeyond (text : List ℕ) : Type 0 where
   pub parts : Parts
   pub spells : Spells text parts
   pub beyond : ¬ (IsWithin parts)
+
+-- the text spells a number of more than eight digits
+pub record ReadsLong (text : List ℕ) : Type 0 where
+  pub number : Number
+  pub reads : Reads text number
+  pub long : IsLong number.count
 
 -- no parts make the text
 abbrev pub IsNoText : List ℕ → Type 0

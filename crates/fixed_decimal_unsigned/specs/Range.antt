@@ -1,6 +1,6 @@
 -- The visible range after a call: the least range that holds what the call says it holds.
 -- Defined in docs/numbers.md, "Ranges".
--- Cited by the roundings, the shifts, the trims, the pads and the cuts.
+-- Cited by the roundings, the shifts, the trims, the pads and the cuts, and by each call that may want memory.
 use Rattle.std.specs.Prelude.{◌≡◌, ℕ, ◌+◌, ◌*◌, ◌%◌, ◌^◌, ◌<◌, ◌≤◌, min}
 use Rattle.fixed_decimal_unsigned.specs.Number.{Number}
 use Rattle.fixed_decimal_unsigned.specs.Rounding.{Takes, increment_number}
@@ -30,3 +30,7 @@ pub record Rounds (mode : UnsignedRoundingMode) (increment : RoundingIncrement) 
 pub record HoldsDigits (count low places : ℕ) : Type 0 where
   pub whole : count % 10 ^ low ≡ 0
   pub below : count < 10 ^ (low + places)
+
+-- from the first to the last digit that is not zero a count has more than eight digits, so many as need no memory
+abbrev pub IsLong : ℕ → Type 0
+IsLong count = (low : ℕ) → ¬ (HoldsDigits count low 8)

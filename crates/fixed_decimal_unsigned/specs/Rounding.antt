@@ -1,7 +1,7 @@
 -- Which multiple a rounding takes: the next in a direction by order, or the nearest by distance with its tie rule.
 -- Defined in docs/numbers.md, "Rounding".
 -- Cited by every rounding call of `UnsignedDecimal` and `Decimal`.
-use Rattle.std.specs.Prelude.{◌≡◌, ◌≢◌, ℕ, ◌+◌, ◌-◌, ◌*◌, ◌^◌, ◌<◌, ◌≤◌, ◌⊎◌, Bool, true, false}
+use Rattle.std.specs.Prelude.{◌≡◌, ◌≢◌, ℕ, ◌+◌, ◌-◌, ◌*◌, ◌^◌, ◌<◌, ◌≤◌, ◌⊎◌}
 use Rattle.fixed_decimal_unsigned.specs.declared.modes.UnsignedRoundingMode.{UnsignedRoundingMode}
 use Rattle.fixed_decimal_unsigned.specs.declared.modes.UnsignedRoundingMode.TheVariants.{Expand, Trunc, HalfExpand, HalfTrunc, HalfEven}
 use Rattle.fixed_decimal_unsigned.specs.declared.modes.RoundingIncrement.{RoundingIncrement}

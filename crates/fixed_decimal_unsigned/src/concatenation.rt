@@ -1,4 +1,4 @@
-ghost use Rattle.std.specs.Prelude.{◌≡◌, ◌+◌, ◌-◌, ◌<◌, ◌≤◌, ◌↔◌, ◌++◌, length, replicate, OnOk, OnErr, IfOk, IfErr, IfSome, None};
+ghost use Rattle.std.specs.Prelude.{◌≡◌, ◌+◌, ◌<◌, ◌≤◌, ◌↔◌, ◌++◌, length, replicate, OnOk, OnErr, IfOk, IfErr, IfSome};
 ghost use Rattle.fixed_decimal_unsigned.specs.Concatenation.{Overlaps, Concatenates, MayWantMemory, handed_back};
 
 use crate::digits::Digits;

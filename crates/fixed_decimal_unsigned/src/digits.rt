@@ -68,6 +68,7 @@ impl Digits {
         requires { digit < 10 }
         ensures ok { OnOk result (self.new.items ≡ self.old.items ++ digit ∷ []) }
         ensures err { OnErr result (self.new ≡ self.old) }
+        ensures room { OnErr result (8 ≤ length self.old.items) }
     {
         match self.kept.push(digit) {
             Ok(()) => Ok(()),
@@ -135,7 +136,8 @@ impl Digits {
 
     // The same digits in a list of their own.
     pub fn try_clone(&self) -> Result<Digits, AllocError>
-        ensures { IfOk result (λ d. d.items ≡ self.now.items) }
+        ensures value { IfOk result (λ d. d.items ≡ self.now.items) }
+        ensures room { OnErr result (8 < length self.now.items) }
     {
         let kept = SmallVec::from_slice(*self.kept.allocator(), self.kept.as_slice())?;
         Ok(Digits { kept })

@@ -1,6 +1,7 @@
-ghost use Rattle.std.specs.Prelude.{◌≡◌, ◌+◌, ◌*◌, ◌%◌, ◌^◌, ◌<◌, ◌≤◌, [], length, slice_index, IfOk, OnOk};
+ghost use Rattle.std.specs.Prelude.{◌≡◌, ◌+◌, ◌*◌, ◌%◌, ◌^◌, ◌<◌, ◌≤◌, [], length, slice_index, IfOk, OnOk, OnErr, IsOk};
 ghost use Rattle.std.specs.Int.Digits.{number_from_digits, AllBelowBase};
 ghost use Rattle.fixed_decimal_unsigned.specs.Integers.{IsInteger};
+ghost use Rattle.fixed_decimal_unsigned.specs.Range.{IsLong};
 
 use crate::digits::Digits;
 use crate::places::ONES;
@@ -16,6 +17,7 @@ fn push_number(digits: &mut Digits, number: u128) -> Result<(), AllocError>
     ensures tens { OnOk result (AllBelowBase 10 digits.new.items) }
     ensures none { OnOk result (number ≡ 0 → digits.new.items ≡ []) }
     ensures first { OnOk result (0 < length digits.new.items → 0 < slice_index digits.new.items 0) }
+    ensures room { OnErr result (10 ^ 8 ≤ number) }
 {
     if number == 0 {
         return Ok(());
@@ -44,7 +46,8 @@ fn strip_zeros(number: u128) -> (u128, usize)
 
 // The whole number as a decimal.
 fn from_whole(alloc: Global, number: u128) -> Result<UnsignedDecimal, AllocError>
-    ensures { IfOk result (λ v. IsInteger number v) }
+    ensures value { IfOk result (λ v. IsInteger number v) }
+    ensures room { OnErr result (IsLong number) }
 {
     if number == 0 {
         return Ok(UnsignedDecimal::zero(alloc));
@@ -60,44 +63,50 @@ fn from_whole(alloc: Global, number: u128) -> Result<UnsignedDecimal, AllocError
 }
 
 impl UnsignedDecimal {
-    /// The whole number `integer`: 250 is shown as `250`. Memory is taken where it has more than eight digits.
+    /// The whole number `integer`: 250 is shown as `250`. It takes no memory.
     pub fn from_u8(alloc: Global, integer: u8) -> Result<UnsignedDecimal, AllocError>
-        ensures { IfOk result (λ v. IsInteger integer v) }
+        ensures value { IfOk result (λ v. IsInteger integer v) }
+        ensures succeeds { IsOk result }
     {
         from_whole(alloc, integer as u128)
     }
 
-    /// The whole number `integer`: 1729 is shown as `1729`. Memory is taken where it has more than eight digits.
+    /// The whole number `integer`: 1729 is shown as `1729`. It takes no memory.
     pub fn from_u16(alloc: Global, integer: u16) -> Result<UnsignedDecimal, AllocError>
-        ensures { IfOk result (λ v. IsInteger integer v) }
+        ensures value { IfOk result (λ v. IsInteger integer v) }
+        ensures succeeds { IsOk result }
     {
         from_whole(alloc, integer as u128)
     }
 
-    /// The whole number `integer`: 100000 is shown as `100000`. Memory is taken where it has more than eight digits.
+    /// The whole number `integer`: 100000 is shown as `100000`. Memory is taken where it has more than eight digits without the zeros at its end.
     pub fn from_u32(alloc: Global, integer: u32) -> Result<UnsignedDecimal, AllocError>
-        ensures { IfOk result (λ v. IsInteger integer v) }
+        ensures value { IfOk result (λ v. IsInteger integer v) }
+        ensures room { OnErr result (IsLong integer) }
     {
         from_whole(alloc, integer as u128)
     }
 
-    /// The whole number `integer`: 1729 is shown as `1729`. Memory is taken where it has more than eight digits.
+    /// The whole number `integer`: 1729 is shown as `1729`. Memory is taken where it has more than eight digits without the zeros at its end.
     pub fn from_u64(alloc: Global, integer: u64) -> Result<UnsignedDecimal, AllocError>
-        ensures { IfOk result (λ v. IsInteger integer v) }
+        ensures value { IfOk result (λ v. IsInteger integer v) }
+        ensures room { OnErr result (IsLong integer) }
     {
         from_whole(alloc, integer as u128)
     }
 
-    /// The whole number `integer`: 1729 is shown as `1729`. Memory is taken where it has more than eight digits.
+    /// The whole number `integer`: 1729 is shown as `1729`. Memory is taken where it has more than eight digits without the zeros at its end.
     pub fn from_usize(alloc: Global, integer: usize) -> Result<UnsignedDecimal, AllocError>
-        ensures { IfOk result (λ v. IsInteger integer v) }
+        ensures value { IfOk result (λ v. IsInteger integer v) }
+        ensures room { OnErr result (IsLong integer) }
     {
         from_whole(alloc, integer as u128)
     }
 
-    /// The whole number `integer`: 1729 is shown as `1729`. Memory is taken where it has more than eight digits.
+    /// The whole number `integer`: 1729 is shown as `1729`. Memory is taken where it has more than eight digits without the zeros at its end.
     pub fn from_u128(alloc: Global, integer: u128) -> Result<UnsignedDecimal, AllocError>
-        ensures { IfOk result (λ v. IsInteger integer v) }
+        ensures value { IfOk result (λ v. IsInteger integer v) }
+        ensures room { OnErr result (IsLong integer) }
     {
         from_whole(alloc, integer)
     }

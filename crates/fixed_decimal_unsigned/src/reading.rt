@@ -1,10 +1,11 @@
 // Reading a text: the range that its digits and its exponent name, and the digits kept.
-ghost use Rattle.std.specs.Prelude.{◌≡◌, ℕ, ◌+◌, ◌-◌, ◌*◌, ◌^◌, ◌%◌, ◌<◌, ◌≤◌, ◌==◌, ◌++◌, ◌||◌, min, max, cond, length, slice_index, IfOk, IfSome, IfNone, OnOk, IsErrOf};
+ghost use Rattle.std.specs.Prelude.{◌≡◌, ℕ, ◌+◌, ◌-◌, ◌*◌, ◌^◌, ◌%◌, ◌<◌, ◌≤◌, ◌==◌, ◌++◌, ◌||◌, min, max, cond, length, slice_index, IfOk, IfSome, IfNone, OnOk, OnErr, IsErrOf};
 ghost use Rattle.std.specs.Int.Digits.{number_from_digits, number_from_digits_after, AllBelowBase};
 ghost use Rattle.std.specs.Char.{digit_value};
 ghost use Rattle.std.specs.Str.Parse.{digits_value_after};
-ghost use Rattle.fixed_decimal_unsigned.specs.NumberText.{AreDigits, spelled, AreEndsIn, IsWithin, number_of, Reads, IsBeyond, IsNoText};
+ghost use Rattle.fixed_decimal_unsigned.specs.NumberText.{AreDigits, spelled, AreEndsIn, IsWithin, number_of, Reads, ReadsLong, IsBeyond, IsNoText};
 ghost use Rattle.fixed_decimal_unsigned.specs.BorrowedParts.{parts_of};
+ghost use Rattle.fixed_decimal_unsigned.specs.Range.{IsLong};
 
 use crate::digits::Digits;
 use crate::error::ParseError;
@@ -66,6 +67,7 @@ fn push_kept(digits: &mut Digits, digit: u8) -> Result<(), AllocError>
     ensures tens { AllBelowBase 10 digits.new.items }
     ensures first { 0 < length digits.new.items → 0 < slice_index digits.new.items 0 }
     ensures length { length digits.new.items ≤ length digits.old.items + 1 }
+    ensures room { OnErr result (8 ≤ length digits.old.items) }
 {
     if digit == 0 && digits.is_empty() {
         return Ok(());
@@ -84,6 +86,7 @@ fn gather(digits: &mut Digits, text: &[u8]) -> Result<(), AllocError>
     ensures tens { AllBelowBase 10 digits.new.items }
     ensures first { 0 < length digits.new.items → 0 < slice_index digits.new.items 0 }
     ensures length { length digits.new.items ≤ length digits.old.items + length text.now }
+    ensures room { OnErr result (10 ^ 8 ≤ digits_value_after 10 (number_from_digits 10 digits.old.items) text.now) }
 {
     for c in text {
         push_kept(digits, digit_of(*c))?;
@@ -151,6 +154,7 @@ fn gathered(alloc: Global, integer: &[u8], fraction: &[u8]) -> Result<Digits, Al
     ensures tens { IfOk result (λ d. AllBelowBase 10 d.items) }
     ensures first { IfOk result (λ d. 0 < length d.items → 0 < slice_index d.items 0) }
     ensures length { IfOk result (λ d. length d.items ≤ length integer.now + length fraction.now) }
+    ensures room { OnErr result (10 ^ 8 ≤ spelled (integer.now ++ fraction.now)) }
 {
     let mut digits = Digits::new(alloc);
     gather(&mut digits, integer)?;
@@ -211,6 +215,8 @@ fn number_from(alloc: Global, parts: &TextParts<'_>) -> Result<UnsignedDecimal, 
     ensures value { IfOk result (λ v. v ≡ number_of (parts_of parts.now)) }
     ensures limit { IsErrOf result ParseError.Limit → ¬ (IsWithin (parts_of parts.now)) }
     ensures syntax { ¬ (IsErrOf result ParseError.Syntax) }
+    ensures memory_within { IsErrOf result ParseError.Memory → IsWithin (parts_of parts.now) }
+    ensures memory { IsErrOf result ParseError.Memory → IsLong (number_of (parts_of parts.now)).count }
 {
     let (integer, fraction) = without_mantissa_zeros(parts.integer, parts.fraction);
     let (up, down) = moves_of(is_none(integer, fraction), parts.negative, parts.exponent);
@@ -223,10 +229,15 @@ fn number_from(alloc: Global, parts: &TextParts<'_>) -> Result<UnsignedDecimal, 
 }
 
 impl UnsignedDecimal {
-    /// The number that a text spells.
+    /// The number that a text spells: `12.30` is 12.3, shown from magnitude 1 down to -2.
+    ///
+    /// `Syntax` where the text spells no number (`5.`), `Limit` where it spells one that passes
+    /// magnitudes -32768 to 32767 (`1e32768`), `Memory` where memory for its digits was refused;
+    /// it is taken where there are more than eight, from the first to the last one that is not zero.
     pub fn try_from_utf8(alloc: Global, code_units: &[u8]) -> Result<UnsignedDecimal, ParseError>
         ensures syntax { IsErrOf result ParseError.Syntax → IsNoText code_units.now }
         ensures limit { IsErrOf result ParseError.Limit → IsBeyond code_units.now }
+        ensures memory { IsErrOf result ParseError.Memory → ReadsLong code_units.now }
         ensures value { IfOk result (λ v. Reads code_units.now v) }
     {
         let Some(parts) = TextParts::of(code_units) else {
@@ -235,10 +246,11 @@ impl UnsignedDecimal {
         number_from(alloc, &parts)
     }
 
-    /// The number that a text spells.
+    /// The number that a text spells, and the refusals, as `try_from_utf8` has them of its bytes.
     pub fn try_from_str(alloc: Global, text: &str) -> Result<UnsignedDecimal, ParseError>
         ensures syntax { IsErrOf result ParseError.Syntax → IsNoText text.now }
         ensures limit { IsErrOf result ParseError.Limit → IsBeyond text.now }
+        ensures memory { IsErrOf result ParseError.Memory → ReadsLong text.now }
         ensures value { IfOk result (λ v. Reads text.now v) }
     {
         UnsignedDecimal::try_from_utf8(alloc, text.as_bytes())

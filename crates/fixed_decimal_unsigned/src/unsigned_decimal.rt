@@ -1,7 +1,8 @@
-ghost use Rattle.std.specs.Prelude.{◌≡◌, ◌==◌, ◌+◌, ◌<◌, ◌↔◌, IsTrue, IfOk, false};
+ghost use Rattle.std.specs.Prelude.{◌≡◌, ◌==◌, ◌<◌, IfOk, OnErr, false};
 ghost use Rattle.std.specs.Range.{range_inclusive_start, range_inclusive_end, range_inclusive_exhausted};
 ghost use Rattle.fixed_decimal_unsigned.specs.Number.{place, digit, IsNumber};
 ghost use Rattle.fixed_decimal_unsigned.specs.Integers.{IsInteger};
+ghost use Rattle.fixed_decimal_unsigned.specs.Range.{IsLong};
 
 use crate::digits::Digits;
 use crate::places::{ONES, magnitude_of, place_of};
@@ -96,7 +97,8 @@ impl UnsignedDecimal {
 
     /// The same number in a value of its own. Memory is taken where the number has more than eight digits.
     pub fn try_clone(&self) -> Result<UnsignedDecimal, AllocError>
-        ensures { IfOk result (λ v. v ≡ self.now) }
+        ensures value { IfOk result (λ v. v ≡ self.now) }
+        ensures room { OnErr result (IsLong self.now.count) }
     {
         let digits = self.digits.try_clone()?;
         Ok(UnsignedDecimal {

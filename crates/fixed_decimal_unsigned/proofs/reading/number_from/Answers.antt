@@ -2,6 +2,7 @@ use Rattle.std.proofs.Common.{◌≡◌, ◌==◌, ◌+◌, ◌-◌, ◌*◌, �
 use Rattle.std.specs.Int.Digits.{number_from_digits}
 use Rattle.fixed_decimal_unsigned.specs.NumberText.{AreEndsIn, mantissa_of, spelled, up_of, down_of, number_at}
 use Rattle.fixed_decimal_unsigned.specs.BorrowedParts.{parts_of}
+use Rattle.fixed_decimal_unsigned.proofs.LongLemmas.{long_mantissa}
 use Rattle.fixed_decimal_unsigned.proofs.MantissaLemmas.{none_kept, spelled_none, capped_ends, ends_uncapped, assembled_is, capped_same, from_fields, zeros_grouped}
 use Rattle.fixed_decimal_unsigned.proofs.reading.number_from.Goals as goal
 
@@ -32,6 +33,26 @@ returns-clause-within c =
     ends_uncapped (length p.integer) (length p.fraction) (up_of p) (down_of p)
     (subst (λ u. AreEndsIn (length p.integer) (length p.fraction) u (min (down_of p) 65536)) up
     (subst (λ d. AreEndsIn (length p.integer) (length p.fraction) c.moves_of-up.result.0 d) down c.in-Some.ensures.within))
+
+pub returns-in_err-digits-clause-memory_within : goal.returns-in_err-digits-clause-memory_within
+returns-in_err-digits-clause-memory_within c = λ _.
+    let p = parts_of c.args.parts.now in
+    let r = c.without_mantissa_zeros.result in
+    let zero : c.is_none.result ≡ (mantissa_of p == 0) =
+    c.is_none.ensures ∙ none_kept (mantissa_of p) (spelled (r.0.now ++ r.1.now)) (length p.integer + length p.fraction - (length r.0.now + length r.1.now)) (length r.0.now + length r.1.now)
+    c.without_mantissa_zeros.ensures.value (spelled_none r.0.now r.1.now) c.without_mantissa_zeros.ensures.last in
+    let up : c.moves_of-up.result.0 ≡ min (up_of p) 65536 = c.moves_of-up.ensures.up ∙ ap (λ b. min (cond (b || p.negative) 0 (spelled p.exponent)) 65536) zero in
+    let down : c.moves_of-up.result.1 ≡ min (down_of p) 65536 = c.moves_of-up.ensures.down ∙ ap (λ b. min (cond b 0 (cond p.negative (spelled p.exponent) 0)) 65536) zero in
+    ends_uncapped (length p.integer) (length p.fraction) (up_of p) (down_of p)
+    (subst (λ u. AreEndsIn (length p.integer) (length p.fraction) u (min (down_of p) 65536)) up
+    (subst (λ d. AreEndsIn (length p.integer) (length p.fraction) c.moves_of-up.result.0 d) down c.in-Some.ensures.within))
+
+pub returns-in_err-digits-clause-memory : goal.returns-in_err-digits-clause-memory
+returns-in_err-digits-clause-memory c = λ _.
+    let p = parts_of c.args.parts.now in
+    let r = c.without_mantissa_zeros.result in
+    long_mantissa (spelled (r.0.now ++ r.1.now)) (length p.integer + length p.fraction - (length r.0.now + length r.1.now)) (length r.0.now + length r.1.now) (mantissa_of p)
+    (32768 + up_of p - (length p.fraction + down_of p)) c.without_mantissa_zeros.ensures.value c.without_mantissa_zeros.ensures.last (spelled_none r.0.now r.1.now) c.in_err-digits.ensures.room
 
 pub returns-clause-value : goal.returns-clause-value
 returns-clause-value c =

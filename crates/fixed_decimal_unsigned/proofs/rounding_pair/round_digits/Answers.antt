@@ -1,4 +1,4 @@
-use Rattle.std.proofs.Common.{◌≡◌, ◌+◌, ◌-◌, ◌*◌, ◌/◌, ◌^◌, ◌<◌, length, take, sym, ap, ◌∙◌, subst, arith}
+use Rattle.std.proofs.Common.{◌≡◌, ◌+◌, ◌*◌, ◌/◌, ◌^◌, take, sym, ap, ◌∙◌, subst}
 use Rattle.std.specs.Int.Digits.{number_from_digits}
 use Rattle.fixed_decimal_unsigned.specs.Stored.{count_of}
 use Rattle.fixed_decimal_unsigned.specs.Rounding.{IsRounded, increment_number}

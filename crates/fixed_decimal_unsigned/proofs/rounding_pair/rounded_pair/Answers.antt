@@ -1,4 +1,4 @@
-use Rattle.std.proofs.Common.{◌≡◌, ◌+◌, ◌-◌, ◌*◌, ◌%◌, ◌^◌, ◌<◌, ◌⊎◌, length, sym, ap, ◌∙◌, arith, inl, inr, ⊎_elim}
+use Rattle.std.proofs.Common.{◌%◌, ◌^◌, ◌<◌, ◌⊎◌, inl, inr, ⊎_elim}
 use Rattle.std.proofs.Math.Nat.{mod-lt}
 use Rattle.fixed_decimal_unsigned.specs.Stored.{count_of}
 use Rattle.fixed_decimal_unsigned.proofs.TenLemmas.{tens_positive}

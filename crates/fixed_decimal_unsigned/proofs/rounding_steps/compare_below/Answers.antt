@@ -1,5 +1,4 @@
-use Rattle.std.proofs.Common.{◌≡◌, ◌-◌, ◌%◌, ◌^◌, sym, ap, ◌∙◌, arith}
-use Rattle.fixed_decimal_unsigned.specs.Number.{digit}
+use Rattle.std.proofs.Common.{◌≡◌, ◌-◌, ◌%◌, ◌^◌, sym, ◌∙◌, arith}
 use Rattle.fixed_decimal_unsigned.specs.Stored.{count_of}
 use Rattle.fixed_decimal_unsigned.proofs.RoundingStepLemmas.{below_middle, nothing_left}
 use Rattle.fixed_decimal_unsigned.proofs.rounding_steps.compare_below.Goals as goal

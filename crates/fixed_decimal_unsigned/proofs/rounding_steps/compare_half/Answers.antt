@@ -1,4 +1,4 @@
-use Rattle.std.proofs.Common.{◌≡◌, sym, ap, ◌∙◌, arith, rules}
+use Rattle.std.proofs.Common.{arith}
 use Rattle.fixed_decimal_unsigned.proofs.RoundingStepLemmas.{half_by_part, half_less, half_greater, half_met, nothing_left}
 use Rattle.fixed_decimal_unsigned.proofs.rounding_steps.compare_half.Goals as goal
 

@@ -1,4 +1,4 @@
-use Rattle.std.proofs.Common.{◌≡◌, ◌∷◌, [], length, ap, arith, rules}
+use Rattle.std.proofs.Common.{◌≡◌, ◌∷◌, length, ap, rules}
 use Rattle.fixed_decimal_unsigned.proofs.TextPartsLemmas.{found_exponent, no_exponent, not_none}
 use Rattle.fixed_decimal_unsigned.proofs.text_parts.split_exponent.Goals as goal
 

@@ -1,10 +1,10 @@
-use Rattle.std.proofs.Common.{◌≡◌, ◌+◌, ◌-◌, ◌<◌, ◌∙◌, ap, map, subst, arith}
+use Rattle.std.proofs.Common.{◌≡◌, ◌+◌, ◌-◌, ◌<◌, ap, arith}
 use Rattle.std.proofs.lemmas.Int.{to_z-of_z}
 use Rattle.std.specs.Char.{encode_utf8}
 use Rattle.writeable.specs.AnnotatedText.{bytes}
-use Rattle.writeable.specs.Taking.{IsWriting, on_err}
+use Rattle.writeable.specs.Taking.{on_err}
 use Rattle.writeable.proofs.WritingLemmas.{writing_goes_on, writing_stops, writing_ends}
-use Rattle.fixed_decimal_unsigned.specs.Number.{digit, place, digits_down}
+use Rattle.fixed_decimal_unsigned.specs.Number.{digit, place}
 use Rattle.fixed_decimal_unsigned.specs.NumberText.{character}
 use Rattle.fixed_decimal_unsigned.proofs.WritingLemmas.{next_digit, none_left}
 use Rattle.fixed_decimal_unsigned.proofs.writing.write_digits.Goals as goal

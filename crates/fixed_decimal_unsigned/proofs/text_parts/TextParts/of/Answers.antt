@@ -1,6 +1,4 @@
-use Rattle.std.proofs.Common.{◌≡◌, ◌++◌, [], length, ap, arith, rules, ◌∙◌}
-use Rattle.fixed_decimal_unsigned.specs.NumberText.{AreDigits, behind_point}
-use Rattle.fixed_decimal_unsigned.specs.TextParts.{StartsNoDigit, StartsNoPoint}
+use Rattle.std.proofs.Common.{◌++◌, ap, rules, ◌∙◌}
 use Rattle.fixed_decimal_unsigned.proofs.TextPartsLemmas.{no_fraction, no_power, no_digits}
 use Rattle.fixed_decimal_unsigned.proofs.text_parts.TextParts.of.Goals as goal
 

@@ -1,4 +1,4 @@
-use Rattle.std.proofs.Common.{◌≡◌, ◌+◌, ◌<◌, length, refl, subst, sym, arith}
+use Rattle.std.proofs.Common.{refl, subst, sym}
 use Rattle.fixed_decimal_unsigned.specs.Concatenation.{Concatenates}
 use Rattle.fixed_decimal_unsigned.proofs.ConcatenationLemmas.{kept_overlap, kept_apart, kept_stored, kept_sum, kept_memory, not_memory, not_refused}
 use Rattle.fixed_decimal_unsigned.proofs.unsigned_decimal.UnsignedDecimal.concatenate_end.Goals as goal

@@ -1,4 +1,4 @@
-use Rattle.std.proofs.Common.{◌≡◌, ◌+◌, ◌≤◌, length, sym, ◌∙◌, ap, arith}
+use Rattle.std.proofs.Common.{◌≡◌, sym, ◌∙◌, ap, arith}
 use Rattle.std.proofs.lemmas.Int.{to_z-of_z}
 use Rattle.fixed_decimal_unsigned.specs.Number.{digit, place}
 use Rattle.fixed_decimal_unsigned.proofs.StoredLemmas.{digit_over, digit_inside, digit_beyond, room_of}

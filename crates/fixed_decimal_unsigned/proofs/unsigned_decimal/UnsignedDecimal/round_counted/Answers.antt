@@ -1,6 +1,6 @@
-use Rattle.std.proofs.Common.{◌≡◌, ◌-◌, max, sym, ap, ◌∙◌, subst, arith}
+use Rattle.std.proofs.Common.{◌≡◌, max, sym, ap, ◌∙◌, subst, arith}
 use Rattle.std.proofs.lemmas.Int.{to_z-of_z}
-use Rattle.fixed_decimal_unsigned.specs.Number.{Number, place}
+use Rattle.fixed_decimal_unsigned.specs.Number.{place}
 use Rattle.fixed_decimal_unsigned.specs.Stored.{count_of}
 use Rattle.fixed_decimal_unsigned.specs.Range.{HoldsDigits}
 use Rattle.fixed_decimal_unsigned.proofs.RangeLemmas.{trimmed_of, holds_length, rounded_kept, rounds_made, limited_multiple, turns_bounded}

@@ -1,0 +1,85 @@
+-- Counts of more than eight digits: where memory for digits may be wanted.
+use Rattle.std.proofs.Common.{◌≡◌, ℕ, ◌+◌, ◌-◌, ◌*◌, ◌/◌, ◌%◌, ◌^◌, ◌<◌, ◌≤◌, List, ◌++◌, length, get_or, drop, Result, Ok, Err, IsOk, OnErr, refl, sym, ap, ◌∙◌, subst, arith, ⊎_elim}
+use Rattle.std.proofs.Math.Nat.{div-add-mod', mul-div_cancel, mul-le-mul_right, mul_assoc, le-mul_of_pos_right, mod-one, eq-zero-or-pos}
+use Rattle.std.proofs.lemmas.Bool.{cases_lt}
+use Rattle.std.specs.Char.{digit_value}
+use Rattle.std.specs.Int.Digits.{number_from_digits}
+use Rattle.std.specs.Str.Parse.{digits_value_after}
+use Rattle.fixed_decimal_unsigned.specs.NumberText.{spelled}
+use Rattle.fixed_decimal_unsigned.specs.Range.{IsLong}
+use Rattle.fixed_decimal_unsigned.specs.Stored.{count_of, IsStored}
+use Rattle.fixed_decimal_unsigned.proofs.TenLemmas.{tens_positive, tens_apart, tens_split, digit_under}
+use Rattle.fixed_decimal_unsigned.proofs.DigitsLemmas.{number_reaches}
+use Rattle.fixed_decimal_unsigned.proofs.MantissaLemmas.{spelled_after, spelled_from}
+use Rattle.fixed_decimal_unsigned.proofs.RangeLemmas.{holds_length, trimmed_of}
+use Rattle.fixed_decimal_unsigned.proofs.SpelledLemmas.{value_after_drop}
+
+-- a multiple of ten to `low` has no last digit below
+last_above : (n e count low : ℕ) → count ≡ n * 10 ^ e → 0 < n % 10 → count % 10 ^ low ≡ 0 → low ≤ e
+last_above n e count low h last whole =
+    ⊎_elim (λ under.
+    let digit : count / 10 ^ e % 10 ≡ n % 10 = ap (λ x. x / 10 ^ e % 10) h ∙ ap (λ x. x % 10) (mul-div_cancel n (tens_positive e)) in
+    let multiple : count / 10 ^ low * 10 ^ low ≡ count = let split = div-add-mod' count (10 ^ low) in omega arith in
+    let none : count / 10 ^ e % 10 ≡ 0 = ap (λ x. x / 10 ^ e % 10) (sym multiple) ∙ digit_under (count / 10 ^ low) low e under in
+    absurd (omega arith)) (λ over. over) (cases_lt e low)
+
+pub long_count : (n e count : ℕ) → count ≡ n * 10 ^ e → 0 < n % 10 → 10 ^ 8 ≤ n → IsLong count
+long_count n e count h last many = λ low holds.
+    let at : low ≤ e = last_above n e count low h last holds.whole in
+    let reach : 10 ^ 8 * 10 ^ e ≤ n * 10 ^ e = mul-le-mul_right (10 ^ e) many in
+    let split : 10 ^ (8 + e) ≡ 10 ^ 8 * 10 ^ e = tens_split 8 e (8 + e) refl in
+    let up : 10 ^ (low + 8) ≤ 10 ^ (8 + e) = tens_apart (low + 8) (8 + e) (omega arith) in
+    let below = holds.below in
+    absurd (omega arith)
+
+-- of a number as it is kept
+pub long_kept : (ds : List ℕ) (top low high : ℕ) → IsStored ds top low high → 8 < length ds → IsLong (count_of ds top)
+long_kept ds top low high s many = λ place holds. let few = holds_length ds top place 8 (trimmed_of ds top low high s) holds in absurd (omega arith)
+
+-- a whole number of at most eight digits is not long
+pub not_long : (n : ℕ) → n < 10 ^ 8 → ¬ (IsLong n)
+not_long n h long = long 0 (record { whole = mod-one n; below = h })
+
+pub ok_unless : {T E : Type 0} {P : Type 0} (r : Result T E) → OnErr r P → ¬ P → IsOk r
+ok_unless (Ok _) h n = refl
+ok_unless (Err _) h n = absurd (n h)
+
+eight_digits : (ds : List ℕ) → 8 ≤ length ds → (0 < length ds → 0 < get_or ds 0 0) → 10 ^ 7 ≤ number_from_digits 10 ds
+eight_digits ds l first =
+    let reach = number_reaches ds (omega arith) (first (omega arith)) in let up = tens_apart 7 (length ds - 1) (omega arith) in omega arith
+
+-- a number whose digits but the last are at least eight
+pub nine_digits : (ds : List ℕ) (n : ℕ) → 8 ≤ length ds → (0 < length ds → 0 < get_or ds 0 0) → number_from_digits 10 ds ≡ n / 10 → 10 ^ 8 ≤ n
+nine_digits ds n l first e = let many = eight_digits ds l first in omega arith
+
+pub tenth_reaches : (n : ℕ) → 10 ^ 8 ≤ n / 10 → 10 ^ 8 ≤ n
+tenth_reaches n h = omega arith
+
+after_reaches : (n : ℕ) (text : List ℕ) → n ≤ digits_value_after 10 n text
+after_reaches n text = let up = le-mul_of_pos_right n (tens_positive (length text)) in omega (arith, spelled_from n text)
+
+-- and of a text, where a digit follows at least eight
+pub nine_gathered : (ds text : List ℕ) (i value : ℕ) → i < length text → 8 ≤ length ds → (0 < length ds → 0 < get_or ds 0 0) → digits_value_after 10 (number_from_digits 10 ds) (drop i text) ≡ value → 10 ^ 8 ≤ value
+nine_gathered ds text i value l many first e =
+    let seven = eight_digits ds many first in
+    let up = after_reaches (number_from_digits 10 ds * 10 + digit_value (get_or text i 0)) (drop (i + 1) text) in
+    let next = value_after_drop text i (number_from_digits 10 ds) l in
+    omega arith
+
+pub front_long : (n : ℕ) (integer fraction : List ℕ) → n ≡ 0 → 10 ^ 8 ≤ digits_value_after 10 n integer → 10 ^ 8 ≤ spelled (integer ++ fraction)
+front_long n integer fraction z h =
+    let front : 10 ^ 8 ≤ spelled integer = subst (λ k. 10 ^ 8 ≤ digits_value_after 10 k integer) z h in
+    let up = after_reaches (spelled integer) fraction in
+    omega (arith, spelled_after integer fraction 0)
+
+pub behind_long : (n : ℕ) (integer fraction : List ℕ) → n ≡ spelled integer → 10 ^ 8 ≤ digits_value_after 10 n fraction → 10 ^ 8 ≤ spelled (integer ++ fraction)
+behind_long n integer fraction e h =
+    let all = subst (λ k. 10 ^ 8 ≤ digits_value_after 10 k fraction) e h in omega (arith, spelled_after integer fraction 0)
+
+-- a mantissa of more than eight digits, the zeros at its end taken away
+pub long_mantissa : (kept zeros count mantissa e : ℕ) → mantissa ≡ kept * 10 ^ zeros → (0 < count → 0 < kept % 10) → (count ≡ 0 → kept ≡ 0) → 10 ^ 8 ≤ kept → IsLong (mantissa * 10 ^ e)
+long_mantissa kept zeros count mantissa e h last none many =
+    let some : 0 < count = ⊎_elim (λ z. let empty = none z in absurd (omega arith)) (λ p. p) (eq-zero-or-pos count) in
+    long_count kept (zeros + e) (mantissa * 10 ^ e)
+    (ap (λ x. x * 10 ^ e) h ∙ mul_assoc kept (10 ^ zeros) (10 ^ e) ∙ ap (λ x. kept * x) (sym (tens_split zeros e (zeros + e) refl)))
+    (last some) many
