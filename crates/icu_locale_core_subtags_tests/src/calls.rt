@@ -35,10 +35,19 @@ fn json_is_a_text(rt: HostRuntime) -> Result<(), Fail> {
     let value = Language::try_from_str("EN")?.to_json(alloc)?;
     assert_eq!(rt; value.as_str(), Some("en"));
     assert_eq!(rt; Language::from_json(&value)?.as_str(), "en");
-    assert_eq!(rt; Script::from_json(&value).err(), Some(ParseError::InvalidSubtag));
+    assert_eq!(rt;
+        Script::from_json(&value).err(),
+        Some(ParseError::InvalidSubtag)
+    );
     // no text is refused as the empty text
-    assert_eq!(rt; Language::from_json(&Value::Null).err(), Some(ParseError::InvalidLanguage));
-    assert_eq!(rt; transform::Key::from_json(&Value::Bool(true)).err(), Some(ParseError::InvalidExtension));
+    assert_eq!(rt;
+        Language::from_json(&Value::Null).err(),
+        Some(ParseError::InvalidLanguage)
+    );
+    assert_eq!(rt;
+        transform::Key::from_json(&Value::Bool(true)).err(),
+        Some(ParseError::InvalidExtension)
+    );
     Ok(())
 }
 
@@ -116,6 +125,9 @@ fn a_subtag_is_made_of_a_small_text_and_of_a_script(rt: HostRuntime) -> Result<(
         Subtag::try_from(TinyAsciiStr::<16>::try_from_str("morethan8")?).err(),
         Some(ParseError::InvalidSubtag)
     );
-    assert_eq!(rt; Subtag::from(Script::try_from_str("Latn")?).as_str(), "latn");
+    assert_eq!(rt;
+        Subtag::from(Script::try_from_str("Latn")?).as_str(),
+        "latn"
+    );
     Ok(())
 }

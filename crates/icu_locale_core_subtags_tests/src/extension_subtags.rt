@@ -38,7 +38,11 @@ fn the_key_of_a_keyword_ends_in_a_letter(rt: HostRuntime) -> Result<(), Fail> {
 #[test]
 fn the_key_of_a_field_is_a_letter_and_a_digit(rt: HostRuntime) -> Result<(), Fail> {
     for (text, want) in [("h0", "h0"), ("M0", "m0")] {
-        assert_eq!(rt; transform::Key::try_from_str(text)?.as_str(), want, "{text}");
+        assert_eq!(rt;
+            transform::Key::try_from_str(text)?.as_str(),
+            want,
+            "{text}"
+        );
     }
     for text in ["", "h", "hh", "0h", "00", "h00"] {
         assert_eq!(rt;
@@ -68,7 +72,11 @@ fn an_attribute_has_3_to_8_characters(rt: HostRuntime) -> Result<(), Fail> {
 #[test]
 fn a_private_piece_has_1_to_8_characters(rt: HostRuntime) -> Result<(), Fail> {
     for (text, want) in [("A", "a"), ("1", "1"), ("Foo1BAR2", "foo1bar2")] {
-        assert_eq!(rt; private::Subtag::try_from_str(text)?.as_str(), want, "{text}");
+        assert_eq!(rt;
+            private::Subtag::try_from_str(text)?.as_str(),
+            want,
+            "{text}"
+        );
     }
     for text in ["", "toolooong", "a-b"] {
         assert_eq!(rt;
@@ -83,7 +91,11 @@ fn a_private_piece_has_1_to_8_characters(rt: HostRuntime) -> Result<(), Fail> {
 #[test]
 fn the_suffix_of_a_subdivision_has_1_to_4_characters(rt: HostRuntime) -> Result<(), Fail> {
     for (text, want) in [("A", "a"), ("ENG", "eng"), ("1a2B", "1a2b")] {
-        assert_eq!(rt; SubdivisionSuffix::try_from_str(text)?.as_str(), want, "{text}");
+        assert_eq!(rt;
+            SubdivisionSuffix::try_from_str(text)?.as_str(),
+            want,
+            "{text}"
+        );
     }
     for text in ["", "toolo", "a b"] {
         assert_eq!(rt;
