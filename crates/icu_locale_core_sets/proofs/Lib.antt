@@ -2,3 +2,4 @@ pub mod PlaceLemmas
 pub mod JoiningLemmas
 pub mod PrintingLemmas
 pub mod LawLemmas
+pub mod KnownValues
