@@ -10,20 +10,20 @@ use Rattle.icu_locale_core_grammar.specs.Stepping.{run}
 use Rattle.icu_locale_core_grammar.proofs.CallerLemmas.{run_more}
 use Rattle.icu_locale_core_langid.specs.Parts.{with_parts}
 
-failed : (b : Bool) (t : Text) → None ≡ (if b then Some t else None) → b ≡ false
+pub failed : (b : Bool) (t : Text) → None ≡ (if b then Some t else None) → b ≡ false
 failed true t e = cc
 failed false t e = refl
 
-passed : (b : Bool) (t u : Text) → Some u ≡ (if b then Some t else None) → b ≡ true
+pub passed : (b : Bool) (t u : Text) → Some u ≡ (if b then Some t else None) → b ≡ true
 passed true t u e = refl
 passed false t u e = cc
 
-found : (b : Bool) (t u : Text) → Some u ≡ (if b then Some t else None) → u ≡ t
+pub found : (b : Bool) (t u : Text) → Some u ≡ (if b then Some t else None) → u ≡ t
 found true t u e = cc
 found false t u e = cc
 
 -- by the three tests
-by_tests : (id : LanguageId) (p : Text) (a b c : Bool) → fits_script id p ≡ a → fits_region id p ≡ b → fits_variant id p ≡ c
+pub by_tests : (id : LanguageId) (p : Text) (a b c : Bool) → fits_script id p ≡ a → fits_region id p ≡ b → fits_variant id p ≡ c
     → with_piece id p ≡ (if a then Some (with_script id p) else (if b then Some (with_region id p) else (if c then Some (with_variant id p) else None)))
 unfolding with_piece
 by_tests id p a b c e f g = λ i. if e i then Some (with_script id p) else (if f i then Some (with_region id p) else (if g i then Some (with_variant id p) else None))
@@ -43,13 +43,17 @@ none_taken id p e f g =
 
 -- ---- a loop over the pieces
 
--- the steps took these pieces, and reached the stage
-abbrev pub Took : List Text → Option LanguageId → List Text → Type 0
-Took ps s left = (taken : List Text) × (ps ≡ taken ++ left) × (run language_after (Some None) taken ≡ Some s)
+-- the steps took these pieces, from nothing, and reached the stage
+abbrev pub TookBy : (Option LanguageId → Text → Option (Option LanguageId)) → List Text → Option LanguageId → List Text → Type 0
+TookBy step ps s left = (taken : List Text) × (ps ≡ taken ++ left) × (run step (Some None) taken ≡ Some s)
 
-pub one_more_taken : (ps left more : List Text) (s t : Option LanguageId) (p : Text) → Took ps s left → left ≡ p ∷ more → language_after s p ≡ Some t → Took ps t more
-one_more_taken ps left more s t p took first step =
-    (took.0 ++ p ∷ [], took.1 ∙ ap (λ l. took.0 ++ l) first ∙ sym (append_assoc took.0 (p ∷ []) more), run_more language_after None s t took.0 p took.2 step)
+abbrev pub Took : List Text → Option LanguageId → List Text → Type 0
+Took = TookBy language_after
+
+pub one_more_taken : (step : Option LanguageId → Text → Option (Option LanguageId)) (ps left more : List Text) (s t : Option LanguageId) (p : Text) → TookBy step ps s left → left ≡ p ∷ more
+    → step s p ≡ Some t → TookBy step ps t more
+one_more_taken step ps left more s t p took first next =
+    (took.0 ++ p ∷ [], took.1 ∙ ap (λ l. took.0 ++ l) first ∙ sym (append_assoc took.0 (p ∷ []) more), run_more step None s t took.0 p took.2 next)
 
 -- two iterators that stood at one place, after a step of each
 pub same_left : (rest left more after : List Text) (p : Text) (r : Option (Bor Text)) → rest ≡ left → left ≡ p ∷ more

@@ -6,5 +6,6 @@ pub mod SameLanguage
 pub mod NormalizedText
 -- What the readers follow, piece by piece.
 pub mod LanguageStep
+pub mod OneVariant
 -- What the impls prove.
 pub mod SameLanguageLaws

@@ -8,6 +8,7 @@ mod language_identifier;
 pub mod laws;
 mod modes;
 mod normalizing;
+mod one_variant;
 mod parser;
 mod reading;
 mod step;

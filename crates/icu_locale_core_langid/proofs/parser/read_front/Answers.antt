@@ -10,6 +10,6 @@ loop-piece-preserved c =
     let first = c.in-Some.ensures.steps in
     record {
       same = same_left c.loop-piece.rest left c.next.new.self c.next-in-Taken.new.self c.in-Some.piece.now c.next-in-Taken.result c.loop-piece.invariant.same first c.next-in-Taken.ensures.steps;
-      took = one_more_taken c.args.from left c.next.new.self c.loop-piece.stage c.in-Taken.next c.in-Some.piece.now c.loop-piece.invariant.took first
+      took = one_more_taken language_after c.args.from left c.next.new.self c.loop-piece.stage c.in-Taken.next c.in-Some.piece.now c.loop-piece.invariant.took first
           (subst (IsStep language_after c.loop-piece.stage c.in-Some.piece.now) c.in-Taken.is c.in_ok-next.ensures);
     }
