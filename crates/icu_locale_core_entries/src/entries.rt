@@ -44,7 +44,11 @@ impl<K: EntryKind> EntriesOf<K> {
     }
 
     /// The map with one entry. `AllocError` is answered for memory alone.
-    pub fn new_single(alloc: Global, key: SubtagOf<K, 2>, value: ValueOf<K>) -> Result<Self, AllocError>
+    pub fn new_single(
+        alloc: Global,
+        key: SubtagOf<K, 2>,
+        value: ValueOf<K>,
+    ) -> Result<Self, AllocError>
         ensures { IfOk result (λ m. m ≡ (key, value) ∷ []) }
     {
         let mut map = Self::new(alloc);
@@ -68,7 +72,12 @@ impl<K: EntryKind> EntriesOf<K> {
     }
 
     /// Puts an entry that is not there at its place.
-    fn insert_at(&mut self, place: usize, key: SubtagOf<K, 2>, value: ValueOf<K>) -> Result<(), AllocError>
+    fn insert_at(
+        &mut self,
+        place: usize,
+        key: SubtagOf<K, 2>,
+        value: ValueOf<K>,
+    ) -> Result<(), AllocError>
         requires { IsMissingAt key self.old place }
         ensures put { OnOk result (self.new ≡ put_first (key, value) self.old) }
         ensures set { OnOk result (self.new ≡ set_entry (key, value) self.old) }
@@ -83,7 +92,11 @@ impl<K: EntryKind> EntriesOf<K> {
     /// Puts the entry into the map, unless the key is there: then the map stays as it is.
     ///
     /// `AllocError` is answered for memory alone, and leaves the map.
-    pub(crate) fn put_first(&mut self, key: SubtagOf<K, 2>, value: ValueOf<K>) -> Result<(), AllocError>
+    pub(crate) fn put_first(
+        &mut self,
+        key: SubtagOf<K, 2>,
+        value: ValueOf<K>,
+    ) -> Result<(), AllocError>
         ensures ok { OnOk result (self.new ≡ put_first (key, value) self.old) }
         ensures err { OnErr result (self.new ≡ self.old) }
     {
@@ -113,7 +126,11 @@ impl<K: EntryKind> EntriesOf<K> {
     /// Sets the value of a key, and answers the value that it had, if any.
     ///
     /// `AllocError` is answered for memory alone, and leaves the map. No memory is taken where the map has the key.
-    pub fn set(&mut self, key: SubtagOf<K, 2>, value: ValueOf<K>) -> Result<Option<ValueOf<K>>, AllocError>
+    pub fn set(
+        &mut self,
+        key: SubtagOf<K, 2>,
+        value: ValueOf<K>,
+    ) -> Result<Option<ValueOf<K>>, AllocError>
         ensures ok { OnOk result (self.new ≡ set_entry (key, value) self.old) }
         ensures old { IfOk result (λ old. old ≡ value_at key self.old) }
         ensures succeeds { is_some (value_at key self.old) ≡ true → IsOk result }
