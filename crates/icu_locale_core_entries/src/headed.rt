@@ -14,7 +14,9 @@ use crate::value::ValueOf;
 use icu_locale_core_subtags::SubtagOf;
 use std::alloc::{AllocError, Global};
 
-/// How the head before the entries is read; it may end anywhere.
+/// How the head before the entries is read, piece by piece; it may end anywhere.
+///
+/// The head of `u` are attributes, that of `t` a language. A type that holds nothing stands for the way of reading.
 pub trait HeadReader {
     ghost use Rattle.std.specs.Prelude.{List, ℕ, Option};
 
@@ -46,7 +48,7 @@ impl HeadReader for NoHead {
     }
 }
 
-/// How far a head and the entries behind it are read.
+/// How far a head and the entries behind it are read. It begins with the stage `InHead` of a head that is not begun.
 #[derive(Drop)]
 pub enum HeadedStage<H, K: EntryKind> {
     /// The head is read.
@@ -114,7 +116,10 @@ fn after_entry<H: Drop, K: EntryKind>(
     Ok(Step::Refused(HeadedStage::InEntry(head, entries, key, value, full)))
 }
 
-/// The stage of a head and entries after a piece. `AllocError` is answered for memory alone.
+/// The stage of a head and entries after a piece, or the stage as it was where the piece does not fit.
+///
+/// Behind `nu-thai` the piece `latn` goes into the value, `ca` opens the next keyword, and `a` is refused. `AllocError` is
+/// answered for memory alone.
 #[tactic(auto, unfolding(icu_locale_core_grammar::specs::Stepping::headed_after))]
 pub fn headed_after<R: HeadReader, K: EntryKind>(
     alloc: Global,
