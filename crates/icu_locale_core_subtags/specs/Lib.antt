@@ -1,5 +1,7 @@
 -- What a reader must believe.
 pub mod SubtagRule
 pub mod PiecesLeft
+pub mod RawSubtag
+pub mod JsonText
 -- What the rules of this crate prove.
 pub mod RuleLaws

@@ -1,5 +1,5 @@
 -- The rules of this crate are rules: each class is one of short words, and its normal case leaves it.
--- Defined in docs/tags.md, "Subtags".
+-- Defined in docs/tags.md, "Subtags as values".
 -- Cited by the impls of `SubtagRule`, whose laws they are.
 use Rattle.std.proofs.Common.{◌≡◌, ℕ, ◌<◌, ◌≤◌, Bool, true, ◌&&◌, ◌⊎◌, inl, inr, [], ◌∷◌, length, eqb, leb, refl, ◌∙◌, arith, lit<}
 use Rattle.std.specs.List.{list_all}

@@ -1,5 +1,5 @@
 -- A rule of subtags: which texts it accepts, in either case, and the case that it gives them.
--- Defined in docs/tags.md, "Subtags".
+-- Defined in docs/tags.md, "Subtags as values".
 -- Cited by the trait `SubtagRule`, so it holds of every type of subtag.
 use Rattle.std.specs.Prelude.{◌≡◌, ℕ, ◌<◌, ◌≤◌, Bool, true, length}
 use Rattle.icu_locale_core_grammar.specs.Subtags.{Text, is_plain, lower}

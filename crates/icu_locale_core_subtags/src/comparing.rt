@@ -1,17 +1,37 @@
 //! Equality, order and hash of subtags: those of their texts.
 
-ghost use Rattle.std.specs.Prelude.{Some, nat_eq, refl};
+ghost use Rattle.std.specs.Prelude.{◌≡◌, ◌↔◌, IsTrue, true, Some, nat_eq, refl};
 ghost use Rattle.std.specs.Ordering.{nat_cmp};
 ghost use Rattle.std.specs.Cmp.{on_equiv, on_total, on_po, on_per, partial_equiv_from_equiv};
 ghost use Rattle.std.specs.Cmp.Lexicographic.{pointwise, slice_cmp, nat_list_eq_equiv, nat_list_cmp_total, texts_po, texts_ties};
 ghost use Rattle.std.specs.Cmp.Rules.{hashing};
 ghost use Rattle.std.specs.Hash as fed;
 ghost use Rattle.std.proofs.Common.{rules};
+ghost use Rattle.icu_locale_core_grammar.specs.Collections.{text_cmp};
 
 use crate::rule::SubtagRule;
 use crate::subtag_of::SubtagOf;
 use std::cmp::Ordering;
 use std::hash::{Hash, Hasher};
+
+impl<R: SubtagRule<N>, const N: usize> SubtagOf<R, N> {
+    /// The byte order of the text in normal case against the bytes: the region `US` is less than `us`.
+    pub fn strict_cmp(&self, other: &[u8]) -> Ordering
+        ensures { result ≡ text_cmp self.now other.now }
+    {
+        self.as_str().as_bytes().cmp(other)
+    }
+
+    /// Whether the text reads as this subtag: the region `US` of `us`, and of no other text but `US`, `Us`, `uS`.
+    pub fn normalizing_eq(&self, other: &str) -> bool
+        ensures { IsTrue result ↔ ((R.accepts other.now ≡ true) × (R.normal other.now ≡ self.now)) }
+    {
+        match Self::try_from_str(other) {
+            Ok(read) => read == *self,
+            Err(_) => false,
+        }
+    }
+}
 
 impl<R: SubtagRule<N>, const N: usize> PartialEq for SubtagOf<R, N> {
     ghost eq = { λ s t. pointwise nat_eq s t };

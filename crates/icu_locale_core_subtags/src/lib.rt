@@ -11,22 +11,25 @@
 #![tactic(auto)]
 
 mod comparing;
-mod language_part;
+mod json;
 pub mod laws;
 mod pieces;
 pub mod private;
+mod raw;
 mod rule;
+mod rules;
 mod subtag_of;
 pub mod transform;
 pub mod unicode;
-mod word;
 mod words;
 mod writing;
 
-pub use crate::language_part::{
-    Language, LanguageRule, Region, RegionRule, Script, ScriptRule, Variant, VariantRule,
-};
+pub use crate::json::text_of_json;
 pub use crate::pieces::SubtagIterator;
 pub use crate::rule::SubtagRule;
+pub use crate::rules::language::{Language, LanguageRule};
+pub use crate::rules::region::{Region, RegionRule};
+pub use crate::rules::script::{Script, ScriptRule};
+pub use crate::rules::subtag::{Subtag, WordRule};
+pub use crate::rules::variant::{Variant, VariantRule};
 pub use crate::subtag_of::SubtagOf;
-pub use crate::word::{Subtag, WordRule};

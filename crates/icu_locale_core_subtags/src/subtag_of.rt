@@ -5,6 +5,7 @@ ghost use Rattle.std.specs.Prelude.{◌≡◌, true, false, MatchResult};
 use crate::rule::SubtagRule;
 use icu_locale_core_grammar::ParseError;
 use std::marker::{Model, PhantomData};
+use std::str::FromStr;
 use tinystr::TinyAsciiStr;
 
 /// A subtag of the rule R, of at most N characters: its text in normal case.
@@ -64,5 +65,16 @@ impl<R: SubtagRule<N>, const N: usize> SubtagOf<R, N> {
         ensures { result ≡ self.now }
     {
         self.text
+    }
+}
+
+/// As `try_from_str`.
+impl<R: SubtagRule<N>, const N: usize> FromStr for SubtagOf<R, N> {
+    type Err = ParseError;
+
+    ghost from_str_gives = { λ s r. MatchResult r (λ subtag. (R.accepts s ≡ true) × (subtag ≡ R.normal s)) (λ e. (R.accepts s ≡ false) × (e ≡ R.fault)) };
+
+    fn from_str(s: &str) -> Result<Self, ParseError> {
+        Self::try_from_str(s)
     }
 }
