@@ -1,8 +1,8 @@
 -- Changed maps at a key, and that written values and maps read back.
-use Rattle.std.proofs.Common.{◌≡◌, ◌≢◌, Bool, true, false, List, [], ◌∷◌, ◌++◌, map, codes, refl, sym, ap, ◌∙◌, subst}
+use Rattle.std.proofs.Common.{◌≡◌, ◌≢◌, Bool, true, false, List, [], ◌∷◌, ◌++◌, codes, refl, sym, subst}
 use Rattle.std.specs.List.{AllByRecursion}
-use Rattle.icu_locale_core_grammar.specs.Subtags.{Text, is_plain, is_key, is_field_key, true_text}
-use Rattle.icu_locale_core_grammar.specs.Pieces.{pieces, joined_text}
+use Rattle.icu_locale_core_grammar.specs.Subtags.{Text, is_plain, is_key, is_field_key}
+use Rattle.icu_locale_core_grammar.specs.Pieces.{joined_text}
 use Rattle.icu_locale_core_grammar.specs.Collections.{Entry, Each}
 use Rattle.icu_locale_core_grammar.specs.Extensions.{value_meaning, has_enough}
 use Rattle.icu_locale_core_grammar.specs.NormalText.{entry_pieces}

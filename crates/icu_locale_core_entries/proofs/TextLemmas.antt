@@ -1,5 +1,5 @@
 -- The texts of values and of maps, entry by entry: as they are written, and how long they are.
-use Rattle.std.proofs.Common.{◌≡◌, Bool, true, false, nat_eq, ℕ, ◌+◌, ◌<◌, ◌≤◌, List, [], ◌∷◌, ◌++◌, length, drop, get_or, refl, sym, ap, ◌∙◌, append_assoc, arith, length-append}
+use Rattle.std.proofs.Common.{◌≡◌, Bool, true, false, nat_eq, ℕ, ◌+◌, ◌<◌, ◌≤◌, List, [], ◌∷◌, ◌++◌, length, drop, get_or, sym, ap, ◌∙◌, append_assoc, arith, length-append}
 use Rattle.std.specs.Prelude.{flat_map}
 use Rattle.std.specs.Cmp.Lexicographic.{pointwise, texts_ties, bytes_decides}
 use Rattle.std.specs.Ordering.{is_eq}

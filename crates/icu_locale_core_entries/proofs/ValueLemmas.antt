@@ -1,8 +1,9 @@
 -- Subtags put into a value one by one.
-use Rattle.std.proofs.Common.{◌≡◌, Bool, true, false, not, List, [], ◌∷◌, ◌++◌, cond, filter, refl, sym, ap, ◌∙◌, append-nil}
+use Rattle.std.proofs.Common.{◌≡◌, Bool, true, false, not, List, [], ◌∷◌, ◌++◌, cond, refl, sym, ap, ◌∙◌, append-nil}
 use Rattle.std.specs.Prelude.{if◌then◌else◌}
 use Rattle.std.proofs.lemmas.List.Elements.{filter-append}
-use Rattle.icu_locale_core_grammar.specs.Subtags.{Text, is_true}
+use Rattle.icu_locale_core_grammar.specs.Subtags.{Text, is_true, true_text, same_text, lower}
+use Rattle.icu_locale_core_grammar.proofs.CollectionLemmas.{same_text_swapped}
 use Rattle.icu_locale_core_entries.specs.Values.{without_true, with_subtag}
 
 -- the value of some subtags, and of one more
@@ -13,3 +14,8 @@ without_true-push value more taken v so_far put =
     by_test : (b : Bool) → (if b then without_true taken else without_true taken ++ v ∷ []) ≡ without_true taken ++ cond (not b) (v ∷ []) []
     by_test true = sym (append-nil (without_true taken))
     by_test false = refl
+
+-- a text in lower case that is `true`
+pub told_true : (shown v : Text) (told : Bool) → told ≡ same_text shown true_text → shown ≡ v → lower v ≡ v → told ≡ is_true v
+told_true shown v told answer same low =
+    answer ∙ ap (λ t. same_text t true_text) same ∙ same_text_swapped v true_text ∙ ap (same_text true_text) (sym low)

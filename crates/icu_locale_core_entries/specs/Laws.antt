@@ -2,7 +2,7 @@
 -- they are computed.
 -- Defined in docs/tags.md, "Laws".
 -- Cited by the functions of the module of laws.
-use Rattle.std.specs.Prelude.{◌≡◌, ◌↔◌, Bool, true, false, List, Option, None, Some, if◌then◌else◌}
+use Rattle.std.specs.Prelude.{◌≡◌, ◌↔◌, Bool, true, false, List, None, Some, if◌then◌else◌}
 use Rattle.std.specs.List.{AllByRecursion}
 use Rattle.icu_locale_core_grammar.specs.Subtags.{Text, is_key, is_field_key, same_text}
 use Rattle.icu_locale_core_grammar.specs.Collections.{Entry, keys_of, Rises, value_at, first_there}

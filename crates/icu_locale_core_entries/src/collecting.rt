@@ -16,7 +16,10 @@ use std::marker::PhantomData;
 
 impl<K: EntryKind> ValueOf<K> {
     /// The value of the subtags in their order, without `true`. `AllocError` is answered for memory alone.
-    pub fn try_from_iter<I: IntoIterator<Item = Subtag>>(alloc: Global, iter: I) -> Result<Self, AllocError>
+    pub fn try_from_iter<I: IntoIterator<Item = Subtag>>(
+        alloc: Global,
+        iter: I,
+    ) -> Result<Self, AllocError>
         requires { (it : I.IntoIter) → I.into_iter_gives iter it → I.IntoIter.can_next it × IsFinite (I.IntoIter.remaining it) }
         ensures { IfOk result (λ v. (it : I.IntoIter) × (subtags : List (List ℕ)) × I.into_iter_gives iter it × Drains I.IntoIter.next_gives it subtags × (v ≡ without_true subtags)) }
     {
@@ -48,7 +51,10 @@ fn copied<K: EntryKind>(key: &SubtagOf<K, 2>) -> Result<SubtagOf<K, 2>, AllocErr
 
 impl<K: EntryKind> EntriesOf<K> {
     /// The map of the entries; of equal keys the first stands. `AllocError` is answered for memory alone.
-    pub fn try_from_iter<I: IntoIterator<Item = (SubtagOf<K, 2>, ValueOf<K>)>>(alloc: Global, iter: I) -> Result<Self, AllocError>
+    pub fn try_from_iter<I: IntoIterator<Item = (SubtagOf<K, 2>, ValueOf<K>)>>(
+        alloc: Global,
+        iter: I,
+    ) -> Result<Self, AllocError>
         requires { (it : I.IntoIter) → I.into_iter_gives iter it → I.IntoIter.can_next it × IsFinite (I.IntoIter.remaining it) }
         ensures { IfOk result (λ m. (it : I.IntoIter) × (entries : List Entry) × I.into_iter_gives iter it × Drains I.IntoIter.next_gives it entries × (m ≡ map_of entries)) }
     {

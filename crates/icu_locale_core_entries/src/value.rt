@@ -15,6 +15,8 @@ use std::marker::{Model, PhantomData};
 use std::slice;
 
 /// The value of a keyword or a field: a list of subtags, none of which is `true`.
+///
+/// After ICU4X's `Value`. Source: UTS 35, section 3.6.3.
 #[derive(Drop)]
 pub struct ValueOf<K: EntryKind> {
     pub(crate) subtags: Vec<Subtag>,
@@ -107,7 +109,7 @@ impl<K: EntryKind> ValueOf<K> {
         self.subtags.as_slice()
     }
 
-    /// Leaves the empty value.
+    /// Leaves the empty value. It takes no memory.
     pub fn clear(&mut self)
         ensures { self.new ≡ [] }
     {

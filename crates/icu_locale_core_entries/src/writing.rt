@@ -49,7 +49,11 @@ impl<K: EntryKind> ValueOf<K> {
 }
 
 // Writes a key and its value: `ca-buddhist`.
-fn write_entry<K: EntryKind, S: Sink>(key: &SubtagOf<K, 2>, value: &ValueOf<K>, sink: &mut S) -> Result<(), Error>
+fn write_entry<K: EntryKind, S: Sink>(
+    key: &SubtagOf<K, 2>,
+    value: &ValueOf<K>,
+    sink: &mut S,
+) -> Result<(), Error>
     requires { S.refused sink.old ≡ false }
     ensures ok { OnOk result (S.takes sink.old (bytes key.now ++ bytes (hyphened_value K.needs value.now)) sink.new) }
     ensures refused { S.refused sink.new ≡ is_err result }
@@ -60,7 +64,11 @@ fn write_entry<K: EntryKind, S: Sink>(key: &SubtagOf<K, 2>, value: &ValueOf<K>, 
 }
 
 // Writes a hyphen, a key and its value.
-fn write_next_entry<K: EntryKind, S: Sink>(key: &SubtagOf<K, 2>, value: &ValueOf<K>, sink: &mut S) -> Result<(), Error>
+fn write_next_entry<K: EntryKind, S: Sink>(
+    key: &SubtagOf<K, 2>,
+    value: &ValueOf<K>,
+    sink: &mut S,
+) -> Result<(), Error>
     requires { S.refused sink.old ≡ false }
     ensures ok { OnOk result (S.takes sink.old (bytes (hyphen ∷ []) ++ (bytes key.now ++ bytes (hyphened_value K.needs value.now))) sink.new) }
     ensures refused { S.refused sink.new ≡ is_err result }
@@ -71,7 +79,10 @@ fn write_next_entry<K: EntryKind, S: Sink>(key: &SubtagOf<K, 2>, value: &ValueOf
 }
 
 // Writes the entries, each piece with a hyphen before it.
-fn write_entries<K: EntryKind, S: Sink>(entries: &[(SubtagOf<K, 2>, ValueOf<K>)], sink: &mut S) -> Result<(), Error>
+fn write_entries<K: EntryKind, S: Sink>(
+    entries: &[(SubtagOf<K, 2>, ValueOf<K>)],
+    sink: &mut S,
+) -> Result<(), Error>
     requires { S.refused sink.old ≡ false }
     ensures ok { OnOk result (S.takes sink.old (bytes (hyphened_entries K.needs entries.now)) sink.new) }
     ensures refused { S.refused sink.new ≡ is_err result }
@@ -89,7 +100,9 @@ fn entries_length<K: EntryKind>(entries: &[(SubtagOf<K, 2>, ValueOf<K>)]) -> Opt
 {
     let mut length: usize = 0;
     for (key, value) in entries {
-        let entry = value.hyphened_length()?.checked_add(key.as_str().len() + 1)?;
+        let entry = value
+            .hyphened_length()?
+            .checked_add(key.as_str().len() + 1)?;
         length = length.checked_add(entry)?;
     }
     Some(length)
@@ -114,7 +127,11 @@ fn subtags_length(first: &Subtag, others: &[Subtag]) -> Option<usize>
 }
 
 // Writes the first entry, and the others with a hyphen before each piece.
-fn write_map<K: EntryKind, S: Sink>(first: &(SubtagOf<K, 2>, ValueOf<K>), others: &[(SubtagOf<K, 2>, ValueOf<K>)], sink: &mut S) -> Result<(), Error>
+fn write_map<K: EntryKind, S: Sink>(
+    first: &(SubtagOf<K, 2>, ValueOf<K>),
+    others: &[(SubtagOf<K, 2>, ValueOf<K>)],
+    sink: &mut S,
+) -> Result<(), Error>
     requires { S.refused sink.old ≡ false }
     ensures ok { OnOk result (S.takes sink.old ((bytes first.now.0 ++ bytes (hyphened_value K.needs first.now.1)) ++ bytes (hyphened_entries K.needs others.now)) sink.new) }
     ensures refused { S.refused sink.new ≡ is_err result }
@@ -125,10 +142,16 @@ fn write_map<K: EntryKind, S: Sink>(first: &(SubtagOf<K, 2>, ValueOf<K>), others
 }
 
 // How many bytes `write_map` writes, where a `usize` holds it.
-fn map_length<K: EntryKind>(first: &(SubtagOf<K, 2>, ValueOf<K>), others: &[(SubtagOf<K, 2>, ValueOf<K>)]) -> Option<usize>
+fn map_length<K: EntryKind>(
+    first: &(SubtagOf<K, 2>, ValueOf<K>),
+    others: &[(SubtagOf<K, 2>, ValueOf<K>)],
+) -> Option<usize>
     ensures { SomeIff result (length (entry_text K.needs first.now ++ hyphened_entries K.needs others.now) < 2 ^ 64) (length (entry_text K.needs first.now ++ hyphened_entries K.needs others.now)) }
 {
-    let entry = first.1.hyphened_length()?.checked_add(first.0.as_str().len())?;
+    let entry = first
+        .1
+        .hyphened_length()?
+        .checked_add(first.0.as_str().len())?;
     entries_length(others)?.checked_add(entry)
 }
 

@@ -1,4 +1,3 @@
-use Rattle.std.proofs.Common.{ap, sym, ◌∙◌}
 use Rattle.icu_locale_core_entries.proofs.ValueLemmas.{without_true-push}
 use Rattle.icu_locale_core_entries.proofs.value.ValueOf.try_from_iter.Goals as goal
 
