@@ -3,3 +3,5 @@ pub mod RisingLemmas
 pub mod SearchLemmas
 pub mod StepLemmas
 pub mod ReadingLemmas
+pub mod TextLemmas
+pub mod RetainLemmas

@@ -14,6 +14,7 @@ use Rattle.icu_locale_core_grammar.proofs.SetLemmas.{cmp_equal, cmp_through, Ris
 use Rattle.icu_locale_core_grammar.proofs.ListLemmas.{each_weaker}
 use Rattle.icu_locale_core_grammar.proofs.MapLemmas.{Rises-map_of}
 use Rattle.icu_locale_core_grammar.proofs.LookupLemmas.{value_at-map_of}
+use Rattle.icu_locale_core_entries.specs.Retained.{IsRetained}
 use Rattle.icu_locale_core_entries.specs.EntryChanges.{set_entry, without_key, joined_maps}
 
 -- ---- a value set
@@ -140,3 +141,7 @@ module _ (q : Text) where
 
 pub Rises-joined : (winners es : List Entry) → Rises (keys_of (joined_maps winners es))
 Rises-joined winners es = Rises-map_of (winners ++ es)
+
+-- what a closure left of a map
+pub Rises-retained : {F : Type 0} {calls : F → Text → Bool → F → Type 0} {f : F} {before after : List Entry} → IsRetained calls f before after → Rises (keys_of before) → Rises (keys_of after)
+Rises-retained {before = before} retained rises = subst (λ l. Rises (keys_of l)) (sym retained.kept) (Rises-picked retained.answers before rises)

@@ -16,7 +16,7 @@ use std::mem;
 /// Keywords or fields: a map from keys to values, listed in byte order of the keys.
 #[derive(Drop)]
 pub struct EntriesOf<K: EntryKind> {
-    entries: Vec<(SubtagOf<K, 2>, ValueOf<K>)>,
+    pub(crate) entries: Vec<(SubtagOf<K, 2>, ValueOf<K>)>,
 }
 
 impl<K: EntryKind> Model for EntriesOf<K> {
@@ -50,8 +50,16 @@ impl<K: EntryKind> EntriesOf<K> {
         Ok(map)
     }
 
+    /// The entries, in byte order of their keys.
+    pub(crate) fn as_slice(&self) -> &[(SubtagOf<K, 2>, ValueOf<K>)]
+        ensures value { result.now ≡ self.now }
+        ensures rises { Rises (keys_of result.now) }
+    {
+        self.entries.as_slice()
+    }
+
     /// Where the key stands, or where it would.
-    fn place_of(&self, key: &SubtagOf<K, 2>) -> Result<usize, usize>
+    pub(crate) fn place_of(&self, key: &SubtagOf<K, 2>) -> Result<usize, usize>
         ensures { MatchResult result (λ place. IsFoundAt key.now self.now place) (λ place. IsMissingAt key.now self.now place) }
     {
         self.entries.binary_search_by(|entry| entry.0.cmp(key))
@@ -129,12 +137,13 @@ impl<K: EntryKind> EntriesOf<K> {
         }
     }
 
-    /// Leaves the empty map.
-    #[tactic(auto, using(icu_locale_core_grammar::proofs::MapLemmas::rises_none))]
-    pub fn clear(&mut self)
-        ensures { self.new ≡ [] }
+    /// Takes every entry out, and answers the map as it was. It takes no memory.
+    pub fn clear(&mut self) -> Self
+        ensures value { result ≡ self.old }
+        ensures empty { self.new ≡ [] }
     {
-        self.entries.clear();
+        let alloc = *self.entries.allocator();
+        mem::replace(self, Self::new(alloc))
     }
 
     /// Whether the map has no entry.

@@ -2,7 +2,7 @@
 
 ghost use Rattle.std.specs.Prelude.{◌≡◌, [], IfOk, IfErr, IsOk};
 ghost use Rattle.icu_locale_core_grammar.specs.PartReaders.{MeansEntries, listed};
-ghost use Rattle.icu_locale_core_entries.specs.PartFaults.{IsPartFault};
+ghost use Rattle.icu_locale_core_sets.specs.Reading.{IsRefused};
 
 use crate::entries::EntriesOf;
 use crate::headed::{HeadedStage, NoHead, headed_after, headed_finish};
@@ -20,7 +20,7 @@ impl<K: EntryKind> EntriesOf<K> {
     /// memory.
     pub fn try_from_str(alloc: Global, s: &str) -> Result<Self, ParseError>
         ensures value { IfOk result (MeansEntries K.accepts K.needs (listed s.now)) }
-        ensures fault { IfErr result (IsPartFault (MeansEntries K.accepts K.needs (listed s.now))) }
+        ensures fault { IfErr result (IsRefused (MeansEntries K.accepts K.needs (listed s.now))) }
         ensures succeeds { s.now ≡ [] → IsOk result }
     {
         Self::try_from_utf8(alloc, s.as_bytes())
@@ -29,7 +29,7 @@ impl<K: EntryKind> EntriesOf<K> {
     /// The map in these bytes, as `try_from_str`.
     pub fn try_from_utf8(alloc: Global, code_units: &[u8]) -> Result<Self, ParseError>
         ensures value { IfOk result (MeansEntries K.accepts K.needs (listed code_units.now)) }
-        ensures fault { IfErr result (IsPartFault (MeansEntries K.accepts K.needs (listed code_units.now))) }
+        ensures fault { IfErr result (IsRefused (MeansEntries K.accepts K.needs (listed code_units.now))) }
         ensures succeeds { code_units.now ≡ [] → IsOk result }
     {
         if code_units.is_empty() {

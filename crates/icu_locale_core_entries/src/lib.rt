@@ -1,13 +1,17 @@
 //! Keywords and fields: maps from keys to values, read, changed and written.
 #![tactic(auto)]
 
+mod comparing;
 mod entries;
 mod entries_reading;
 mod headed;
 mod kind;
+mod lending;
+mod retaining;
 mod step;
 mod value;
 mod value_reading;
+mod writing;
 
 pub use crate::entries::EntriesOf;
 pub use crate::headed::{HeadReader, HeadedStage, NoHead, headed_after, headed_finish};

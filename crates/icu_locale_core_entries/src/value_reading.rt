@@ -3,7 +3,7 @@
 ghost use Rattle.std.specs.Prelude.{◌≡◌, true, false, [], Some, None, IfOk, IfErr, IsOk, OnErr, MatchOption, MatchBool};
 ghost use Rattle.icu_locale_core_grammar.specs.Subtags.{is_value, lower};
 ghost use Rattle.icu_locale_core_grammar.specs.PartReaders.{value_after, ReadsValue};
-ghost use Rattle.icu_locale_core_entries.specs.PartFaults.{IsPartFault};
+ghost use Rattle.icu_locale_core_sets.specs.Reading.{IsRefused};
 
 use crate::kind::EntryKind;
 use crate::value::ValueOf;
@@ -42,7 +42,7 @@ impl<K: EntryKind> ValueOf<K> {
     /// kind. `ParseError::Memory`: there is no memory.
     pub fn try_from_str(alloc: Global, s: &str) -> Result<Self, ParseError>
         ensures value { IfOk result (ReadsValue s.now) }
-        ensures fault { IfErr result (IsPartFault (ReadsValue s.now)) }
+        ensures fault { IfErr result (IsRefused (ReadsValue s.now)) }
         ensures succeeds { s.now ≡ [] → IsOk result }
     {
         Self::try_from_utf8(alloc, s.as_bytes())
@@ -51,7 +51,7 @@ impl<K: EntryKind> ValueOf<K> {
     /// The value of these bytes, as `try_from_str`.
     pub fn try_from_utf8(alloc: Global, code_units: &[u8]) -> Result<Self, ParseError>
         ensures value { IfOk result (ReadsValue code_units.now) }
-        ensures fault { IfErr result (IsPartFault (ReadsValue code_units.now)) }
+        ensures fault { IfErr result (IsRefused (ReadsValue code_units.now)) }
         ensures succeeds { code_units.now ≡ [] → IsOk result }
     {
         let mut value = Self::new_empty(alloc);

@@ -1,4 +1,4 @@
-use Rattle.std.proofs.Common.{refl, ◌∙◌}
+use Rattle.std.proofs.Common.{inr, refl, ◌∙◌}
 use Rattle.icu_locale_core_grammar.proofs.PartReaders.{value_reader}
 use Rattle.icu_locale_core_entries.proofs.ReadingLemmas.{reading_begins, reading_goes_on, reading_meant, reading_refused, listed_filled}
 use Rattle.icu_locale_core_entries.proofs.value.ValueOf.try_from_utf8.Goals as goal
@@ -14,7 +14,7 @@ loop-piece-preserved g c =
 pub returns-in-Ok-false-clause-fault : goal.returns-in-Ok-false-clause-fault
 returns-in-Ok-false-clause-fault g c =
     let taken = rw c.in-Ok-false.field-0-test at c.in-Ok-false.ensures.taken in
-    reading_refused value_reader _ _ _ _ _ c.in-Some.ensures.steps c.loop-piece.invariant taken.0
+    inr (refl, reading_refused value_reader _ _ _ _ _ c.in-Some.ensures.steps c.loop-piece.invariant taken.0)
 
 pub returns-clause-value : goal.returns-clause-value
 returns-clause-value g c = reading_meant value_reader _ _ _ _ c.in-None.ensures.steps.0 c.loop-piece.invariant refl
