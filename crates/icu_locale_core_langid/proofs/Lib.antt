@@ -1,3 +1,4 @@
 pub mod LanguageTextLemmas
+pub mod NormalizingLemmas
 pub mod SteppingLemmas
 pub mod StoppingLemmas

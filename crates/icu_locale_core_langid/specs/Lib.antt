@@ -3,6 +3,7 @@ pub mod Parts
 pub mod Modes
 pub mod LanguageText
 pub mod SameLanguage
+pub mod NormalizedText
 -- What the readers follow, piece by piece.
 pub mod LanguageStep
 -- What the impls prove.

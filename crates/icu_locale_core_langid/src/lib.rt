@@ -3,9 +3,11 @@
 
 mod comparing;
 mod inner;
+mod json;
 mod language_identifier;
 pub mod laws;
 mod modes;
+mod normalizing;
 mod parser;
 mod reading;
 mod step;

@@ -1,6 +1,7 @@
 //! Printing a language identifier: its text, without parts.
 
-ghost use Rattle.std.specs.Prelude.{◌≡◌, ◌++◌, ◌<◌, ◌≤◌, ◌^◌, false, [], ◌∷◌, is_err, length, flat_map, option_to_list, OnOk, OnErr, SomeIff};
+ghost use Rattle.std.specs.Prelude.{◌≡◌, ◌++◌, ◌<◌, ◌≤◌, ◌^◌, false, [], ◌∷◌, is_err, length, flat_map, option_to_list, IfOk, OnOk, OnErr, SomeIff};
+ghost use Rattle.std.specs.String.{string_bytes};
 ghost use Rattle.writeable.specs.AnnotatedText.{bytes};
 ghost use Rattle.writeable.specs.Taking.{HasBegun};
 ghost use Rattle.icu_locale_core_grammar.specs.Pieces.{hyphen, hyphened};
@@ -10,6 +11,7 @@ use crate::language_identifier::LanguageIdentifier;
 use icu_locale_core_sets::{pieces_length, write_pieces};
 use icu_locale_core_subtags::laws::subtags_are_words;
 use icu_locale_core_subtags::{Region, Script};
+use std::alloc::{AllocError, Global};
 use std::fmt;
 use writeable::{Error, LengthHint, Sink, Writeable, display};
 
@@ -105,6 +107,13 @@ pub(crate) fn text_length(id: &LanguageIdentifier) -> Option<usize>
     let front = language + script_length(id.script) + region_length(id.region);
     let variants = pieces_length(id.variants.as_slice())?;
     variants.checked_add(front)
+}
+
+// The text, in memory of its own.
+pub(crate) fn built_text(alloc: Global, id: &LanguageIdentifier) -> Result<String, AllocError>
+    ensures { IfOk result (λ text. string_bytes text ≡ language_text id.now) }
+{
+    id.write_to_string(alloc)
 }
 
 impl Writeable for LanguageIdentifier {

@@ -1,0 +1,37 @@
+//! The JSON form of a language identifier: its text.
+
+ghost use Rattle.std.specs.Prelude.{◌≡◌, ◌⊎◌, IfOk, IfErr};
+ghost use Rattle.serde_json.specs.Data.{string};
+ghost use Rattle.serde_json.specs.View.{view};
+ghost use Rattle.icu_locale_core_grammar.specs.declared.error.ParseError.{ParseError};
+ghost use Rattle.icu_locale_core_grammar.specs.Pieces.{pieces};
+ghost use Rattle.icu_locale_core_grammar.specs.LanguagePart.{MeansLanguage};
+ghost use Rattle.icu_locale_core_grammar.specs.FaultyPiece.{HasFault};
+ghost use Rattle.icu_locale_core_subtags.specs.JsonText.{json_text};
+ghost use Rattle.icu_locale_core_langid.specs.LanguageText.{language_text};
+
+use crate::language_identifier::LanguageIdentifier;
+use crate::writing::built_text;
+use icu_locale_core_grammar::ParseError;
+use icu_locale_core_subtags::text_of_json;
+use serde_json::Value;
+use std::alloc::{AllocError, Global};
+
+impl LanguageIdentifier {
+    /// The text as a JSON value: `en-US` gives `"en-US"`. `AllocError` is answered for memory alone.
+    pub fn to_json(&self, alloc: Global) -> Result<Value, AllocError>
+        ensures { IfOk result (λ value. view value ≡ string (language_text self.now)) }
+    {
+        Ok(Value::String(built_text(alloc, self)?))
+    }
+
+    /// The language identifier of the text in a JSON value, as `try_from_str`: `"EN-us"` gives `en-US`.
+    ///
+    /// A value that is no text is refused as the empty text is: `InvalidLanguage`.
+    pub fn from_json(alloc: Global, value: &Value) -> Result<Self, ParseError>
+        ensures value { IfOk result (λ id. MeansLanguage (pieces (json_text (view value.now))) id) }
+        ensures fault { IfErr result (λ e. (e ≡ ParseError.Memory) ⊎ HasFault MeansLanguage (pieces (json_text (view value.now))) e) }
+    {
+        Self::try_from_str(alloc, text_of_json(value))
+    }
+}
