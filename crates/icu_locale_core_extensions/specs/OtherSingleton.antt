@@ -15,12 +15,12 @@ one_long t e = (and_parts (is_singleton t) (not (is_unicode t || (is_transform t
 pub other_rule : IsSubtagRule 1 is_other lower
 other_rule = record {
   some = λ t e.
-    let ends = and_parts (leb 1 (length t)) (leb (length t) 1) (and_parts (is_in_range 1 1 (length t)) (is_plain t) (one_long t e)).0 in
-    let low = leb-true 1 (length t) ends.0 in
-    omega (arith, low);
+      let ends = and_parts (leb 1 (length t)) (leb (length t) 1) (and_parts (is_in_range 1 1 (length t)) (is_plain t) (one_long t e)).0 in
+      let low = leb-true 1 (length t) ends.0 in
+      omega (arith, low);
   short = λ t e.
-    let ends = and_parts (leb 1 (length t)) (leb (length t) 1) (and_parts (is_in_range 1 1 (length t)) (is_plain t) (one_long t e)).0 in
-    leb-true (length t) 1 ends.1;
+      let ends = and_parts (leb 1 (length t)) (leb (length t) 1) (and_parts (is_in_range 1 1 (length t)) (is_plain t) (one_long t e)).0 in
+      leb-true (length t) 1 ends.1;
   plain = λ t e. (and_parts (is_in_range 1 1 (length t)) (is_plain t) (one_long t e)).1;
   stays = λ t e. other_lower t ∙ e;
   settles = lower-lower;

@@ -59,16 +59,24 @@ pub fn opened_body(alloc: Global, singleton: &[u8]) -> Option<BodyStage>
 
 /// The stage after one more piece; a piece that does not fit leaves it as it was. `AllocError` is answered for memory alone.
 #[tactic(auto, unfolding(icu_locale_core_grammar::specs::TagStages::body_after))]
-pub fn body_after(alloc: Global, stage: BodyStage, piece: &[u8]) -> Result<Step<BodyStage>, AllocError>
+pub fn body_after(
+    alloc: Global,
+    stage: BodyStage,
+    piece: &[u8],
+) -> Result<Step<BodyStage>, AllocError>
     ensures step { IfOk result (IsStep stage_after body_view (body_view stage) piece.now) }
     ensures key { IfOk result (KeepsKey (body_key stage)) }
 {
     match stage {
-        BodyStage::InUnicode(stage) => match headed_after::<AttributesHead, unicode::KeyRule>(alloc, stage, piece)? {
+        BodyStage::InUnicode(stage) => match headed_after::<AttributesHead, unicode::KeyRule>(
+            alloc, stage, piece,
+        )? {
             Step::Taken(stage) => Ok(Step::Taken(BodyStage::InUnicode(stage))),
             Step::Refused(stage) => Ok(Step::Refused(BodyStage::InUnicode(stage))),
         },
-        BodyStage::InTransform(stage) => match headed_after::<LanguageHead, transform::KeyRule>(alloc, stage, piece)? {
+        BodyStage::InTransform(stage) => match headed_after::<LanguageHead, transform::KeyRule>(
+            alloc, stage, piece,
+        )? {
             Step::Taken(stage) => Ok(Step::Taken(BodyStage::InTransform(stage))),
             Step::Refused(stage) => Ok(Step::Refused(BodyStage::InTransform(stage))),
         },
@@ -87,7 +95,10 @@ pub fn body_finish(alloc: Global, stage: BodyStage) -> Result<Option<Part>, Allo
 {
     match stage {
         BodyStage::InUnicode(stage) => match headed_finish(alloc, stage)? {
-            Some((attributes, keywords)) => Ok(Some(Part::Unicode(Unicode { keywords, attributes }))),
+            Some((attributes, keywords)) => Ok(Some(Part::Unicode(Unicode {
+                keywords,
+                attributes,
+            }))),
             None => Ok(None),
         },
         BodyStage::InTransform(stage) => match headed_finish(alloc, stage)? {

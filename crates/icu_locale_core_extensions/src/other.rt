@@ -87,7 +87,11 @@ impl Other {
 }
 
 // The extension of this singleton with these pieces.
-fn read_body(alloc: Global, singleton: OtherSingleton, body: SubtagIterator<'_>) -> Result<Other, ParseError>
+fn read_body(
+    alloc: Global,
+    singleton: OtherSingleton,
+    body: SubtagIterator<'_>,
+) -> Result<Other, ParseError>
     ensures value { IfOk result (λ o. (singleton ≡ o.0) × MeansOther body.entry o.1) }
     ensures fault { IfErr result (IsRefused (MeansOther body.entry)) }
 {
