@@ -5,3 +5,7 @@ pub mod StepLemmas
 pub mod ReadingLemmas
 pub mod TextLemmas
 pub mod RetainLemmas
+pub mod CopyLemmas
+pub mod ValueLemmas
+pub mod LawLemmas
+pub mod WellFormedLemmas

@@ -1,20 +1,18 @@
 -- What the place of a key in a map tells: its value, and what setting, putting and taking away leave.
-use Rattle.std.proofs.Common.{ℕ, zero, suc, ◌≡◌, ◌<◌, ◌≤◌, Bool, true, false, not, List, [], ◌∷◌, ◌++◌, Option, None, Some, filter, cond, length, take, drop, get_or, sym, refl, ap, ◌∙◌, subst, arith}
+use Rattle.std.proofs.Common.{ℕ, zero, suc, ◌≡◌, ◌<◌, true, false, not, List, [], ◌∷◌, ◌++◌, None, Some, cond, length, take, drop, get_or, sym, refl, ap, ◌∙◌, subst, arith}
 use Rattle.std.specs.Prelude.{if◌then◌else◌, Result, Ok, Err, MatchResult, is_ok, is_some}
 use Rattle.std.proofs.Math.ListN.{set}
 use Rattle.std.proofs.lemmas.List.{take-append-drop}
 use Rattle.std.proofs.lemmas.List.Elements.{filter-append}
 use Rattle.std.specs.List.{insert, remove}
-use Rattle.std.specs.List.Sorted.{IsStrictlySortedBy}
 use Rattle.std.specs.Ordering.{match_ordering, ordering_reverse, is_eq}
 use Rattle.std.specs.declared.cmp.Ordering.{Ordering}
 use Rattle.std.specs.declared.cmp.Ordering.TheVariants.{Less, Equal, Greater}
-use Rattle.std.specs.Cmp.Lexicographic.{nat_list_cmp_total, texts_ties}
+use Rattle.std.specs.Cmp.Lexicographic.{texts_ties}
 use Rattle.icu_locale_core_grammar.specs.Subtags.{Text, same_text}
 use Rattle.icu_locale_core_grammar.specs.Collections.{text_cmp, Entry, keys_of, Rises, put_first, value_at}
-use Rattle.icu_locale_core_grammar.proofs.CollectionLemmas.{same_text_equal, same_text_refl}
-use Rattle.icu_locale_core_grammar.proofs.SetLemmas.{cmp_equal, cmp_swapped, cmp_below, cmp_through}
-use Rattle.icu_locale_core_grammar.proofs.ListLemmas.{each_weaker, each_front, each_rest}
+use Rattle.icu_locale_core_grammar.proofs.CollectionLemmas.{same_text_refl}
+use Rattle.icu_locale_core_grammar.proofs.SetLemmas.{cmp_swapped}
 use Rattle.icu_locale_core_grammar.proofs.MapLemmas.{Rises-put}
 use Rattle.icu_locale_core_entries.proofs.RisingLemmas.{Rises-set, Rises-without}
 use Rattle.icu_locale_core_entries.specs.EntryChanges.{set_entry, without_key}

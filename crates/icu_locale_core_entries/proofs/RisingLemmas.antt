@@ -1,5 +1,5 @@
 -- Maps stay maps: keys rise after each change. And what a changed map has at a key.
-use Rattle.std.proofs.Common.{◌≡◌, Bool, true, false, not, List, [], ◌∷◌, ◌++◌, Option, None, Some, filter, cond, sym, refl, ap, ◌∙◌, subst}
+use Rattle.std.proofs.Common.{◌≡◌, Bool, true, false, not, List, [], ◌∷◌, ◌++◌, None, Some, filter, cond, sym, refl, ap, ◌∙◌, subst}
 use Rattle.std.specs.Prelude.{if◌then◌else◌}
 use Rattle.std.specs.List.{AllByRecursion, items_where_true}
 use Rattle.std.specs.List.Sorted.{IsStrictlySortedBy}
@@ -8,10 +8,9 @@ use Rattle.std.specs.declared.cmp.Ordering.{Ordering}
 use Rattle.std.specs.declared.cmp.Ordering.TheVariants.{Less, Equal, Greater}
 use Rattle.std.specs.Cmp.Lexicographic.{texts_ties}
 use Rattle.icu_locale_core_grammar.specs.Subtags.{Text, same_text}
-use Rattle.icu_locale_core_grammar.specs.Collections.{text_cmp, Entry, keys_of, Rises, insert_text, map_of, value_at, first_there}
+use Rattle.icu_locale_core_grammar.specs.Collections.{text_cmp, Entry, keys_of, Rises, insert_text, value_at, first_there}
 use Rattle.icu_locale_core_grammar.proofs.CollectionLemmas.{same_text_equal, same_text_refl}
-use Rattle.icu_locale_core_grammar.proofs.SetLemmas.{cmp_equal, cmp_through, Rises-insert}
-use Rattle.icu_locale_core_grammar.proofs.ListLemmas.{each_weaker}
+use Rattle.icu_locale_core_grammar.proofs.SetLemmas.{cmp_equal, Rises-insert}
 use Rattle.icu_locale_core_grammar.proofs.MapLemmas.{Rises-map_of}
 use Rattle.icu_locale_core_grammar.proofs.LookupLemmas.{value_at-map_of}
 use Rattle.icu_locale_core_entries.specs.Retained.{IsRetained}

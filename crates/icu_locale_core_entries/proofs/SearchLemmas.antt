@@ -1,19 +1,17 @@
 -- What a binary search for a key tells of a list of entries whose keys rise.
-use Rattle.std.proofs.Common.{ℕ, zero, suc, ◌≡◌, ◌+◌, ◌<◌, ◌≤◌, List, [], ◌∷◌, ◌++◌, length, take, drop, get_or, sym, refl, ap, ◌∙◌, subst, arith, add-one}
+use Rattle.std.proofs.Common.{ℕ, zero, suc, ◌≡◌, ◌<◌, ◌≤◌, List, [], ◌∷◌, length, get_or, ap, subst, arith, add-one}
 use Rattle.std.specs.Prelude.{Result, Ok, Err, MatchResult}
 use Rattle.std.specs.List.{AllByRecursion, AllWithin, HoldsAt}
 use Rattle.std.specs.List.Sorted.{IsStrictlySortedBy, IsNonDecreasingBy, IsPartitionPoint, IsSearchInRange, IsBinarySearchResult}
 use Rattle.std.specs.Ordering.{ordering_index, is_lt}
 use Rattle.std.specs.Cmp.Lexicographic.{nat_list_cmp_total}
 use Rattle.std.proofs.lemmas.List.Sorted.{searchable_from_sorted}
-use Rattle.std.specs.declared.cmp.Ordering.{Ordering}
 use Rattle.std.specs.declared.cmp.Ordering.TheVariants.{Less, Equal, Greater}
 use Rattle.icu_locale_core_grammar.specs.Subtags.{Text}
 use Rattle.icu_locale_core_grammar.specs.Collections.{text_cmp, Entry, keys_of, Rises}
-use Rattle.icu_locale_core_grammar.proofs.SetLemmas.{cmp_equal, cmp_below, cmp_through}
-use Rattle.icu_locale_core_grammar.proofs.ListLemmas.{each_weaker}
+use Rattle.icu_locale_core_grammar.proofs.SetLemmas.{cmp_equal, cmp_below}
 use Rattle.icu_locale_core_entries.proofs.PlaceLemmas.{cmp_above}
-use Rattle.icu_locale_core_entries.specs.Places.{AreBelow, AreAbove, IsFoundAt, IsMissingAt}
+use Rattle.icu_locale_core_entries.specs.Places.{AreAbove, IsFoundAt, IsMissingAt}
 
 -- each key is below the next
 next_above : (es : List Entry) → Rises (keys_of es) → (k : ℕ) (d : Entry) → suc k < length es → text_cmp (get_or es k d).0 (get_or es (suc k) d).0 ≡ Less

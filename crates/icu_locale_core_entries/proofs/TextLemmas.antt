@@ -1,11 +1,14 @@
 -- The texts of values and of maps, entry by entry: as they are written, and how long they are.
-use Rattle.std.proofs.Common.{◌≡◌, Bool, false, ℕ, ◌+◌, ◌<◌, ◌≤◌, List, [], ◌∷◌, ◌++◌, length, drop, get_or, refl, sym, ap, ◌∙◌, append_assoc, arith, length-append}
+use Rattle.std.proofs.Common.{◌≡◌, Bool, true, false, nat_eq, ℕ, ◌+◌, ◌<◌, ◌≤◌, List, [], ◌∷◌, ◌++◌, length, drop, get_or, sym, ap, ◌∙◌, append_assoc, arith, length-append}
 use Rattle.std.specs.Prelude.{flat_map}
+use Rattle.std.specs.Cmp.Lexicographic.{pointwise, texts_ties, bytes_decides}
+use Rattle.std.specs.Ordering.{is_eq}
+use Rattle.std.specs.declared.cmp.Ordering.{Ordering}
 use Rattle.std.proofs.lemmas.List.{drop_more, drop_all}
 use Rattle.std.proofs.lemmas.List.Concat.{flat_map-append}
 use Rattle.writeable.specs.AnnotatedText.{bytes}
 use Rattle.icu_locale_core_grammar.specs.Subtags.{Text}
-use Rattle.icu_locale_core_grammar.specs.Collections.{Entry}
+use Rattle.icu_locale_core_grammar.specs.Collections.{Entry, text_cmp}
 use Rattle.icu_locale_core_grammar.specs.Pieces.{hyphen, hyphened}
 use Rattle.icu_locale_core_grammar.specs.NormalText.{entry_pieces}
 use Rattle.icu_locale_core_sets.proofs.PrintingLemmas.{bytes_joined, no_bytes}
@@ -76,3 +79,10 @@ module _ (needs : Bool) where
   pub map_unwritten : (es slice : List Entry) → slice ≡ es → length slice ≡ 0 → bytes (entries_text needs es) ≡ []
   map_unwritten es (e ∷ slice) same none = absurd (omega (arith, none))
   map_unwritten es [] same none = ap (λ l. bytes (entries_text needs l)) (sym same) ∙ no_bytes
+
+-- a text whose order against some bytes is Equal, and no other, is these bytes
+pub told_equal : (written own bytes other : Text) (order : Ordering) (told : Bool) → written ≡ own → bytes ≡ other → order ≡ text_cmp written bytes → told ≡ is_eq order → (told ≡ true → own ≡ other) × (own ≡ other → told ≡ true)
+told_equal written own bytes other order told same_text same_bytes compared answer =
+    let decided : told ≡ pointwise nat_eq own other =
+    answer ∙ ap is_eq compared ∙ sym (texts_ties written bytes) ∙ ap (λ t. pointwise nat_eq t bytes) same_text ∙ ap (pointwise nat_eq own) same_bytes in
+    (λ yes. (bytes_decides own other).0 (sym decided ∙ yes), λ one. decided ∙ (bytes_decides own other).1 one)

@@ -2,7 +2,6 @@
 -- UTS 35, section 3.2.1, "Canonical Unicode Locale Identifiers"; docs/tags.md, "Normal text".
 -- Cited by all that writes or measures these texts.
 use Rattle.std.specs.Prelude.{Bool, List, ◌++◌, flat_map}
-use Rattle.writeable.specs.AnnotatedText.{Event, bytes}
 use Rattle.icu_locale_core_grammar.specs.Subtags.{Text}
 use Rattle.icu_locale_core_grammar.specs.Collections.{Entry}
 use Rattle.icu_locale_core_grammar.specs.Pieces.{hyphened, joined_text}

@@ -1,7 +1,7 @@
 -- What the definitions see of a stage of a head and entries.
 -- Defined in docs/tags.md, "Stages".
 -- Cited by the functions that step along a head and entries.
-use Rattle.std.specs.Prelude.{◌≡◌, List, Option, None, Some}
+use Rattle.std.specs.Prelude.{List, Option, None, Some}
 use Rattle.icu_locale_core_grammar.specs.Extensions.{Headed}
 use Rattle.icu_locale_core_grammar.specs.Collections.{Entry}
 use Rattle.icu_locale_core_grammar.specs.Stepping as stepping

@@ -12,3 +12,5 @@ pub mod HeadedView
 pub mod Places
 -- What the comparisons of this crate prove.
 pub mod OrderLaws
+-- Statements of laws.
+pub mod Laws

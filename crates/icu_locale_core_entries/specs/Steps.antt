@@ -1,7 +1,7 @@
 -- One step of a reader: the stage after a piece, or the stage as it was where the piece does not fit.
 -- Defined in docs/tags.md, "Stages".
 -- Cited by the functions that step.
-use Rattle.std.specs.Prelude.{◌≡◌, List, Option, None, Some}
+use Rattle.std.specs.Prelude.{◌≡◌, Option, None, Some}
 use Rattle.icu_locale_core_grammar.specs.Subtags.{Text}
 use Rattle.icu_locale_core_entries.specs.declared.step.Step.{Step}
 use Rattle.icu_locale_core_entries.specs.declared.step.Step.TheVariants.{Taken, Refused}

@@ -1,7 +1,7 @@
 -- The value of an entry: its subtags, without `true`.
 -- UTS 35, section 3.6.3; docs/tags.md, "Values".
 -- Cited by the calls of a value, and by the readers of entries.
-use Rattle.std.specs.Prelude.{◌≡◌, Bool, true, false, not, List, [], ◌∷◌, ◌++◌, Option, None, Some, option_to_list, filter, if◌then◌else◌}
+use Rattle.std.specs.Prelude.{◌≡◌, Bool, false, not, List, [], ◌∷◌, ◌++◌, Option, None, Some, filter, if◌then◌else◌}
 use Rattle.std.specs.List.{AllByRecursion}
 use Rattle.icu_locale_core_grammar.specs.Subtags.{Text, is_true, true_text}
 use Rattle.icu_locale_core_grammar.specs.Extensions.{has_enough}

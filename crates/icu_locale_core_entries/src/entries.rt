@@ -2,7 +2,9 @@
 
 ghost use Rattle.std.specs.Prelude.{◌≡◌, true, false, List, [], ◌∷◌, Option, None, Some, length, IfOk, OnOk, OnErr, IsOk, MatchResult, is_some, ◌==◌};
 ghost use Rattle.std.specs.Option.{option_copied};
-ghost use Rattle.icu_locale_core_grammar.specs.Collections.{Rises, keys_of, put_first, value_at};
+ghost use Rattle.std.specs.Iterator.Adapters.{IterYieldsInOrder};
+ghost use Rattle.std.specs.Slice.Iter.{iter_rest};
+ghost use Rattle.icu_locale_core_grammar.specs.Collections.{Entry, Rises, keys_of, put_first, value_at};
 ghost use Rattle.icu_locale_core_entries.specs.EntryChanges.{set_entry, without_key};
 ghost use Rattle.icu_locale_core_entries.specs.Places.{IsFoundAt, IsMissingAt};
 
@@ -11,9 +13,11 @@ use crate::value::ValueOf;
 use icu_locale_core_subtags::SubtagOf;
 use std::alloc::{AllocError, Global};
 use std::marker::Model;
-use std::mem;
+use std::{mem, slice};
 
-/// Keywords or fields: a map from keys to values, listed in byte order of the keys.
+/// Keywords or fields: a map from keys to values, listed in byte order of the keys. No key stands twice.
+///
+/// After ICU4X's `Keywords` and `Fields`.
 #[derive(Drop)]
 pub struct EntriesOf<K: EntryKind> {
     pub(crate) entries: Vec<(SubtagOf<K, 2>, ValueOf<K>)>,
@@ -41,8 +45,12 @@ impl<K: EntryKind> EntriesOf<K> {
         }
     }
 
-    /// The map with one entry. `AllocError` is answered for memory alone.
-    pub fn new_single(alloc: Global, key: SubtagOf<K, 2>, value: ValueOf<K>) -> Result<Self, AllocError>
+    /// The map with one entry: `nu` and `thai` give `nu-thai`. `AllocError` is answered for memory alone.
+    pub fn new_single(
+        alloc: Global,
+        key: SubtagOf<K, 2>,
+        value: ValueOf<K>,
+    ) -> Result<Self, AllocError>
         ensures { IfOk result (λ m. m ≡ (key, value) ∷ []) }
     {
         let mut map = Self::new(alloc);
@@ -66,7 +74,12 @@ impl<K: EntryKind> EntriesOf<K> {
     }
 
     /// Puts an entry that is not there at its place.
-    fn insert_at(&mut self, place: usize, key: SubtagOf<K, 2>, value: ValueOf<K>) -> Result<(), AllocError>
+    fn insert_at(
+        &mut self,
+        place: usize,
+        key: SubtagOf<K, 2>,
+        value: ValueOf<K>,
+    ) -> Result<(), AllocError>
         requires { IsMissingAt key self.old place }
         ensures put { OnOk result (self.new ≡ put_first (key, value) self.old) }
         ensures set { OnOk result (self.new ≡ set_entry (key, value) self.old) }
@@ -81,7 +94,11 @@ impl<K: EntryKind> EntriesOf<K> {
     /// Puts the entry into the map, unless the key is there: then the map stays as it is.
     ///
     /// `AllocError` is answered for memory alone, and leaves the map.
-    pub(crate) fn put_first(&mut self, key: SubtagOf<K, 2>, value: ValueOf<K>) -> Result<(), AllocError>
+    pub(crate) fn put_first(
+        &mut self,
+        key: SubtagOf<K, 2>,
+        value: ValueOf<K>,
+    ) -> Result<(), AllocError>
         ensures ok { OnOk result (self.new ≡ put_first (key, value) self.old) }
         ensures err { OnErr result (self.new ≡ self.old) }
     {
@@ -91,7 +108,7 @@ impl<K: EntryKind> EntriesOf<K> {
         }
     }
 
-    /// The value of a key, if the map has the key.
+    /// The value of a key, if the map has the key: of `ca-buddhist-nu-thai` at `nu` it is `thai`, at `co` there is none.
     pub fn get(&self, key: &SubtagOf<K, 2>) -> Option<&ValueOf<K>>
         ensures { option_copied result ≡ value_at key.now self.now }
     {
@@ -101,7 +118,7 @@ impl<K: EntryKind> EntriesOf<K> {
         }
     }
 
-    /// Whether the map has the key.
+    /// Whether the map has the key: `nu-thai` has `nu`, and has no `ca`.
     pub fn contains_key(&self, key: &SubtagOf<K, 2>) -> bool
         ensures { result ≡ is_some (value_at key.now self.now) }
     {
@@ -110,8 +127,13 @@ impl<K: EntryKind> EntriesOf<K> {
 
     /// Sets the value of a key, and answers the value that it had, if any.
     ///
+    /// `nu` set to `latn` in `ca-buddhist-nu-thai` answers `thai` and leaves `ca-buddhist-nu-latn`.
     /// `AllocError` is answered for memory alone, and leaves the map. No memory is taken where the map has the key.
-    pub fn set(&mut self, key: SubtagOf<K, 2>, value: ValueOf<K>) -> Result<Option<ValueOf<K>>, AllocError>
+    pub fn set(
+        &mut self,
+        key: SubtagOf<K, 2>,
+        value: ValueOf<K>,
+    ) -> Result<Option<ValueOf<K>>, AllocError>
         ensures ok { OnOk result (self.new ≡ set_entry (key, value) self.old) }
         ensures old { IfOk result (λ old. old ≡ value_at key self.old) }
         ensures succeeds { is_some (value_at key self.old) ≡ true → IsOk result }
@@ -126,7 +148,9 @@ impl<K: EntryKind> EntriesOf<K> {
         }
     }
 
-    /// Takes the key away, and answers the value that it had, if any.
+    /// Takes the key away, and answers the value that it had, if any. It takes no memory.
+    ///
+    /// `nu` taken out of `ca-buddhist-nu-thai` answers `thai` and leaves `ca-buddhist`.
     pub fn remove(&mut self, key: &SubtagOf<K, 2>) -> Option<ValueOf<K>>
         ensures value { result ≡ value_at key.now self.old }
         ensures rest { self.new ≡ without_key key.now self.old }
@@ -151,5 +175,14 @@ impl<K: EntryKind> EntriesOf<K> {
         ensures { result ≡ (length self.now == 0) }
     {
         self.entries.is_empty()
+    }
+
+    /// The entries one after another, in byte order of their keys, each a key and its value.
+    pub fn iter(&self) -> slice::Iter<'_, (SubtagOf<K, 2>, ValueOf<K>)>
+        ensures rest { iter_rest result ≡ self.now }
+        ensures len { length (iter_rest result) ≡ length self.now }
+        ensures runs { IterYieldsInOrder Entry }
+    {
+        self.entries.as_slice().iter()
     }
 }

@@ -14,7 +14,9 @@ use crate::value::ValueOf;
 use icu_locale_core_subtags::SubtagOf;
 use std::alloc::{AllocError, Global};
 
-/// How the head before the entries is read; it may end anywhere.
+/// How the head before the entries is read, piece by piece; it may end anywhere.
+///
+/// The head of `u` are attributes, that of `t` a language. A type that holds nothing stands for the way of reading.
 pub trait HeadReader {
     ghost use Rattle.std.specs.Prelude.{List, ℕ, Option};
 
@@ -25,7 +27,11 @@ pub trait HeadReader {
     ghost step: { Self.Stage → List ℕ → Option Self.Stage };
 
     /// The stage after a piece. `AllocError` is answered for memory alone.
-    fn after(alloc: Global, stage: Self::Stage, piece: &[u8]) -> Result<Step<Self::Stage>, AllocError>
+    fn after(
+        alloc: Global,
+        stage: Self::Stage,
+        piece: &[u8],
+    ) -> Result<Step<Self::Stage>, AllocError>
         ensures { IfOk result (λ s. IsStep step (λ t. t) stage piece.now s) };
 }
 
@@ -42,7 +48,7 @@ impl HeadReader for NoHead {
     }
 }
 
-/// How far a head and the entries behind it are read.
+/// How far a head and the entries behind it are read. It begins with the stage `InHead` of a head that is not begun.
 #[derive(Drop)]
 pub enum HeadedStage<H, K: EntryKind> {
     /// The head is read.
@@ -60,11 +66,21 @@ fn read_key<K: EntryKind>(piece: &[u8]) -> Option<SubtagOf<K, 2>>
 
 /// The stage behind a head that has ended: the piece opens the first entry, or is refused.
 #[tactic(auto, unfolding(icu_locale_core_grammar::specs::Stepping::headed_after))]
-fn after_ended_head<H, K: EntryKind>(alloc: Global, head: H, piece: &[u8]) -> Step<HeadedStage<H, K>>
+fn after_ended_head<H, K: EntryKind>(
+    alloc: Global,
+    head: H,
+    piece: &[u8],
+) -> Step<HeadedStage<H, K>>
     ensures { (step : H → List ℕ → Option H) → step head piece.now ≡ None → IsStep (headed_after step ends_anywhere K.accepts K.needs) headed_view (InHead head) piece.now result }
 {
     match read_key(piece) {
-        Some(key) => Step::Taken(HeadedStage::InEntry(head, EntriesOf::new(alloc), key, ValueOf::new_empty(alloc), !K::needs_value())),
+        Some(key) => Step::Taken(HeadedStage::InEntry(
+            head,
+            EntriesOf::new(alloc),
+            key,
+            ValueOf::new_empty(alloc),
+            !K::needs_value(),
+        )),
         None => Step::Refused(HeadedStage::InHead(head)),
     }
 }
@@ -88,13 +104,22 @@ fn after_entry<H: Drop, K: EntryKind>(
     if full {
         if let Some(next) = read_key(piece) {
             entries.put_first(key, value)?;
-            return Ok(Step::Taken(HeadedStage::InEntry(head, entries, next, ValueOf::new_empty(alloc), !K::needs_value())));
+            return Ok(Step::Taken(HeadedStage::InEntry(
+                head,
+                entries,
+                next,
+                ValueOf::new_empty(alloc),
+                !K::needs_value(),
+            )));
         }
     }
     Ok(Step::Refused(HeadedStage::InEntry(head, entries, key, value, full)))
 }
 
-/// The stage of a head and entries after a piece. `AllocError` is answered for memory alone.
+/// The stage of a head and entries after a piece, or the stage as it was where the piece does not fit.
+///
+/// Behind `nu-thai` the piece `latn` goes into the value, `ca` opens the next keyword, and `a` is refused. `AllocError` is
+/// answered for memory alone.
 #[tactic(auto, unfolding(icu_locale_core_grammar::specs::Stepping::headed_after))]
 pub fn headed_after<R: HeadReader, K: EntryKind>(
     alloc: Global,
@@ -110,14 +135,19 @@ where
             Step::Taken(head) => Ok(Step::Taken(HeadedStage::InHead(head))),
             Step::Refused(head) => Ok(after_ended_head(alloc, head, piece)),
         },
-        HeadedStage::InEntry(head, entries, key, value, full) => after_entry(alloc, head, entries, key, value, full, piece),
+        HeadedStage::InEntry(head, entries, key, value, full) => after_entry(
+            alloc, head, entries, key, value, full, piece,
+        ),
     }
 }
 
 /// The head and the entries that were read; `None` where the last entry needs a value and has none.
 ///
 /// `AllocError` is answered for memory alone.
-pub fn headed_finish<H: Drop, K: EntryKind>(alloc: Global, stage: HeadedStage<H, K>) -> Result<Option<(H, EntriesOf<K>)>, AllocError>
+pub fn headed_finish<H: Drop, K: EntryKind>(
+    alloc: Global,
+    stage: HeadedStage<H, K>,
+) -> Result<Option<(H, EntriesOf<K>)>, AllocError>
     ensures { IfOk result (λ m. finished m ≡ headed_ends ends_anywhere (headed_view stage)) }
 {
     match stage {

@@ -5,6 +5,8 @@ ghost use Rattle.std.specs.Prelude.{◌≡◌, true, false};
 use icu_locale_core_subtags::{SubtagRule, transform, unicode};
 
 /// A kind of entries, named by the rule of its keys: `unicode::KeyRule` of keywords, `transform::KeyRule` of fields.
+///
+/// A field needs a value, and a keyword does not. Source: UTS 35, sections 3.6 and 3.7.
 pub trait EntryKind: SubtagRule<2> {
     ghost use Rattle.std.specs.Prelude.{◌≡◌, Bool};
     ghost use Rattle.icu_locale_core_entries.specs.EntryKind.{IsEntryKind};

@@ -1,16 +1,29 @@
 //! Keywords and fields: maps from keys to values, read, changed and written.
+//!
+//! In `en-u-ca-buddhist-nu-thai` the keywords behind `u` are the map of `ca` to `buddhist` and `nu` to `thai`, and behind `t`
+//! stand fields of the same form. Both are one type, [`EntriesOf`], over the rule of their keys. The rules are in docs/tags.md.
+//!
+//! ```rust
+//! use icu_locale_core_entries::unicode::Keywords;
+//!
+//! let mut keywords = Keywords::try_from_str(alloc, "NU-thai-ca-buddhist-nu-latn")?;
+//! assert_eq!(rt; keywords.write_to_string(alloc)?.as_str(), "ca-buddhist-nu-thai");
+//! ```
 #![tactic(auto)]
 
+mod collecting;
 mod comparing;
 mod entries;
 mod entries_reading;
 mod headed;
 mod kind;
+pub mod laws;
 mod lending;
 mod retaining;
 mod step;
 mod value;
 mod value_reading;
+mod well_formed;
 mod writing;
 
 pub use crate::entries::EntriesOf;

@@ -7,7 +7,10 @@ use crate::entries::EntriesOf;
 use icu_locale_core_subtags::{transform, unicode};
 
 // Keeps the pairs at whose first parts the closure answers true.
-pub(crate) fn retain_pairs<X: Drop, Y: Drop, F: FnMut(&X) -> bool + Drop>(pairs: &mut Vec<(X, Y)>, mut keep: F)
+pub(crate) fn retain_pairs<X: Drop, Y: Drop, F: FnMut(&X) -> bool + Drop>(
+    pairs: &mut Vec<(X, Y)>,
+    mut keep: F,
+)
     requires { F.IsAlwaysCallable keep }
     ensures { IsRetained (CalledAt F.FnMut) keep pairs.old.items pairs.new.items }
 {

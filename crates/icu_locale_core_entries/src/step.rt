@@ -1,6 +1,6 @@
 //! One step of a reader.
 
-/// The stage after a piece: `Taken`, or `Refused` with the stage as it was, where the piece does not fit.
+/// What a reader answers to one more piece: the stage behind it, or the stage as it was where the piece does not fit.
 #[derive(Drop)]
 pub enum Step<T> {
     /// The piece fits; the stage behind it.

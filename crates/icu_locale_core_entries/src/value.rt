@@ -1,7 +1,9 @@
 //! The value of an entry.
 
-ghost use Rattle.std.specs.Prelude.{◌≡◌, true, false, List, [], Option, None, Some, length, IfOk, OnOk, OnErr, IsOk, option_to_list, remove, slice_get, ◌==◌};
+ghost use Rattle.std.specs.Prelude.{◌≡◌, ℕ, true, false, List, [], Option, None, Some, length, IfOk, OnOk, OnErr, IsOk, option_to_list, remove, slice_get, ◌==◌};
 ghost use Rattle.std.specs.Option.{option_copied};
+ghost use Rattle.std.specs.Iterator.Adapters.{IterYieldsInOrder};
+ghost use Rattle.std.specs.Slice.Iter.{iter_rest};
 ghost use Rattle.icu_locale_core_grammar.specs.Subtags.{is_true};
 ghost use Rattle.icu_locale_core_entries.specs.Values.{without_true, IsWithoutTrue, with_subtag, single_of};
 
@@ -10,12 +12,15 @@ use icu_locale_core_subtags::Subtag;
 use icu_locale_core_subtags::laws::subtags_are_words;
 use std::alloc::{AllocError, Global};
 use std::marker::{Model, PhantomData};
+use std::slice;
 
 /// The value of a keyword or a field: a list of subtags, none of which is `true`.
+///
+/// After ICU4X's `Value`. Source: UTS 35, section 3.6.3.
 #[derive(Drop)]
 pub struct ValueOf<K: EntryKind> {
-    subtags: Vec<Subtag>,
-    kind: PhantomData<K>,
+    pub(crate) subtags: Vec<Subtag>,
+    pub(crate) kind: PhantomData<K>,
 }
 
 impl<K: EntryKind> Model for ValueOf<K> {
@@ -104,7 +109,7 @@ impl<K: EntryKind> ValueOf<K> {
         self.subtags.as_slice()
     }
 
-    /// Leaves the empty value.
+    /// Leaves the empty value. It takes no memory.
     pub fn clear(&mut self)
         ensures { self.new ≡ [] }
     {
@@ -142,5 +147,14 @@ impl<K: EntryKind> ValueOf<K> {
         ensures { result ≡ (length self.now == 0) }
     {
         self.subtags.is_empty()
+    }
+
+    /// The subtags one after another.
+    pub fn iter(&self) -> slice::Iter<'_, Subtag>
+        ensures rest { iter_rest result ≡ self.now }
+        ensures len { length (iter_rest result) ≡ length self.now }
+        ensures runs { IterYieldsInOrder (List ℕ) }
+    {
+        self.subtags.as_slice().iter()
     }
 }

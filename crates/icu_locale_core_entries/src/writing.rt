@@ -1,6 +1,6 @@
 //! Writing values and maps: their subtags between hyphens, without parts.
 
-ghost use Rattle.std.specs.Prelude.{◌≡◌, ◌++◌, ◌<◌, ◌^◌, false, [], ◌∷◌, is_err, length, flat_map, OnOk, OnErr, SomeIff};
+ghost use Rattle.std.specs.Prelude.{◌≡◌, ◌++◌, ◌<◌, ◌^◌, false, [], ◌∷◌, is_err, length, flat_map, OnOk, OnErr, SomeIff, IsTrue, ◌↔◌};
 ghost use Rattle.writeable.specs.AnnotatedText.{bytes};
 ghost use Rattle.writeable.specs.Taking.{HasBegun};
 ghost use Rattle.icu_locale_core_grammar.specs.Pieces.{hyphen, hyphened};
@@ -12,7 +12,7 @@ use crate::value::ValueOf;
 use icu_locale_core_sets::{pieces_length, write_pieces};
 use icu_locale_core_subtags::{Subtag, SubtagOf};
 use std::fmt;
-use writeable::{Error, LengthHint, Sink, Writeable, display};
+use writeable::{Error, LengthHint, Sink, Writeable, display, strict_cmp};
 
 impl<K: EntryKind> ValueOf<K> {
     /// Writes the subtags, each with a hyphen before it: `-abc-def`. Of a field without a value it is `-true`.
@@ -28,6 +28,15 @@ impl<K: EntryKind> ValueOf<K> {
         write_pieces(self.as_subtags_slice(), sink)
     }
 
+    /// Whether the text of the value is this one, in normal case: of `abc-def` true for `abc-def`, false for `ABC-def`.
+    ///
+    /// Of a keyword without a value it is the empty text, of a field without one `true`. It takes no memory.
+    pub fn eq_str(&self, other: &str) -> bool
+        ensures { IsTrue result ↔ (value_text K.needs self.now ≡ other.now) }
+    {
+        strict_cmp(self, other.as_bytes()).is_eq()
+    }
+
     /// How many bytes `write_hyphened` writes: 8 of `abc-def`. `None` where a `usize` does not hold it.
     pub fn hyphened_length(&self) -> Option<usize>
         ensures { SomeIff result (length (hyphened_value K.needs self.now) < 2 ^ 64) (length (hyphened_value K.needs self.now)) }
@@ -40,7 +49,11 @@ impl<K: EntryKind> ValueOf<K> {
 }
 
 // Writes a key and its value: `ca-buddhist`.
-fn write_entry<K: EntryKind, S: Sink>(key: &SubtagOf<K, 2>, value: &ValueOf<K>, sink: &mut S) -> Result<(), Error>
+fn write_entry<K: EntryKind, S: Sink>(
+    key: &SubtagOf<K, 2>,
+    value: &ValueOf<K>,
+    sink: &mut S,
+) -> Result<(), Error>
     requires { S.refused sink.old ≡ false }
     ensures ok { OnOk result (S.takes sink.old (bytes key.now ++ bytes (hyphened_value K.needs value.now)) sink.new) }
     ensures refused { S.refused sink.new ≡ is_err result }
@@ -51,7 +64,11 @@ fn write_entry<K: EntryKind, S: Sink>(key: &SubtagOf<K, 2>, value: &ValueOf<K>, 
 }
 
 // Writes a hyphen, a key and its value.
-fn write_next_entry<K: EntryKind, S: Sink>(key: &SubtagOf<K, 2>, value: &ValueOf<K>, sink: &mut S) -> Result<(), Error>
+fn write_next_entry<K: EntryKind, S: Sink>(
+    key: &SubtagOf<K, 2>,
+    value: &ValueOf<K>,
+    sink: &mut S,
+) -> Result<(), Error>
     requires { S.refused sink.old ≡ false }
     ensures ok { OnOk result (S.takes sink.old (bytes (hyphen ∷ []) ++ (bytes key.now ++ bytes (hyphened_value K.needs value.now))) sink.new) }
     ensures refused { S.refused sink.new ≡ is_err result }
@@ -62,7 +79,10 @@ fn write_next_entry<K: EntryKind, S: Sink>(key: &SubtagOf<K, 2>, value: &ValueOf
 }
 
 // Writes the entries, each piece with a hyphen before it.
-fn write_entries<K: EntryKind, S: Sink>(entries: &[(SubtagOf<K, 2>, ValueOf<K>)], sink: &mut S) -> Result<(), Error>
+fn write_entries<K: EntryKind, S: Sink>(
+    entries: &[(SubtagOf<K, 2>, ValueOf<K>)],
+    sink: &mut S,
+) -> Result<(), Error>
     requires { S.refused sink.old ≡ false }
     ensures ok { OnOk result (S.takes sink.old (bytes (hyphened_entries K.needs entries.now)) sink.new) }
     ensures refused { S.refused sink.new ≡ is_err result }
@@ -80,7 +100,9 @@ fn entries_length<K: EntryKind>(entries: &[(SubtagOf<K, 2>, ValueOf<K>)]) -> Opt
 {
     let mut length: usize = 0;
     for (key, value) in entries {
-        let entry = value.hyphened_length()?.checked_add(key.as_str().len() + 1)?;
+        let entry = value
+            .hyphened_length()?
+            .checked_add(key.as_str().len() + 1)?;
         length = length.checked_add(entry)?;
     }
     Some(length)
@@ -105,7 +127,11 @@ fn subtags_length(first: &Subtag, others: &[Subtag]) -> Option<usize>
 }
 
 // Writes the first entry, and the others with a hyphen before each piece.
-fn write_map<K: EntryKind, S: Sink>(first: &(SubtagOf<K, 2>, ValueOf<K>), others: &[(SubtagOf<K, 2>, ValueOf<K>)], sink: &mut S) -> Result<(), Error>
+fn write_map<K: EntryKind, S: Sink>(
+    first: &(SubtagOf<K, 2>, ValueOf<K>),
+    others: &[(SubtagOf<K, 2>, ValueOf<K>)],
+    sink: &mut S,
+) -> Result<(), Error>
     requires { S.refused sink.old ≡ false }
     ensures ok { OnOk result (S.takes sink.old ((bytes first.now.0 ++ bytes (hyphened_value K.needs first.now.1)) ++ bytes (hyphened_entries K.needs others.now)) sink.new) }
     ensures refused { S.refused sink.new ≡ is_err result }
@@ -116,10 +142,16 @@ fn write_map<K: EntryKind, S: Sink>(first: &(SubtagOf<K, 2>, ValueOf<K>), others
 }
 
 // How many bytes `write_map` writes, where a `usize` holds it.
-fn map_length<K: EntryKind>(first: &(SubtagOf<K, 2>, ValueOf<K>), others: &[(SubtagOf<K, 2>, ValueOf<K>)]) -> Option<usize>
+fn map_length<K: EntryKind>(
+    first: &(SubtagOf<K, 2>, ValueOf<K>),
+    others: &[(SubtagOf<K, 2>, ValueOf<K>)],
+) -> Option<usize>
     ensures { SomeIff result (length (entry_text K.needs first.now ++ hyphened_entries K.needs others.now) < 2 ^ 64) (length (entry_text K.needs first.now ++ hyphened_entries K.needs others.now)) }
 {
-    let entry = first.1.hyphened_length()?.checked_add(first.0.as_str().len())?;
+    let entry = first
+        .1
+        .hyphened_length()?
+        .checked_add(first.0.as_str().len())?;
     entries_length(others)?.checked_add(entry)
 }
 
@@ -245,5 +277,17 @@ impl<K: EntryKind> fmt::Display for EntriesOf<K> {
     #[tactic(auto, using(writeable::proofs::AnnotatedTextLemmas::text_of_bytes))]
     fn fmt<W: fmt::Write>(&self, f: &mut fmt::Formatter<W>) -> fmt::Result {
         display(self, f)
+    }
+}
+
+impl<K: EntryKind> fmt::Debug for ValueOf<K> {
+    fn fmt<W: fmt::Write>(&self, f: &mut fmt::Formatter<W>) -> fmt::Result {
+        fmt::Debug::fmt(self.as_subtags_slice(), f)
+    }
+}
+
+impl<K: EntryKind> fmt::Debug for EntriesOf<K> {
+    fn fmt<W: fmt::Write>(&self, f: &mut fmt::Formatter<W>) -> fmt::Result {
+        fmt::Debug::fmt(self.as_slice(), f)
     }
 }

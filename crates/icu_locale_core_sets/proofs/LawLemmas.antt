@@ -2,11 +2,10 @@
 use Rattle.std.proofs.Common.{◌≡◌, ℕ, Bool, true, false, not, ◌&&◌, ◌||◌, List, [], ◌∷◌, ◌++◌, cond, refl, sym, ap, ◌∙◌, subst}
 use Rattle.icu_locale_core_grammar.specs.Subtags.{Text, same_text, is_plain, has_characters, is_attribute, is_private, private_text}
 use Rattle.icu_locale_core_grammar.specs.Pieces.{pieces, joined_text}
-use Rattle.icu_locale_core_grammar.specs.Collections.{Each, contains_text, Rises, set_of}
-use Rattle.icu_locale_core_grammar.specs.NormalText.{private_pieces}
+use Rattle.icu_locale_core_grammar.specs.Collections.{Each, contains_text}
 use Rattle.icu_locale_core_grammar.specs.WellFormed.{AreLower}
 use Rattle.icu_locale_core_grammar.specs.Meaning.{MeansAttributes}
-use Rattle.icu_locale_core_grammar.specs.PartReaders.{IsExtension, MeansOwn, ReadsAttributes, ReadsPrivate, listed}
+use Rattle.icu_locale_core_grammar.specs.PartReaders.{IsExtension, MeansOwn, listed}
 use Rattle.icu_locale_core_grammar.proofs.CollectionLemmas.{same_text_equal, same_text_swapped, contains-append}
 use Rattle.icu_locale_core_grammar.proofs.SetLemmas.{contains-set_of, Rises-set_of}
 use Rattle.icu_locale_core_grammar.proofs.NormalBodies.{attributes_mean}

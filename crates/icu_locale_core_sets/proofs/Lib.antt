@@ -1,4 +1,5 @@
 pub mod PlaceLemmas
-pub mod ReadingLemmas
+pub mod JoiningLemmas
 pub mod PrintingLemmas
 pub mod LawLemmas
+pub mod KnownValues

@@ -1,6 +1,5 @@
 -- What a search of a rising list tells of the text in it, and of the list with one more text or one less.
 use Rattle.std.proofs.Common.{◌≡◌, ℕ, zero, suc, ◌+◌, ◌<◌, ◌≤◌, Bool, true, false, not, ◌||◌, List, [], ◌∷◌, ◌++◌, length, take, drop, get_or, cond, Result, Ok, Err, MatchResult, sym, refl, ap, ◌∙◌, subst, arith}
-use Rattle.std.specs.Prelude.{filter}
 use Rattle.std.specs.List.{AllByRecursion, AllWithin, HoldsAt, IsDistinct, insert, remove}
 use Rattle.std.specs.List.Sorted.{IsStrictlySortedBy, IsNonDecreasingBy, IsPartitionPoint, IsSearchInRange, IsBinarySearchResult}
 use Rattle.std.specs.Ordering.{match_ordering, ordering_reverse, ordering_index, is_eq, is_lt}
@@ -16,7 +15,7 @@ use Rattle.icu_locale_core_grammar.specs.Subtags.{Text, same_text}
 use Rattle.icu_locale_core_grammar.specs.Collections.{text_cmp, contains_text, AreApart, Rises, insert_text}
 use Rattle.icu_locale_core_grammar.specs.WellFormed.{IsNormalPiece}
 use Rattle.icu_locale_core_grammar.proofs.CollectionLemmas.{same_text_swapped, same_text_refl, apart_new, contains-append}
-use Rattle.icu_locale_core_grammar.proofs.ListLemmas.{each-append, each_front, each_rest, each_weaker}
+use Rattle.icu_locale_core_grammar.proofs.ListLemmas.{each_weaker}
 use Rattle.icu_locale_core_grammar.proofs.SetLemmas.{cmp_equal, cmp_swapped, cmp_through, Rises-insert}
 use Rattle.icu_locale_core_grammar.proofs.NormalBodies.{apart_from_rising}
 use Rattle.icu_locale_core_grammar.proofs.MapLemmas.{rises_none, each_inserted}

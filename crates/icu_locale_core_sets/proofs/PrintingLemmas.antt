@@ -3,8 +3,7 @@ use Rattle.std.proofs.Common.{◌≡◌, true, false, eqb, ℕ, ◌+◌, ◌<◌
 use Rattle.std.specs.Prelude.{flat_map}
 use Rattle.std.proofs.lemmas.Bool.{eqb-true}
 use Rattle.std.proofs.lemmas.List.{drop_more, drop_all}
-use Rattle.writeable.specs.AnnotatedText.{Event, byte, bytes, text_of}
-use Rattle.writeable.proofs.AnnotatedTextLemmas.{text_of_bytes}
+use Rattle.writeable.specs.AnnotatedText.{byte, bytes}
 use Rattle.icu_locale_core_grammar.specs.Subtags.{Text, private_text}
 use Rattle.icu_locale_core_grammar.specs.Pieces.{hyphen, hyphened, joined_text}
 use Rattle.icu_locale_core_grammar.specs.NormalText.{private_pieces}
@@ -37,12 +36,6 @@ no_piece ps i past = ap (flat_map hyphened) (drop_all i ps past)
 
 pub no_piece_events : (ps : List Text) (i : ℕ) → length ps ≤ i → bytes (flat_map hyphened (drop i ps)) ≡ []
 no_piece_events ps i past = ap bytes (no_piece ps i past) ∙ no_bytes
-
-pub next_piece_length : (ps : List Text) (i : ℕ) (p : Text) → i < length ps → p ≡ get_or ps i p
-    → length (flat_map hyphened (drop i ps)) ≡ (length p + 1) + length (flat_map hyphened (drop (i + 1) ps))
-next_piece_length ps i p within is =
-    ap length (next_piece ps i p within is) ∙ length-append (hyphened p) (flat_map hyphened (drop (i + 1) ps))
-    ∙ (let e : length (hyphened p) ≡ length p + 1 = omega arith in ap (λ n. n + length (flat_map hyphened (drop (i + 1) ps))) e)
 
 -- ---- private pieces
 

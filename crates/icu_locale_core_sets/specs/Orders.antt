@@ -1,7 +1,7 @@
 -- The laws of comparing lists of texts, text by text in byte order.
 -- Defined in docs/tags.md, "Sets and maps".
 -- The proofs of the laws of `==`, `cmp` and `hash` of sets and lists.
-use Rattle.std.specs.Prelude.{◌≡◌, true, List, Some, refl, nat_eq}
+use Rattle.std.specs.Prelude.{◌≡◌, true, List, Some, refl}
 use Rattle.std.proofs.Common.{ap, subst}
 use Rattle.std.specs.Cmp.{IsPartialOrder, Agrees}
 use Rattle.std.specs.Cmp.Lexicographic.{pointwise, slice_cmp, slice_partial_cmp, lists_po, lists_agrees, texts_po, pointwise_decides, bytes_decides}

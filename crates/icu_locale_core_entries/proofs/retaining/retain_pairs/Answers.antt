@@ -1,6 +1,6 @@
 use Rattle.std.proofs.Common.{of_calls, arith}
 use Rattle.std.proofs.lemmas.Fn.{called_at}
-use Rattle.icu_locale_core_entries.proofs.RetainLemmas.{retaining_begins, retaining_keeps, retaining_drops, retaining_ends}
+use Rattle.icu_locale_core_entries.proofs.RetainLemmas.{retaining_begins, retaining_keeps, retaining_drops}
 use Rattle.icu_locale_core_entries.proofs.retaining.retain_pairs.Goals as goal
 
 pub loop-place-init : goal.loop-place-init

@@ -1,4 +1,4 @@
-use Rattle.std.proofs.Common.{◌-◌, length, vec_len}
+use Rattle.std.proofs.Common.{◌-◌, vec_len}
 use Rattle.std.specs.Fn.{CalledAt}
 use Rattle.icu_locale_core_entries.proofs.RetainLemmas.{IsRetaining}
 use Rattle.icu_locale_core_entries.proofs.retaining.retain_pairs.Given as goal

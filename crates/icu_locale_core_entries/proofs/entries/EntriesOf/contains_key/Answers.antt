@@ -1,5 +1,4 @@
-use Rattle.std.proofs.Common.{sym, ap, ◌∙◌}
-use Rattle.std.specs.Prelude.{is_some}
+use Rattle.std.proofs.Common.{◌∙◌}
 use Rattle.icu_locale_core_entries.proofs.PlaceLemmas.{holds_key}
 use Rattle.icu_locale_core_entries.proofs.entries.EntriesOf.contains_key.Goals as goal
 

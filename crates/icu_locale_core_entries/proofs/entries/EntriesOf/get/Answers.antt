@@ -1,4 +1,4 @@
-use Rattle.std.proofs.Common.{rules, sym}
+use Rattle.std.proofs.Common.{sym}
 use Rattle.icu_locale_core_entries.proofs.PlaceLemmas.{value_index, value_missing}
 use Rattle.icu_locale_core_entries.proofs.entries.EntriesOf.get.Goals as goal
 

@@ -1,6 +1,5 @@
-use Rattle.std.proofs.Common.{◌≡◌, ◌∙◌, sym, drop, fold, ap}
-use Rattle.icu_locale_core_grammar.proofs.SetLemmas.{put_text}
-use Rattle.icu_locale_core_sets.proofs.ReadingLemmas.{set_of_joined, fold_past}
+use Rattle.std.proofs.Common.{◌∙◌, sym}
+use Rattle.icu_locale_core_sets.proofs.JoiningLemmas.{set_of_joined, fold_past}
 use Rattle.icu_locale_core_sets.proofs.attributes.SubtagSet+AttributeRule.extend_from_attributes.Goals as goal
 
 pub returns-clause-value : goal.returns-clause-value

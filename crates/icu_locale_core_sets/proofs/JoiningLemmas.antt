@@ -1,5 +1,5 @@
--- Reading attributes and joining sets: the set so far, and what is left.
-use Rattle.std.proofs.Common.{◌≡◌, ℕ, ◌+◌, ◌≤◌, List, [], ◌++◌, length, fold, drop, ap, ◌∙◌}
+-- Joining a set with more texts: the set so far, and what is left.
+use Rattle.std.proofs.Common.{◌≡◌, ℕ, ◌≤◌, List, [], ◌++◌, length, fold, drop, ap, ◌∙◌}
 use Rattle.std.proofs.lemmas.List.{drop_all}
 use Rattle.icu_locale_core_grammar.specs.Subtags.{Text}
 use Rattle.icu_locale_core_grammar.specs.Collections.{Rises, set_of}

@@ -1,0 +1,95 @@
+//! Values and maps out of iterators, and joined maps.
+
+ghost use Rattle.std.specs.Prelude.{◌≡◌, List, ℕ, IfOk, OnOk, OnErr};
+ghost use Rattle.std.specs.Iterator.{Drains, IsFinite};
+ghost use Rattle.icu_locale_core_grammar.specs.Collections.{Entry, map_of};
+ghost use Rattle.icu_locale_core_entries.specs.EntryChanges.{joined_maps};
+ghost use Rattle.icu_locale_core_entries.specs.Values.{without_true};
+
+use crate::entries::EntriesOf;
+use crate::kind::EntryKind;
+use crate::laws::keys_rise;
+use crate::value::ValueOf;
+use icu_locale_core_subtags::{Subtag, SubtagOf};
+use std::alloc::{AllocError, Global};
+use std::marker::PhantomData;
+
+impl<K: EntryKind> ValueOf<K> {
+    /// The value of the subtags in their order, without `true`. `AllocError` is answered for memory alone.
+    pub fn try_from_iter<I: IntoIterator<Item = Subtag>>(
+        alloc: Global,
+        iter: I,
+    ) -> Result<Self, AllocError>
+        requires { (it : I.IntoIter) → I.into_iter_gives iter it → I.IntoIter.can_next it × IsFinite (I.IntoIter.remaining it) }
+        ensures { IfOk result (λ v. (it : I.IntoIter) × (subtags : List (List ℕ)) × I.into_iter_gives iter it × Drains I.IntoIter.next_gives it subtags × (v ≡ without_true subtags)) }
+    {
+        let mut value = Self::new_empty(alloc);
+        for subtag in iter {
+            value.push_subtag(subtag)?;
+        }
+        Ok(value)
+    }
+
+    /// An equal value. `AllocError` is answered for memory alone.
+    pub fn try_clone(&self) -> Result<Self, AllocError>
+        ensures { IfOk result (λ v. v ≡ self.now) }
+    {
+        let subtags = self.subtags.clone()?;
+        Ok(ValueOf {
+            subtags,
+            kind: PhantomData,
+        })
+    }
+}
+
+/// The same key.
+fn copied<K: EntryKind>(key: &SubtagOf<K, 2>) -> Result<SubtagOf<K, 2>, AllocError>
+    ensures { IfOk result (λ k. k ≡ key.now) }
+{
+    key.clone()
+}
+
+impl<K: EntryKind> EntriesOf<K> {
+    /// The map of the entries; of equal keys the first stands. `AllocError` is answered for memory alone.
+    pub fn try_from_iter<I: IntoIterator<Item = (SubtagOf<K, 2>, ValueOf<K>)>>(
+        alloc: Global,
+        iter: I,
+    ) -> Result<Self, AllocError>
+        requires { (it : I.IntoIter) → I.into_iter_gives iter it → I.IntoIter.can_next it × IsFinite (I.IntoIter.remaining it) }
+        ensures { IfOk result (λ m. (it : I.IntoIter) × (entries : List Entry) × I.into_iter_gives iter it × Drains I.IntoIter.next_gives it entries × (m ≡ map_of entries)) }
+    {
+        let mut map = Self::new(alloc);
+        for (key, value) in iter {
+            map.put_first(key, value)?;
+        }
+        Ok(map)
+    }
+
+    /// An equal map. `AllocError` is answered for memory alone.
+    pub fn try_clone(&self) -> Result<Self, AllocError>
+        ensures { IfOk result (λ m. m ≡ self.now) }
+    {
+        let mut map = Self::new(*self.entries.allocator());
+        for (key, value) in self.as_slice() {
+            map.put_first(copied(key)?, value.try_clone()?)?;
+        }
+        Ok(map)
+    }
+
+    /// Puts the entries of the other map into this one; of equal keys the other's stands.
+    ///
+    /// `ca-buddhist-nu-thai` with `nu-latn` becomes `ca-buddhist-nu-latn`. `AllocError` is answered for memory alone, and
+    /// leaves the map.
+    pub fn extend_from_keywords(&mut self, other: Self) -> Result<(), AllocError>
+        ensures ok { OnOk result (self.new ≡ joined_maps other self.old) }
+        ensures err { OnErr result (self.new ≡ self.old) }
+    {
+        let mut joined = other;
+        keys_rise(&joined);
+        for (key, value) in self.as_slice() {
+            joined.put_first(copied(key)?, value.try_clone()?)?;
+        }
+        *self = joined;
+        Ok(())
+    }
+}
