@@ -2,3 +2,4 @@ pub mod Opening
 pub mod BodyView
 pub mod OtherSingleton
 pub mod Others
+pub mod ExtensionText

@@ -11,15 +11,20 @@
 #![tactic(auto)]
 
 mod blocks;
+mod blocks_writing;
 mod body;
 mod head;
 mod opening;
 mod other;
+mod other_writing;
 mod singleton;
 mod transform;
+mod transform_writing;
 mod unicode;
+mod unicode_writing;
 
 pub use crate::blocks::Blocks;
+pub use crate::blocks_writing::{extensions_length, write_extensions};
 pub use crate::body::{BodyStage, Part, body_after, body_finish, opened_body};
 pub use crate::other::Other;
 pub use crate::transform::Transform;

@@ -4,6 +4,7 @@ ghost use Rattle.std.specs.Prelude.{◌≡◌, [], ◌∷◌, IfOk, IfErr};
 ghost use Rattle.icu_locale_core_grammar.specs.Meaning.{MeansTransform, no_transform};
 ghost use Rattle.icu_locale_core_grammar.specs.PartReaders.{ReadsTransform};
 ghost use Rattle.icu_locale_core_sets.specs.Reading.{IsRefused};
+ghost use Rattle.icu_locale_core_extensions.specs.ExtensionText.{is_empty_transform};
 
 use crate::head::LanguageHead;
 use crate::opening::body_behind;
@@ -62,6 +63,13 @@ impl Transform {
             lang: None,
             fields: Fields::new(alloc),
         }
+    }
+
+    /// Whether it has neither a language part nor a field; then it prints nothing.
+    pub fn is_empty(&self) -> bool
+        ensures { result ≡ is_empty_transform self.now }
+    {
+        self.lang.is_none() && self.fields.is_empty()
     }
 
     /// The extension in this text, with its singleton: `t-DE-m0-true` has the language part `de` and the field `m0` without a value.

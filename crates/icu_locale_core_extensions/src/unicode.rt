@@ -4,6 +4,7 @@ ghost use Rattle.std.specs.Prelude.{◌≡◌, [], ◌∷◌, IfOk, IfErr};
 ghost use Rattle.icu_locale_core_grammar.specs.Meaning.{MeansUnicode, no_unicode};
 ghost use Rattle.icu_locale_core_grammar.specs.PartReaders.{ReadsUnicode};
 ghost use Rattle.icu_locale_core_sets.specs.Reading.{IsRefused};
+ghost use Rattle.icu_locale_core_extensions.specs.ExtensionText.{is_empty_unicode};
 
 use crate::head::AttributesHead;
 use crate::opening::body_behind;
@@ -65,6 +66,13 @@ impl Unicode {
             keywords: Keywords::new(alloc),
             attributes: Attributes::new(alloc),
         }
+    }
+
+    /// Whether it has neither attribute nor keyword; then it prints nothing.
+    pub fn is_empty(&self) -> bool
+        ensures { result ≡ is_empty_unicode self.now }
+    {
+        self.attributes.is_empty() && self.keywords.is_empty()
     }
 
     /// The extension in this text, with its singleton: `u-FOO-nu-thai` has the attribute `foo` and `nu` with `thai`.
