@@ -238,3 +238,75 @@ fn writeable_length_hint(rt: HostRuntime) -> Result<(), Fail> {
     assert_eq!(rt; same.write_to_string(alloc)?.as_str(), "012.30");
     Ok(())
 }
+
+#[test]
+fn nonzero_magnitudes(rt: HostRuntime) -> Result<(), Fail> {
+    let number = UnsignedDecimal::try_from_str(rt.alloc(), "012.30")?;
+    assert_eq!(rt; number.nonzero_magnitude_start(), 1);
+    assert_eq!(rt; number.nonzero_magnitude_end(), -1);
+    let zero = UnsignedDecimal::try_from_str(rt.alloc(), "00.0")?;
+    assert_eq!(rt; zero.nonzero_magnitude_start(), 0);
+    assert_eq!(rt; zero.nonzero_magnitude_end(), 0);
+    let hundred = UnsignedDecimal::try_from_str(rt.alloc(), "100")?;
+    assert_eq!(rt; hundred.nonzero_magnitude_end(), 2);
+    Ok(())
+}
+
+#[test]
+fn one(rt: HostRuntime) -> Result<(), Fail> {
+    let alloc = rt.alloc();
+    assert_eq!(rt; text_of(alloc, &Decimal::one(alloc))?.as_str(), "1");
+    assert_eq!(rt; text_of(alloc, &Decimal::zero(alloc))?.as_str(), "0");
+    assert!(rt; UnsignedDecimal::one(alloc) == UnsignedDecimal::from_u8(alloc, 1)?);
+    Ok(())
+}
+
+#[test]
+fn adjusted(rt: HostRuntime) -> Result<(), Fail> {
+    let alloc = rt.alloc();
+    let shifted = Decimal::try_from_str(alloc, "-12")?.multiplied_pow10(2);
+    assert_eq!(rt; text_of(alloc, &shifted)?.as_str(), "-1200");
+    let start = Decimal::try_from_str(alloc, "-012")?.trimmed_start();
+    assert_eq!(rt; text_of(alloc, &start)?.as_str(), "-12");
+    let end = Decimal::try_from_str(alloc, "-1.20")?.trimmed_end();
+    assert_eq!(rt; text_of(alloc, &end)?.as_str(), "-1.2");
+    let whole = Decimal::try_from_str(alloc, "-1.00")?.trimmed_end_if_integer();
+    assert_eq!(rt; text_of(alloc, &whole)?.as_str(), "-1");
+    Ok(())
+}
+
+#[test]
+fn padded(rt: HostRuntime) -> Result<(), Fail> {
+    let alloc = rt.alloc();
+    let start = Decimal::try_from_str(alloc, "-12")?.padded_start(4);
+    assert_eq!(rt; text_of(alloc, &start)?.as_str(), "-0012");
+    let end = Decimal::try_from_str(alloc, "-12")?.padded_end(-2);
+    assert_eq!(rt; text_of(alloc, &end)?.as_str(), "-12.00");
+    let cut = Decimal::try_from_str(alloc, "-1234.5")?.with_max_position(2);
+    assert_eq!(rt; text_of(alloc, &cut)?.as_str(), "-34.5");
+    assert!(rt; cut.try_clone()? == cut);
+    Ok(())
+}
+
+#[test]
+fn unsigned_adjusted(rt: HostRuntime) -> Result<(), Fail> {
+    let alloc = rt.alloc();
+    let number = UnsignedDecimal::try_from_str(alloc, "012.00")?;
+    let last = number
+        .trimmed_start()
+        .trimmed_end_if_integer()
+        .multiplied_pow10(-1)
+        .padded_start(3)
+        .padded_end(-3)
+        .trimmed_end();
+    assert_eq!(rt; last.write_to_string(alloc)?.as_str(), "001.2");
+    Ok(())
+}
+
+#[test]
+fn shown(rt: HostRuntime) -> Result<(), Fail> {
+    let number = Decimal::try_from_str(rt.alloc(), "-012.30")?;
+    assert_eq!(rt; number.writeable_length_hint(), LengthHint::exact(7));
+    assert_eq!(rt; number.to_string(rt.alloc())?.as_str(), "-012.30");
+    Ok(())
+}

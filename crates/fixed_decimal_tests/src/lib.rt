@@ -3,6 +3,10 @@
 #![tactic(auto)]
 
 #[cfg(test)]
+mod calls;
+#[cfg(test)]
+mod concatenation;
+#[cfg(test)]
 mod ends;
 #[cfg(test)]
 mod examples;
@@ -14,5 +18,7 @@ mod rounding;
 mod shifts_and_trims;
 #[cfg(test)]
 mod signs;
+#[cfg(test)]
+mod text_types;
 #[cfg(test)]
 mod texts;
