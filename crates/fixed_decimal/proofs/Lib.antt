@@ -1,3 +1,4 @@
+pub mod RunOnceLemmas
 pub mod KnownValues
 pub mod SignedOrderLemmas
 pub mod SignedEqualityLemmas

@@ -10,5 +10,5 @@ returns c =
     let same = to_z-of_z w128 c.args.integer c.ranges.integer in
     record {
       sign = c.sign_below-sign.ensures ∙ ap sign_of same;
-      size = subst (λ n. IsInteger n c.in_ok-absolute.absolute) (c.size_without_sign.ensures ∙ ap size_of same) c.in_ok-absolute.ensures;
+      size = subst (λ n. IsInteger n c.in_ok-absolute.absolute) (c.size_without_sign.ensures ∙ ap size_of same) c.in_ok-absolute.ensures.value;
     }
