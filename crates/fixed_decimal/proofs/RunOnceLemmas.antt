@@ -29,10 +29,12 @@ nearest_once unit n m k takes gives h g rule =
     let near = h.nearest k g.multiple in
     let back = g.nearest m h.multiple in
     elim (cases_lt m k) [
-      inl less ↦ absurd (rule (λ e. omega arith) (h.tied k g.multiple (λ e. omega arith) (omega arith)) (g.tied m h.multiple (λ e. omega arith) (omega arith)))
-    | inr over ↦ elim (cases_lt k m) [
-        inl less ↦ absurd (rule (λ e. omega arith) (h.tied k g.multiple (λ e. omega arith) (omega arith)) (g.tied m h.multiple (λ e. omega arith) (omega arith)))
-      | inr under ↦ omega arith ] ]
+      | inl less ↦ absurd (rule (λ e. omega arith) (h.tied k g.multiple (λ e. omega arith) (omega arith)) (g.tied m h.multiple (λ e. omega arith) (omega arith)))
+      | inr over ↦ elim (cases_lt k m) [
+        | inl less ↦ absurd (rule (λ e. omega arith) (h.tied k g.multiple (λ e. omega arith) (omega arith)) (g.tied m h.multiple (λ e. omega arith) (omega arith)))
+        | inr under ↦ omega arith
+      ]
+    ]
 
 -- of two even counts of units one is no nearest multiple, since an odd count lies between them
 between : (unit n m k : ℕ) → 0 < unit → m + 2 * unit ≤ k → distance n m ≡ distance n k → distance n (m + unit) < distance n m
@@ -47,15 +49,16 @@ one_more unit m c e = omega arith
 counts_order : (unit a b : ℕ) → a * (2 * unit) < b * (2 * unit) → a < b
 counts_order unit a b l =
     elim (cases_lt a b) [
-      inl less ↦ less
-    | inr over ↦ (let more : b * (2 * unit) ≤ a * (2 * unit) = mul-le-mul_right (2 * unit) over in absurd (omega arith)) ]
+      | inl less ↦ less
+      | inr over ↦ (let more : b * (2 * unit) ≤ a * (2 * unit) = mul-le-mul_right (2 * unit) over in absurd (omega arith))
+    ]
 
 even_below : (unit n m k : ℕ) (takes : ℕ → Type 0) → IsNearest unit n m takes → distance n m ≡ distance n k → IsMultiple (2 * unit) m → IsMultiple (2 * unit) k → m < k → ⊥
 even_below zero n m k takes h e even other l =
     let first : m ≡ even.0 * (2 * 0) = even.1 in let second : k ≡ other.0 * (2 * 0) = other.1 in omega arith
 even_below (suc u) n m k takes h e even other l =
     let apart : even.0 * (2 * suc u) + 2 * suc u ≤ other.0 * (2 * suc u) =
-        even_apart (suc u) even.0 other.0 (counts_order (suc u) even.0 other.0 (subst (λ x. x < other.0 * (2 * suc u)) even.1 (subst (λ x. m < x) other.1 l))) in
+    even_apart (suc u) even.0 other.0 (counts_order (suc u) even.0 other.0 (subst (λ x. x < other.0 * (2 * suc u)) even.1 (subst (λ x. m < x) other.1 l))) in
     let first : m ≡ even.0 * (2 * suc u) = even.1 in
     let second : k ≡ other.0 * (2 * suc u) = other.1 in
     let far : m + 2 * suc u ≤ k = omega arith in
@@ -68,10 +71,12 @@ even_once unit n m k h g ne even other =
     let near = h.nearest k g.multiple in
     let back = g.nearest m h.multiple in
     elim (cases_lt m k) [
-      inl less ↦ even_below unit n m k (λ _. IsMultiple (2 * unit) m) h (omega arith) even other less
-    | inr over ↦ elim (cases_lt k m) [
-        inl less ↦ even_below unit n k m (λ _. IsMultiple (2 * unit) k) g (omega arith) other even less
-      | inr under ↦ ne (omega arith) ] ]
+      | inl less ↦ even_below unit n m k (λ _. IsMultiple (2 * unit) m) h (omega arith) even other less
+      | inr over ↦ elim (cases_lt k m) [
+        | inl less ↦ even_below unit n k m (λ _. IsMultiple (2 * unit) k) g (omega arith) other even less
+        | inr under ↦ ne (omega arith)
+      ]
+    ]
 
 pub rounded_once : (mode : UnsignedRoundingMode) (unit n m k : ℕ) → IsRounded mode unit n m → IsRounded mode unit n k → m ≡ k
 rounded_once Expand unit n m k h g = both_least m k (h.least k g.multiple g.over) (g.least m h.multiple h.over)
@@ -115,16 +120,19 @@ shifted_once by old a b h g =
 keeps_or_not : (by : ℤ) (old : Number) → KeepsPlaces by old ⊎ (¬ (KeepsPlaces by old))
 keeps_or_not by old =
     elim (cases_lt (old.low + rise by) (fall by)) [
-      inl under ↦ inr (λ h. let low = h.low in omega arith)
-    | inr low ↦ elim (cases_lt (old.high + rise by) (65536 + fall by)) [
-        inl high ↦ inl (record { low = low; high = high })
-      | inr over ↦ inr (λ h. let high = h.high in omega arith) ] ]
+      | inl under ↦ inr (λ h. let low = h.low in omega arith)
+      | inr low ↦ elim (cases_lt (old.high + rise by) (65536 + fall by)) [
+        | inl high ↦ inl (record { low = low; high = high })
+        | inr over ↦ inr (λ h. let high = h.high in omega arith)
+      ]
+    ]
 
 shifts_once : (by : ℤ) (old a b : Number) → Shifts by old a → Shifts by old b → a ≡ b
 shifts_once by old a b h g =
     elim (keeps_or_not by old) [
-      inl keeps ↦ shifted_once by old a b (h.within keeps) (g.within keeps)
-    | inr lacks ↦ h.beyond lacks ∙ sym (g.beyond lacks) ]
+      | inl keeps ↦ shifted_once by old a b (h.within keeps) (g.within keeps)
+      | inr lacks ↦ h.beyond lacks ∙ sym (g.beyond lacks)
+    ]
 
 trims_start_once : (old a b : Number) → TrimsStart old a → TrimsStart old b → a ≡ b
 trims_start_once old a b h g = number_once a b (h.count ∙ sym g.count) (h.low ∙ sym g.low) (highest_once 32768 0 old.count a.high b.high h.high g.high)
@@ -143,14 +151,16 @@ trims_whole_once old a b (suc n) e h g =
 pads_start_once : (at : ℕ) (old a b : Number) → PadsStart at old a → PadsStart at old b → a ≡ b
 pads_start_once at old a b h g =
     elim (cases_lt 32768 at) [
-      inl above ↦ number_once a b (h.count ∙ sym g.count) (h.low ∙ sym g.low) (highest_once 32768 at old.count a.high b.high (h.high above) (g.high above))
-    | inr under ↦ number_once a b (h.count ∙ sym g.count) (h.low ∙ sym g.low) (h.same under ∙ sym (g.same under)) ]
+      | inl above ↦ number_once a b (h.count ∙ sym g.count) (h.low ∙ sym g.low) (highest_once 32768 at old.count a.high b.high (h.high above) (g.high above))
+      | inr under ↦ number_once a b (h.count ∙ sym g.count) (h.low ∙ sym g.low) (h.same under ∙ sym (g.same under))
+    ]
 
 pads_end_once : (at : ℕ) (old a b : Number) → PadsEnd at old a → PadsEnd at old b → a ≡ b
 pads_end_once at old a b h g =
     elim (cases_lt 32768 at) [
-      inl above ↦ number_once a b (h.count ∙ sym g.count) (h.same above ∙ sym (g.same above)) (h.high ∙ sym g.high)
-    | inr under ↦ number_once a b (h.count ∙ sym g.count) (lowest_once at old.count a.low b.low (h.low under) (g.low under)) (h.high ∙ sym g.high) ]
+      | inl above ↦ number_once a b (h.count ∙ sym g.count) (h.same above ∙ sym (g.same above)) (h.high ∙ sym g.high)
+      | inr under ↦ number_once a b (h.count ∙ sym g.count) (lowest_once at old.count a.low b.low (h.low under) (g.low under)) (h.high ∙ sym g.high)
+    ]
 
 cuts_once : (at : ℕ) (old a b : Number) → Cuts at old a → Cuts at old b → a ≡ b
 cuts_once at old a b h g = number_once a b (h.count ∙ sym g.count) (h.low ∙ sym g.low) (h.high ∙ sym g.high)
