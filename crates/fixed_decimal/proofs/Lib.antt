@@ -1,3 +1,4 @@
+pub mod CallsLemmas
 pub mod RunOnceLemmas
 pub mod KnownValues
 pub mod SignedOrderLemmas
