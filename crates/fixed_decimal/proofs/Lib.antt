@@ -1,3 +1,5 @@
+pub mod CallsLemmas
+pub mod RunOnceLemmas
 pub mod KnownValues
 pub mod SignedOrderLemmas
 pub mod SignedEqualityLemmas

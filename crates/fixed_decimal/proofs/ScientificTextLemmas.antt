@@ -10,8 +10,8 @@ use Rattle.fixed_decimal_unsigned.proofs.WritingLemmas.{bytes_joined}
 use Rattle.fixed_decimal.specs.IntegerText.{ReadsInteger, IsBeyondInteger}
 use Rattle.fixed_decimal.specs.PlainParts.{StartsWithMark, IsNotScientific, without_limit}
 use Rattle.fixed_decimal.specs.PlainText.{MarksExponent, HasNoMark}
-use Rattle.fixed_decimal.specs.ScientificText.{ScientificValue, IsScientific, SpellsScientific, ReadsScientific, IsNoScientificText, scientific_text_of}
-use Rattle.fixed_decimal.specs.SignedText.{ReadsSigned, IsBeyondSigned, IsNoSignedText, signed_text_of}
+use Rattle.fixed_decimal.specs.ScientificText.{ScientificValue, IsScientific, SpellsScientific, ReadsScientific, ReadsLongScientific, IsNoScientificText, scientific_text_of}
+use Rattle.fixed_decimal.specs.SignedText.{ReadsSigned, ReadsLongSigned, IsBeyondSigned, IsNoSignedText, signed_text_of}
 use Rattle.fixed_decimal.specs.SignedValue.{SignedValue}
 use Rattle.fixed_decimal.proofs.PlainTextLemmas.{plain_fronts, plain_printed}
 use Rattle.fixed_decimal.proofs.SignedReadOnceLemmas.{signed_reads_once, signed_not_beyond, signed_is_text, signed_printed, integer_not_beyond, same_printed}
@@ -76,6 +76,12 @@ pub right_refused : (text left right : List ℕ) (refused : ParseError) → Spel
 right_refused text left right Limit h syntax limit e = right_beyond text left right h (limit refl)
 right_refused text left right Syntax h syntax limit e = right_no_text text left right h (syntax refl)
 right_refused text left right Memory h syntax limit e = absurd (cc)
+
+-- want of memory is that of a side
+pub right_long : (text left right : List ℕ) (refused : ParseError) → SpellsScientific text left right → (refused ≡ Memory → ReadsLongSigned right) → without_limit refused ≡ Memory → ReadsLongScientific text
+right_long text left right Limit h memory e = absurd (cc)
+right_long text left right Syntax h memory e = absurd (cc)
+right_long text left right Memory h memory e = record { left = left; right = right; spells = h; long = inr (memory refl) }
 
 abbrev scientific_of : SignedValue Number → SignedValue Number → ScientificValue
 scientific_of significand exponent = record { significand = significand; exponent = exponent }

@@ -1,8 +1,8 @@
 -- A text has one sign, since no number's text begins with one.
 use Rattle.std.proofs.Common.{◌≡◌, ℕ, List, [], ◌∷◌, ◌++◌, ◌⊎◌, refl, sym, ◌∙◌, subst, inl, inr, arith}
-use Rattle.fixed_decimal_unsigned.specs.NumberText.{minus, Spells, IsNoText}
+use Rattle.fixed_decimal_unsigned.specs.NumberText.{minus, Spells, ReadsLong, IsNoText}
 use Rattle.fixed_decimal_unsigned.proofs.TextPartsLemmas.{no_sign, cons_head, cons_tail}
-use Rattle.fixed_decimal.specs.SignedText.{plus, sign_text, IsNoSignedText, StartsNoSign}
+use Rattle.fixed_decimal.specs.SignedText.{plus, sign_text, ReadsLongSigned, IsNoSignedText, StartsNoSign}
 use Rattle.fixed_decimal.specs.declared.sign.Sign.{Sign}
 use Rattle.fixed_decimal.specs.declared.sign.Sign.TheVariants.{None, Negative, Positive}
 
@@ -24,3 +24,11 @@ no_signed_text text rest Negative e n lacks Positive other f = let h : minus ≡
 no_signed_text text rest Positive e n lacks None other f = signed_no_text plus rest other (inl refl) (sym e ∙ f)
 no_signed_text text rest Positive e n lacks Negative other f = let h : plus ≡ minus = cons_head plus minus rest other (sym e ∙ f) in absurd (omega arith)
 no_signed_text text rest Positive e n lacks Positive other f = subst IsNoText (cons_tail plus plus rest other (sym e ∙ f)) lacks
+
+-- a sign before a long number's text
+pub long_signed : (text rest : List ℕ) (sign : Sign) → text ≡ sign_text sign ++ rest → ReadsLong rest → ReadsLongSigned text
+long_signed text rest sign e h = record {
+  number = record { sign = sign; absolute = h.number };
+  reads = record { rest = rest; whole = e; reads = h.reads };
+  long = h.long;
+}

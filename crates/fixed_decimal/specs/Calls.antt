@@ -1,9 +1,10 @@
 -- What a list of calls makes of a decimal: each call's own definition, one after the other.
 -- Defined in docs/numbers.md, "Runs of calls".
--- Cited by `run_calls`.
-use Rattle.std.specs.Prelude.{◌≡◌, ℕ, ◌==◌, List, [], ◌∷◌}
+-- Cited by `run_calls`, and by the law that a run has one end.
+use Rattle.std.specs.Prelude.{◌≡◌, ℕ, ◌==◌, ◌⊎◌, List, [], ◌∷◌}
 use Rattle.fixed_decimal_unsigned.specs.Number.{Number, place}
 use Rattle.fixed_decimal_unsigned.specs.Shifts.{Shifts, TrimsStart, TrimsEnd, TrimsWhole, PadsStart, PadsEnd, Cuts}
+use Rattle.fixed_decimal_unsigned.specs.declared.RoundingIncrement.TheVariants.{MultiplesOf25}
 use Rattle.fixed_decimal.specs.SignChoice.{chosen_sign}
 use Rattle.fixed_decimal.specs.SignedRounding.{RoundsSigned}
 use Rattle.fixed_decimal.specs.SignedText.{ReadsSigned}
@@ -34,3 +35,25 @@ pub record RunsFrom (text : List ℕ) (calls : List Call) (new : SignedValue Num
   pub read : SignedValue Number
   pub reads : ReadsSigned text read
   pub run : Run calls read new
+
+-- the call is a rounding to multiples of 25, the one call that may want memory
+abbrev pub GoesByTwentyFive : Call → Type 0
+GoesByTwentyFive (Round position mode increment) = increment ≡ MultiplesOf25
+GoesByTwentyFive (MultiplyPow10 delta) = ⊥
+GoesByTwentyFive TrimStart = ⊥
+GoesByTwentyFive TrimEnd = ⊥
+GoesByTwentyFive TrimEndIfInteger = ⊥
+GoesByTwentyFive (PadStart position) = ⊥
+GoesByTwentyFive (PadEnd position) = ⊥
+GoesByTwentyFive (SetMaxPosition position) = ⊥
+GoesByTwentyFive (SetSign sign) = ⊥
+GoesByTwentyFive (ApplySignDisplay choice) = ⊥
+
+-- one of the calls is
+abbrev pub HasTwentyFive : List Call → Type 0
+HasTwentyFive [] = ⊥
+HasTwentyFive (call ∷ calls) = GoesByTwentyFive call ⊎ HasTwentyFive calls
+
+-- a text and a list of calls lead to one decimal
+abbrev pub RunsHaveOneEnd : Type 0
+RunsHaveOneEnd = (text : List ℕ) (calls : List Call) (a b : SignedValue Number) → RunsFrom text calls a → RunsFrom text calls b → a ≡ b

@@ -6,7 +6,7 @@ use Rattle.std.specs.Int.Digits.{digits_of}
 use Rattle.fixed_decimal_unsigned.specs.Number.{Number, IsNumber}
 use Rattle.fixed_decimal_unsigned.specs.NumberText.{AreDigits, spelled, digit_zero, character}
 use Rattle.fixed_decimal.specs.PlainText.{compact_mark, HasNoMark}
-use Rattle.fixed_decimal.specs.SignedText.{ReadsSigned, IsBeyondSigned, IsNoSignedText, signed_text_of}
+use Rattle.fixed_decimal.specs.SignedText.{ReadsSigned, ReadsLongSigned, IsBeyondSigned, IsNoSignedText, signed_text_of}
 use Rattle.fixed_decimal.specs.SignedValue.{SignedValue}
 
 -- a number and the exponent that is shown beside it
@@ -52,6 +52,13 @@ pub record IsBeyondCompact (text : List ℕ) : Type 0 where
   pub digits : List ℕ
   pub spells : SpellsCompact text front digits
   pub beyond : IsBeyondSigned front ⊎ PassesExponent front digits
+
+-- the text is of this form, and its number has more than eight digits
+pub record ReadsLongCompact (text : List ℕ) : Type 0 where
+  pub front : List ℕ
+  pub digits : List ℕ
+  pub spells : SpellsCompact text front digits
+  pub long : ReadsLongSigned front
 
 -- no front of the text is a number's text
 abbrev pub IsNoCompactText : List ℕ → Type 0

@@ -1,12 +1,12 @@
 -- Which text spells which scientific number: a decimal's text, `e`, and a whole number's text.
 -- Defined in docs/numbers.md, "Compact and scientific texts".
 -- Cited by `try_from_str` and `try_from_utf8` of `ScientificDecimal`, and by its printed text.
-use Rattle.std.specs.Prelude.{◌≡◌, ℕ, List, ◌∷◌, ◌++◌}
+use Rattle.std.specs.Prelude.{◌≡◌, ℕ, ◌⊎◌, List, ◌∷◌, ◌++◌}
 use Rattle.fixed_decimal_unsigned.specs.Number.{Number, IsNumber}
 use Rattle.fixed_decimal_unsigned.specs.NumberText.{small_mark}
 use Rattle.fixed_decimal.specs.IntegerText.{ShowsNoFraction, ReadsInteger}
 use Rattle.fixed_decimal.specs.PlainText.{HasNoMark}
-use Rattle.fixed_decimal.specs.SignedText.{ReadsSigned, signed_text_of}
+use Rattle.fixed_decimal.specs.SignedText.{ReadsSigned, ReadsLongSigned, signed_text_of}
 use Rattle.fixed_decimal.specs.SignedValue.{SignedValue}
 
 -- a number, and the whole number that is shown as its exponent
@@ -27,6 +27,13 @@ pub record ReadsScientific (text : List ℕ) (v : ScientificValue) : Type 0 wher
   pub spells : SpellsScientific text left right
   pub significand : ReadsSigned left v.significand
   pub exponent : ReadsInteger right v.exponent
+
+-- the text is of this form, and a side of it spells a number of more than eight digits
+pub record ReadsLongScientific (text : List ℕ) : Type 0 where
+  pub left : List ℕ
+  pub right : List ℕ
+  pub spells : SpellsScientific text left right
+  pub long : ReadsLongSigned left ⊎ ReadsLongSigned right
 
 -- the text has no `e` alone, or a side of it does not read, be it beyond the limits
 abbrev pub IsNoScientificText : List ℕ → Type 0

@@ -4,6 +4,7 @@
 use Rattle.std.specs.Prelude.{◌≡◌, ℕ, List, [], ◌∷◌, ◌++◌}
 use Rattle.fixed_decimal_unsigned.specs.Number.{Number}
 use Rattle.fixed_decimal_unsigned.specs.NumberText.{minus, Reads, IsBeyond, IsNoText, text_of}
+use Rattle.fixed_decimal_unsigned.specs.Range.{IsLong}
 use Rattle.fixed_decimal.specs.SignedValue.{SignedValue}
 use Rattle.fixed_decimal.specs.declared.sign.Sign.{Sign}
 use Rattle.fixed_decimal.specs.declared.sign.Sign.TheVariants.{None, Negative, Positive}
@@ -30,6 +31,12 @@ pub record IsBeyondSigned (text : List ℕ) : Type 0 where
   pub rest : List ℕ
   pub whole : text ≡ sign_text sign ++ rest
   pub beyond : IsBeyond rest
+
+-- the text spells a number of more than eight digits, from the first to the last one that is not zero
+pub record ReadsLongSigned (text : List ℕ) : Type 0 where
+  pub number : SignedValue Number
+  pub reads : ReadsSigned text number
+  pub long : IsLong number.absolute.count
 
 -- what stands behind a sign, or behind none, is no number's text
 abbrev pub IsNoSignedText : List ℕ → Type 0

@@ -1,9 +1,9 @@
-ghost use Rattle.std.specs.Prelude.{◌≡◌, ◌≢◌, ◌↔◌, IsTrue, false, IfOk, IfErr, IsErrOf, OnOk};
+ghost use Rattle.std.specs.Prelude.{◌≡◌, ◌≢◌, ◌↔◌, IsTrue, false, IfOk, IfErr, IsErrOf, OnOk, OnErr, ◌⊎◌};
 ghost use Rattle.writeable.specs.AnnotatedText.{bytes};
 ghost use Rattle.writeable.specs.Taking.{HasBegun};
 ghost use Rattle.fixed_decimal_unsigned.specs.Number.{Number};
-ghost use Rattle.fixed_decimal.specs.Calls.{Makes, Run, RunsFrom};
-ghost use Rattle.fixed_decimal.specs.SignedText.{ReadsSigned, IsBeyondSigned, IsNoSignedText, signed_text_of};
+ghost use Rattle.fixed_decimal.specs.Calls.{Makes, Run, RunsFrom, GoesByTwentyFive, HasTwentyFive};
+ghost use Rattle.fixed_decimal.specs.SignedText.{ReadsSigned, ReadsLongSigned, IsBeyondSigned, IsNoSignedText, signed_text_of};
 ghost use Rattle.fixed_decimal.specs.SignedValue.{SignedValue};
 
 use crate::call::{Call, CallsError};
@@ -14,7 +14,8 @@ use writeable::{Sink, Writeable};
 
 // Makes one call.
 fn make_call(decimal: &mut Decimal, call: Call) -> Result<(), AllocError>
-    ensures { OnOk result (Makes call decimal.old decimal.new) }
+    ensures value { OnOk result (Makes call decimal.old decimal.new) }
+    ensures room { OnErr result (GoesByTwentyFive call) }
 {
     match call {
         Call::MultiplyPow10(delta) => decimal.absolute.multiply_pow10(delta),
@@ -35,7 +36,8 @@ fn make_call(decimal: &mut Decimal, call: Call) -> Result<(), AllocError>
 
 // Makes the calls, one after the other.
 fn make_calls(decimal: &mut Decimal, calls: &[Call]) -> Result<(), AllocError>
-    ensures { OnOk result (Run calls.now decimal.old decimal.new) }
+    ensures value { OnOk result (Run calls.now decimal.old decimal.new) }
+    ensures room { OnErr result (HasTwentyFive calls.now) }
 {
     for call in calls {
         make_call(decimal, *call)?;
@@ -49,6 +51,7 @@ fn read_start(alloc: Global, start: &[u8]) -> Result<Decimal, CallsError>
     ensures limit { IsErrOf result (CallsError.Parse ParseError.Limit) → IsBeyondSigned start.now }
     ensures parse { ¬ (IsErrOf result (CallsError.Parse ParseError.Memory)) }
     ensures write { ¬ (IsErrOf result CallsError.Write) }
+    ensures memory { IsErrOf result CallsError.Memory → ReadsLongSigned start.now }
     ensures value { IfOk result (λ v. ReadsSigned start.now v) }
 {
     match Decimal::try_from_utf8(alloc, start) {
@@ -77,6 +80,7 @@ pub fn run_calls<S: Sink>(
     ensures limit { IsErrOf result (CallsError.Parse ParseError.Limit) → IsBeyondSigned start.now }
     ensures parse { ¬ (IsErrOf result (CallsError.Parse ParseError.Memory)) }
     ensures write { IsTrue (S.refused sink.new) ↔ IsErrOf result CallsError.Write }
+    ensures memory { IsErrOf result CallsError.Memory → ReadsLongSigned start.now ⊎ HasTwentyFive calls.now }
     ensures text { OnOk result ((v : SignedValue Number) × (RunsFrom start.now calls.now v × S.takes sink.old (bytes (signed_text_of v)) sink.new)) }
     ensures begun { IsErrOf result CallsError.Write → (v : SignedValue Number) × (RunsFrom start.now calls.now v × HasBegun S.takes S.lacks_room sink.old (bytes (signed_text_of v)) sink.new) }
     ensures same { IfErr result (λ e. e ≢ CallsError.Write → sink.new ≡ sink.old) }

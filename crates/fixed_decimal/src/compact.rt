@@ -4,7 +4,8 @@ ghost use Rattle.std.specs.Int.Digits.{digits_of};
 ghost use Rattle.writeable.specs.AnnotatedText.{bytes};
 ghost use Rattle.writeable.specs.Taking.{HasBegun};
 ghost use Rattle.fixed_decimal_unsigned.specs.NumberText.{AreDigits, spelled, character};
-ghost use Rattle.fixed_decimal.specs.CompactText.{SpellsCompact, ReadsCompact, IsBeyondCompact, IsNoCompactText, behind_compact_mark, compact_text_of};
+ghost use Rattle.fixed_decimal_unsigned.specs.Range.{IsLong};
+ghost use Rattle.fixed_decimal.specs.CompactText.{SpellsCompact, ReadsCompact, ReadsLongCompact, IsBeyondCompact, IsNoCompactText, behind_compact_mark, compact_text_of};
 ghost use Rattle.fixed_decimal.specs.PlainParts.{IsCompactExponent, IsNotCompact};
 ghost use Rattle.fixed_decimal.specs.SignedText.{signed_text_of};
 ghost use Rattle.std.specs.Cmp.Rules.{comparing};
@@ -139,7 +140,8 @@ impl CompactDecimal {
 
     /// The same number in a value of its own. Memory is taken where the significand has more than eight digits.
     pub fn try_clone(&self) -> Result<CompactDecimal, AllocError>
-        ensures { IfOk result (λ v. v ≡ self.now) }
+        ensures value { IfOk result (λ v. v ≡ self.now) }
+        ensures room { OnErr result (IsLong self.now.significand.absolute.count) }
     {
         let significand = self.significand.try_clone()?;
         Ok(CompactDecimal {
@@ -149,9 +151,14 @@ impl CompactDecimal {
     }
 
     /// The number that a text spells, with its exponent: 1.2 and 6 of `1.2c6`.
+    ///
+    /// `Syntax` where the text is not of this form (`1c`, `1c0`, `1c06`, `1e3`), `Limit` where the number
+    /// is beyond the limits of a decimal or the exponent above 255 (`1c256`), `Memory` where memory for
+    /// digits was refused; it is taken where there are more than eight.
     pub fn try_from_str(alloc: Global, text: &str) -> Result<CompactDecimal, ParseError>
         ensures syntax { IsErrOf result ParseError.Syntax → IsNoCompactText text.now }
         ensures limit { IsErrOf result ParseError.Limit → IsBeyondCompact text.now }
+        ensures memory { IsErrOf result ParseError.Memory → ReadsLongCompact text.now }
         ensures value { IfOk result (λ v. ReadsCompact text.now v) }
     {
         let Some((front, digits)) = split_compact(text.as_bytes()) else {

@@ -1,7 +1,8 @@
-ghost use Rattle.std.specs.Prelude.{◌≡◌, ◌++◌, IfOk, IsErrOf};
+ghost use Rattle.std.specs.Prelude.{◌≡◌, ◌++◌, IfOk, IsErrOf, OnErr};
+ghost use Rattle.fixed_decimal_unsigned.specs.Range.{IsLong};
 ghost use Rattle.fixed_decimal_unsigned.specs.Shifts.{plain_zero};
 ghost use Rattle.fixed_decimal.specs.WholeNumbers.{IsWhole};
-ghost use Rattle.fixed_decimal.specs.SignedText.{sign_text, ReadsSigned, IsBeyondSigned, IsNoSignedText, StartsNoSign};
+ghost use Rattle.fixed_decimal.specs.SignedText.{sign_text, ReadsSigned, ReadsLongSigned, IsBeyondSigned, IsNoSignedText, StartsNoSign};
 
 use crate::sign::Sign;
 use crate::signed::Signed;
@@ -51,16 +52,22 @@ impl Signed<UnsignedDecimal> {
 
     /// The same number in a value of its own. Memory is taken where the number has more than eight digits.
     pub fn try_clone(&self) -> Result<Decimal, AllocError>
-        ensures { IfOk result (λ v. v ≡ self.now) }
+        ensures value { IfOk result (λ v. v ≡ self.now) }
+        ensures room { OnErr result (IsLong self.now.absolute.count) }
     {
         let absolute = self.absolute.try_clone()?;
         Ok(Decimal::new(self.sign, absolute))
     }
 
-    /// The number that a text spells, with its sign.
+    /// The number that a text spells, with its sign: `-12.30` is -12.3, shown from magnitude 1 down to -2.
+    ///
+    /// `Syntax` where the text spells no number (`5.`, `--5`), `Limit` where it spells one that passes
+    /// magnitudes -32768 to 32767 (`1e32768`), `Memory` where memory for its digits was refused; it is
+    /// taken where there are more than eight, from the first to the last one that is not zero.
     pub fn try_from_utf8(alloc: Global, code_units: &[u8]) -> Result<Decimal, ParseError>
         ensures syntax { IsErrOf result ParseError.Syntax → IsNoSignedText code_units.now }
         ensures limit { IsErrOf result ParseError.Limit → IsBeyondSigned code_units.now }
+        ensures memory { IsErrOf result ParseError.Memory → ReadsLongSigned code_units.now }
         ensures value { IfOk result (λ v. ReadsSigned code_units.now v) }
     {
         let (sign, rest) = split_sign(code_units);
@@ -70,10 +77,11 @@ impl Signed<UnsignedDecimal> {
         }
     }
 
-    /// The number that a text spells, with its sign.
+    /// The number that a text spells, and the refusals, as `try_from_utf8` has them of its bytes.
     pub fn try_from_str(alloc: Global, text: &str) -> Result<Decimal, ParseError>
         ensures syntax { IsErrOf result ParseError.Syntax → IsNoSignedText text.now }
         ensures limit { IsErrOf result ParseError.Limit → IsBeyondSigned text.now }
+        ensures memory { IsErrOf result ParseError.Memory → ReadsLongSigned text.now }
         ensures value { IfOk result (λ v. ReadsSigned text.now v) }
     {
         Decimal::try_from_utf8(alloc, text.as_bytes())

@@ -1,7 +1,8 @@
-ghost use Rattle.std.specs.Prelude.{◌≡◌, ◌<◌, ◌≤◌, length, IfOk, IsErrOf};
+ghost use Rattle.std.specs.Prelude.{◌≡◌, ◌<◌, ◌≤◌, length, IfOk, IsErrOf, IsOk, OnErr};
+ghost use Rattle.fixed_decimal_unsigned.specs.Range.{IsLong};
 ghost use Rattle.fixed_decimal.specs.IntegerText.{ShowsNoFraction, ReadsInteger, IsBeyondInteger};
-ghost use Rattle.fixed_decimal.specs.SignedText.{IsNoSignedText, signed_text_of};
-ghost use Rattle.fixed_decimal.specs.WholeNumbers.{IsWhole, IsSignedWhole};
+ghost use Rattle.fixed_decimal.specs.SignedText.{ReadsLongSigned, IsNoSignedText, signed_text_of};
+ghost use Rattle.fixed_decimal.specs.WholeNumbers.{IsWhole, IsSignedWhole, size_of};
 ghost use Rattle.std.specs.Cmp.Rules.{comparing};
 ghost use Rattle.std.proofs.Common.{rules};
 ghost use Rattle.fixed_decimal.specs.SignedEquality.{are_equal_decimals};
@@ -53,7 +54,8 @@ impl TryFrom<Decimal> for FixedInteger {
 
 // The whole number as an integer.
 fn from_signed(alloc: Global, integer: i128) -> Result<FixedInteger, AllocError>
-    ensures { IfOk result (λ v. IsSignedWhole integer v) }
+    ensures value { IfOk result (λ v. IsSignedWhole integer v) }
+    ensures room { OnErr result (IsLong (size_of integer)) }
 {
     let decimal = Decimal::from_i128(alloc, integer)?;
     Ok(FixedInteger { decimal })
@@ -61,9 +63,14 @@ fn from_signed(alloc: Global, integer: i128) -> Result<FixedInteger, AllocError>
 
 impl FixedInteger {
     /// The whole number that a text spells: `1e1` is `10`.
+    ///
+    /// `Syntax` where the text spells no decimal, `Limit` where it spells one beyond the limits or one
+    /// that shows a digit behind the point (`1.0`, `10e-1`), `Memory` where memory for its digits was
+    /// refused; it is taken where there are more than eight, from the first to the last one that is not zero.
     pub fn try_from_utf8(alloc: Global, code_units: &[u8]) -> Result<FixedInteger, ParseError>
         ensures syntax { IsErrOf result ParseError.Syntax → IsNoSignedText code_units.now }
         ensures limit { IsErrOf result ParseError.Limit → IsBeyondInteger code_units.now }
+        ensures memory { IsErrOf result ParseError.Memory → ReadsLongSigned code_units.now }
         ensures value { IfOk result (λ v. ReadsInteger code_units.now v) }
     {
         let decimal = match Decimal::try_from_utf8(alloc, code_units) {
@@ -76,10 +83,11 @@ impl FixedInteger {
         }
     }
 
-    /// The whole number that a text spells: `1e1` is `10`.
+    /// The whole number that a text spells, and the refusals, as `try_from_utf8` has them of its bytes.
     pub fn try_from_str(alloc: Global, text: &str) -> Result<FixedInteger, ParseError>
         ensures syntax { IsErrOf result ParseError.Syntax → IsNoSignedText text.now }
         ensures limit { IsErrOf result ParseError.Limit → IsBeyondInteger text.now }
+        ensures memory { IsErrOf result ParseError.Memory → ReadsLongSigned text.now }
         ensures value { IfOk result (λ v. ReadsInteger text.now v) }
     {
         FixedInteger::try_from_utf8(alloc, text.as_bytes())
@@ -103,98 +111,111 @@ impl FixedInteger {
 
     /// The same number in a value of its own. Memory is taken where the number has more than eight digits.
     pub fn try_clone(&self) -> Result<FixedInteger, AllocError>
-        ensures { IfOk result (λ v. v ≡ self.now) }
+        ensures value { IfOk result (λ v. v ≡ self.now) }
+        ensures room { OnErr result (IsLong self.now.absolute.count) }
     {
         let decimal = self.decimal.try_clone()?;
         Ok(FixedInteger { decimal })
     }
 
-    /// The whole number `integer`, without a sign: 250 is shown as `250`. Memory is taken where it has more than eight digits.
+    /// The whole number `integer`, without a sign: 250 is shown as `250`. It takes no memory.
     pub fn from_u8(alloc: Global, integer: u8) -> Result<FixedInteger, AllocError>
-        ensures { IfOk result (λ v. IsWhole integer v) }
+        ensures value { IfOk result (λ v. IsWhole integer v) }
+        ensures succeeds { IsOk result }
     {
         let decimal = Decimal::from_u8(alloc, integer)?;
         Ok(FixedInteger { decimal })
     }
 
-    /// The whole number `integer`, without a sign: 250 is shown as `250`. Memory is taken where it has more than eight digits.
+    /// The whole number `integer`, without a sign: 250 is shown as `250`. It takes no memory.
     pub fn from_u16(alloc: Global, integer: u16) -> Result<FixedInteger, AllocError>
-        ensures { IfOk result (λ v. IsWhole integer v) }
+        ensures value { IfOk result (λ v. IsWhole integer v) }
+        ensures succeeds { IsOk result }
     {
         let decimal = Decimal::from_u16(alloc, integer)?;
         Ok(FixedInteger { decimal })
     }
 
-    /// The whole number `integer`, without a sign: 250 is shown as `250`. Memory is taken where it has more than eight digits.
+    /// The whole number `integer`, without a sign: 250 is shown as `250`. Memory is taken where it has more than eight digits without the zeros at its end.
     pub fn from_u32(alloc: Global, integer: u32) -> Result<FixedInteger, AllocError>
-        ensures { IfOk result (λ v. IsWhole integer v) }
+        ensures value { IfOk result (λ v. IsWhole integer v) }
+        ensures room { OnErr result (IsLong integer) }
     {
         let decimal = Decimal::from_u32(alloc, integer)?;
         Ok(FixedInteger { decimal })
     }
 
-    /// The whole number `integer`, without a sign: 250 is shown as `250`. Memory is taken where it has more than eight digits.
+    /// The whole number `integer`, without a sign: 250 is shown as `250`. Memory is taken where it has more than eight digits without the zeros at its end.
     pub fn from_u64(alloc: Global, integer: u64) -> Result<FixedInteger, AllocError>
-        ensures { IfOk result (λ v. IsWhole integer v) }
+        ensures value { IfOk result (λ v. IsWhole integer v) }
+        ensures room { OnErr result (IsLong integer) }
     {
         let decimal = Decimal::from_u64(alloc, integer)?;
         Ok(FixedInteger { decimal })
     }
 
-    /// The whole number `integer`, without a sign: 250 is shown as `250`. Memory is taken where it has more than eight digits.
+    /// The whole number `integer`, without a sign: 250 is shown as `250`. Memory is taken where it has more than eight digits without the zeros at its end.
     pub fn from_usize(alloc: Global, integer: usize) -> Result<FixedInteger, AllocError>
-        ensures { IfOk result (λ v. IsWhole integer v) }
+        ensures value { IfOk result (λ v. IsWhole integer v) }
+        ensures room { OnErr result (IsLong integer) }
     {
         let decimal = Decimal::from_usize(alloc, integer)?;
         Ok(FixedInteger { decimal })
     }
 
-    /// The whole number `integer`, without a sign: 250 is shown as `250`. Memory is taken where it has more than eight digits.
+    /// The whole number `integer`, without a sign: 250 is shown as `250`. Memory is taken where it has more than eight digits without the zeros at its end.
     pub fn from_u128(alloc: Global, integer: u128) -> Result<FixedInteger, AllocError>
-        ensures { IfOk result (λ v. IsWhole integer v) }
+        ensures value { IfOk result (λ v. IsWhole integer v) }
+        ensures room { OnErr result (IsLong integer) }
     {
         let decimal = Decimal::from_u128(alloc, integer)?;
         Ok(FixedInteger { decimal })
     }
 
-    /// The whole number `integer`, with a minus below zero: -25 is shown as `-25`. Memory is taken where it has more than eight digits.
+    /// The whole number `integer`, with a minus below zero: -25 is shown as `-25`. It takes no memory.
     pub fn from_i8(alloc: Global, integer: i8) -> Result<FixedInteger, AllocError>
-        ensures { IfOk result (λ v. IsSignedWhole integer v) }
+        ensures value { IfOk result (λ v. IsSignedWhole integer v) }
+        ensures succeeds { IsOk result }
     {
         from_signed(alloc, integer as i128)
     }
 
-    /// The whole number `integer`, with a minus below zero: -25 is shown as `-25`. Memory is taken where it has more than eight digits.
+    /// The whole number `integer`, with a minus below zero: -25 is shown as `-25`. It takes no memory.
     pub fn from_i16(alloc: Global, integer: i16) -> Result<FixedInteger, AllocError>
-        ensures { IfOk result (λ v. IsSignedWhole integer v) }
+        ensures value { IfOk result (λ v. IsSignedWhole integer v) }
+        ensures succeeds { IsOk result }
     {
         from_signed(alloc, integer as i128)
     }
 
-    /// The whole number `integer`, with a minus below zero: -25 is shown as `-25`. Memory is taken where it has more than eight digits.
+    /// The whole number `integer`, with a minus below zero: -25 is shown as `-25`. Memory is taken where it has more than eight digits without the zeros at its end.
     pub fn from_i32(alloc: Global, integer: i32) -> Result<FixedInteger, AllocError>
-        ensures { IfOk result (λ v. IsSignedWhole integer v) }
+        ensures value { IfOk result (λ v. IsSignedWhole integer v) }
+        ensures room { OnErr result (IsLong (size_of integer)) }
     {
         from_signed(alloc, integer as i128)
     }
 
-    /// The whole number `integer`, with a minus below zero: -25 is shown as `-25`. Memory is taken where it has more than eight digits.
+    /// The whole number `integer`, with a minus below zero: -25 is shown as `-25`. Memory is taken where it has more than eight digits without the zeros at its end.
     pub fn from_i64(alloc: Global, integer: i64) -> Result<FixedInteger, AllocError>
-        ensures { IfOk result (λ v. IsSignedWhole integer v) }
+        ensures value { IfOk result (λ v. IsSignedWhole integer v) }
+        ensures room { OnErr result (IsLong (size_of integer)) }
     {
         from_signed(alloc, integer as i128)
     }
 
-    /// The whole number `integer`, with a minus below zero: -25 is shown as `-25`. Memory is taken where it has more than eight digits.
+    /// The whole number `integer`, with a minus below zero: -25 is shown as `-25`. Memory is taken where it has more than eight digits without the zeros at its end.
     pub fn from_isize(alloc: Global, integer: isize) -> Result<FixedInteger, AllocError>
-        ensures { IfOk result (λ v. IsSignedWhole integer v) }
+        ensures value { IfOk result (λ v. IsSignedWhole integer v) }
+        ensures room { OnErr result (IsLong (size_of integer)) }
     {
         from_signed(alloc, integer as i128)
     }
 
-    /// The whole number `integer`, with a minus below zero: -25 is shown as `-25`. Memory is taken where it has more than eight digits.
+    /// The whole number `integer`, with a minus below zero: -25 is shown as `-25`. Memory is taken where it has more than eight digits without the zeros at its end.
     pub fn from_i128(alloc: Global, integer: i128) -> Result<FixedInteger, AllocError>
-        ensures { IfOk result (λ v. IsSignedWhole integer v) }
+        ensures value { IfOk result (λ v. IsSignedWhole integer v) }
+        ensures room { OnErr result (IsLong (size_of integer)) }
     {
         from_signed(alloc, integer)
     }

@@ -1,4 +1,5 @@
-ghost use Rattle.std.specs.Prelude.{◌≡◌, IfOk, pos, ◌<ℤ◌, ◌↔◌, IsTrue};
+ghost use Rattle.std.specs.Prelude.{◌≡◌, IfOk, IsOk, OnErr, pos, ◌<ℤ◌, ◌↔◌, IsTrue};
+ghost use Rattle.fixed_decimal_unsigned.specs.Range.{IsLong};
 ghost use Rattle.fixed_decimal.specs.WholeNumbers.{IsWhole, IsSignedWhole, sign_of, size_of};
 
 use crate::decimal::Decimal;
@@ -27,7 +28,8 @@ fn size_without_sign(integer: i128) -> u128
 
 // The whole number as a decimal.
 fn from_signed(alloc: Global, integer: i128) -> Result<Decimal, AllocError>
-    ensures { IfOk result (λ v. IsSignedWhole integer v) }
+    ensures value { IfOk result (λ v. IsSignedWhole integer v) }
+    ensures room { OnErr result (IsLong (size_of integer)) }
 {
     let sign = sign_below(integer);
     let absolute = UnsignedDecimal::from_u128(alloc, size_without_sign(integer))?;
@@ -35,9 +37,10 @@ fn from_signed(alloc: Global, integer: i128) -> Result<Decimal, AllocError>
 }
 
 impl Signed<UnsignedDecimal> {
-    /// The whole number `integer`, without a sign: 250 is shown as `250`. Memory is taken where it has more than eight digits.
+    /// The whole number `integer`, without a sign: 250 is shown as `250`. It takes no memory.
     pub fn from_u8(alloc: Global, integer: u8) -> Result<Decimal, AllocError>
-        ensures { IfOk result (λ v. IsWhole integer v) }
+        ensures value { IfOk result (λ v. IsWhole integer v) }
+        ensures succeeds { IsOk result }
     {
         let absolute = UnsignedDecimal::from_u8(alloc, integer)?;
         Ok(Signed {
@@ -46,9 +49,10 @@ impl Signed<UnsignedDecimal> {
         })
     }
 
-    /// The whole number `integer`, without a sign: 250 is shown as `250`. Memory is taken where it has more than eight digits.
+    /// The whole number `integer`, without a sign: 250 is shown as `250`. It takes no memory.
     pub fn from_u16(alloc: Global, integer: u16) -> Result<Decimal, AllocError>
-        ensures { IfOk result (λ v. IsWhole integer v) }
+        ensures value { IfOk result (λ v. IsWhole integer v) }
+        ensures succeeds { IsOk result }
     {
         let absolute = UnsignedDecimal::from_u16(alloc, integer)?;
         Ok(Signed {
@@ -57,9 +61,10 @@ impl Signed<UnsignedDecimal> {
         })
     }
 
-    /// The whole number `integer`, without a sign: 250 is shown as `250`. Memory is taken where it has more than eight digits.
+    /// The whole number `integer`, without a sign: 250 is shown as `250`. Memory is taken where it has more than eight digits without the zeros at its end.
     pub fn from_u32(alloc: Global, integer: u32) -> Result<Decimal, AllocError>
-        ensures { IfOk result (λ v. IsWhole integer v) }
+        ensures value { IfOk result (λ v. IsWhole integer v) }
+        ensures room { OnErr result (IsLong integer) }
     {
         let absolute = UnsignedDecimal::from_u32(alloc, integer)?;
         Ok(Signed {
@@ -68,9 +73,10 @@ impl Signed<UnsignedDecimal> {
         })
     }
 
-    /// The whole number `integer`, without a sign: 250 is shown as `250`. Memory is taken where it has more than eight digits.
+    /// The whole number `integer`, without a sign: 250 is shown as `250`. Memory is taken where it has more than eight digits without the zeros at its end.
     pub fn from_u64(alloc: Global, integer: u64) -> Result<Decimal, AllocError>
-        ensures { IfOk result (λ v. IsWhole integer v) }
+        ensures value { IfOk result (λ v. IsWhole integer v) }
+        ensures room { OnErr result (IsLong integer) }
     {
         let absolute = UnsignedDecimal::from_u64(alloc, integer)?;
         Ok(Signed {
@@ -79,9 +85,10 @@ impl Signed<UnsignedDecimal> {
         })
     }
 
-    /// The whole number `integer`, without a sign: 250 is shown as `250`. Memory is taken where it has more than eight digits.
+    /// The whole number `integer`, without a sign: 250 is shown as `250`. Memory is taken where it has more than eight digits without the zeros at its end.
     pub fn from_usize(alloc: Global, integer: usize) -> Result<Decimal, AllocError>
-        ensures { IfOk result (λ v. IsWhole integer v) }
+        ensures value { IfOk result (λ v. IsWhole integer v) }
+        ensures room { OnErr result (IsLong integer) }
     {
         let absolute = UnsignedDecimal::from_usize(alloc, integer)?;
         Ok(Signed {
@@ -90,9 +97,10 @@ impl Signed<UnsignedDecimal> {
         })
     }
 
-    /// The whole number `integer`, without a sign: 250 is shown as `250`. Memory is taken where it has more than eight digits.
+    /// The whole number `integer`, without a sign: 250 is shown as `250`. Memory is taken where it has more than eight digits without the zeros at its end.
     pub fn from_u128(alloc: Global, integer: u128) -> Result<Decimal, AllocError>
-        ensures { IfOk result (λ v. IsWhole integer v) }
+        ensures value { IfOk result (λ v. IsWhole integer v) }
+        ensures room { OnErr result (IsLong integer) }
     {
         let absolute = UnsignedDecimal::from_u128(alloc, integer)?;
         Ok(Signed {
@@ -101,44 +109,50 @@ impl Signed<UnsignedDecimal> {
         })
     }
 
-    /// The whole number `integer`, with a minus below zero: -25 is shown as `-25`. Memory is taken where it has more than eight digits.
+    /// The whole number `integer`, with a minus below zero: -25 is shown as `-25`. It takes no memory.
     pub fn from_i8(alloc: Global, integer: i8) -> Result<Decimal, AllocError>
-        ensures { IfOk result (λ v. IsSignedWhole integer v) }
+        ensures value { IfOk result (λ v. IsSignedWhole integer v) }
+        ensures succeeds { IsOk result }
     {
         from_signed(alloc, integer as i128)
     }
 
-    /// The whole number `integer`, with a minus below zero: -25 is shown as `-25`. Memory is taken where it has more than eight digits.
+    /// The whole number `integer`, with a minus below zero: -25 is shown as `-25`. It takes no memory.
     pub fn from_i16(alloc: Global, integer: i16) -> Result<Decimal, AllocError>
-        ensures { IfOk result (λ v. IsSignedWhole integer v) }
+        ensures value { IfOk result (λ v. IsSignedWhole integer v) }
+        ensures succeeds { IsOk result }
     {
         from_signed(alloc, integer as i128)
     }
 
-    /// The whole number `integer`, with a minus below zero: -25 is shown as `-25`. Memory is taken where it has more than eight digits.
+    /// The whole number `integer`, with a minus below zero: -25 is shown as `-25`. Memory is taken where it has more than eight digits without the zeros at its end.
     pub fn from_i32(alloc: Global, integer: i32) -> Result<Decimal, AllocError>
-        ensures { IfOk result (λ v. IsSignedWhole integer v) }
+        ensures value { IfOk result (λ v. IsSignedWhole integer v) }
+        ensures room { OnErr result (IsLong (size_of integer)) }
     {
         from_signed(alloc, integer as i128)
     }
 
-    /// The whole number `integer`, with a minus below zero: -25 is shown as `-25`. Memory is taken where it has more than eight digits.
+    /// The whole number `integer`, with a minus below zero: -25 is shown as `-25`. Memory is taken where it has more than eight digits without the zeros at its end.
     pub fn from_i64(alloc: Global, integer: i64) -> Result<Decimal, AllocError>
-        ensures { IfOk result (λ v. IsSignedWhole integer v) }
+        ensures value { IfOk result (λ v. IsSignedWhole integer v) }
+        ensures room { OnErr result (IsLong (size_of integer)) }
     {
         from_signed(alloc, integer as i128)
     }
 
-    /// The whole number `integer`, with a minus below zero: -25 is shown as `-25`. Memory is taken where it has more than eight digits.
+    /// The whole number `integer`, with a minus below zero: -25 is shown as `-25`. Memory is taken where it has more than eight digits without the zeros at its end.
     pub fn from_isize(alloc: Global, integer: isize) -> Result<Decimal, AllocError>
-        ensures { IfOk result (λ v. IsSignedWhole integer v) }
+        ensures value { IfOk result (λ v. IsSignedWhole integer v) }
+        ensures room { OnErr result (IsLong (size_of integer)) }
     {
         from_signed(alloc, integer as i128)
     }
 
-    /// The whole number `integer`, with a minus below zero: -25 is shown as `-25`. Memory is taken where it has more than eight digits.
+    /// The whole number `integer`, with a minus below zero: -25 is shown as `-25`. Memory is taken where it has more than eight digits without the zeros at its end.
     pub fn from_i128(alloc: Global, integer: i128) -> Result<Decimal, AllocError>
-        ensures { IfOk result (λ v. IsSignedWhole integer v) }
+        ensures value { IfOk result (λ v. IsSignedWhole integer v) }
+        ensures room { OnErr result (IsLong (size_of integer)) }
     {
         from_signed(alloc, integer)
     }

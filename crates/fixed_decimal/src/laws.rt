@@ -1,4 +1,5 @@
 //! Laws on texts and numbers. No call is made: each clause is the law.
+ghost use Rattle.fixed_decimal.specs.Calls.{RunsHaveOneEnd};
 ghost use Rattle.fixed_decimal.specs.SignedOrder.{SignedModesGoByOrder};
 ghost use Rattle.fixed_decimal.specs.TextLaws.{DecimalTextsReadOnce, IntegerTextsReadOnce, CompactTextsReadOnce, ScientificTextsReadOnce, PrintedDecimalsReadBack, PrintedIntegersReadBack, PrintedCompactsReadBack, PrintedScientificsReadBack, DecimalEqualityIsThatOfTexts, CompactEqualityIsThatOfTexts, ScientificEqualityIsThatOfTexts};
 
@@ -62,4 +63,9 @@ pub fn scientific_equality_is_that_of_texts()
 /// tie upwards and downwards.
 pub fn signed_modes_go_by_order()
     ensures { SignedModesGoByOrder }
+{}
+
+/// A text and a list of calls lead to one decimal, so `run_calls` writes one text.
+pub fn runs_have_one_end()
+    ensures { RunsHaveOneEnd }
 {}

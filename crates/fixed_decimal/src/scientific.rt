@@ -1,9 +1,10 @@
-ghost use Rattle.std.specs.Prelude.{◌≡◌, ◌++◌, codes, false, is_err, length, IfOk, IfSome, IfNone, IsErrOf, OnOk, OnErr};
+ghost use Rattle.std.specs.Prelude.{◌≡◌, ◌⊎◌, ◌++◌, codes, false, is_err, length, IfOk, IfSome, IfNone, IsErrOf, OnOk, OnErr};
 ghost use Rattle.writeable.specs.AnnotatedText.{bytes};
 ghost use Rattle.writeable.specs.Taking.{HasBegun};
+ghost use Rattle.fixed_decimal_unsigned.specs.Range.{IsLong};
 ghost use Rattle.fixed_decimal_unsigned.specs.declared.ParseError.{ParseError};
 ghost use Rattle.fixed_decimal.specs.PlainParts.{IsNotScientific, without_limit};
-ghost use Rattle.fixed_decimal.specs.ScientificText.{SpellsScientific, ReadsScientific, IsNoScientificText, scientific_text_of};
+ghost use Rattle.fixed_decimal.specs.ScientificText.{SpellsScientific, ReadsScientific, ReadsLongScientific, IsNoScientificText, scientific_text_of};
 ghost use Rattle.fixed_decimal.specs.SignedText.{signed_text_of};
 ghost use Rattle.std.specs.Cmp.Rules.{comparing};
 ghost use Rattle.std.proofs.Common.{rules};
@@ -78,9 +79,14 @@ impl ScientificDecimal {
     }
 
     /// The number that a text spells, with its exponent: 1.2 and -6 of `1.2e-6`.
+    ///
+    /// `Syntax` where the text has no `e`, another mark beside it, or a side that does not read, be it
+    /// beyond its limits (`1.2`, `1E3`, `1e2e3`, `1e0.5`); never `Limit`. `Memory` where memory for digits
+    /// was refused; it is taken where a side has more than eight.
     pub fn try_from_utf8(alloc: Global, code_units: &[u8]) -> Result<ScientificDecimal, ParseError>
         ensures syntax { IsErrOf result ParseError.Syntax → IsNoScientificText code_units.now }
         ensures limit { ¬ (IsErrOf result ParseError.Limit) }
+        ensures memory { IsErrOf result ParseError.Memory → ReadsLongScientific code_units.now }
         ensures value { IfOk result (λ v. ReadsScientific code_units.now v) }
     {
         let Some((left, right)) = split_scientific(code_units) else {
@@ -99,10 +105,11 @@ impl ScientificDecimal {
         }
     }
 
-    /// The number that a text spells, with its exponent: 1.2 and -6 of `1.2e-6`.
+    /// The number that a text spells, and the refusals, as `try_from_utf8` has them of its bytes.
     pub fn try_from_str(alloc: Global, text: &str) -> Result<ScientificDecimal, ParseError>
         ensures syntax { IsErrOf result ParseError.Syntax → IsNoScientificText text.now }
         ensures limit { ¬ (IsErrOf result ParseError.Limit) }
+        ensures memory { IsErrOf result ParseError.Memory → ReadsLongScientific text.now }
         ensures value { IfOk result (λ v. ReadsScientific text.now v) }
     {
         ScientificDecimal::try_from_utf8(alloc, text.as_bytes())
@@ -110,7 +117,8 @@ impl ScientificDecimal {
 
     /// The same number in a value of its own. Memory is taken where a part of it has more than eight digits.
     pub fn try_clone(&self) -> Result<ScientificDecimal, AllocError>
-        ensures { IfOk result (λ v. v ≡ self.now) }
+        ensures value { IfOk result (λ v. v ≡ self.now) }
+        ensures room { OnErr result (IsLong self.now.significand.absolute.count ⊎ IsLong self.now.exponent.absolute.count) }
     {
         let significand = self.significand.try_clone()?;
         let exponent = self.exponent.try_clone()?;
