@@ -15,6 +15,8 @@ use tinystr::TinyAsciiStr;
 pub struct AttributeRule;
 
 /// An attribute: 3 to 8 letters and digits, in lower case. `Foo` reads as `foo`; other texts are `InvalidExtension`.
+///
+/// Source: UTS 35, section 3.2, `attribute`.
 pub type Attribute = SubtagOf<AttributeRule, 8>;
 
 impl SubtagRule<8> for AttributeRule {

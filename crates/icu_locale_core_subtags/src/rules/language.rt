@@ -16,6 +16,8 @@ use tinystr::TinyAsciiStr;
 pub struct LanguageRule;
 
 /// A language: 2 or 3 letters, in lower case. `EN` reads as `en`; other texts are `InvalidLanguage`.
+///
+/// Source: UTS 35, section 3.2, `unicode_language_subtag` (longer ones are left out).
 pub type Language = SubtagOf<LanguageRule, 3>;
 
 impl SubtagRule<3> for LanguageRule {

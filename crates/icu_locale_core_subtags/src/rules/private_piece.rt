@@ -15,6 +15,8 @@ use tinystr::TinyAsciiStr;
 pub struct PieceRule;
 
 /// A private piece: 1 to 8 letters and digits, in lower case. `A1` reads as `a1`; other texts are `InvalidExtension`.
+///
+/// Source: UTS 35, section 3.2, `pu_extensions`.
 pub type Subtag = SubtagOf<PieceRule, 8>;
 
 impl SubtagRule<8> for PieceRule {

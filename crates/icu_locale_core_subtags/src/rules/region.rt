@@ -17,6 +17,8 @@ use tinystr::TinyAsciiStr;
 pub struct RegionRule;
 
 /// A region: 2 letters or 3 digits, in upper case. `us` reads as `US`; other texts are `InvalidSubtag`.
+///
+/// Source: UTS 35, section 3.2, `unicode_region_subtag`.
 pub type Region = SubtagOf<RegionRule, 3>;
 
 impl SubtagRule<3> for RegionRule {

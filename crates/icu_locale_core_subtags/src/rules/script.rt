@@ -15,6 +15,8 @@ use tinystr::TinyAsciiStr;
 pub struct ScriptRule;
 
 /// A script: 4 letters, in title case. `latn` reads as `Latn`; other texts are `InvalidSubtag`.
+///
+/// Source: UTS 35, section 3.2, `unicode_script_subtag`.
 pub type Script = SubtagOf<ScriptRule, 4>;
 
 impl SubtagRule<4> for ScriptRule {

@@ -17,6 +17,8 @@ pub struct SubdivisionSuffixRule;
 
 /// The suffix of a subdivision: 1 to 4 letters and digits, in lower case. `ENG` reads as `eng`; other texts are
 /// `InvalidExtension`.
+///
+/// Source: UTS 35, section 3.6, `unicode_subdivision_suffix`.
 pub type SubdivisionSuffix = SubtagOf<SubdivisionSuffixRule, 4>;
 
 impl SubtagRule<4> for SubdivisionSuffixRule {

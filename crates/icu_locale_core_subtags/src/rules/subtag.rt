@@ -17,6 +17,8 @@ use tinystr::TinyAsciiStr;
 pub struct WordRule;
 
 /// A subtag of any kind: 2 to 8 letters and digits, in lower case. `Foo` reads as `foo`; other texts are `InvalidSubtag`.
+///
+/// Source: UTS 35, section 3.2, `other_extensions`.
 pub type Subtag = SubtagOf<WordRule, 8>;
 
 impl SubtagRule<8> for WordRule {

@@ -14,6 +14,8 @@ use tinystr::TinyAsciiStr;
 pub struct KeyRule;
 
 /// The key of a field: a letter and a digit, in lower case. `H0` reads as `h0`; other texts are `InvalidExtension`.
+///
+/// Source: UTS 35, section 3.2, `tkey`.
 pub type Key = SubtagOf<KeyRule, 2>;
 
 impl SubtagRule<2> for KeyRule {

@@ -14,6 +14,8 @@ use tinystr::TinyAsciiStr;
 pub struct KeyRule;
 
 /// The key of a keyword: a letter or digit, and a letter, in lower case. `NU` reads as `nu`; other texts are `InvalidExtension`.
+///
+/// Source: UTS 35, section 3.2, `key`.
 pub type Key = SubtagOf<KeyRule, 2>;
 
 impl SubtagRule<2> for KeyRule {

@@ -16,6 +16,8 @@ pub struct VariantRule;
 
 /// A variant: 5 to 8 letters and digits, or 4 of which the first is a digit, in lower case. `1996` and `Valencia` read;
 /// other texts are `InvalidSubtag`.
+///
+/// Source: UTS 35, section 3.2, `unicode_variant_subtag`.
 pub type Variant = SubtagOf<VariantRule, 8>;
 
 impl SubtagRule<8> for VariantRule {
