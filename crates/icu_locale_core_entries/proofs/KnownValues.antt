@@ -1,7 +1,6 @@
 -- The definitions at known keywords, fields and values.
-use Rattle.std.proofs.Common.{◌≡◌, true, false, List, [], ◌∷◌, None, Some, codes, refl}
+use Rattle.std.proofs.Common.{◌≡◌, true, false, [], ◌∷◌, None, Some, codes, refl}
 use Rattle.std.specs.declared.cmp.Ordering.TheVariants.{Less, Greater}
-use Rattle.icu_locale_core_grammar.specs.Subtags.{Text}
 use Rattle.icu_locale_core_grammar.specs.Collections.{Entry}
 use Rattle.icu_locale_core_entries.specs.EntryChanges.{set_entry, without_key, joined_maps}
 use Rattle.icu_locale_core_entries.specs.EntryText.{value_text, entries_text, hyphened_entries}
