@@ -9,3 +9,4 @@ pub mod CopyLemmas
 pub mod ValueLemmas
 pub mod LawLemmas
 pub mod WellFormedLemmas
+pub mod KnownValues
