@@ -3,3 +3,4 @@ pub mod BodyView
 pub mod OtherSingleton
 pub mod Others
 pub mod ExtensionText
+pub mod SameExtension

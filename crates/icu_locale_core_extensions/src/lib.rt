@@ -13,6 +13,8 @@
 mod blocks;
 mod blocks_writing;
 mod body;
+mod comparing;
+mod extension_type;
 mod head;
 mod opening;
 mod other;
@@ -26,6 +28,7 @@ mod unicode_writing;
 pub use crate::blocks::Blocks;
 pub use crate::blocks_writing::{extensions_length, write_extensions};
 pub use crate::body::{BodyStage, Part, body_after, body_finish, opened_body};
+pub use crate::extension_type::ExtensionType;
 pub use crate::other::Other;
 pub use crate::transform::Transform;
 pub use crate::unicode::Unicode;

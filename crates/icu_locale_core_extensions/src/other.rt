@@ -1,14 +1,18 @@
 //! Extensions that have no rule of their own.
 
 ghost use Rattle.std.specs.Prelude.{◌≡◌, ℕ, ◌==◌, List, [], ◌∷◌, ◌++◌, length, take, drop, IfOk, IfErr, OnOk, OnErr, MatchOption};
+ghost use Rattle.std.specs.Iterator.Adapters.{IterYieldsInOrder};
+ghost use Rattle.std.specs.Slice.Iter.{iter_rest};
 ghost use Rattle.icu_locale_core_grammar.specs.Collections.{put_first};
 ghost use Rattle.icu_locale_core_grammar.specs.PartReaders.{ReadsOther};
 ghost use Rattle.icu_locale_core_grammar.specs.TagStages.{other_after as pieces_after};
 ghost use Rattle.icu_locale_core_grammar.specs.Meaning.{MeansOther};
 ghost use Rattle.icu_locale_core_entries.specs.Steps.{IsStep};
 ghost use Rattle.icu_locale_core_sets.specs.Reading.{IsRefused};
+ghost use Rattle.icu_locale_core_extensions.specs.declared.extension_type.ExtensionType.{ExtensionType};
 ghost use Rattle.icu_locale_core_extensions.specs.Others.{IsPlaceOf, IsThere, KeepsSingleton};
 
+use crate::extension_type::ExtensionType;
 use crate::opening::other_behind;
 use crate::singleton::OtherSingleton;
 use icu_locale_core_entries::Step;
@@ -18,6 +22,7 @@ use icu_locale_core_subtags::{Subtag, SubtagIterator};
 use std::alloc::{AllocError, Global};
 use std::cmp::Ordering;
 use std::marker::Model;
+use std::slice;
 
 /// An extension that is neither `u`, `t` nor `x`: its singleton and its pieces, `a-foo-bar`.
 ///
@@ -65,13 +70,39 @@ impl Other {
         self.singleton.as_str()
     }
 
-    /// The singleton as a byte, in lower case: the byte of `a`.
-    #[tactic(auto, using(crate::proofs::SingletonByteLemmas::only_byte))]
+    /// The singleton as a byte, in lower case: `b'a'`.
     pub fn get_ext_byte(&self) -> u8
-        ensures { result ∷ [] ≡ self.now.0 }
+        ensures { self.now.0 ≡ result ∷ [] }
     {
         subtags_are_words(&self.singleton);
         self.singleton.as_str().as_bytes()[0]
+    }
+
+    /// The type of the extension: `Other` of its singleton.
+    pub fn get_ext(&self) -> ExtensionType
+        ensures { (singleton : ℕ) → self.now.0 ≡ singleton ∷ [] → result ≡ ExtensionType.Other singleton }
+    {
+        ExtensionType::Other(self.get_ext_byte())
+    }
+
+    /// The pieces one after another.
+    pub fn iter(&self) -> slice::Iter<'_, Subtag>
+        ensures rest { iter_rest result ≡ self.now.1 }
+        ensures len { length (iter_rest result) ≡ length self.now.1 }
+        ensures runs { IterYieldsInOrder (List ℕ) }
+    {
+        self.subtags.as_slice().iter()
+    }
+
+    /// An equal extension. `AllocError` is answered for memory alone.
+    pub fn try_clone(&self) -> Result<Self, AllocError>
+        ensures { IfOk result (λ other. other ≡ self.now) }
+    {
+        let subtags = self.subtags.clone()?;
+        Ok(Other {
+            singleton: self.singleton,
+            subtags,
+        })
     }
 
     /// The pieces: `foo`, `bar` of `a-foo-bar`.

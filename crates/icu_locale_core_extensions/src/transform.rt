@@ -14,7 +14,7 @@ use icu_locale_core_grammar::ParseError;
 use icu_locale_core_langid::LanguageIdentifier;
 use icu_locale_core_subtags::SubtagIterator;
 use icu_locale_core_subtags::transform::KeyRule;
-use std::alloc::Global;
+use std::alloc::{AllocError, Global};
 use std::marker::Model;
 
 /// A language part or none, and fields: `t-de-latn-m0-true`. Source: UTS 35, section 3.7.
@@ -54,6 +54,18 @@ fn read_body(alloc: Global, body: SubtagIterator<'_>) -> Result<Transform, Parse
     }
 }
 
+// An equal language part, or none.
+fn cloned_language(
+    lang: &Option<LanguageIdentifier>,
+) -> Result<Option<LanguageIdentifier>, AllocError>
+    ensures { IfOk result (λ cloned. cloned ≡ lang.now) }
+{
+    match lang {
+        Some(lang) => Ok(Some(lang.try_clone()?)),
+        None => Ok(None),
+    }
+}
+
 impl Transform {
     /// No language part and no field. It takes no memory.
     pub fn new(alloc: Global) -> Self
@@ -70,6 +82,23 @@ impl Transform {
         ensures { result ≡ is_empty_transform self.now }
     {
         self.lang.is_none() && self.fields.is_empty()
+    }
+
+    /// Takes the language part and all fields away.
+    pub fn clear(&mut self)
+        ensures { self.new ≡ no_transform }
+    {
+        self.lang = None;
+        self.fields.clear();
+    }
+
+    /// An equal extension. `AllocError` is answered for memory alone.
+    pub fn try_clone(&self) -> Result<Self, AllocError>
+        ensures { IfOk result (λ transform. transform ≡ self.now) }
+    {
+        let lang = cloned_language(&self.lang)?;
+        let fields = self.fields.try_clone()?;
+        Ok(Transform { lang, fields })
     }
 
     /// The extension in this text, with its singleton: `t-DE-m0-true` has the language part `de` and the field `m0` without a value.

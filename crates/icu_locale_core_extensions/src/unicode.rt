@@ -1,7 +1,9 @@
 //! The extension `u`.
 
-ghost use Rattle.std.specs.Prelude.{◌≡◌, [], ◌∷◌, IfOk, IfErr};
+ghost use Rattle.std.specs.Prelude.{◌≡◌, [], ◌∷◌, ◌++◌, IfOk, IfErr, OnOk, OnErr};
 ghost use Rattle.icu_locale_core_grammar.specs.Meaning.{MeansUnicode, no_unicode};
+ghost use Rattle.icu_locale_core_grammar.specs.Collections.{set_of};
+ghost use Rattle.icu_locale_core_entries.specs.EntryChanges.{joined_maps};
 ghost use Rattle.icu_locale_core_grammar.specs.PartReaders.{ReadsUnicode};
 ghost use Rattle.icu_locale_core_sets.specs.Reading.{IsRefused};
 ghost use Rattle.icu_locale_core_extensions.specs.ExtensionText.{is_empty_unicode};
@@ -14,7 +16,7 @@ use icu_locale_core_grammar::ParseError;
 use icu_locale_core_sets::Attributes;
 use icu_locale_core_subtags::SubtagIterator;
 use icu_locale_core_subtags::unicode::KeyRule;
-use std::alloc::Global;
+use std::alloc::{AllocError, Global};
 use std::marker::Model;
 
 /// Attributes and keywords: `u-foo-nu-thai`. Source: UTS 35, section 3.6.
@@ -73,6 +75,42 @@ impl Unicode {
         ensures { result ≡ is_empty_unicode self.now }
     {
         self.attributes.is_empty() && self.keywords.is_empty()
+    }
+
+    /// Takes all attributes and keywords away.
+    pub fn clear(&mut self)
+        ensures { self.new ≡ no_unicode }
+    {
+        self.keywords.clear();
+        self.attributes.clear();
+    }
+
+    /// An equal extension. `AllocError` is answered for memory alone.
+    pub fn try_clone(&self) -> Result<Self, AllocError>
+        ensures { IfOk result (λ unicode. unicode ≡ self.now) }
+    {
+        let keywords = self.keywords.try_clone()?;
+        let attributes = self.attributes.try_clone()?;
+        Ok(Unicode {
+            keywords,
+            attributes,
+        })
+    }
+
+    /// Puts the attributes and keywords of the other extension into this one; of equal keys the other's value stands.
+    ///
+    /// `u-foo-nu-thai` with `u-bar-nu-latn` becomes `u-bar-foo-nu-latn`. `AllocError` is answered for memory alone, and leaves
+    /// the extension.
+    pub fn extend(&mut self, other: Unicode) -> Result<(), AllocError>
+        ensures attributes { OnOk result (self.new.head ≡ set_of (self.old.head ++ other.head)) }
+        ensures keywords { OnOk result (self.new.entries ≡ joined_maps other.entries self.old.entries) }
+        ensures err { OnErr result (self.new ≡ self.old) }
+    {
+        let mut attributes = self.attributes.try_clone()?;
+        attributes.extend_from_attributes(other.attributes)?;
+        self.keywords.extend_from_keywords(other.keywords)?;
+        self.attributes = attributes;
+        Ok(())
     }
 
     /// The extension in this text, with its singleton: `u-FOO-nu-thai` has the attribute `foo` and `nu` with `thai`.

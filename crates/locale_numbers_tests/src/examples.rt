@@ -1,7 +1,7 @@
 //! The examples that the docs of the public calls give, one test a call.
 use locale_numbers::{
-    Book, BookError, ProgramFault, RunError, SAMPLE_BOOK, Tracked, Words, answer, program, read_words,
-    run,
+    Book, BookError, ProgramFault, RunError, SAMPLE_BOOK, Tracked, Words, answer, program,
+    read_words, run,
 };
 use std::test::Fail;
 

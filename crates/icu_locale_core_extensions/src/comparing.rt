@@ -1,0 +1,132 @@
+//! Equality, hash and order of extensions.
+
+ghost use Rattle.std.specs.Prelude.{◌≡◌};
+ghost use Rattle.std.specs.Cmp.{partial_equiv_from_equiv};
+ghost use Rattle.std.specs.Option.{option_cmp};
+ghost use Rattle.icu_locale_core_grammar.specs.TagOrder.{language_cmp, unicode_cmp, transform_cmp, entry_cmp};
+ghost use Rattle.icu_locale_core_extensions.specs.SameExtension.{same_unicode, same_transform, same_other, unicode_fed, transform_fed, other_fed, unicode_equiv, transform_equiv, other_equiv, unicode_alike, transform_alike, other_alike};
+
+use crate::other::Other;
+use crate::transform::Transform;
+use crate::unicode::Unicode;
+use icu_locale_core_langid::LanguageIdentifier;
+use std::cmp::Ordering;
+use std::hash::{Hash, Hasher};
+
+impl PartialEq for Unicode {
+    ghost eq = { same_unicode };
+
+    ghost laws = { partial_equiv_from_equiv unicode_equiv };
+
+    fn eq(&self, other: &Self) -> bool {
+        self.attributes == other.attributes && self.keywords == other.keywords
+    }
+}
+
+impl Eq for Unicode {
+    ghost laws = { unicode_equiv };
+}
+
+impl Hash for Unicode {
+    ghost hash_input = { unicode_fed };
+
+    ghost respects_eq = { unicode_alike };
+
+    fn hash<H: Hasher>(&self, state: &mut H) {
+        self.attributes.hash(state);
+        self.keywords.hash(state);
+    }
+}
+
+impl Unicode {
+    /// The order of two extensions: the attributes, then the keywords; `Equal` exactly where they are equal.
+    pub fn total_cmp(&self, other: &Self) -> Ordering
+        ensures { result ≡ unicode_cmp self.now other.now }
+    {
+        self.attributes
+            .cmp(&other.attributes)
+            .then(self.keywords.cmp(&other.keywords))
+    }
+}
+
+// The order of two language parts: none comes before some.
+fn language_order(one: &Option<LanguageIdentifier>, other: &Option<LanguageIdentifier>) -> Ordering
+    ensures { result ≡ option_cmp language_cmp one.now other.now }
+{
+    match (one, other) {
+        (None, None) => Ordering::Equal,
+        (None, Some(_)) => Ordering::Less,
+        (Some(_), None) => Ordering::Greater,
+        (Some(one), Some(other)) => one.total_cmp(other),
+    }
+}
+
+impl PartialEq for Transform {
+    ghost eq = { same_transform };
+
+    ghost laws = { partial_equiv_from_equiv transform_equiv };
+
+    fn eq(&self, other: &Self) -> bool {
+        self.lang == other.lang && self.fields == other.fields
+    }
+}
+
+impl Eq for Transform {
+    ghost laws = { transform_equiv };
+}
+
+impl Hash for Transform {
+    ghost hash_input = { transform_fed };
+
+    ghost respects_eq = { transform_alike };
+
+    fn hash<H: Hasher>(&self, state: &mut H) {
+        self.lang.hash(state);
+        self.fields.hash(state);
+    }
+}
+
+impl Transform {
+    /// The order of two extensions: the language part, then the fields; `Equal` exactly where they are equal.
+    pub fn total_cmp(&self, other: &Self) -> Ordering
+        ensures { result ≡ transform_cmp self.now other.now }
+    {
+        language_order(&self.lang, &other.lang).then(self.fields.cmp(&other.fields))
+    }
+}
+
+impl PartialEq for Other {
+    ghost eq = { same_other };
+
+    ghost laws = { partial_equiv_from_equiv other_equiv };
+
+    fn eq(&self, other: &Self) -> bool {
+        self.get_ext_str() == other.get_ext_str() && self.as_slice() == other.as_slice()
+    }
+}
+
+impl Eq for Other {
+    ghost laws = { other_equiv };
+}
+
+impl Hash for Other {
+    ghost hash_input = { other_fed };
+
+    ghost respects_eq = { other_alike };
+
+    fn hash<H: Hasher>(&self, state: &mut H) {
+        self.get_ext_str().hash(state);
+        self.as_slice().hash(state);
+    }
+}
+
+impl Other {
+    /// The order of two extensions: the singleton, then the pieces; `Equal` exactly where they are equal.
+    pub fn total_cmp(&self, other: &Self) -> Ordering
+        ensures { result ≡ entry_cmp self.now other.now }
+    {
+        self.get_ext_str()
+            .cmp(other.get_ext_str())
+            .then(self.as_slice().cmp(other.as_slice()))
+    }
+}

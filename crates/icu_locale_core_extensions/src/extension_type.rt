@@ -1,0 +1,14 @@
+//! The types of extensions, by their singletons.
+
+/// The type of an extension: the one that its singleton stands for. Source: UTS 35, section 3.2, and RFC 5646, section 2.2.6.
+#[derive(Clone, Copy)]
+pub enum ExtensionType {
+    /// The singleton `t`.
+    Transform,
+    /// The singleton `u`.
+    Unicode,
+    /// The singleton `x`.
+    Private,
+    /// Any other singleton, as a byte in lower case.
+    Other(u8),
+}
