@@ -20,7 +20,15 @@ fn attributes_are_a_set(rt: HostRuntime) -> Result<(), Fail> {
 
 #[test]
 fn other_texts_are_no_attributes(rt: HostRuntime) -> Result<(), Fail> {
-    for text in ["-", "fo", "foobar123", "foo-", "foo--bar", "foo-b_r", "u-foo"] {
+    for text in [
+        "-",
+        "fo",
+        "foobar123",
+        "foo-",
+        "foo--bar",
+        "foo-b_r",
+        "u-foo",
+    ] {
         assert_eq!(rt; attributes(rt.alloc(), text)?.err(), Some(3), "{text}");
     }
     Ok(())
@@ -37,7 +45,11 @@ fn joined_attributes_have_both(rt: HostRuntime) -> Result<(), Fail> {
         let mut set = Attributes::try_from_str(rt.alloc(), text)?;
         let more = Attributes::try_from_utf8(rt.alloc(), other.as_bytes())?;
         set.extend_from_attributes(more)?;
-        assert_eq!(rt; shown(rt.alloc(), set.as_slice())?.as_str(), want, "{text}, {other}");
+        assert_eq!(rt;
+            shown(rt.alloc(), set.as_slice())?.as_str(),
+            want,
+            "{text}, {other}"
+        );
     }
     Ok(())
 }

@@ -34,7 +34,10 @@ fn a_push_says_whether_the_set_changed(rt: HostRuntime) -> Result<(), Fail> {
         assert_eq!(rt; set.push(Variant::try_from_str(text)?)?, changed, "{text}");
         assert_eq!(rt; set.len(), len, "{text}");
     }
-    assert_eq!(rt; shown(rt.alloc(), set.as_slice())?.as_str(), "-1996-fonipa-scouse-valencia");
+    assert_eq!(rt;
+        shown(rt.alloc(), set.as_slice())?.as_str(),
+        "-1996-fonipa-scouse-valencia"
+    );
     Ok(())
 }
 
