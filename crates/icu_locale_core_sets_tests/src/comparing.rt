@@ -3,6 +3,8 @@
 use crate::shown::variants;
 use icu_locale_core_sets::Private;
 use std::cmp::Ordering;
+use std::collections::hash_map::DefaultHasher;
+use std::hash::{Hash, Hasher};
 use std::test::Fail;
 
 #[test]
@@ -32,5 +34,20 @@ fn sets_are_equal_by_their_variants(rt: HostRuntime) -> Result<(), Fail> {
     assert!(rt; a == b);
     assert!(rt; a != c);
     assert!(rt; a < c);
+    Ok(())
+}
+
+fn hash_of<T: Hash>(value: &T) -> u64 {
+    let mut hasher = DefaultHasher::new();
+    value.hash(&mut hasher);
+    hasher.finish()
+}
+
+#[test]
+fn equal_values_hash_alike(rt: HostRuntime) -> Result<(), Fail> {
+    let set = variants(rt.alloc(), &["1996", "fonipa"])?;
+    assert_eq!(rt; hash_of(&set), hash_of(&set.try_clone()?));
+    let pieces = Private::try_from_str(rt.alloc(), "x-a-b")?;
+    assert_eq!(rt; hash_of(&pieces), hash_of(&pieces.try_clone()?));
     Ok(())
 }
