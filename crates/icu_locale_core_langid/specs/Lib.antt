@@ -7,5 +7,6 @@ pub mod NormalizedText
 -- What the readers follow, piece by piece.
 pub mod LanguageStep
 pub mod OneVariant
+pub mod Spelling
 -- What the impls prove.
 pub mod SameLanguageLaws

@@ -11,6 +11,7 @@ mod normalizing;
 mod one_variant;
 mod parser;
 mod reading;
+mod spelling;
 mod step;
 mod stepping;
 mod writing;

@@ -36,3 +36,19 @@ fn strict_cmp_is_the_byte_order_of_the_text(rt: HostRuntime) -> Result<(), Fail>
     }
     Ok(())
 }
+
+#[test]
+fn a_text_is_equal_where_it_reads_as_the_identifier(rt: HostRuntime) -> Result<(), Fail> {
+    let id = LanguageIdentifier::try_from_str(rt.alloc(), "de-DE-1996-fonipa")?;
+    for (text, want) in [
+        // variants in any order, but none of them twice
+        ("DE-de-FONIPA-1996", true),
+        ("de-DE-1996-1996-fonipa", false),
+        ("de-DE-1996", false),
+        ("de-DE-1996-fonipa-u-nu", false),
+        ("de-1996-fonipa", false),
+    ] {
+        assert_eq!(rt; id.normalizing_eq(text), want, "{text}");
+    }
+    Ok(())
+}

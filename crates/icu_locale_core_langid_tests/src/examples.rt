@@ -4,7 +4,7 @@ use icu_locale_core_grammar::ParseError;
 use icu_locale_core_langid::{
     LanguageIdentifier, ParserMode, Step, language_after, parse_language_identifier,
 };
-use icu_locale_core_subtags::{Language, Region, Script};
+use icu_locale_core_subtags::{Language, Region, Script, Variant};
 use serde_json::Value;
 use std::borrow::CowStr;
 use std::cmp::Ordering;
@@ -143,5 +143,30 @@ fn json_texts(rt: HostRuntime) -> Result<(), Fail> {
         LanguageIdentifier::from_json(rt.alloc(), &Value::Null).err(),
         Some(ParseError::InvalidLanguage)
     );
+    Ok(())
+}
+
+#[test]
+fn one_variant_at_most(rt: HostRuntime) -> Result<(), Fail> {
+    let (language, script, region, variant) = LanguageIdentifier::try_from_utf8_with_single_variant(
+        b"de-DE-1996",
+    )?;
+    assert_eq!(rt; language.as_str(), "de");
+    assert_eq!(rt; script, None);
+    assert_eq!(rt; region, Some(Region::try_from_str("DE")?));
+    assert_eq!(rt; variant, Some(Variant::try_from_str("1996")?));
+    assert_eq!(rt;
+        LanguageIdentifier::try_from_utf8_with_single_variant(b"de-1996-fonipa").err(),
+        Some(ParseError::InvalidSubtag)
+    );
+    Ok(())
+}
+
+#[test]
+fn normalizing_eq(rt: HostRuntime) -> Result<(), Fail> {
+    let id = LanguageIdentifier::try_from_str(rt.alloc(), "en-Latn")?;
+    for (text, want) in [("EN-latn", true), ("en-Latn", true), ("en", false)] {
+        assert_eq!(rt; id.normalizing_eq(text), want, "{text}");
+    }
     Ok(())
 }

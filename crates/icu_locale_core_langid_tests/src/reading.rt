@@ -82,3 +82,20 @@ fn a_printed_identifier_reads_back_equal(rt: HostRuntime) -> Result<(), Fail> {
     }
     Ok(())
 }
+
+#[test]
+fn a_second_variant_is_refused_without_memory(rt: HostRuntime) {
+    for (text, want) in [
+        ("", ParseError::InvalidLanguage),
+        ("x-foo", ParseError::InvalidLanguage),
+        ("de-", ParseError::InvalidSubtag),
+        ("de-1996-1996", ParseError::InvalidSubtag),
+        ("de-1996-u-nu-thai", ParseError::InvalidSubtag),
+    ] {
+        assert_eq!(rt;
+            LanguageIdentifier::try_from_utf8_with_single_variant(text.as_bytes()).err(),
+            Some(want),
+            "{text}"
+        );
+    }
+}

@@ -1,0 +1,140 @@
+//! Whether a text reads as a given language identifier, without memory.
+
+ghost use Rattle.std.specs.Prelude.{◌≡◌, ◌↔◌, [], ◌∷◌, map, option_to_list, IsTrue};
+ghost use Rattle.std.specs.List.{list_all};
+ghost use Rattle.icu_locale_core_grammar.specs.Subtags.{lower};
+ghost use Rattle.icu_locale_core_grammar.specs.Collections.{contains_text};
+ghost use Rattle.icu_locale_core_grammar.specs.Pieces.{pieces};
+ghost use Rattle.icu_locale_core_grammar.specs.LanguagePart.{MeansLanguage};
+ghost use Rattle.icu_locale_core_langid.specs.Spelling.{Takes, SpellsSet, is_among, stand_once, stands_in};
+
+use crate::language_identifier::LanguageIdentifier;
+use crate::laws::identifiers_read_back;
+use icu_locale_core_sets::Variants;
+use icu_locale_core_subtags::{Language, Region, Script, SubtagIterator, Variant};
+
+// Whether the next piece is this text but for case; it is then taken.
+fn takes(iter: &mut SubtagIterator<'_>, text: &str) -> bool
+    ensures { Takes result (text.now ∷ []) iter.old iter.new }
+{
+    match iter.next() {
+        Some(piece) => piece.eq_ignore_ascii_case(text.as_bytes()),
+        None => false,
+    }
+}
+
+// Whether the next piece is the language.
+fn takes_language(iter: &mut SubtagIterator<'_>, language: Language) -> bool
+    ensures { Takes result (language ∷ []) iter.old iter.new }
+{
+    takes(iter, language.as_str())
+}
+
+// Whether the next piece is the script, where there is one.
+fn takes_script(iter: &mut SubtagIterator<'_>, script: Option<Script>) -> bool
+    ensures { Takes result (option_to_list script) iter.old iter.new }
+{
+    match script {
+        Some(script) => takes(iter, script.as_str()),
+        None => true,
+    }
+}
+
+// Whether the next piece is the region, where there is one.
+fn takes_region(iter: &mut SubtagIterator<'_>, region: Option<Region>) -> bool
+    ensures { Takes result (option_to_list region) iter.old iter.new }
+{
+    match region {
+        Some(region) => takes(iter, region.as_str()),
+        None => true,
+    }
+}
+
+// Whether the text is one of the pieces but for case.
+fn stands_among(text: &[u8], pieces: SubtagIterator<'_>) -> bool
+    ensures { result ≡ contains_text (lower text.now) (map lower pieces.entry) }
+{
+    for piece in pieces {
+        if text.eq_ignore_ascii_case(piece) {
+            return true;
+        }
+    }
+    false
+}
+
+// Whether no piece stands twice, but for case.
+fn stand_apart(pieces: SubtagIterator<'_>) -> bool
+    ensures { result ≡ stand_once pieces.entry }
+{
+    let mut behind = pieces.again();
+    for piece in pieces {
+        behind.next();
+        if stands_among(piece, behind.again()) {
+            return false;
+        }
+    }
+    true
+}
+
+// Whether each piece is a variant of the set.
+fn are_of(pieces: SubtagIterator<'_>, set: &Variants) -> bool
+    ensures { result ≡ list_all (is_among set.now) pieces.entry }
+{
+    for piece in pieces {
+        match Variant::try_from_utf8(piece) {
+            Ok(variant) => {
+                if !set.contains(&variant) {
+                    return false;
+                }
+            }
+            Err(_) => return false,
+        }
+    }
+    true
+}
+
+// Whether each variant is one of the pieces.
+fn are_there(variants: &[Variant], pieces: &SubtagIterator<'_>) -> bool
+    ensures { result ≡ list_all (stands_in pieces.now) variants.now }
+{
+    for variant in variants {
+        if !stands_among(variant.as_str().as_bytes(), pieces.again()) {
+            return false;
+        }
+    }
+    true
+}
+
+// Whether the pieces are the variants of the set, in some order.
+fn spell_set(pieces: &SubtagIterator<'_>, set: &Variants) -> bool
+    ensures { IsTrue result ↔ SpellsSet pieces.now set.now }
+{
+    let variants = set.as_slice();
+    if !are_of(pieces.again(), set) {
+        return false;
+    }
+    if !stand_apart(pieces.again()) {
+        return false;
+    }
+    are_there(variants, pieces)
+}
+
+impl LanguageIdentifier {
+    /// Whether the text reads as this identifier: `EN-latn` and `en-Latn` do as `en-Latn`, `en` does not. It takes no memory.
+    pub fn normalizing_eq(&self, other: &str) -> bool
+        ensures { IsTrue result ↔ MeansLanguage (pieces other.now) self.now }
+    {
+        identifiers_read_back(self);
+        let mut iter = SubtagIterator::new(other.as_bytes());
+        if !takes_language(&mut iter, self.language) {
+            return false;
+        }
+        if !takes_script(&mut iter, self.script) {
+            return false;
+        }
+        if !takes_region(&mut iter, self.region) {
+            return false;
+        }
+        spell_set(&iter, &self.variants)
+    }
+}
