@@ -1,5 +1,5 @@
 -- What changes a map of entries: a value set at a key, a key taken away, another map put over it.
--- Defined in docs/tags.md, "Changing a map".
+-- Defined in docs/tags.md, "Keywords and fields as values".
 -- Cited by the calls that change a map, and by the laws on them.
 use Rattle.std.specs.Prelude.{not, List, [], ◌∷◌, ◌++◌, filter}
 use Rattle.std.specs.Ordering.{match_ordering}

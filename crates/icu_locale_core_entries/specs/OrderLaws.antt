@@ -1,5 +1,5 @@
 -- The comparisons of values and of maps are an equality and a total order, equal exactly where the lists are one.
--- Defined in docs/tags.md, "Keywords and fields".
+-- Defined in docs/tags.md, "Keywords and fields as values".
 -- Cited by the comparisons of values and of maps, whose laws they are.
 use Rattle.std.proofs.Common.{◌≡◌, true, ◌&&◌, List, Some, refl, ap, ◌∙◌}
 use Rattle.std.proofs.lemmas.Bool.{and_parts, and_from}

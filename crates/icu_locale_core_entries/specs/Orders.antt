@@ -1,5 +1,5 @@
 -- Equality and order of values and of maps: those of their lists, texts by bytes, an entry by its key and then its value.
--- Defined in docs/tags.md, "Keywords and fields".
+-- Defined in docs/tags.md, "Keywords and fields as values".
 -- Cited by the comparisons of values and of maps.
 use Rattle.std.specs.Prelude.{Bool, ◌&&◌, List}
 use Rattle.std.specs.Cmp.Lexicographic.{pointwise, slice_cmp}

@@ -1,5 +1,5 @@
 -- What a closure leaves of a map when it is asked once at each key, in order.
--- Defined in docs/tags.md, "Changing a map".
+-- Defined in docs/tags.md, "Keywords and fields as values".
 -- Cited by `retain_by_key`.
 use Rattle.std.specs.Prelude.{◌≡◌, Bool, List, length, map}
 use Rattle.std.specs.List.{items_where_true}
