@@ -4,3 +4,4 @@ pub mod OtherSingleton
 pub mod Others
 pub mod ExtensionText
 pub mod SameExtension
+pub mod SameExtensionLaws

@@ -1,7 +1,7 @@
 -- The singletons that have no rule of their own are a class of subtags: one letter or digit that is not `t`, `u` or `x`.
 -- RFC 5646 (BCP 47), section 2.2.6; docs/tags.md, "Extensions".
 -- Cited by the impl of `SubtagRule` for these singletons, whose laws they are.
-use Rattle.std.proofs.Common.{◌≡◌, Bool, true, not, ◌&&◌, ◌||◌, length, ◌∙◌, arith}
+use Rattle.std.proofs.Common.{◌≡◌, true, not, ◌||◌, length, ◌∙◌, arith}
 use Rattle.std.specs.Int.{is_in_range}
 use Rattle.std.proofs.lemmas.Bool.{and_parts, leb-true}
 use Rattle.std.proofs.Common.{leb}

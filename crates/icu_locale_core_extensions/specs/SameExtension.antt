@@ -1,20 +1,14 @@
 -- When two extensions are one: part by part.
--- Defined in docs/tags.md, "Orders".
--- Cited by `==` and `hash` of extensions, whose laws these are.
-use Rattle.std.proofs.Common.{◌≡◌, Bool, true, ◌&&◌, ◌++◌, List, Option, None, Some, refl, ap, Decides}
-use Rattle.std.specs.Cmp.{IsEquivalence, on_equiv, and_equiv}
-use Rattle.std.specs.Cmp.Lexicographic.{pointwise, bytes_decides, pointwise_decides, nat_list_eq_equiv, lists_equiv, options_equiv}
+-- Defined in docs/tags.md, "Extensions as values".
+-- Cited by `==` and `hash` of extensions.
+use Rattle.std.specs.Prelude.{Bool, ◌&&◌}
+use Rattle.std.specs.Cmp.Lexicographic.{pointwise}
 use Rattle.std.specs.Option.{option_eq}
-use Rattle.std.specs.Hash as fed
-use Rattle.std.proofs.lemmas.Bool.{and_parts}
-use Rattle.icu_locale_core_grammar.specs.Subtags.{Text, same_text}
+use Rattle.icu_locale_core_grammar.specs.Subtags.{same_text}
 use Rattle.icu_locale_core_grammar.specs.Collections.{Entry}
-use Rattle.icu_locale_core_grammar.specs.LanguagePart.{LanguageId}
 use Rattle.icu_locale_core_grammar.specs.Meaning.{UnicodeMeaning, TransformMeaning}
 use Rattle.icu_locale_core_langid.specs.SameLanguage.{same_language}
-use Rattle.icu_locale_core_langid.specs.SameLanguageLaws.{language_fed, same_equiv, same_decides}
 use Rattle.icu_locale_core_entries.specs.Orders.{same_entries, same_value}
-use Rattle.icu_locale_core_entries.specs.OrderLaws.{entries_equiv, entries_decide}
 
 -- attributes and keywords
 abbrev pub same_unicode : UnicodeMeaning → UnicodeMeaning → Bool
@@ -27,51 +21,3 @@ same_transform a b = option_eq same_language a.head b.head && same_entries a.ent
 -- the singleton and the pieces
 abbrev pub same_other : Entry → Entry → Bool
 same_other a b = same_text a.0 b.0 && same_value a.1 b.1
-
--- what a hasher is fed
-abbrev pub unicode_fed : UnicodeMeaning → fed.HashWrites
-unicode_fed u = fed.slice fed.str u.head ++ fed.slice (λ e. fed.str e.0 ++ fed.slice fed.str e.1) u.entries
-
-abbrev pub transform_fed : TransformMeaning → fed.HashWrites
-transform_fed t = fed.option language_fed t.head ++ fed.slice (λ e. fed.str e.0 ++ fed.slice fed.str e.1) t.entries
-
-abbrev pub other_fed : Entry → fed.HashWrites
-other_fed o = fed.str o.0 ++ fed.slice fed.str o.1
-
--- ---- laws
-
-pub unicode_equiv : IsEquivalence same_unicode
-unicode_equiv = and_equiv (on_equiv (λ (a : UnicodeMeaning). a.head) (lists_equiv nat_list_eq_equiv)) (on_equiv (λ (a : UnicodeMeaning). a.entries) entries_equiv)
-
-pub transform_equiv : IsEquivalence same_transform
-transform_equiv = and_equiv (on_equiv (λ (a : TransformMeaning). a.head) (options_equiv same_equiv)) (on_equiv (λ (a : TransformMeaning). a.entries) entries_equiv)
-
-pub other_equiv : IsEquivalence same_other
-other_equiv = and_equiv (on_equiv (λ (a : Entry). a.0) nat_list_eq_equiv) (on_equiv (λ (a : Entry). a.1) (lists_equiv nat_list_eq_equiv))
-
-pub unicode_alike : (a b : UnicodeMeaning) → same_unicode a b ≡ true → unicode_fed a ≡ unicode_fed b
-unicode_alike a b e =
-    let parts = and_parts (pointwise same_text a.head b.head) (same_entries a.entries b.entries) e in
-    let head : a.head ≡ b.head = (pointwise_decides bytes_decides a.head b.head).0 parts.0 in
-    let entries : a.entries ≡ b.entries = (entries_decide a.entries b.entries).0 parts.1 in
-    λ i. fed.slice fed.str (head i) ++ fed.slice (λ f. fed.str f.0 ++ fed.slice fed.str f.1) (entries i)
-
-same_option : (s t : Option LanguageId) → option_eq same_language s t ≡ true → s ≡ t
-same_option None None e = refl
-same_option None (Some t) e = cc
-same_option (Some s) None e = cc
-same_option (Some s) (Some t) e = ap Some ((same_decides s t).0 e)
-
-pub transform_alike : (a b : TransformMeaning) → same_transform a b ≡ true → transform_fed a ≡ transform_fed b
-transform_alike a b e =
-    let parts = and_parts (option_eq same_language a.head b.head) (same_entries a.entries b.entries) e in
-    let head : a.head ≡ b.head = same_option a.head b.head parts.0 in
-    let entries : a.entries ≡ b.entries = (entries_decide a.entries b.entries).0 parts.1 in
-    λ i. fed.option language_fed (head i) ++ fed.slice (λ f. fed.str f.0 ++ fed.slice fed.str f.1) (entries i)
-
-pub other_alike : (a b : Entry) → same_other a b ≡ true → other_fed a ≡ other_fed b
-other_alike a b e =
-    let parts = and_parts (same_text a.0 b.0) (same_value a.1 b.1) e in
-    let singleton : a.0 ≡ b.0 = (bytes_decides a.0 b.0).0 parts.0 in
-    let own : a.1 ≡ b.1 = (pointwise_decides bytes_decides a.1 b.1).0 parts.1 in
-    λ i. fed.str (singleton i) ++ fed.slice fed.str (own i)
