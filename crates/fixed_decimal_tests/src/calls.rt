@@ -1,4 +1,5 @@
 // Runs of calls: what is written after them.
+use crate::fakes::ShortSink;
 use fixed_decimal::{
     Call, CallsError, ParseError, RoundingIncrement, Sign, SignDisplay, SignedRoundingMode,
     UnsignedRoundingMode, run_calls,
@@ -146,6 +147,18 @@ fn a_text_that_is_refused_writes_nothing(rt: HostRuntime) -> Result<(), Fail> {
         assert_eq!(rt; answer, Err(CallsError::Parse(want)), "{start}");
         assert_eq!(rt; sink.text(), "", "{start}");
     }
+    Ok(())
+}
+
+#[test]
+fn a_sink_that_refuses_holds_a_beginning(rt: HostRuntime) -> Result<(), Fail> {
+    let mut sink = ShortSink::new(rt.alloc());
+    let answer = run_calls(rt.alloc(), b"-12345", &[Call::MultiplyPow10(-2)], &mut sink);
+    assert_eq!(rt; answer, Err(CallsError::Write));
+    assert_eq!(rt; sink.text(), "-12");
+    let mut room = ShortSink::new(rt.alloc());
+    run_calls(rt.alloc(), b"0.50", &[Call::TrimEnd], &mut room)?;
+    assert_eq!(rt; room.text(), "0.5");
     Ok(())
 }
 

@@ -11,6 +11,8 @@ mod ends;
 #[cfg(test)]
 mod examples;
 #[cfg(test)]
+mod fakes;
+#[cfg(test)]
 mod increments;
 #[cfg(test)]
 mod rounding;
