@@ -11,7 +11,7 @@ use fixed_decimal_unsigned::{ConcatenateError, UnsignedDecimal};
 impl Signed<UnsignedDecimal> {
     /// The number times ten to the power `delta`, the digits shown with it: `-12` and 2 give `-1200`.
     ///
-    /// It is zero, shown `-0`, where an end of the range would pass magnitudes -32768 to 32767.
+    /// It is zero, shown `0` behind the sign, where an end of the range would pass magnitudes -32768 to 32767.
     pub fn multiplied_pow10(mut self, delta: i16) -> Decimal
         ensures { OnAbsolute (Shifts delta) self result }
     {

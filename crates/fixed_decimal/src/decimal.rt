@@ -25,7 +25,7 @@ fn split_sign(code_units: &[u8]) -> (Sign, &[u8])
 }
 
 impl Signed<UnsignedDecimal> {
-    /// A decimal of its sign and its absolute value. It takes no memory.
+    /// A decimal of its sign and its absolute value: `Negative` and `12.3` give `-12.3`. It takes no memory.
     pub fn new(sign: Sign, absolute: UnsignedDecimal) -> Decimal
         ensures sign { result.sign ≡ sign }
         ensures value { result.absolute ≡ absolute }

@@ -12,6 +12,9 @@ use std::sync::ledger::Ledger;
 
 impl Signed<UnsignedDecimal> {
     /// Rounds to a multiple of the increment at a position, and counts the turns of the loops over digits.
+    ///
+    /// It answers and does what `round_with_mode_and_increment` does, in at most two more turns than the
+    /// number has digits, from the first to the last one that is not zero.
     pub fn round_counted<L: Ledger>(
         &mut self,
         position: i16,
@@ -29,7 +32,10 @@ impl Signed<UnsignedDecimal> {
             .round_counted(position, by_size, increment, turns)
     }
 
-    /// Rounds to a multiple of the increment at a position.
+    /// Rounds to a multiple of the increment at a position: `-7.3` at -2 by `Ceil` to 25 is `-7.25`.
+    ///
+    /// Zero stands in place of a multiple whose size reaches ten to the power 32768; the sign is kept.
+    /// Memory is wanted only for `MultiplesOf25`; where it was refused the number is as it was.
     pub fn round_with_mode_and_increment(
         &mut self,
         position: i16,
@@ -45,7 +51,7 @@ impl Signed<UnsignedDecimal> {
             .round_with_mode_and_increment(position, by_size, increment)
     }
 
-    /// Rounds at a position as the mode says.
+    /// Rounds at a position as the mode says: `-7.3` at 0 by `HalfCeil` is `-7`. It takes no memory.
     pub fn round_with_mode(&mut self, position: i16, mode: SignedRoundingMode)
         ensures { RoundsSigned mode RoundingIncrement.MultiplesOf1 (place position) self.old self.new }
     {
@@ -53,7 +59,7 @@ impl Signed<UnsignedDecimal> {
         self.absolute.round_with_mode(position, by_size);
     }
 
-    /// Rounds at a position to the nearest multiple, a tie to the even one.
+    /// Rounds at a position to the nearest multiple, a tie to the even one: `2.5` at 0 is `2`. It takes no memory.
     pub fn round(&mut self, position: i16)
         ensures { RoundsSigned (SignedRoundingMode.Unsigned UnsignedRoundingMode.HalfEven) RoundingIncrement.MultiplesOf1 (place position) self.old self.new }
     {
@@ -63,7 +69,7 @@ impl Signed<UnsignedDecimal> {
         );
     }
 
-    /// Rounds at a position away from zero.
+    /// Rounds at a position away from zero: `-7.3` at 0 is `-8`. It takes no memory.
     pub fn expand(&mut self, position: i16)
         ensures { RoundsSigned (SignedRoundingMode.Unsigned UnsignedRoundingMode.Expand) RoundingIncrement.MultiplesOf1 (place position) self.old self.new }
     {
@@ -73,7 +79,7 @@ impl Signed<UnsignedDecimal> {
         );
     }
 
-    /// Rounds at a position towards zero.
+    /// Rounds at a position towards zero: `-7.3` at 0 is `-7`. It takes no memory.
     pub fn trunc(&mut self, position: i16)
         ensures { RoundsSigned (SignedRoundingMode.Unsigned UnsignedRoundingMode.Trunc) RoundingIncrement.MultiplesOf1 (place position) self.old self.new }
     {
@@ -83,21 +89,23 @@ impl Signed<UnsignedDecimal> {
         );
     }
 
-    /// Rounds at a position upwards.
+    /// Rounds at a position upwards: `-7.3` at 0 is `-7`, and `7.3` is `8`. It takes no memory.
     pub fn ceil(&mut self, position: i16)
         ensures { RoundsSigned SignedRoundingMode.Ceil RoundingIncrement.MultiplesOf1 (place position) self.old self.new }
     {
         self.round_with_mode(position, SignedRoundingMode::Ceil);
     }
 
-    /// Rounds at a position downwards.
+    /// Rounds at a position downwards: `-7.3` at 0 is `-8`, and `7.3` is `7`. It takes no memory.
     pub fn floor(&mut self, position: i16)
         ensures { RoundsSigned SignedRoundingMode.Floor RoundingIncrement.MultiplesOf1 (place position) self.old self.new }
     {
         self.round_with_mode(position, SignedRoundingMode::Floor);
     }
 
-    /// The number rounded to a multiple of the increment, or the number itself where memory was refused.
+    /// The number rounded to a multiple of the increment: `37.5` at 0 by `HalfEven` to 25 gives `50`.
+    ///
+    /// The refusal for memory, which is wanted only for `MultiplesOf25`, hands the number back.
     pub fn rounded_with_mode_and_increment(
         mut self,
         position: i16,
@@ -114,7 +122,7 @@ impl Signed<UnsignedDecimal> {
         }
     }
 
-    /// The number rounded at a position as the mode says.
+    /// The number rounded at a position as the mode says: `-7.3` at 0 by `HalfCeil` gives `-7`. It takes no memory.
     pub fn rounded_with_mode(mut self, position: i16, mode: SignedRoundingMode) -> Decimal
         ensures { RoundsSigned mode RoundingIncrement.MultiplesOf1 (place position) self result }
     {
@@ -122,7 +130,7 @@ impl Signed<UnsignedDecimal> {
         self
     }
 
-    /// The number rounded at a position to the nearest multiple, a tie to the even one.
+    /// The number rounded at a position to the nearest multiple, a tie to the even one: `2.5` at 0 gives `2`. It takes no memory.
     pub fn rounded(mut self, position: i16) -> Decimal
         ensures { RoundsSigned (SignedRoundingMode.Unsigned UnsignedRoundingMode.HalfEven) RoundingIncrement.MultiplesOf1 (place position) self result }
     {
@@ -130,7 +138,7 @@ impl Signed<UnsignedDecimal> {
         self
     }
 
-    /// The number rounded at a position away from zero.
+    /// The number rounded at a position away from zero: `-7.3` at 0 gives `-8`. It takes no memory.
     pub fn expanded(mut self, position: i16) -> Decimal
         ensures { RoundsSigned (SignedRoundingMode.Unsigned UnsignedRoundingMode.Expand) RoundingIncrement.MultiplesOf1 (place position) self result }
     {
@@ -138,7 +146,7 @@ impl Signed<UnsignedDecimal> {
         self
     }
 
-    /// The number rounded at a position towards zero.
+    /// The number rounded at a position towards zero: `-7.3` at 0 gives `-7`. It takes no memory.
     pub fn trunced(mut self, position: i16) -> Decimal
         ensures { RoundsSigned (SignedRoundingMode.Unsigned UnsignedRoundingMode.Trunc) RoundingIncrement.MultiplesOf1 (place position) self result }
     {
@@ -146,7 +154,7 @@ impl Signed<UnsignedDecimal> {
         self
     }
 
-    /// The number rounded at a position upwards.
+    /// The number rounded at a position upwards: `-7.3` at 0 gives `-7`. It takes no memory.
     pub fn ceiled(mut self, position: i16) -> Decimal
         ensures { RoundsSigned SignedRoundingMode.Ceil RoundingIncrement.MultiplesOf1 (place position) self result }
     {
@@ -154,7 +162,7 @@ impl Signed<UnsignedDecimal> {
         self
     }
 
-    /// The number rounded at a position downwards.
+    /// The number rounded at a position downwards: `-7.3` at 0 gives `-8`. It takes no memory.
     pub fn floored(mut self, position: i16) -> Decimal
         ensures { RoundsSigned SignedRoundingMode.Floor RoundingIncrement.MultiplesOf1 (place position) self result }
     {

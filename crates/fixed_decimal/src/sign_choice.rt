@@ -59,7 +59,7 @@ impl Signed<UnsignedDecimal> {
         self.sign = shown_sign(sign_display, self.sign, self.absolute.is_zero());
     }
 
-    /// The number with the sign that the choice shows. It takes no memory.
+    /// The number with the sign that the choice shows: with `Always`, `1729` gives `+1729`. It takes no memory.
     pub fn with_sign_display(mut self, sign_display: SignDisplay) -> Decimal
         ensures { result ≡ record { sign = chosen_sign sign_display self.sign (self.absolute.count == 0); absolute = self.absolute } }
     {

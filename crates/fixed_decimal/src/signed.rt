@@ -31,14 +31,14 @@ impl<T> Signed<T> {
         self.sign
     }
 
-    /// Puts another sign in place of the one that was there.
+    /// Puts another sign in place of the one that was there: `1729` with `Negative` becomes `-1729`.
     pub fn set_sign(&mut self, sign: Sign)
         ensures { self.new ≡ record { sign = sign; absolute = self.old.absolute } }
     {
         self.sign = sign;
     }
 
-    /// The value with another sign.
+    /// The value with another sign: `1729` with `Negative` gives `-1729`.
     pub fn with_sign(self, sign: Sign) -> Signed<T>
         ensures { result ≡ record { sign = sign; absolute = self.absolute } }
     {
