@@ -1,7 +1,6 @@
 // Roundings, shifts and pads at the ends of the magnitudes.
 use fixed_decimal::{Decimal, RoundingIncrement, SignedRoundingMode, UnsignedRoundingMode};
 use std::alloc::Global;
-use std::process::Abort;
 use std::test::Fail;
 use writeable::Writeable;
 
@@ -11,21 +10,17 @@ fn shown(number: &Decimal) -> (i16, i16, bool) {
     (*range.start(), *range.end(), number.is_zero())
 }
 
-// Asserts the range of each number rounded at a position, and whether it is zero.
-fn rounds(
-    rt: &impl Abort,
+// What is shown of a number rounded at a position.
+fn rounded(
     alloc: Global,
+    text: &str,
+    position: i16,
     mode: UnsignedRoundingMode,
     increment: RoundingIncrement,
-    rows: &[(&str, i16, (i16, i16, bool))],
-) -> Result<(), Fail> {
-    let signed = SignedRoundingMode::Unsigned(mode);
-    for (text, position, want) in rows {
-        let mut number = Decimal::try_from_str(alloc, text)?;
-        number.round_with_mode_and_increment(*position, signed, increment)?;
-        assert_eq!(rt; shown(&number), *want, "{text} at {position}");
-    }
-    Ok(())
+) -> Result<(i16, i16, bool), Fail> {
+    let mut number = Decimal::try_from_str(alloc, text)?;
+    number.round_with_mode_and_increment(position, SignedRoundingMode::Unsigned(mode), increment)?;
+    Ok(shown(&number))
 }
 
 // What is shown of a number multiplied by a power of ten.
@@ -37,70 +32,90 @@ fn multiplied(alloc: Global, text: &str, delta: i16) -> Result<(i16, i16, bool),
 
 #[test]
 fn expanding_stops_at_the_highest_place(rt: HostRuntime) -> Result<(), Fail> {
-    rounds(
-        &rt,
-        rt.alloc(),
-        UnsignedRoundingMode::Expand,
-        RoundingIncrement::MultiplesOf1,
-        &[
-            ("9e32767", 32767, (0, 32767, false)),
-            // past the limit stands zero, in the range that was
-            ("95e32766", 32767, (0, 32767, true)),
-            ("1e-32768", 32767, (0, 32767, false)),
-            ("1e-32768", -32768, (-32768, 0, false)),
-            ("0", 32767, (0, 32766, true)),
-            ("0", -32768, (-32768, 0, true)),
-        ],
-    )
+    let mode = UnsignedRoundingMode::Expand;
+    for (text, position, want) in [
+        ("9e32767", 32767, (0, 32767, false)),
+        // past the limit stands zero, in the range that was
+        ("95e32766", 32767, (0, 32767, true)),
+        ("1e-32768", 32767, (0, 32767, false)),
+        ("1e-32768", -32768, (-32768, 0, false)),
+        ("0", 32767, (0, 32766, true)),
+        ("0", -32768, (-32768, 0, true)),
+    ] {
+        let answer = rounded(
+            rt.alloc(),
+            text,
+            position,
+            mode,
+            RoundingIncrement::MultiplesOf1,
+        )?;
+        assert_eq!(rt; answer, want, "{text} at {position}");
+    }
+    Ok(())
 }
 
 #[test]
 fn truncating_reaches_both_ends(rt: HostRuntime) -> Result<(), Fail> {
-    rounds(
-        &rt,
-        rt.alloc(),
-        UnsignedRoundingMode::Trunc,
-        RoundingIncrement::MultiplesOf1,
-        &[
-            ("1", -32768, (-32768, 0, false)),
-            ("5", 32767, (0, 32766, true)),
-            ("1e-32768", -32767, (-32767, 0, true)),
-            ("99e32766", 32767, (0, 32767, false)),
-        ],
-    )
+    let mode = UnsignedRoundingMode::Trunc;
+    for (text, position, want) in [
+        ("1", -32768, (-32768, 0, false)),
+        ("5", 32767, (0, 32766, true)),
+        ("1e-32768", -32767, (-32767, 0, true)),
+        ("99e32766", 32767, (0, 32767, false)),
+    ] {
+        let answer = rounded(
+            rt.alloc(),
+            text,
+            position,
+            mode,
+            RoundingIncrement::MultiplesOf1,
+        )?;
+        assert_eq!(rt; answer, want, "{text} at {position}");
+    }
+    Ok(())
 }
 
 #[test]
 fn larger_steps_pass_the_limit_first(rt: HostRuntime) -> Result<(), Fail> {
-    rounds(
-        &rt,
-        rt.alloc(),
-        UnsignedRoundingMode::Expand,
-        RoundingIncrement::MultiplesOf2,
-        &[
-            ("9e32767", 32767, (0, 32767, true)),
-            ("7e32767", 32767, (0, 32767, false)),
-            ("99e32766", 32766, (0, 32767, true)),
-            ("98e32766", 32766, (0, 32767, false)),
-        ],
-    )
+    let mode = UnsignedRoundingMode::Expand;
+    for (text, position, want) in [
+        ("9e32767", 32767, (0, 32767, true)),
+        ("7e32767", 32767, (0, 32767, false)),
+        ("99e32766", 32766, (0, 32767, true)),
+        ("98e32766", 32766, (0, 32767, false)),
+    ] {
+        let answer = rounded(
+            rt.alloc(),
+            text,
+            position,
+            mode,
+            RoundingIncrement::MultiplesOf2,
+        )?;
+        assert_eq!(rt; answer, want, "{text} at {position}");
+    }
+    Ok(())
 }
 
 #[test]
 fn a_quarter_of_a_hundred_passes_the_limit(rt: HostRuntime) -> Result<(), Fail> {
-    rounds(
-        &rt,
-        rt.alloc(),
-        UnsignedRoundingMode::HalfExpand,
-        RoundingIncrement::MultiplesOf25,
-        &[
-            ("1e32767", 32767, (0, 32767, true)),
-            ("9e32767", 32767, (0, 32767, true)),
-            ("3e32767", 32766, (0, 32767, false)),
-            ("1e-32768", -32768, (-32768, 0, true)),
-            ("13e-32768", -32768, (-32768, 0, false)),
-        ],
-    )
+    let mode = UnsignedRoundingMode::HalfExpand;
+    for (text, position, want) in [
+        ("1e32767", 32767, (0, 32767, true)),
+        ("9e32767", 32767, (0, 32767, true)),
+        ("3e32767", 32766, (0, 32767, false)),
+        ("1e-32768", -32768, (-32768, 0, true)),
+        ("13e-32768", -32768, (-32768, 0, false)),
+    ] {
+        let answer = rounded(
+            rt.alloc(),
+            text,
+            position,
+            mode,
+            RoundingIncrement::MultiplesOf25,
+        )?;
+        assert_eq!(rt; answer, want, "{text} at {position}");
+    }
+    Ok(())
 }
 
 #[test]

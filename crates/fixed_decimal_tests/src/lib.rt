@@ -3,15 +3,9 @@
 #![tactic(auto)]
 
 #[cfg(test)]
-mod calls;
-#[cfg(test)]
-mod concatenation;
-#[cfg(test)]
 mod ends;
 #[cfg(test)]
 mod examples;
-#[cfg(test)]
-mod fakes;
 #[cfg(test)]
 mod increments;
 #[cfg(test)]
@@ -20,7 +14,5 @@ mod rounding;
 mod shifts_and_trims;
 #[cfg(test)]
 mod signs;
-#[cfg(test)]
-mod text_types;
 #[cfg(test)]
 mod texts;

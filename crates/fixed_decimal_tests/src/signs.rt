@@ -1,109 +1,94 @@
 // Signs: which one is shown, and that calls on the number keep it.
 use fixed_decimal::{Decimal, Sign, SignDisplay, UnsignedDecimal};
 use std::alloc::Global;
-use std::process::Abort;
 use std::test::Fail;
 use writeable::Writeable;
 
-// Asserts what a choice shows of each text's number.
-fn shows(
-    rt: &impl Abort,
-    alloc: Global,
-    choice: SignDisplay,
-    rows: &[(&str, &str)],
-) -> Result<(), Fail> {
-    for (text, want) in rows {
-        let mut number = Decimal::try_from_str(alloc, text)?;
-        number.apply_sign_display(choice);
-        let answer = number.write_to_string(alloc)?;
-        assert_eq!(rt; answer.as_str(), *want, "{text}");
+// The text of a number with the sign that a choice shows.
+fn shown(alloc: Global, text: &str, choice: SignDisplay) -> Result<String, Fail> {
+    let mut number = Decimal::try_from_str(alloc, text)?;
+    number.apply_sign_display(choice);
+    Ok(number.write_to_string(alloc)?)
+}
+
+#[test]
+fn auto_shows_a_minus_alone(rt: HostRuntime) -> Result<(), Fail> {
+    for (text, want) in [
+        ("5", "5"),
+        ("-5", "-5"),
+        ("+5", "5"),
+        ("0", "0"),
+        ("-0", "-0"),
+        ("+0", "0"),
+    ] {
+        let answer = shown(rt.alloc(), text, SignDisplay::Auto)?;
+        assert_eq!(rt; answer.as_str(), want, "{text}");
     }
     Ok(())
 }
 
 #[test]
-fn auto_shows_a_minus_alone(rt: HostRuntime) -> Result<(), Fail> {
-    shows(
-        &rt,
-        rt.alloc(),
-        SignDisplay::Auto,
-        &[
-            ("5", "5"),
-            ("-5", "-5"),
-            ("+5", "5"),
-            ("0", "0"),
-            ("-0", "-0"),
-            ("+0", "0"),
-        ],
-    )
-}
-
-#[test]
 fn never_shows_no_sign(rt: HostRuntime) -> Result<(), Fail> {
-    shows(
-        &rt,
-        rt.alloc(),
-        SignDisplay::Never,
-        &[
-            ("5", "5"),
-            ("-5", "5"),
-            ("+5", "5"),
-            ("0", "0"),
-            ("-0", "0"),
-            ("+0", "0"),
-        ],
-    )
+    for (text, want) in [
+        ("5", "5"),
+        ("-5", "5"),
+        ("+5", "5"),
+        ("0", "0"),
+        ("-0", "0"),
+        ("+0", "0"),
+    ] {
+        let answer = shown(rt.alloc(), text, SignDisplay::Never)?;
+        assert_eq!(rt; answer.as_str(), want, "{text}");
+    }
+    Ok(())
 }
 
 #[test]
 fn always_shows_a_plus_for_none(rt: HostRuntime) -> Result<(), Fail> {
-    shows(
-        &rt,
-        rt.alloc(),
-        SignDisplay::Always,
-        &[
-            ("5", "+5"),
-            ("-5", "-5"),
-            ("+5", "+5"),
-            ("0", "+0"),
-            ("-0", "-0"),
-            ("+0", "+0"),
-        ],
-    )
+    for (text, want) in [
+        ("5", "+5"),
+        ("-5", "-5"),
+        ("+5", "+5"),
+        ("0", "+0"),
+        ("-0", "-0"),
+        ("+0", "+0"),
+    ] {
+        let answer = shown(rt.alloc(), text, SignDisplay::Always)?;
+        assert_eq!(rt; answer.as_str(), want, "{text}");
+    }
+    Ok(())
 }
 
 #[test]
 fn except_zero_shows_no_sign_at_zero(rt: HostRuntime) -> Result<(), Fail> {
-    shows(
-        &rt,
-        rt.alloc(),
-        SignDisplay::ExceptZero,
-        &[
-            ("5", "+5"),
-            ("-5", "-5"),
-            ("+5", "+5"),
-            ("0", "0"),
-            ("-0.0", "0.0"),
-            ("+0", "0"),
-        ],
-    )
+    for (text, want) in [
+        ("5", "+5"),
+        ("-5", "-5"),
+        ("+5", "+5"),
+        ("0", "0"),
+        ("-0.0", "0.0"),
+        ("+0", "0"),
+    ] {
+        let answer = shown(rt.alloc(), text, SignDisplay::ExceptZero)?;
+        assert_eq!(rt; answer.as_str(), want, "{text}");
+    }
+    Ok(())
 }
 
 #[test]
 fn negative_shows_a_minus_but_at_zero(rt: HostRuntime) -> Result<(), Fail> {
-    shows(
-        &rt,
-        rt.alloc(),
-        SignDisplay::Negative,
-        &[
-            ("5", "5"),
-            ("-5", "-5"),
-            ("+5", "5"),
-            ("0", "0"),
-            ("-0", "0"),
-            ("+0", "0"),
-        ],
-    )
+    for (text, want) in [
+        ("5", "5"),
+        ("-5", "-5"),
+        ("+5", "5"),
+        ("0", "0"),
+        ("-0", "0"),
+        ("+0", "0"),
+    ] {
+        let answer = shown(rt.alloc(), text, SignDisplay::Negative)?;
+        assert_eq!(rt; answer.as_str(), want, "{text}");
+    }
+    Ok(())
 }
 
 #[test]

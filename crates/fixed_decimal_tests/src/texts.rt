@@ -1,29 +1,21 @@
 // Texts, and the numbers that they spell.
 use fixed_decimal::{Decimal, Sign, UnsignedDecimal};
 use std::alloc::Global;
-use std::process::Abort;
 use std::test::Fail;
 use writeable::Writeable;
 
-// Asserts what is printed of each text's number.
-fn prints(rt: &impl Abort, alloc: Global, rows: &[(&str, &str)]) -> Result<(), Fail> {
-    for (text, want) in rows {
-        let number = Decimal::try_from_str(alloc, text)?;
-        let answer = number.write_to_string(alloc)?;
-        assert_eq!(rt; answer.as_str(), *want, "{text}");
-    }
-    Ok(())
+// What is printed of the number that a text spells.
+fn printed(alloc: Global, text: &str) -> Result<String, Fail> {
+    let number = Decimal::try_from_str(alloc, text)?;
+    Ok(number.write_to_string(alloc)?)
 }
 
-// Asserts the number of each text's refusal.
-fn refuses(rt: &impl Abort, alloc: Global, want: u8, texts: &[&str]) -> Result<(), Fail> {
-    for text in texts {
-        let refused = Decimal::try_from_str(alloc, text)
-            .err()
-            .ok_or("it is accepted")?;
-        assert_eq!(rt; refused.number(), want, "{text}");
+// The number of a text's refusal, 0 where it is accepted.
+fn refusal(alloc: Global, text: &str) -> u8 {
+    match Decimal::try_from_str(alloc, text) {
+        Ok(_) => 0,
+        Err(refused) => refused.number(),
     }
-    Ok(())
 }
 
 // The sign and the range of a text's number.
@@ -35,38 +27,36 @@ fn range_of(alloc: Global, text: &str) -> Result<(i16, i16), Fail> {
 
 #[test]
 fn texts_print_as_they_are_read(rt: HostRuntime) -> Result<(), Fail> {
-    prints(
-        &rt,
-        rt.alloc(),
-        &[
-            ("0", "0"),
-            ("-987654.321", "-987654.321"),
-            ("+0012", "+0012"),
-            ("0.50", "0.50"),
-            (".5", "0.5"),
-            ("-.05", "-0.05"),
-            ("000.000", "000.000"),
-        ],
-    )
+    for (text, want) in [
+        ("0", "0"),
+        ("-987654.321", "-987654.321"),
+        ("+0012", "+0012"),
+        ("0.50", "0.50"),
+        (".5", "0.5"),
+        ("-.05", "-0.05"),
+        ("000.000", "000.000"),
+    ] {
+        assert_eq!(rt; printed(rt.alloc(), text)?.as_str(), want, "{text}");
+    }
+    Ok(())
 }
 
 #[test]
 fn an_exponent_moves_both_ends(rt: HostRuntime) -> Result<(), Fail> {
-    prints(
-        &rt,
-        rt.alloc(),
-        &[
-            (".5e1", "5"),
-            ("0.50e1", "05.0"),
-            ("1E3", "1000"),
-            ("12e-3", "0.012"),
-            ("5e-0", "5"),
-            ("0e5", "0"),
-            // of zero it is ignored, whatever its size
-            ("0e99999", "0"),
-            ("00.0e-99999999999999999999", "00.0"),
-        ],
-    )
+    for (text, want) in [
+        (".5e1", "5"),
+        ("0.50e1", "05.0"),
+        ("1E3", "1000"),
+        ("12e-3", "0.012"),
+        ("5e-0", "5"),
+        ("0e5", "0"),
+        // of zero it is ignored, whatever its size
+        ("0e99999", "0"),
+        ("00.0e-99999999999999999999", "00.0"),
+    ] {
+        assert_eq!(rt; printed(rt.alloc(), text)?.as_str(), want, "{text}");
+    }
+    Ok(())
 }
 
 #[test]
@@ -85,47 +75,38 @@ fn ends_of_the_magnitudes_are_accepted(rt: HostRuntime) -> Result<(), Fail> {
 
 #[test]
 fn texts_past_the_magnitudes_are_limit(rt: HostRuntime) -> Result<(), Fail> {
-    refuses(
-        &rt,
-        rt.alloc(),
-        1,
-        &[
-            "0.1e-32768",
-            "1e32768",
-            "10e32767",
-            "01e32767",
-            "1e-32769",
-            // the exponent itself has limits
-            "0.01e32768",
-            "1e99999999999999999999",
-        ],
-    )
+    for text in [
+        "0.1e-32768",
+        "1e32768",
+        "10e32767",
+        "01e32767",
+        "1e-32769",
+        // the exponent itself has limits
+        "0.01e32768",
+        "1e99999999999999999999",
+    ] {
+        assert_eq!(rt; refusal(rt.alloc(), text), 1, "{text}");
+    }
+    Ok(())
 }
 
 #[test]
 fn texts_outside_the_grammar_are_syntax(rt: HostRuntime) -> Result<(), Fail> {
-    refuses(
-        &rt,
-        rt.alloc(),
-        2,
-        &["", "-", ".", "5.", "5.e3", "1.2.3", "--5", "+-5"],
-    )?;
-    refuses(
-        &rt,
-        rt.alloc(),
-        2,
-        &["1,2", " 5", "1\r", "1c3", "x", "٥", "1_0", "0x1"],
-    )
+    for text in ["", "-", ".", "5.", "5.e3", "1.2.3", "--5", "+-5"] {
+        assert_eq!(rt; refusal(rt.alloc(), text), 2, "{text}");
+    }
+    for text in ["1,2", " 5", "1\r", "1c3", "x", "٥", "1_0", "0x1"] {
+        assert_eq!(rt; refusal(rt.alloc(), text), 2, "{text}");
+    }
+    Ok(())
 }
 
 #[test]
 fn exponents_outside_the_grammar_are_syntax(rt: HostRuntime) -> Result<(), Fail> {
-    refuses(
-        &rt,
-        rt.alloc(),
-        2,
-        &["1e", "1e+5", "e5", "1e--5", "1e5.", "1ee5", "1e5e5", "1e-"],
-    )
+    for text in ["1e", "1e+5", "e5", "1e--5", "1e5.", "1ee5", "1e5e5", "1e-"] {
+        assert_eq!(rt; refusal(rt.alloc(), text), 2, "{text}");
+    }
+    Ok(())
 }
 
 #[test]
@@ -147,10 +128,10 @@ fn too_many_digits_are_limit(rt: HostRuntime) -> Result<(), Fail> {
     for _ in 0..32768 {
         text.push('9')?;
     }
-    let longest = Decimal::try_from_str(rt.alloc(), text.as_str())?;
-    assert_eq!(rt; longest.digit_at(32767), 9);
+    assert_eq!(rt; refusal(rt.alloc(), text.as_str()), 0);
     text.push('9')?;
-    refuses(&rt, rt.alloc(), 1, &[text.as_str()])
+    assert_eq!(rt; refusal(rt.alloc(), text.as_str()), 1);
+    Ok(())
 }
 
 #[test]

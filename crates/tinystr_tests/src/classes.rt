@@ -101,21 +101,3 @@ fn a_last_character_counts(rt: HostRuntime) -> Result<(), Fail> {
     }
     Ok(())
 }
-
-#[test]
-fn words_of_two_characters(rt: HostRuntime) -> Result<(), Fail> {
-    for (text, want) in [
-        ("ab", [T, T, F, T, F, F, T, F, F]),
-        ("aB", [T, T, F, F, F, F, F, F, F]),
-        ("AB", [T, T, F, F, T, F, F, T, F]),
-        ("Ab", [T, T, F, F, F, T, F, F, T]),
-        ("a1", [F, T, F, T, F, F, F, F, F]),
-        ("1b", [F, T, F, T, F, T, F, F, F]),
-        ("12", [F, T, T, T, T, T, F, F, F]),
-        ("a-", [F, F, F, T, F, F, F, F, F]),
-    ] {
-        let small = TinyAsciiStr::<4>::try_from_str(text)?;
-        assert_eq!(rt; answers(small), want, "{text}");
-    }
-    Ok(())
-}

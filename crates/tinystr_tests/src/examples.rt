@@ -2,9 +2,7 @@
 
 use std::convert::AsStr;
 use std::test::Fail;
-use tinystr::{
-    ParseError, TinyAsciiStr, TinyStr4, TinyStr8, TinyStr16, UleError, UnvalidatedTinyAsciiStr,
-};
+use tinystr::{ParseError, TinyAsciiStr, TinyStr4, TinyStr8, TinyStr16};
 
 #[test]
 fn try_from_str(rt: HostRuntime) -> Result<(), Fail> {
@@ -112,44 +110,5 @@ fn to_ascii_titlecase(rt: HostRuntime) -> Result<(), Fail> {
     assert_eq!(rt; text.to_ascii_titlecase().as_str(), "Test");
     assert_eq!(rt; text.to_ascii_lowercase().as_str(), "test");
     assert_eq!(rt; text.to_ascii_uppercase().as_str(), "TEST");
-    Ok(())
-}
-
-#[test]
-fn unvalidated(rt: HostRuntime) -> Result<(), Fail> {
-    let high = UnvalidatedTinyAsciiStr::<2>::try_from_utf8(&[200])?;
-    assert_eq!(rt; high.to_bytes(), [200, 0]);
-    let any = UnvalidatedTinyAsciiStr::<2>::from_utf8_unchecked([0, 200]);
-    assert_eq!(rt; any.try_into_tinystr().err(), Some(ParseError::NonAscii));
-    let behind = UnvalidatedTinyAsciiStr::<2>::from_utf8_unchecked([0, 97]);
-    assert_eq!(rt;
-        behind.try_into_tinystr().err(),
-        Some(ParseError::ContainsNull)
-    );
-    let form = UnvalidatedTinyAsciiStr::<2>::from_utf8_unchecked([97, 0]);
-    assert_eq!(rt; form.try_into_tinystr()?.as_str(), "a");
-    let text = TinyStr4::try_from_str("ab")?;
-    assert_eq!(rt; text.to_unvalidated().to_bytes(), [97, 98, 0, 0]);
-    Ok(())
-}
-
-#[test]
-fn unvalidated_bytes(rt: HostRuntime) -> Result<(), Fail> {
-    let any = UnvalidatedTinyAsciiStr::<2>::from_bytes(&[0, 200])?;
-    assert_eq!(rt; any.to_bytes(), [0, 200]);
-    assert_eq!(rt;
-        UnvalidatedTinyAsciiStr::<2>::from_bytes(&[97]).err(),
-        Some(UleError::Length(1))
-    );
-    assert_eq!(rt;
-        UnvalidatedTinyAsciiStr::<2>::validate_bytes(&[1, 2, 3, 4]),
-        Ok(())
-    );
-    assert_eq!(rt;
-        UnvalidatedTinyAsciiStr::<2>::validate_bytes(&[1, 2, 3]),
-        Err(UleError::Length(3))
-    );
-    assert_eq!(rt; UnvalidatedTinyAsciiStr::<2>::default().to_bytes(), [0, 0]);
-    assert_eq!(rt; TinyAsciiStr::<2>::NICHE_BIT_PATTERN, [255, 255]);
     Ok(())
 }

@@ -154,7 +154,5 @@ fn a_short_array_makes_a_word(rt: HostRuntime) -> Result<(), Fail> {
     let word = Aligned8::from_ascii_bytes(&to_ascii_byte_array(text.all_bytes()));
     assert_eq!(rt; word.len(), 1);
     assert!(rt; word.is_ascii_alphabetic_lowercase());
-    let four = Aligned4::from_ascii_bytes(&[AsciiByte::B97, AsciiByte::B0]);
-    assert_eq!(rt; four.len(), 1);
     Ok(())
 }
