@@ -34,7 +34,7 @@ fn other_texts_are_no_keywords(rt: HostRuntime) -> Result<(), Fail> {
         "h0-hybrid",
         "nu-thai-u",
         // pieces of other lengths, and other characters
-        "nu-th-ab1",
+        "nu-t1",
         "nu-toolongpiece",
         "nu-th_i",
         "-nu",
