@@ -10,9 +10,12 @@
 //! ```
 #![tactic(auto)]
 
+mod comparing;
 pub mod extensions;
+pub mod laws;
 mod locale;
 mod parser;
+mod printing;
 pub mod subtags;
 
 pub use crate::locale::Locale;
