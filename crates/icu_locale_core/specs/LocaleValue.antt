@@ -17,7 +17,8 @@ use Rattle.icu_locale_core_langid.specs.SameLanguageLaws.{language_fed, same_equ
 use Rattle.icu_locale_core_entries.specs.Orders.{same_entries}
 use Rattle.icu_locale_core_entries.specs.OrderLaws.{entries_equiv, entries_decide}
 use Rattle.icu_locale_core_extensions.specs.ExtensionText.{is_empty_unicode, is_empty_transform}
-use Rattle.icu_locale_core_extensions.specs.SameExtension.{same_unicode, same_transform, unicode_fed, transform_fed, other_fed, unicode_equiv, transform_equiv}
+use Rattle.icu_locale_core_extensions.specs.SameExtension.{same_unicode, same_transform}
+use Rattle.icu_locale_core_extensions.specs.SameExtensionLaws.{unicode_fed, transform_fed, other_fed, unicode_equiv, transform_equiv}
 use Rattle.icu_locale_core.specs.ExtensionsValue.{ExtensionsValue}
 
 -- ---- values
