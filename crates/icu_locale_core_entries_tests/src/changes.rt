@@ -15,9 +15,16 @@ fn a_value_is_set_and_the_old_one_answered(rt: HostRuntime) -> Result<(), Fail> 
         ("va", "true", None, "ca-buddhist-nu-thai-va"),
     ] {
         let mut map = Keywords::try_from_str(rt.alloc(), "ca-buddhist-nu-thai")?;
-        let was = map.set(Key::try_from_str(key)?, Value::try_from_str(rt.alloc(), value)?)?;
+        let was = map.set(
+            Key::try_from_str(key)?,
+            Value::try_from_str(rt.alloc(), value)?,
+        )?;
         match was {
-            Some(was) => assert_eq!(rt; Some(was.write_to_string(rt.alloc())?.as_str()), old, "{key}"),
+            Some(was) => assert_eq!(rt;
+                Some(was.write_to_string(rt.alloc())?.as_str()),
+                old,
+                "{key}"
+            ),
             None => assert_eq!(rt; None, old, "{key}"),
         }
         assert_eq!(rt; map.write_to_string(rt.alloc())?.as_str(), want, "{key}");
@@ -57,7 +64,11 @@ fn the_other_maps_keywords_win(rt: HostRuntime) -> Result<(), Fail> {
     ] {
         let mut map = Keywords::try_from_str(rt.alloc(), text)?;
         map.extend_from_keywords(Keywords::try_from_str(rt.alloc(), other)?)?;
-        assert_eq!(rt; map.write_to_string(rt.alloc())?.as_str(), want, "{text}, {other}");
+        assert_eq!(rt;
+            map.write_to_string(rt.alloc())?.as_str(),
+            want,
+            "{text}, {other}"
+        );
     }
     Ok(())
 }

@@ -24,7 +24,11 @@ fn value_push_and_from_subtag(rt: HostRuntime) -> Result<(), Fail> {
 
 #[test]
 fn value_try_from_iter(rt: HostRuntime) -> Result<(), Fail> {
-    let subtags = [Subtag::try_from_str("abc")?, Subtag::try_from_str("true")?, Subtag::try_from_str("def")?];
+    let subtags = [
+        Subtag::try_from_str("abc")?,
+        Subtag::try_from_str("true")?,
+        Subtag::try_from_str("def")?,
+    ];
     let value = transform::Value::try_from_iter(rt.alloc(), subtags)?;
     assert!(rt; value.eq_str("abc-def"));
     Ok(())
@@ -51,11 +55,17 @@ fn keywords_try_from_iter(rt: HostRuntime) -> Result<(), Fail> {
     let nu = u::Key::try_from_str("nu")?;
     let entries = [
         (nu, unicode::Value::try_from_str(rt.alloc(), "thai")?),
-        (u::Key::try_from_str("ca")?, unicode::Value::try_from_str(rt.alloc(), "coptic")?),
+        (
+            u::Key::try_from_str("ca")?,
+            unicode::Value::try_from_str(rt.alloc(), "coptic")?,
+        ),
         (nu, unicode::Value::try_from_str(rt.alloc(), "latn")?),
     ];
     map = unicode::Keywords::try_from_iter(rt.alloc(), entries)?;
-    assert_eq!(rt; map.write_to_string(rt.alloc())?.as_str(), "ca-coptic-nu-thai");
+    assert_eq!(rt;
+        map.write_to_string(rt.alloc())?.as_str(),
+        "ca-coptic-nu-thai"
+    );
     assert_eq!(rt; map.iter().count(), 2);
     Ok(())
 }
@@ -69,7 +79,10 @@ fn keywords_retain_by_key(rt: HostRuntime) -> Result<(), Fail> {
     let old = map.clear();
     assert!(rt; map.is_empty());
     assert!(rt; old != copy);
-    assert_eq!(rt; copy.write_to_string(rt.alloc())?.as_str(), "ca-buddhist-kn-nu-thai");
+    assert_eq!(rt;
+        copy.write_to_string(rt.alloc())?.as_str(),
+        "ca-buddhist-kn-nu-thai"
+    );
     Ok(())
 }
 

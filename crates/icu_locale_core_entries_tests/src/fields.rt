@@ -15,7 +15,11 @@ fn fields_are_listed_by_key_and_show_true(rt: HostRuntime) -> Result<(), Fail> {
         ("M0-TRUE", "m0-true"),
         ("m0-true-abc", "m0-abc"),
     ] {
-        assert_eq!(rt; fields(rt.alloc(), text)?.ok().as_deref(), Some(want), "{text}");
+        assert_eq!(rt;
+            fields(rt.alloc(), text)?.ok().as_deref(),
+            Some(want),
+            "{text}"
+        );
     }
     Ok(())
 }

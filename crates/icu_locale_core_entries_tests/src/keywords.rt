@@ -17,7 +17,11 @@ fn keywords_are_listed_by_key_and_once(rt: HostRuntime) -> Result<(), Fail> {
         ("ca-islamic-civil", "ca-islamic-civil"),
         ("1a-abc", "1a-abc"),
     ] {
-        assert_eq!(rt; keywords(rt.alloc(), text)?.ok().as_deref(), Some(want), "{text}");
+        assert_eq!(rt;
+            keywords(rt.alloc(), text)?.ok().as_deref(),
+            Some(want),
+            "{text}"
+        );
     }
     Ok(())
 }
@@ -30,7 +34,7 @@ fn other_texts_are_no_keywords(rt: HostRuntime) -> Result<(), Fail> {
         "h0-hybrid",
         "nu-thai-u",
         // pieces of other lengths, and other characters
-        "nu-th-ab1",
+        "nu-t1",
         "nu-toolongpiece",
         "nu-th_i",
         "-nu",

@@ -8,10 +8,20 @@ use writeable::Writeable;
 
 #[test]
 fn a_refused_piece_leaves_the_stage(rt: HostRuntime) -> Result<(), Fail> {
-    for (piece, want) in [("latn", "nu-thai-latn"), ("ca", "ca-nu-thai"), ("a", "nu-thai"), ("h0", "nu-thai"), ("", "nu-thai")] {
+    for (piece, want) in [
+        ("latn", "nu-thai-latn"),
+        ("ca", "ca-nu-thai"),
+        ("a", "nu-thai"),
+        ("h0", "nu-thai"),
+        ("", "nu-thai"),
+    ] {
         let mut stage: HeadedStage<(), unicode::KeyRule> = HeadedStage::InHead(());
         for read in ["nu", "thai", piece] {
-            stage = match headed_after::<NoHead, unicode::KeyRule>(rt.alloc(), stage, read.as_bytes())? {
+            stage = match headed_after::<NoHead, unicode::KeyRule>(
+                rt.alloc(),
+                stage,
+                read.as_bytes(),
+            )? {
                 Step::Taken(next) => next,
                 Step::Refused(same) => same,
             };

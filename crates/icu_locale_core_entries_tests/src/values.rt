@@ -16,7 +16,11 @@ fn a_value_is_its_pieces_without_true(rt: HostRuntime) -> Result<(), Fail> {
         ("abc-TRUE-def", "abc-def"),
         ("12345678", "12345678"),
     ] {
-        assert_eq!(rt; value(rt.alloc(), text)?.ok().as_deref(), Some(want), "{text}");
+        assert_eq!(rt;
+            value(rt.alloc(), text)?.ok().as_deref(),
+            Some(want),
+            "{text}"
+        );
     }
     Ok(())
 }
@@ -65,20 +69,41 @@ fn a_removal_takes_the_subtag_at_a_place(rt: HostRuntime) -> Result<(), Fail> {
         (3, None, "abc-def-ghi"),
     ] {
         let mut value = unicode::Value::try_from_str(rt.alloc(), "abc-def-ghi")?;
-        assert_eq!(rt; value.get_subtag(place).map(Subtag::as_str), taken, "{place}");
+        assert_eq!(rt;
+            value.get_subtag(place).map(Subtag::as_str),
+            taken,
+            "{place}"
+        );
         let removed = value.remove_subtag(place);
         assert_eq!(rt; removed.as_ref().map(Subtag::as_str), taken, "{place}");
-        assert_eq!(rt; value.write_to_string(rt.alloc())?.as_str(), want, "{place}");
+        assert_eq!(rt;
+            value.write_to_string(rt.alloc())?.as_str(),
+            want,
+            "{place}"
+        );
     }
     Ok(())
 }
 
 #[test]
 fn one_subtag_alone(rt: HostRuntime) -> Result<(), Fail> {
-    for (text, want) in [("", None), ("abc", Some("abc")), ("abc-def", None), ("abc-true", Some("abc"))] {
+    for (text, want) in [
+        ("", None),
+        ("abc", Some("abc")),
+        ("abc-def", None),
+        ("abc-true", Some("abc")),
+    ] {
         let value = unicode::Value::try_from_str(rt.alloc(), text)?;
-        assert_eq!(rt; value.as_single_subtag().map(Subtag::as_str), want, "{text}");
-        assert_eq!(rt; value.into_single_subtag().as_ref().map(Subtag::as_str), want, "{text}");
+        assert_eq!(rt;
+            value.as_single_subtag().map(Subtag::as_str),
+            want,
+            "{text}"
+        );
+        assert_eq!(rt;
+            value.into_single_subtag().as_ref().map(Subtag::as_str),
+            want,
+            "{text}"
+        );
     }
     Ok(())
 }
