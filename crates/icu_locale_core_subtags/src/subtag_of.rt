@@ -1,0 +1,68 @@
+//! The one type behind every type of subtags.
+
+ghost use Rattle.std.specs.Prelude.{◌≡◌, true, false, MatchResult};
+
+use crate::rule::SubtagRule;
+use icu_locale_core_grammar::ParseError;
+use std::marker::{Model, PhantomData};
+use tinystr::TinyAsciiStr;
+
+/// A subtag of the rule R, of at most N characters: its text in normal case.
+#[derive_where(Clone, Copy)]
+pub struct SubtagOf<R: SubtagRule<N>, const N: usize> {
+    pub(crate) text: TinyAsciiStr<N>,
+    pub(crate) rule: PhantomData<R>,
+}
+
+impl<R: SubtagRule<N>, const N: usize> Model for SubtagOf<R, N> {
+    ghost use Rattle.std.specs.Prelude.{◌≡◌, ℕ, List, true};
+
+    ghost Value = { List ℕ };
+
+    ghost view = { λ s. s.text };
+
+    ghost invariant = { λ s. (R.accepts s.text ≡ true) × (R.normal s.text ≡ s.text) };
+
+    ghost inverse = { λ text. record { text = text; rule = record {} } };
+}
+
+impl<R: SubtagRule<N>, const N: usize> SubtagOf<R, N> {
+    /// The subtag of this text, in either case; the fault of the rule where the rule does not accept it.
+    ///
+    /// As a language `EN` is `en`, and `abcd` is `InvalidLanguage`. It takes no memory.
+    pub fn try_from_str(s: &str) -> Result<Self, ParseError>
+        ensures { MatchResult result (λ subtag. (R.accepts s.now ≡ true) × (subtag ≡ R.normal s.now)) (λ e. (R.accepts s.now ≡ false) × (e ≡ R.fault)) }
+    {
+        Self::try_from_utf8(s.as_bytes())
+    }
+
+    /// The subtag of these bytes, as `try_from_str`.
+    pub fn try_from_utf8(code_units: &[u8]) -> Result<Self, ParseError>
+        ensures { MatchResult result (λ subtag. (R.accepts code_units.now ≡ true) × (subtag ≡ R.normal code_units.now)) (λ e. (R.accepts code_units.now ≡ false) × (e ≡ R.fault)) }
+    {
+        if !R::accepts(code_units) {
+            return Err(R::fault());
+        }
+        match TinyAsciiStr::try_from_utf8(code_units) {
+            Ok(text) => Ok(SubtagOf {
+                text: R::normal(text),
+                rule: PhantomData,
+            }),
+            Err(_) => Err(R::fault()),
+        }
+    }
+
+    /// The text in normal case.
+    pub fn as_str(&self) -> &str
+        ensures { result.now ≡ self.now }
+    {
+        self.text.as_str()
+    }
+
+    /// The text in normal case, in a value of its own.
+    pub fn to_tinystr(&self) -> TinyAsciiStr<N>
+        ensures { result ≡ self.now }
+    {
+        self.text
+    }
+}
