@@ -1,4 +1,2 @@
-pub mod ExtensionsLemmas
-pub mod LocaleTextLemmas
-pub mod SingletonLemmas
-pub mod StageLemmas
+-- Lemmas on the grammar, for the crates above.
+pub use Rattle.icu_locale_core_grammar.proofs.CallerLemmas

@@ -1,5 +1,18 @@
-pub mod ExtensionsValue
-pub mod LocaleText
-pub mod LocaleValue
-pub mod ReadsBack
-pub mod StageView
+-- What a reader must believe: the grammar of tags, its meaning, its faults and its normal text.
+pub use Rattle.icu_locale_core_grammar.specs.Subtags
+pub use Rattle.icu_locale_core_grammar.specs.Pieces
+pub use Rattle.icu_locale_core_grammar.specs.Collections
+pub use Rattle.icu_locale_core_grammar.specs.LanguagePart
+pub use Rattle.icu_locale_core_grammar.specs.Extensions
+pub use Rattle.icu_locale_core_grammar.specs.Meaning
+pub use Rattle.icu_locale_core_grammar.specs.FaultyPiece
+pub use Rattle.icu_locale_core_grammar.specs.NormalText
+pub use Rattle.icu_locale_core_grammar.specs.WellFormed
+pub use Rattle.icu_locale_core_grammar.specs.TagPreferences
+pub use Rattle.icu_locale_core_grammar.specs.DataTags
+pub use Rattle.icu_locale_core_grammar.specs.TagOrder
+pub use Rattle.icu_locale_core_grammar.specs.PreferenceChanges
+-- Statements of laws.
+pub use Rattle.icu_locale_core_grammar.specs.TagLaws
+pub use Rattle.icu_locale_core_grammar.specs.PartLaws
+pub use Rattle.icu_locale_core_grammar.specs.PreferenceLaws

@@ -1,7 +1,7 @@
-//! Locale tags: read, compared and printed, after the ICU4X crate of this name.
+//! Locale tags: read, changed, compared and printed, after the ICU4X crate of this name.
 //!
 //! `en-Latn-US-u-nu-thai` is the language `en`, the script `Latn`, the region `US` and a keyword `nu` with the value `thai`.
-//! The rules are in docs/tags.md.
+//! The rules are in docs/tags.md. This crate raises its inner crates under ICU4X's paths and computes nothing itself.
 //!
 //! ```rust
 //! use icu_locale_core::Locale;
@@ -10,14 +10,10 @@
 //! ```
 #![tactic(auto)]
 
-mod comparing;
 pub mod extensions;
-pub mod laws;
-mod locale;
-mod parser;
-mod printing;
+pub mod parser;
 pub mod subtags;
 
-pub use crate::locale::Locale;
 pub use icu_locale_core_grammar::ParseError;
 pub use icu_locale_core_langid::LanguageIdentifier;
+pub use icu_locale_core_locale::Locale;

@@ -1,5 +1,0 @@
-use Rattle.icu_locale_core.specs.LocaleValue.{locale_decides}
-use Rattle.icu_locale_core.proofs.laws.same_is_equal.Goals as goal
-
-pub returns : goal.returns
-returns c = locale_decides

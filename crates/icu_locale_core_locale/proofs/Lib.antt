@@ -1,0 +1,4 @@
+pub mod ExtensionsLemmas
+pub mod LocaleTextLemmas
+pub mod SingletonLemmas
+pub mod StageLemmas

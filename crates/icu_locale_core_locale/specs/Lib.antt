@@ -1,0 +1,5 @@
+pub mod ExtensionsValue
+pub mod LocaleText
+pub mod LocaleValue
+pub mod ReadsBack
+pub mod StageView

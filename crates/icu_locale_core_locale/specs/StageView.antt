@@ -1,0 +1,51 @@
+-- What the definitions see of the stage of a tag that is being read.
+-- Defined in docs/tags.md, "Stages".
+-- Cited by the functions that read whole tags.
+use Rattle.std.specs.Prelude.{◌≡◌, ℕ, Bool, true, false, List, [], ◌∷◌, ◌++◌, map, Option, None, Some, if◌then◌else◌}
+use Rattle.icu_locale_core_grammar.specs.declared.error.ParseError.{ParseError}
+use Rattle.icu_locale_core_grammar.specs.Subtags.{Text, is_private, lower}
+use Rattle.icu_locale_core_grammar.specs.Collections.{contains_text}
+use Rattle.icu_locale_core_grammar.specs.LanguagePart.{LanguageId}
+use Rattle.icu_locale_core_grammar.specs.Meaning.{ExtensionMeanings, TagMeaning}
+use Rattle.icu_locale_core_grammar.specs.Stepping.{InFront, AtBlock, InBlock, InPrivate}
+use Rattle.icu_locale_core_grammar.specs.TagStages as stages
+use Rattle.icu_locale_core_grammar.specs.TagStages.{TagStage, tag_after, tag_ends, tag_fault, opens}
+use Rattle.icu_locale_core_extensions.specs.BodyView.{body_key, body_view}
+use Rattle.icu_locale_core_extensions.specs.declared.body.BodyStage.{BodyStage}
+use Rattle.icu_locale_core_locale.specs.declared.parser.stage.LocaleStage.{LocaleStage}
+use Rattle.icu_locale_core_locale.specs.declared.parser.stage.LocaleStage.TheVariants as code
+use Rattle.icu_locale_core_locale.specs.declared.parser.attempt.Attempt.{Attempt}
+use Rattle.icu_locale_core_locale.specs.declared.parser.attempt.Attempt.TheVariants.{Goes, Stops}
+
+-- the singletons that have come, each a text of one character
+abbrev pub singletons : List ℕ → List Text
+singletons bs = map (λ b. b ∷ []) bs
+
+abbrev pub block_view : LanguageId → List ℕ → ExtensionMeanings → BodyStage → Bool → TagStage
+block_view id seen e b true = InBlock id (singletons seen) e (body_key b) (body_view b)
+block_view id seen e b false = AtBlock id (singletons seen) e (body_key b) (body_view b)
+
+abbrev pub stage_view : LocaleStage → TagStage
+stage_view (code.InLanguage l) = InFront l
+stage_view (code.InExtension s) = block_view s.id s.seen.items s.blocks s.body s.filled
+stage_view (code.InPrivate id e own) = InPrivate id e own
+
+-- what comes behind a part that may end: `x`, or a singleton that has not come yet
+abbrev pub opened_at : LanguageId → List Text → ExtensionMeanings → Text → Option stages.BodyStage → Option TagStage
+opened_at id seen e key None = None
+opened_at id seen e key (Some b) = Some (AtBlock id seen e key b)
+
+abbrev pub stage_behind : LanguageId → List Text → ExtensionMeanings → Text → Option TagStage
+stage_behind id seen e p =
+    if is_private p then Some (InPrivate id e [])
+    else (if contains_text (lower p) seen then None else opened_at id seen e (lower p) (opens p))
+
+-- the stage after the piece p, or the fault of the stage at that piece
+abbrev pub GoesOn : TagStage → Text → Attempt LocaleStage → Type 0
+GoesOn s p (Goes t) = tag_after s p ≡ Some (stage_view t)
+GoesOn s p (Stops e) = (tag_after s p ≡ None) × (e ≡ tag_fault s (Some p))
+
+-- the meaning of the stage at the end, or its fault there
+abbrev pub Ends : TagStage → Attempt TagMeaning → Type 0
+Ends s (Goes m) = tag_ends s ≡ Some m
+Ends s (Stops e) = (tag_ends s ≡ None) × (e ≡ tag_fault s None)

@@ -1,0 +1,111 @@
+//! All extensions of a locale.
+
+ghost use Rattle.std.specs.Prelude.{◌≡◌, ◌↔◌, IfOk, IsTrue};
+ghost use Rattle.icu_locale_core_locale.specs.ExtensionsValue.{nothing};
+ghost use Rattle.icu_locale_core_locale.specs.LocaleValue.{is_empty_extensions};
+
+use icu_locale_core_extensions::{Blocks, Other, Transform, Unicode};
+use icu_locale_core_sets::Private;
+use std::alloc::{AllocError, Global};
+use std::marker::Model;
+
+/// The extensions of a locale: `u`, `t`, the private pieces, and all others in the order held.
+#[derive(Drop)]
+pub struct Extensions {
+    /// The extension `u`.
+    pub unicode: Unicode,
+    /// The extension `t`.
+    pub transform: Transform,
+    /// The private pieces.
+    pub private: Private,
+    /// All others; a reader lists them in byte order of their singletons.
+    pub other: Vec<Other>,
+}
+
+impl Model for Extensions {
+    ghost use Rattle.icu_locale_core_locale.specs.ExtensionsValue.{ExtensionsValue};
+
+    ghost Value = { ExtensionsValue };
+
+    ghost view = { λ e. record {
+      blocks = record { unicode = e.unicode; transform = e.transform; others = e.other.items };
+      own = e.private;
+    } };
+}
+
+// The same extensions, in the same order.
+fn copied(alloc: Global, others: &[Other]) -> Result<Vec<Other>, AllocError>
+    ensures { IfOk result (λ copy. copy.items ≡ others.now) }
+{
+    let mut copy = Vec::new(alloc);
+    for other in others {
+        let Ok(()) = copy.push(other.try_clone()?) else {
+            return Err(AllocError);
+        };
+    }
+    Ok(copy)
+}
+
+impl Extensions {
+    /// No extension. It takes no memory.
+    pub fn new(alloc: Global) -> Self
+        ensures { result ≡ nothing }
+    {
+        Extensions {
+            unicode: Unicode::new(alloc),
+            transform: Transform::new(alloc),
+            private: Private::new(alloc),
+            other: Vec::new(alloc),
+        }
+    }
+
+    // Whether no part has anything.
+    fn has_none(&self) -> bool
+        ensures { result ≡ is_empty_extensions self.now }
+    {
+        self.unicode.is_empty()
+            && self.transform.is_empty()
+            && self.private.is_empty()
+            && self.other.is_empty()
+    }
+
+    /// Whether there is no extension.
+    pub fn is_empty(&self) -> bool
+        ensures { IsTrue result ↔ (self.now ≡ nothing) }
+    {
+        self.has_none()
+    }
+
+    /// Equal extensions. `AllocError` is answered for memory alone.
+    pub fn try_clone(&self) -> Result<Self, AllocError>
+        ensures { IfOk result (λ extensions. extensions ≡ self.now) }
+    {
+        let unicode = self.unicode.try_clone()?;
+        let transform = self.transform.try_clone()?;
+        let private = self.private.try_clone()?;
+        let other = copied(*self.other.allocator(), self.other.as_slice())?;
+        Ok(Extensions {
+            unicode,
+            transform,
+            private,
+            other,
+        })
+    }
+
+    // The extensions that were read, and the private pieces.
+    pub(crate) fn from_blocks(blocks: Blocks, private: Private) -> Self
+        ensures { result ≡ record { blocks = blocks; own = private } }
+    {
+        let Blocks {
+            unicode,
+            transform,
+            other,
+        } = blocks;
+        Extensions {
+            unicode,
+            transform,
+            private,
+            other,
+        }
+    }
+}

@@ -1,0 +1,17 @@
+//! Laws of locales: each is the contract of a function that computes nothing.
+
+ghost use Rattle.icu_locale_core_locale.specs.LocaleValue.{SameIsEqual};
+ghost use Rattle.icu_locale_core_locale.specs.ReadsBack.{LocalesReadBack};
+
+/// A locale that was read and printed reads back equal.
+///
+/// What `Locale::try_from_str` answers, printed by `write_to` and read by `try_from_str` again, is accepted where memory
+/// suffices, and is equal.
+pub fn locales_read_back()
+    ensures { LocalesReadBack }
+{}
+
+/// `==` holds exactly of equal locales.
+pub fn same_is_equal()
+    ensures { SameIsEqual }
+{}

@@ -1,0 +1,22 @@
+//! Whole locales: read from tags, compared and printed.
+//!
+//! `en-Latn-US-u-nu-thai` is the language `en`, the script `Latn`, the region `US` and a keyword `nu` with the value `thai`.
+//! The rules are in docs/tags.md.
+//!
+//! ```rust
+//! use icu_locale_core_locale::Locale;
+//!
+//! let locale = Locale::try_from_str(alloc, "EN-latn-us-u-NU-thai")?;
+//! ```
+#![tactic(auto)]
+
+mod comparing;
+mod extensions;
+pub mod laws;
+mod locale;
+mod parser;
+mod printing;
+
+pub use crate::extensions::Extensions;
+pub use crate::locale::Locale;
+pub use crate::parser::parse_locale;

@@ -1,0 +1,86 @@
+//! The locale: its parts, and how it is read.
+
+ghost use Rattle.std.specs.Prelude.{◌≡◌, ◌↔◌, ◌⊎◌, IfOk, IfErr, IsTrue};
+ghost use Rattle.icu_locale_core_grammar.specs.declared.error.ParseError.{ParseError};
+ghost use Rattle.icu_locale_core_grammar.specs.Pieces.{pieces};
+ghost use Rattle.icu_locale_core_grammar.specs.Meaning.{MeansTag};
+ghost use Rattle.icu_locale_core_grammar.specs.FaultyPiece.{HasFault};
+ghost use Rattle.icu_locale_core_locale.specs.LocaleValue.{language_alone, unknown_locale};
+
+use crate::extensions::Extensions;
+use crate::parser::parse_locale;
+use icu_locale_core_grammar::ParseError;
+use icu_locale_core_langid::LanguageIdentifier;
+use std::alloc::{AllocError, Global};
+use std::marker::Model;
+
+/// A language identifier and extensions: `en-US-u-nu-thai`. Source: UTS 35, section 3.2, "Unicode Locale Identifier".
+#[derive(Drop)]
+pub struct Locale {
+    /// The language, script, region and variants.
+    pub id: LanguageIdentifier,
+    /// The extensions.
+    pub extensions: Extensions,
+}
+
+impl Model for Locale {
+    ghost use Rattle.icu_locale_core_grammar.specs.Meaning.{TagMeaning};
+
+    ghost Value = { TagMeaning };
+
+    ghost view = { λ l. record { front = l.id; blocks = l.extensions.blocks; own = l.extensions.own } };
+}
+
+impl Locale {
+    /// The language `und`, and nothing else. It takes no memory.
+    pub fn unknown(alloc: Global) -> Self
+        ensures { result ≡ unknown_locale }
+    {
+        Self::from_id(alloc, LanguageIdentifier::unknown(alloc))
+    }
+
+    /// The locale of this language identifier, without an extension: of `en-US` it is `en-US`. It takes no memory.
+    pub fn from_id(alloc: Global, id: LanguageIdentifier) -> Self
+        ensures { result ≡ language_alone id }
+    {
+        Locale {
+            id,
+            extensions: Extensions::new(alloc),
+        }
+    }
+
+    /// Whether this is the language `und`, and nothing else.
+    pub fn is_unknown(&self) -> bool
+        ensures { IsTrue result ↔ (self.now ≡ unknown_locale) }
+    {
+        self.id.is_unknown() && self.extensions.is_empty()
+    }
+
+    /// An equal locale. `AllocError` is answered for memory alone.
+    pub fn try_clone(&self) -> Result<Self, AllocError>
+        ensures { IfOk result (λ locale. locale ≡ self.now) }
+    {
+        let id = self.id.try_clone()?;
+        let extensions = self.extensions.try_clone()?;
+        Ok(Locale { id, extensions })
+    }
+
+    /// The locale that the tag means, in any case: `EN-u-NU-Thai` is `en-u-nu-thai`.
+    ///
+    /// `InvalidLanguage`, `InvalidSubtag`, `InvalidExtension` and `DuplicatedExtension` name the place of the first piece that
+    /// no tag has there, or of the end; `Memory` is answered where a growth was refused. Source: UTS 35, section 3.2.
+    pub fn try_from_str(alloc: Global, s: &str) -> Result<Self, ParseError>
+        ensures value { IfOk result (MeansTag (pieces s.now)) }
+        ensures fault { IfErr result (λ e. (e ≡ ParseError.Memory) ⊎ HasFault MeansTag (pieces s.now) e) }
+    {
+        Self::try_from_utf8(alloc, s.as_bytes())
+    }
+
+    /// The locale that these bytes mean, as `try_from_str`.
+    pub fn try_from_utf8(alloc: Global, code_units: &[u8]) -> Result<Self, ParseError>
+        ensures value { IfOk result (MeansTag (pieces code_units.now)) }
+        ensures fault { IfErr result (λ e. (e ≡ ParseError.Memory) ⊎ HasFault MeansTag (pieces code_units.now) e) }
+    {
+        parse_locale(alloc, code_units)
+    }
+}

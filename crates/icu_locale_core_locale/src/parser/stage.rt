@@ -1,0 +1,243 @@
+//! The stages of a tag that is being read.
+
+ghost use Rattle.std.specs.Prelude.{◌≡◌, None, Some, IfOk, MatchOption};
+ghost use Rattle.icu_locale_core_grammar.specs.Stepping.{InFront, InBlock};
+ghost use Rattle.icu_locale_core_grammar.specs.TagStages.{body_after as body_stage_after, language_after as language_stage_after};
+ghost use Rattle.icu_locale_core_extensions.specs.BodyView.{body_key, body_view};
+ghost use Rattle.icu_locale_core_locale.specs.StageView.{singletons, stage_view, block_view, stage_behind, GoesOn, Ends};
+
+use crate::extensions::Extensions;
+use crate::locale::Locale;
+use crate::parser::attempt::Attempt;
+use crate::parser::singletons::{has_come, key_of, opens_private, stands_alone};
+use icu_locale_core_entries::Step;
+use icu_locale_core_extensions::{Blocks, BodyStage, body_after, body_finish, opened_body};
+use icu_locale_core_grammar::ParseError;
+use icu_locale_core_langid::{LanguageIdentifier, Step as LanguageStep, language_after};
+use icu_locale_core_sets::Private;
+use icu_locale_core_subtags::private::Subtag;
+use std::alloc::{AllocError, Global};
+
+/// An extension that is being read.
+#[derive(Drop)]
+pub struct ExtensionStage {
+    /// The language part.
+    pub id: LanguageIdentifier,
+    /// The singletons of the extensions before, in lower case.
+    pub seen: Vec<u8>,
+    /// The extensions before.
+    pub blocks: Blocks,
+    /// The pieces so far.
+    pub body: BodyStage,
+    /// Whether there is a piece behind the singleton.
+    pub filled: bool,
+}
+
+/// How far a tag is read.
+#[derive(Drop)]
+pub enum LocaleStage {
+    /// In the language part.
+    InLanguage(Option<LanguageIdentifier>),
+    /// In an extension.
+    InExtension(ExtensionStage),
+    /// Behind `x`.
+    InPrivate(LanguageIdentifier, Blocks, Private),
+}
+
+// Behind a part that may end: `x`, or a singleton that has not come yet.
+fn stage_after_part(
+    alloc: Global,
+    id: LanguageIdentifier,
+    seen: Vec<u8>,
+    blocks: Blocks,
+    piece: &[u8],
+) -> Option<LocaleStage>
+    ensures { MatchOption result (stage_behind id (singletons seen.items) blocks piece.now ≡ None) (λ s. stage_behind id (singletons seen.items) blocks piece.now ≡ Some (stage_view s)) }
+{
+    if opens_private(piece) {
+        return Some(LocaleStage::InPrivate(id, blocks, Private::new(alloc)));
+    }
+    if has_come(seen.as_slice(), piece) {
+        return None;
+    }
+    match opened_body(alloc, piece) {
+        Some(body) => Some(LocaleStage::InExtension(ExtensionStage {
+            id,
+            seen,
+            blocks,
+            body,
+            filled: false,
+        })),
+        None => None,
+    }
+}
+
+// Behind a language identifier that does not take the piece.
+#[tactic(auto, unfolding(icu_locale_core_grammar::specs::Stepping::whole_after))]
+fn after_identifier(alloc: Global, id: LanguageIdentifier, piece: &[u8]) -> Attempt<LocaleStage>
+    ensures { language_stage_after (Some id) piece.now ≡ None → GoesOn (InFront (Some id)) piece.now result }
+{
+    match stage_after_part(alloc, id, Vec::new(alloc), Blocks::new(alloc), piece) {
+        Some(stage) => Attempt::Goes(stage),
+        None => Attempt::Stops(ParseError::InvalidSubtag),
+    }
+}
+
+// In the language part: one more piece of it, or what comes behind it.
+#[tactic(auto, unfolding(icu_locale_core_grammar::specs::Stepping::whole_after))]
+fn after_language(
+    alloc: Global,
+    language: Option<LanguageIdentifier>,
+    piece: &[u8],
+) -> Result<Attempt<LocaleStage>, AllocError>
+    ensures { IfOk result (GoesOn (InFront language) piece.now) }
+{
+    match language_after(alloc, language, piece)? {
+        LanguageStep::Taken(next) => Ok(Attempt::Goes(LocaleStage::InLanguage(next))),
+        LanguageStep::Refused(None) => Ok(Attempt::Stops(ParseError::InvalidLanguage)),
+        LanguageStep::Refused(Some(id)) => Ok(after_identifier(alloc, id, piece)),
+    }
+}
+
+// Behind an extension that does not take the piece.
+#[tactic(auto, unfolding(icu_locale_core_grammar::specs::Stepping::whole_after))]
+fn after_ended(
+    alloc: Global,
+    id: LanguageIdentifier,
+    mut seen: Vec<u8>,
+    mut blocks: Blocks,
+    body: BodyStage,
+    piece: &[u8],
+) -> Result<Attempt<LocaleStage>, AllocError>
+    ensures { body_stage_after (body_view body) piece.now ≡ None → IfOk result (GoesOn (InBlock id (singletons seen.items) blocks (body_key body) (body_view body)) piece.now) }
+{
+    let key = key_of(&body);
+    let Some(part) = body_finish(alloc, body)? else {
+        return Ok(Attempt::Stops(ParseError::InvalidExtension));
+    };
+    let Ok(()) = seen.push(key) else {
+        return Err(AllocError);
+    };
+    blocks.put(part)?;
+    let repeated = stands_alone(piece) && has_come(seen.as_slice(), piece);
+    match stage_after_part(alloc, id, seen, blocks, piece) {
+        Some(stage) => Ok(Attempt::Goes(stage)),
+        None if repeated => Ok(Attempt::Stops(ParseError::DuplicatedExtension)),
+        None => Ok(Attempt::Stops(ParseError::InvalidExtension)),
+    }
+}
+
+// In an extension: one more piece of it, or what comes behind it.
+#[tactic(auto, unfolding(icu_locale_core_grammar::specs::Stepping::whole_after))]
+fn after_extension(
+    alloc: Global,
+    stage: ExtensionStage,
+    piece: &[u8],
+) -> Result<Attempt<LocaleStage>, AllocError>
+    ensures { IfOk result (GoesOn (block_view stage.id stage.seen.items stage.blocks stage.body stage.filled) piece.now) }
+{
+    let ExtensionStage {
+        id,
+        seen,
+        blocks,
+        body,
+        filled,
+    } = stage;
+    match body_after(alloc, body, piece)? {
+        Step::Taken(body) => Ok(Attempt::Goes(LocaleStage::InExtension(ExtensionStage {
+            id,
+            seen,
+            blocks,
+            body,
+            filled: true,
+        }))),
+        Step::Refused(body) => {
+            if filled {
+                after_ended(alloc, id, seen, blocks, body, piece)
+            } else {
+                Ok(Attempt::Stops(ParseError::InvalidExtension))
+            }
+        }
+    }
+}
+
+// Behind `x`: one more private piece.
+#[tactic(auto, unfolding(icu_locale_core_grammar::specs::Stepping::whole_after))]
+fn after_private(
+    id: LanguageIdentifier,
+    blocks: Blocks,
+    mut private: Private,
+    piece: &[u8],
+) -> Result<Attempt<LocaleStage>, AllocError>
+    ensures { IfOk result (GoesOn (stage_view (LocaleStage.InPrivate id blocks private)) piece.now) }
+{
+    match Subtag::try_from_utf8(piece) {
+        Ok(subtag) => {
+            private.push(subtag)?;
+            Ok(Attempt::Goes(LocaleStage::InPrivate(id, blocks, private)))
+        }
+        Err(_) => Ok(Attempt::Stops(ParseError::InvalidExtension)),
+    }
+}
+
+/// The stage after one more piece, or the fault there. `AllocError` is answered for memory alone.
+pub fn next_stage(
+    alloc: Global,
+    stage: LocaleStage,
+    piece: &[u8],
+) -> Result<Attempt<LocaleStage>, AllocError>
+    ensures { IfOk result (GoesOn (stage_view stage) piece.now) }
+{
+    match stage {
+        LocaleStage::InLanguage(language) => after_language(alloc, language, piece),
+        LocaleStage::InExtension(stage) => after_extension(alloc, stage, piece),
+        LocaleStage::InPrivate(id, blocks, private) => after_private(id, blocks, private, piece),
+    }
+}
+
+// The locale of an extension that is read last.
+fn ended_extension(alloc: Global, stage: ExtensionStage) -> Result<Attempt<Locale>, AllocError>
+    ensures { IfOk result (Ends (block_view stage.id stage.seen.items stage.blocks stage.body stage.filled)) }
+{
+    let ExtensionStage {
+        id,
+        seen: _,
+        mut blocks,
+        body,
+        filled,
+    } = stage;
+    if !filled {
+        return Ok(Attempt::Stops(ParseError::InvalidExtension));
+    }
+    let Some(part) = body_finish(alloc, body)? else {
+        return Ok(Attempt::Stops(ParseError::InvalidExtension));
+    };
+    blocks.put(part)?;
+    Ok(Attempt::Goes(Locale {
+        id,
+        extensions: Extensions::from_blocks(blocks, Private::new(alloc)),
+    }))
+}
+
+/// The locale that was read, or the fault at the end. `AllocError` is answered for memory alone.
+pub fn finished(alloc: Global, stage: LocaleStage) -> Result<Attempt<Locale>, AllocError>
+    ensures { IfOk result (Ends (stage_view stage)) }
+{
+    match stage {
+        LocaleStage::InLanguage(None) => Ok(Attempt::Stops(ParseError::InvalidLanguage)),
+        LocaleStage::InLanguage(Some(id)) => Ok(Attempt::Goes(Locale {
+            id,
+            extensions: Extensions::new(alloc),
+        })),
+        LocaleStage::InExtension(stage) => ended_extension(alloc, stage),
+        LocaleStage::InPrivate(id, blocks, private) => {
+            if private.is_empty() {
+                return Ok(Attempt::Stops(ParseError::InvalidExtension));
+            }
+            Ok(Attempt::Goes(Locale {
+                id,
+                extensions: Extensions::from_blocks(blocks, private),
+            }))
+        }
+    }
+}
