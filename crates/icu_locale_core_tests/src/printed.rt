@@ -29,6 +29,7 @@ fn extensions_stand_by_their_singletons_and_x_last(rt: HostRuntime) -> Result<()
         // `t` and `u` before the first other singleton above `t`
         ("en-z-foo-u-nu-t-de-1-bar", "en-1-bar-t-de-u-nu-z-foo"),
         ("und-u-nu-thai-a-foo-bar", "und-a-foo-bar-u-nu-thai"),
+        ("und-a-foo-1-bar", "und-1-bar-a-foo"),
         ("und-x-u-nu-a", "und-x-u-nu-a"),
         ("en-u-foo-BAR-nu-latn", "en-u-bar-foo-nu-latn"),
     ] {
