@@ -18,7 +18,8 @@ fn repeated(alloc: Global, front: &str, piece: &str, times: usize) -> Result<Str
 fn a_hundred_thousand_pieces_are_read(rt: HostRuntime) -> Result<(), Fail> {
     let text = repeated(rt.alloc(), "en-x", "-a", 100_000)?;
     let locale = Locale::try_from_str(rt.alloc(), text.as_str())?;
-    assert_eq!(rt; locale.extensions.private.len(), 100_000);
+    let read = &locale;
+    assert_eq!(rt; read.extensions.private.len(), 100_000);
     Ok(())
 }
 
