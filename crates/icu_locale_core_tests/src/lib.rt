@@ -1,0 +1,20 @@
+//! Rows of values over the public calls of `icu_locale_core`, by the paths of its users.
+
+#![tactic(auto)]
+
+#[cfg(test)]
+mod comparing;
+#[cfg(test)]
+mod long;
+#[cfg(test)]
+mod other;
+#[cfg(test)]
+mod printed;
+#[cfg(test)]
+mod refused;
+#[cfg(test)]
+mod transform;
+#[cfg(test)]
+mod unicode;
+#[cfg(test)]
+mod values;
