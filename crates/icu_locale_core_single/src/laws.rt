@@ -1,0 +1,18 @@
+//! Laws of reading in a mode: each is the contract of a function that computes nothing.
+
+ghost use Rattle.icu_locale_core_single.specs.SingleLaws.{HasMeaningOrFault, HasOneMeaning, HasOneFault, HasNeverBoth, ModesAgree};
+
+/// In each mode a list of pieces has a meaning or a fault, one of them, and never both.
+///
+/// So a reader that answers nothing but the meaning or the fault accepts exactly what has a meaning.
+pub fn modes_are_answered()
+    ensures answered { HasMeaningOrFault }
+    ensures one_meaning { HasOneMeaning }
+    ensures one_fault { HasOneFault }
+    ensures never_both { HasNeverBoth }
+{}
+
+/// What mode `LanguageIdentifier` reads, each mode reads the same: `de-DE-1996`.
+pub fn modes_agree()
+    ensures { ModesAgree }
+{}
