@@ -47,16 +47,17 @@ same_bare m n none also e = sym (bare_again m none) ∙ ap bare e ∙ bare_again
 
 -- ---- each list stops somewhere
 
-Stopped : List Text → Type 0
+abbrev Stopped : List Text → Type 0
 Stopped ps = (s : Option LanguageId) × (rest : List Text) × StopsWith ps s rest
+
+stops_at : (taken ps : List Text) (s : Option LanguageId) (p : Text) (o : Option (Option LanguageId)) → run one_variant_after (Some None) taken ≡ Some s → one_variant_after s p ≡ o
+    → ((t : Option LanguageId) → run one_variant_after (Some None) (taken ++ p ∷ []) ≡ Some t → Stopped ((taken ++ p ∷ []) ++ ps)) → Stopped (taken ++ p ∷ ps)
+stops_at taken ps s p None e f onward = (s, p ∷ ps, record { took = (taken, refl, e); stuck = f })
+stops_at taken ps s p (Some t) e f onward = subst Stopped (append_assoc taken (p ∷ []) ps) (onward t (run_more one_variant_after None s t taken p e f))
 
 stops_from : (ps taken : List Text) (s : Option LanguageId) → run one_variant_after (Some None) taken ≡ Some s → Stopped (taken ++ ps)
 stops_from [] taken s e = (s, [], record { took = (taken, refl, e); stuck = tt })
-stops_from (p ∷ ps) taken s e = by_step (one_variant_after s p) refl
-  where
-    by_step : (o : Option (Option LanguageId)) → one_variant_after s p ≡ o → Stopped (taken ++ p ∷ ps)
-    by_step None f = (s, p ∷ ps, record { took = (taken, refl, e); stuck = f })
-    by_step (Some t) f = subst Stopped (append_assoc taken (p ∷ []) ps) (stops_from ps (taken ++ p ∷ []) t (run_more one_variant_after None s t taken p e f))
+stops_from (p ∷ ps) taken s e = stops_at taken ps s p (one_variant_after s p) e refl (stops_from ps (taken ++ p ∷ []))
 
 abbrev HasFront : List Text → Type 0
 HasFront ps = ((id : LanguageId) × (rest : List Text) × ReadsFront MeansOneVariant ps id rest) ⊎ HasFault MeansOneVariant ps InvalidLanguage

@@ -11,6 +11,7 @@
 //! ```
 #![tactic(auto)]
 
+pub mod known_rows;
 pub mod laws;
 mod parser;
 mod parts;
