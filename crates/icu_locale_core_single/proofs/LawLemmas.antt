@@ -3,12 +3,12 @@ use Rattle.std.proofs.Common.{◌≡◌, true, false, Bool, List, [], ◌∷◌,
 use Rattle.icu_locale_core_grammar.specs.declared.error.ParseError.{ParseError}
 use Rattle.icu_locale_core_grammar.specs.declared.error.ParseError.TheVariants.{InvalidLanguage, InvalidSubtag}
 use Rattle.icu_locale_core_grammar.specs.Subtags.{Text}
-use Rattle.icu_locale_core_grammar.specs.LanguagePart.{LanguageId, MeansLanguage}
+use Rattle.icu_locale_core_grammar.specs.LanguagePart.{LanguageId}
 use Rattle.icu_locale_core_grammar.specs.FaultyPiece.{StopsAt, HasFault}
 use Rattle.icu_locale_core_grammar.specs.PartialReading.{ReadsFront}
 use Rattle.icu_locale_core_grammar.specs.Stepping.{run}
 use Rattle.icu_locale_core_grammar.specs.TagStages.{has_none}
-use Rattle.icu_locale_core_grammar.specs.SingleVariant.{SingleMeaning, MeansSingle, HasSingleFault, single_name, has_short, first_variant, single_of}
+use Rattle.icu_locale_core_grammar.specs.SingleVariant.{SingleMeaning, HasSingleFault, single_name, has_short, first_variant, single_of}
 use Rattle.icu_locale_core_grammar.proofs.Runs as runs
 use Rattle.icu_locale_core_grammar.proofs.FaultyPieceLemmas as faults
 use Rattle.icu_locale_core_grammar.proofs.PartialReadingLemmas.{one_front_meaning}

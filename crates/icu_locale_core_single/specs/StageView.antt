@@ -1,7 +1,7 @@
 -- What the definitions see of the parts and of the stage of a tag that is being read.
 -- Defined in docs/tags.md, "Stages".
 -- Cited by the functions that read tags of at most one variant and one keyword piece by piece.
-use Rattle.std.specs.Prelude.{◌≡◌, Option, None, Some, option_map}
+use Rattle.std.specs.Prelude.{◌≡◌, None, Some, option_map}
 use Rattle.std.specs.declared.result.Result.{Result}
 use Rattle.std.specs.declared.result.Result.TheVariants.{Ok, Err}
 use Rattle.icu_locale_core_grammar.specs.declared.error.ParseError.{ParseError}

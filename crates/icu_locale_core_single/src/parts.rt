@@ -1,4 +1,4 @@
-//! A language part of at most one variant that is read piece by piece.
+//! A language part of at most one variant that is read piece by piece, and what is answered of it.
 
 ghost use Rattle.std.specs.Prelude.{◌≡◌, ◌&&◌, Some, None, MatchOption, is_none, option_map, if◌then◌else◌};
 ghost use Rattle.icu_locale_core_grammar.specs.Subtags.{title, upper, lower, is_variant};
@@ -11,8 +11,8 @@ ghost use Rattle.icu_locale_core_single.specs.StageView.{parts_id};
 use icu_locale_core_subtags::unicode::Key;
 use icu_locale_core_subtags::{Language, Region, Script, Subtag, Variant};
 
-/// A language, a script, a region and a variant, each but the first or none, and the keyword: a key and the one piece of its
-/// value.
+/// What is read of a tag: a language, a script or none, a region or none, a variant or none, and a keyword or none, which is a
+/// key and the piece of its value or none.
 ///
 /// `de-DE-1996-u-nu-latn` is `de`, no script, `DE`, `1996`, and `nu` with `latn`.
 pub type SingleParts = (
