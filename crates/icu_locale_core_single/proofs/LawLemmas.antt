@@ -3,12 +3,12 @@ use Rattle.std.proofs.Common.{◌≡◌, true, false, Bool, List, [], ◌∷◌,
 use Rattle.icu_locale_core_grammar.specs.declared.error.ParseError.{ParseError}
 use Rattle.icu_locale_core_grammar.specs.declared.error.ParseError.TheVariants.{InvalidLanguage, InvalidSubtag}
 use Rattle.icu_locale_core_grammar.specs.Subtags.{Text}
-use Rattle.icu_locale_core_grammar.specs.LanguagePart.{LanguageId}
+use Rattle.icu_locale_core_grammar.specs.LanguagePart.{LanguageId, MeansLanguage}
 use Rattle.icu_locale_core_grammar.specs.FaultyPiece.{StopsAt, HasFault}
 use Rattle.icu_locale_core_grammar.specs.PartialReading.{ReadsFront}
 use Rattle.icu_locale_core_grammar.specs.Stepping.{run}
 use Rattle.icu_locale_core_grammar.specs.TagStages.{has_none}
-use Rattle.icu_locale_core_grammar.specs.SingleVariant.{SingleMeaning, HasSingleFault, single_name, has_short, first_variant, single_of}
+use Rattle.icu_locale_core_grammar.specs.SingleVariant.{SingleMeaning, MeansKeyword, HasSingleFault, single_name, has_short, first_variant, single_of}
 use Rattle.icu_locale_core_grammar.proofs.Runs as runs
 use Rattle.icu_locale_core_grammar.proofs.FaultyPieceLemmas as faults
 use Rattle.icu_locale_core_grammar.proofs.PartialReadingLemmas.{one_front_meaning}
@@ -19,7 +19,7 @@ use Rattle.icu_locale_core_langid.specs.declared.modes.ParserMode.TheVariants.{L
 use Rattle.icu_locale_core_langid.specs.OneVariant.{MeansOneVariant, one_variant_after}
 use Rattle.icu_locale_core_langid.proofs.OneVariantReader.{one_variant_reader}
 use Rattle.icu_locale_core_single.specs.SingleModes.{language_of, MeansSingleInMode, HasSingleFaultInMode}
-use Rattle.icu_locale_core_single.specs.SingleLaws.{HasMeaningOrFault, HasOneMeaning, HasOneFault, HasNeverBoth, ModesAgree}
+use Rattle.icu_locale_core_single.specs.SingleLaws.{HasMeaningOrFault, HasOneMeaning, HasOneFault, HasNeverBoth, ModesAgree, KeywordlessAgree}
 use Rattle.icu_locale_core_single.proofs.FrontLemmas.{StopsWith, front_left, no_language, whole_front, rest_refused}
 
 -- ---- a language part of one variant, and a meaning without a keyword
@@ -140,3 +140,19 @@ pub modes_same : ModesAgree
 modes_same LanguageIdentifier ps m a = a
 modes_same Locale ps m a = record { front = ps; last = []; parts = append-nil ps; language = a.0.means; keyword = a.1 }
 modes_same Partial ps m a = (([], record { taken = ps; parts = sym (append-nil ps); meant = a.0; longest = tt }), a.1)
+
+always_short : (v : Option Text) → has_short (option_to_list v) ≡ true
+always_short None = refl
+always_short (Some v) = refl
+
+none_behind : (last : List Text) (keyword : Option (Text × Option Text)) → MeansKeyword last keyword → keyword ≡ None → last ≡ []
+none_behind [] keyword a none = refl
+none_behind (u ∷ []) keyword a none = absurd a
+none_behind (u ∷ k ∷ []) keyword a none = let e = a.2 in cc
+none_behind (u ∷ k ∷ v ∷ []) keyword a none = let e = a.3 in cc
+none_behind (u ∷ k ∷ v ∷ w ∷ rest) keyword a none = absurd a
+
+pub keywordless_same : KeywordlessAgree
+keywordless_same ps m a none =
+    let all : a.front ≡ ps = sym (append-nil a.front) ∙ ap (λ l. a.front ++ l) (sym (none_behind a.last m.keyword a.keyword none)) ∙ a.parts in
+    (record { means = subst (λ l. MeansLanguage l (language_of m)) all a.language; short = always_short m.variant }, none)

@@ -1,12 +1,12 @@
 -- What holds of reading at most one variant and at most one keyword in each mode: a meaning or a fault, one, and never both.
 -- Defined in docs/tags.md, "One variant and one keyword" and "Modes".
 -- Cited by the functions of the module of laws.
-use Rattle.std.specs.Prelude.{◌≡◌, List, ◌⊎◌}
+use Rattle.std.specs.Prelude.{◌≡◌, List, None, ◌⊎◌}
 use Rattle.icu_locale_core_grammar.specs.declared.error.ParseError.{ParseError}
 use Rattle.icu_locale_core_grammar.specs.Subtags.{Text}
 use Rattle.icu_locale_core_grammar.specs.SingleVariant.{SingleMeaning}
 use Rattle.icu_locale_core_langid.specs.declared.modes.ParserMode.{ParserMode}
-use Rattle.icu_locale_core_langid.specs.declared.modes.ParserMode.TheVariants.{LanguageIdentifier}
+use Rattle.icu_locale_core_langid.specs.declared.modes.ParserMode.TheVariants.{LanguageIdentifier, Locale}
 use Rattle.icu_locale_core_single.specs.SingleModes.{MeansSingleInMode, HasSingleFaultInMode}
 
 -- each list of pieces has a meaning or a fault
@@ -28,3 +28,7 @@ HasNeverBoth = (mode : ParserMode) (ps : List Text) (m : SingleMeaning) (e : Par
 -- what mode LanguageIdentifier reads, each mode reads the same
 abbrev pub ModesAgree : Type 0
 ModesAgree = (mode : ParserMode) (ps : List Text) (m : SingleMeaning) → MeansSingleInMode LanguageIdentifier ps m → MeansSingleInMode mode ps m
+
+-- and what mode Locale reads without a keyword, mode LanguageIdentifier reads the same
+abbrev pub KeywordlessAgree : Type 0
+KeywordlessAgree = (ps : List Text) (m : SingleMeaning) → MeansSingleInMode Locale ps m → m.keyword ≡ None → MeansSingleInMode LanguageIdentifier ps m

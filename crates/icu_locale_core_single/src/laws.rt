@@ -1,6 +1,6 @@
 //! Laws of reading in a mode: each is the contract of a function that computes nothing.
 
-ghost use Rattle.icu_locale_core_single.specs.SingleLaws.{HasMeaningOrFault, HasOneMeaning, HasOneFault, HasNeverBoth, ModesAgree};
+ghost use Rattle.icu_locale_core_single.specs.SingleLaws.{HasMeaningOrFault, HasOneMeaning, HasOneFault, HasNeverBoth, ModesAgree, KeywordlessAgree};
 
 /// In each mode a list of pieces has a meaning or a fault, one of them, and never both.
 ///
@@ -12,7 +12,9 @@ pub fn modes_are_answered()
     ensures never_both { HasNeverBoth }
 {}
 
-/// What mode `LanguageIdentifier` reads, each mode reads the same: `de-DE-1996`.
+/// What mode `LanguageIdentifier` reads, as `de-DE-1996`, each mode reads the same; and what mode `Locale` reads without a
+/// keyword, mode `LanguageIdentifier` reads the same.
 pub fn modes_agree()
-    ensures { ModesAgree }
+    ensures whole { ModesAgree }
+    ensures keywordless { KeywordlessAgree }
 {}
