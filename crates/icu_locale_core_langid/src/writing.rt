@@ -153,3 +153,15 @@ impl fmt::Display for LanguageIdentifier {
         display(self, f)
     }
 }
+
+/// As `Display`: `en-US`.
+impl fmt::Debug for LanguageIdentifier {
+    ghost use Rattle.std.specs.Prelude.{Some};
+    ghost use Rattle.icu_locale_core_langid.specs.LanguageText.{language_text};
+
+    ghost debug_output = { λ id. Some (language_text id) };
+
+    fn fmt<W: fmt::Write>(&self, f: &mut fmt::Formatter<W>) -> fmt::Result {
+        fmt::Display::fmt(self, f)
+    }
+}

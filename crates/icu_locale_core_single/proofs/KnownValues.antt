@@ -1,0 +1,110 @@
+-- The steps along the pieces of known texts.
+use Rattle.std.proofs.Common.{◌≡◌, List, Option, None, Some, codes, refl}
+use Rattle.icu_locale_core_grammar.specs.Subtags.{Text}
+use Rattle.icu_locale_core_grammar.specs.LanguagePart.{LanguageId}
+use Rattle.icu_locale_core_grammar.specs.Pieces.{pieces}
+use Rattle.icu_locale_core_grammar.specs.Stepping.{run}
+use Rattle.icu_locale_core_grammar.specs.TagStages.{with_piece}
+use Rattle.icu_locale_core_grammar.specs.SingleVariant.{SingleStage, InLanguage, BehindUnicode, BehindKey, BehindValue, single_after}
+use Rattle.icu_locale_core_langid.specs.OneVariant.{one_variant, one_variant_after}
+
+abbrev stages : List Text → Option SingleStage
+stages ps = run single_after (Some (InLanguage None)) ps
+
+abbrev parts : List Text → Option (Option LanguageId)
+parts ps = run one_variant_after (Some None) ps
+
+-- identifiers that the rows have
+abbrev pub english : LanguageId
+english = one_variant (codes "en") None None None
+
+abbrev pub american : LanguageId
+american = one_variant (codes "en") None (Some (codes "US")) None
+
+abbrev pub phonetic : LanguageId
+phonetic = one_variant (codes "en") (Some (codes "Latn")) (Some (codes "US")) (Some (codes "fonipa"))
+
+abbrev pub german : LanguageId
+german = one_variant (codes "de") None None (Some (codes "1996"))
+
+-- ---- whole tags
+
+pub keyword : stages (pieces (codes "EN-us-u-NU-Thai")) ≡ Some (BehindValue american (codes "nu") (Some (codes "thai")))
+unfolding single_after with_piece
+keyword = refl
+
+pub true_is_no_value : stages (pieces (codes "en-u-nu-true")) ≡ Some (BehindValue english (codes "nu") None)
+unfolding single_after with_piece
+true_is_no_value = refl
+
+pub key_alone : stages (pieces (codes "en-u-nu")) ≡ Some (BehindKey english (codes "nu"))
+unfolding single_after with_piece
+key_alone = refl
+
+pub behind_value : stages (pieces (codes "en-u-nu-thai")) ≡ Some (BehindValue english (codes "nu") (Some (codes "thai")))
+unfolding single_after with_piece
+behind_value = refl
+
+pub behind_unicode : stages (pieces (codes "en-u")) ≡ Some (BehindUnicode english)
+unfolding single_after with_piece
+behind_unicode = refl
+
+pub behind_variant : stages (pieces (codes "de-1996")) ≡ Some (InLanguage (Some german))
+unfolding single_after with_piece
+behind_variant = refl
+
+pub behind_language : stages (pieces (codes "en")) ≡ Some (InLanguage (Some english))
+unfolding single_after with_piece
+behind_language = refl
+
+-- ---- pieces that do not fit
+
+pub second_variant : single_after (InLanguage (Some german)) (codes "fonipa") ≡ None
+unfolding single_after with_piece
+second_variant = refl
+
+pub no_transform : single_after (InLanguage (Some english)) (codes "t") ≡ None
+unfolding single_after with_piece
+no_transform = refl
+
+pub no_attribute : single_after (BehindUnicode english) (codes "foo") ≡ None
+unfolding single_after
+no_attribute = refl
+
+pub no_second : (k : Text) (v : Option Text) (p : Text) → single_after (BehindValue english k v) p ≡ None
+unfolding single_after
+no_second k v p = refl
+
+pub no_first : single_after (InLanguage None) (codes "") ≡ None
+unfolding single_after
+no_first = refl
+
+-- ---- language parts
+
+pub whole_part : parts (pieces (codes "EN-latn-us-FONIPA")) ≡ Some (Some phonetic)
+unfolding with_piece
+whole_part = refl
+
+pub american_part : parts (pieces (codes "en-US")) ≡ Some (Some american)
+unfolding with_piece
+american_part = refl
+
+pub german_part : parts (pieces (codes "de-1996")) ≡ Some (Some german)
+unfolding with_piece
+german_part = refl
+
+pub english_part : parts (pieces (codes "en")) ≡ Some (Some english)
+unfolding with_piece
+english_part = refl
+
+pub american_ends : one_variant_after (Some american) (codes "u") ≡ None
+unfolding with_piece
+american_ends = refl
+
+pub german_ends : one_variant_after (Some german) (codes "fonipa") ≡ None
+unfolding with_piece
+german_ends = refl
+
+pub english_ends : one_variant_after (Some english) (codes "t") ≡ None
+unfolding with_piece
+english_ends = refl

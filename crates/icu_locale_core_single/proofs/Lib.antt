@@ -1,0 +1,4 @@
+pub mod FrontLemmas
+pub mod KnownValues
+pub mod LawLemmas
+pub mod StageLemmas
