@@ -10,7 +10,17 @@
 //! ```
 #![tactic(auto)]
 
+mod error;
+mod keywords;
+mod one_piece;
+mod preference_key;
 mod subdivision;
 mod subdivision_text;
+mod word_keyword;
 
+pub use crate::error::PreferencesParseError;
+pub use crate::keywords::first_day::FirstDay;
+pub use crate::keywords::numbering_system::NumberingSystem;
+pub use crate::preference_key::PreferenceKey;
 pub use crate::subdivision::SubdivisionId;
+pub use crate::word_keyword::WordKeyword;
