@@ -1,10 +1,16 @@
--- The keys of the typed keywords, and the words of those whose values are words.
+-- The keys of the keywords whose values are words, and their words, a list for each type.
 -- UTS 35, section 3.6.1, "Key and Type Definitions"; docs/tags.md, "Typed keywords".
 -- Cited by `as_str` and `TryFrom<&Value>` of each such type, and by `unicode_extension_key`.
 use Rattle.std.specs.Prelude.{List, [], ◌∷◌, codes}
 use Rattle.icu_locale_core_grammar.specs.Subtags.{Text}
 use Rattle.icu_locale_core_keywords.specs.declared.keywords.first_day.FirstDay.{FirstDay}
-use Rattle.icu_locale_core_keywords.specs.declared.keywords.first_day.FirstDay.TheVariants.{Sun, Mon, Tue, Wed, Thu, Fri, Sat}
+use Rattle.icu_locale_core_keywords.specs.declared.keywords.measurement_system.MeasurementSystem.{MeasurementSystem}
+use Rattle.icu_locale_core_keywords.specs.declared.keywords.currency_format.CurrencyFormatStyle.{CurrencyFormatStyle}
+use Rattle.icu_locale_core_keywords.specs.declared.keywords.emoji.EmojiPresentationStyle.{EmojiPresentationStyle}
+use Rattle.icu_locale_core_keywords.specs.declared.keywords.line_break.LineBreakStyle.{LineBreakStyle}
+use Rattle.icu_locale_core_keywords.specs.declared.keywords.line_break_word.LineBreakWordHandling.{LineBreakWordHandling}
+use Rattle.icu_locale_core_keywords.specs.declared.keywords.collation_case_first.CollationCaseFirst.{CollationCaseFirst}
+use Rattle.icu_locale_core_keywords.specs.declared.keywords.collation_numeric_ordering.CollationNumericOrdering.{CollationNumericOrdering}
 
 -- ---- the first day of a week
 
@@ -12,13 +18,103 @@ abbrev pub first_day_key : Text
 first_day_key = codes "fw"
 
 abbrev pub first_days : List FirstDay
-first_days = Sun ∷ Mon ∷ Tue ∷ Wed ∷ Thu ∷ Fri ∷ Sat ∷ []
+first_days = FirstDay.Sun ∷ FirstDay.Mon ∷ FirstDay.Tue ∷ FirstDay.Wed ∷ FirstDay.Thu ∷ FirstDay.Fri ∷ FirstDay.Sat ∷ []
 
 abbrev pub first_day_word : FirstDay → Text
-first_day_word Sun = codes "sun"
-first_day_word Mon = codes "mon"
-first_day_word Tue = codes "tue"
-first_day_word Wed = codes "wed"
-first_day_word Thu = codes "thu"
-first_day_word Fri = codes "fri"
-first_day_word Sat = codes "sat"
+first_day_word FirstDay.Sun = codes "sun"
+first_day_word FirstDay.Mon = codes "mon"
+first_day_word FirstDay.Tue = codes "tue"
+first_day_word FirstDay.Wed = codes "wed"
+first_day_word FirstDay.Thu = codes "thu"
+first_day_word FirstDay.Fri = codes "fri"
+first_day_word FirstDay.Sat = codes "sat"
+
+-- ---- the system of measurement
+
+abbrev pub measurement_system_key : Text
+measurement_system_key = codes "ms"
+
+abbrev pub measurement_systems : List MeasurementSystem
+measurement_systems = MeasurementSystem.Metric ∷ MeasurementSystem.Ussystem ∷ MeasurementSystem.Uksystem ∷ []
+
+abbrev pub measurement_system_word : MeasurementSystem → Text
+measurement_system_word MeasurementSystem.Metric = codes "metric"
+measurement_system_word MeasurementSystem.Ussystem = codes "ussystem"
+measurement_system_word MeasurementSystem.Uksystem = codes "uksystem"
+
+-- ---- how amounts of money are written
+
+abbrev pub currency_format_style_key : Text
+currency_format_style_key = codes "cf"
+
+abbrev pub currency_format_styles : List CurrencyFormatStyle
+currency_format_styles = CurrencyFormatStyle.Standard ∷ CurrencyFormatStyle.Account ∷ []
+
+abbrev pub currency_format_style_word : CurrencyFormatStyle → Text
+currency_format_style_word CurrencyFormatStyle.Standard = codes "standard"
+currency_format_style_word CurrencyFormatStyle.Account = codes "account"
+
+-- ---- how emoji are shown
+
+abbrev pub emoji_presentation_style_key : Text
+emoji_presentation_style_key = codes "em"
+
+abbrev pub emoji_presentation_styles : List EmojiPresentationStyle
+emoji_presentation_styles = EmojiPresentationStyle.Emoji ∷ EmojiPresentationStyle.Text ∷ EmojiPresentationStyle.Default ∷ []
+
+abbrev pub emoji_presentation_style_word : EmojiPresentationStyle → Text
+emoji_presentation_style_word EmojiPresentationStyle.Emoji = codes "emoji"
+emoji_presentation_style_word EmojiPresentationStyle.Text = codes "text"
+emoji_presentation_style_word EmojiPresentationStyle.Default = codes "default"
+
+-- ---- how strictly lines are broken
+
+abbrev pub line_break_style_key : Text
+line_break_style_key = codes "lb"
+
+abbrev pub line_break_styles : List LineBreakStyle
+line_break_styles = LineBreakStyle.Strict ∷ LineBreakStyle.Normal ∷ LineBreakStyle.Loose ∷ []
+
+abbrev pub line_break_style_word : LineBreakStyle → Text
+line_break_style_word LineBreakStyle.Strict = codes "strict"
+line_break_style_word LineBreakStyle.Normal = codes "normal"
+line_break_style_word LineBreakStyle.Loose = codes "loose"
+
+-- ---- where lines are broken within words
+
+abbrev pub line_break_word_handling_key : Text
+line_break_word_handling_key = codes "lw"
+
+abbrev pub line_break_word_handlings : List LineBreakWordHandling
+line_break_word_handlings = LineBreakWordHandling.Normal ∷ LineBreakWordHandling.BreakAll ∷ LineBreakWordHandling.KeepAll ∷ LineBreakWordHandling.Phrase ∷ []
+
+abbrev pub line_break_word_handling_word : LineBreakWordHandling → Text
+line_break_word_handling_word LineBreakWordHandling.Normal = codes "normal"
+line_break_word_handling_word LineBreakWordHandling.BreakAll = codes "breakall"
+line_break_word_handling_word LineBreakWordHandling.KeepAll = codes "keepall"
+line_break_word_handling_word LineBreakWordHandling.Phrase = codes "phrase"
+
+-- ---- which case is sorted first
+
+abbrev pub collation_case_first_key : Text
+collation_case_first_key = codes "kf"
+
+abbrev pub collation_case_firsts : List CollationCaseFirst
+collation_case_firsts = CollationCaseFirst.Upper ∷ CollationCaseFirst.Lower ∷ CollationCaseFirst.False ∷ []
+
+abbrev pub collation_case_first_word : CollationCaseFirst → Text
+collation_case_first_word CollationCaseFirst.Upper = codes "upper"
+collation_case_first_word CollationCaseFirst.Lower = codes "lower"
+collation_case_first_word CollationCaseFirst.False = codes "false"
+
+-- ---- whether digits are sorted as numbers
+
+abbrev pub collation_numeric_ordering_key : Text
+collation_numeric_ordering_key = codes "kn"
+
+abbrev pub collation_numeric_orderings : List CollationNumericOrdering
+collation_numeric_orderings = CollationNumericOrdering.True ∷ CollationNumericOrdering.False ∷ []
+
+abbrev pub collation_numeric_ordering_word : CollationNumericOrdering → Text
+collation_numeric_ordering_word CollationNumericOrdering.True = codes "true"
+collation_numeric_ordering_word CollationNumericOrdering.False = codes "false"

@@ -8,22 +8,24 @@ use crate::preference_key::PreferenceKey;
 use crate::word_keyword::WordKeyword;
 use icu_locale_core_entries::unicode::Value;
 
-/// The first day of a week, key `fw`. Source: UTS 35, section 3.6.1, `fw`.
+/// The first day of a week, key `fw`: `sun` to `sat`.
+///
+/// Source: UTS 35, section 3.6.1.
 #[derive(Clone, Copy, Debug, PartialEq, Eq, Hash)]
 pub enum FirstDay {
-    /// Sunday, `sun`.
+    /// Sunday.
     Sun,
-    /// Monday, `mon`.
+    /// Monday.
     Mon,
-    /// Tuesday, `tue`.
+    /// Tuesday.
     Tue,
-    /// Wednesday, `wed`.
+    /// Wednesday.
     Wed,
-    /// Thursday, `thu`.
+    /// Thursday.
     Thu,
-    /// Friday, `fri`.
+    /// Friday.
     Fri,
-    /// Saturday, `sat`.
+    /// Saturday.
     Sat,
 }
 
@@ -79,7 +81,7 @@ impl WordKeyword for FirstDay {
     }
 }
 
-/// The day of this word; other values are `InvalidKeywordValue`. It takes no memory.
+/// The day whose word the value is; other values are `InvalidKeywordValue`. It takes no memory.
 impl TryFrom<&Value> for FirstDay {
     type Error = PreferencesParseError;
 
