@@ -1,1 +1,2 @@
 pub mod SubdivisionLemmas
+pub mod OnePieceLemmas

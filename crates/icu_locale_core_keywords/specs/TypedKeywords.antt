@@ -1,9 +1,11 @@
 -- What the value of a typed keyword states: a word of a list, or one piece of a form.
 -- UTS 35, section 3.6.1, "Key and Type Definitions"; docs/tags.md, "Typed keywords".
 -- Cited by `PreferenceKey` and by `TryFrom<&Value>` of each type.
-use Rattle.std.specs.Prelude.{◌≡◌, Bool, true, false, Option, None, Some, List, [], ◌∷◌, Result, Ok, Err, MatchResult, option_and_then}
-use Rattle.std.specs.List.{find}
+use Rattle.std.specs.Prelude.{◌≡◌, Bool, true, false, Option, None, Some, List, [], ◌∷◌, Result, Ok, Err, MatchResult, option_and_then, ◌&&◌, ◌==◌, length, codes, if◌then◌else◌}
+use Rattle.std.specs.List.{find, list_all}
+use Rattle.std.specs.Char.{is_ascii_alphabetic}
 use Rattle.icu_locale_core_grammar.specs.Subtags.{Text, same_text, true_text}
+use Rattle.icu_locale_core_grammar.specs.TagPreferences.{one_piece, Subdivision, subdivision_of}
 use Rattle.icu_locale_core_entries.specs.Values.{without_true}
 use Rattle.icu_locale_core_keywords.specs.declared.error.PreferencesParseError.{PreferencesParseError}
 use Rattle.icu_locale_core_keywords.specs.declared.error.PreferencesParseError.TheVariants.{InvalidKeywordValue}
@@ -37,3 +39,23 @@ case_of word cases text = find (λ c. same_text (word c) text) cases
 -- the case that a value states
 abbrev pub stated_case : {A : Type 0} → (A → Text) → List A → List Text → Option A
 stated_case word cases vs = option_and_then (case_of word cases) (word_in vs)
+
+-- ---- one piece
+
+-- the subdivision that a value states
+abbrev pub stated_subdivision : List Text → Option Subdivision
+stated_subdivision vs = option_and_then subdivision_of (one_piece vs)
+
+abbrev pub currency_key : Text
+currency_key = codes "cu"
+
+-- three letters
+abbrev pub is_currency : Text → Bool
+is_currency p = (length p == 3) && list_all is_ascii_alphabetic p
+
+abbrev pub currency_of : Text → Option Text
+currency_of p = if is_currency p then Some p else None
+
+-- the currency that a value states
+abbrev pub stated_currency : List Text → Option Text
+stated_currency vs = option_and_then currency_of (one_piece vs)

@@ -5,6 +5,7 @@ ghost use Rattle.icu_locale_core_grammar.specs.Subtags.{is_other_piece, lower};
 ghost use Rattle.icu_locale_core_keywords.specs.TypedKeywords.{case_of, stated_case, word_value};
 
 use crate::error::PreferencesParseError;
+use crate::laws::words_state_cases;
 use crate::preference_key::PreferenceKey;
 use icu_locale_core_entries::unicode::Value;
 use icu_locale_core_subtags::Subtag;
@@ -45,13 +46,6 @@ pub trait WordKeyword: Copy {
     // each word states its case
     ghost are_words: { (c : Self) → IsOwnWord word cases c };
 }
-
-/// A word is a piece in lower case, and as a value it states its case.
-pub fn words_state_cases<W: WordKeyword>(case: &W)
-    ensures taken { is_other_piece (W.word case.now) ≡ true }
-    ensures lowered { lower (W.word case.now) ≡ W.word case.now }
-    ensures stated { stated_case W.word W.cases (word_value (W.word case.now)) ≡ Some case.now }
-{}
 
 // The case of which this is the word.
 fn case_of<W: WordKeyword + 'static>(text: &str) -> Option<W>

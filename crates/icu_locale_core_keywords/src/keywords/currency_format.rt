@@ -50,10 +50,7 @@ impl WordKeyword for CurrencyFormatStyle {
     }
 
     fn cases() -> &'static [Self] {
-        &[
-            CurrencyFormatStyle::Standard,
-            CurrencyFormatStyle::Account,
-        ]
+        &[CurrencyFormatStyle::Standard, CurrencyFormatStyle::Account]
     }
 
     fn word(&self) -> &'static str {

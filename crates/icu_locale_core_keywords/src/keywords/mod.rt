@@ -2,6 +2,7 @@
 
 pub(crate) mod collation_case_first;
 pub(crate) mod collation_numeric_ordering;
+pub(crate) mod currency;
 pub(crate) mod currency_format;
 pub(crate) mod emoji;
 pub(crate) mod first_day;
@@ -9,3 +10,5 @@ pub(crate) mod line_break;
 pub(crate) mod line_break_word;
 pub(crate) mod measurement_system;
 pub(crate) mod numbering_system;
+pub(crate) mod region_override;
+pub(crate) mod regional_subdivision;
