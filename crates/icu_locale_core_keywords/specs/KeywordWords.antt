@@ -17,8 +17,9 @@ use Rattle.icu_locale_core_keywords.specs.declared.keywords.collation_numeric_or
 abbrev pub first_day_key : Text
 first_day_key = codes "fw"
 
-abbrev pub first_days : List FirstDay
-first_days = FirstDay.Sun ∷ FirstDay.Mon ∷ FirstDay.Tue ∷ FirstDay.Wed ∷ FirstDay.Thu ∷ FirstDay.Fri ∷ FirstDay.Sat ∷ []
+abbrev pub first_day_cases : List FirstDay
+first_day_cases =
+    FirstDay.Sun ∷ FirstDay.Mon ∷ FirstDay.Tue ∷ FirstDay.Wed ∷ FirstDay.Thu ∷ FirstDay.Fri ∷ FirstDay.Sat ∷ []
 
 abbrev pub first_day_word : FirstDay → Text
 first_day_word FirstDay.Sun = codes "sun"
@@ -31,90 +32,92 @@ first_day_word FirstDay.Sat = codes "sat"
 
 -- ---- the system of measurement
 
-abbrev pub measurement_system_key : Text
-measurement_system_key = codes "ms"
+abbrev pub measurement_key : Text
+measurement_key = codes "ms"
 
-abbrev pub measurement_systems : List MeasurementSystem
-measurement_systems = MeasurementSystem.Metric ∷ MeasurementSystem.Ussystem ∷ MeasurementSystem.Uksystem ∷ []
+abbrev pub measurement_cases : List MeasurementSystem
+measurement_cases = MeasurementSystem.Metric ∷ MeasurementSystem.Ussystem ∷ MeasurementSystem.Uksystem ∷ []
 
-abbrev pub measurement_system_word : MeasurementSystem → Text
-measurement_system_word MeasurementSystem.Metric = codes "metric"
-measurement_system_word MeasurementSystem.Ussystem = codes "ussystem"
-measurement_system_word MeasurementSystem.Uksystem = codes "uksystem"
+abbrev pub measurement_word : MeasurementSystem → Text
+measurement_word MeasurementSystem.Metric = codes "metric"
+measurement_word MeasurementSystem.Ussystem = codes "ussystem"
+measurement_word MeasurementSystem.Uksystem = codes "uksystem"
 
 -- ---- how amounts of money are written
 
-abbrev pub currency_format_style_key : Text
-currency_format_style_key = codes "cf"
+abbrev pub currency_format_key : Text
+currency_format_key = codes "cf"
 
-abbrev pub currency_format_styles : List CurrencyFormatStyle
-currency_format_styles = CurrencyFormatStyle.Standard ∷ CurrencyFormatStyle.Account ∷ []
+abbrev pub currency_format_cases : List CurrencyFormatStyle
+currency_format_cases = CurrencyFormatStyle.Standard ∷ CurrencyFormatStyle.Account ∷ []
 
-abbrev pub currency_format_style_word : CurrencyFormatStyle → Text
-currency_format_style_word CurrencyFormatStyle.Standard = codes "standard"
-currency_format_style_word CurrencyFormatStyle.Account = codes "account"
+abbrev pub currency_format_word : CurrencyFormatStyle → Text
+currency_format_word CurrencyFormatStyle.Standard = codes "standard"
+currency_format_word CurrencyFormatStyle.Account = codes "account"
 
 -- ---- how emoji are shown
 
-abbrev pub emoji_presentation_style_key : Text
-emoji_presentation_style_key = codes "em"
+abbrev pub emoji_key : Text
+emoji_key = codes "em"
 
-abbrev pub emoji_presentation_styles : List EmojiPresentationStyle
-emoji_presentation_styles = EmojiPresentationStyle.Emoji ∷ EmojiPresentationStyle.Text ∷ EmojiPresentationStyle.Default ∷ []
+abbrev pub emoji_cases : List EmojiPresentationStyle
+emoji_cases = EmojiPresentationStyle.Emoji ∷ EmojiPresentationStyle.Text ∷ EmojiPresentationStyle.Default ∷ []
 
-abbrev pub emoji_presentation_style_word : EmojiPresentationStyle → Text
-emoji_presentation_style_word EmojiPresentationStyle.Emoji = codes "emoji"
-emoji_presentation_style_word EmojiPresentationStyle.Text = codes "text"
-emoji_presentation_style_word EmojiPresentationStyle.Default = codes "default"
+abbrev pub emoji_word : EmojiPresentationStyle → Text
+emoji_word EmojiPresentationStyle.Emoji = codes "emoji"
+emoji_word EmojiPresentationStyle.Text = codes "text"
+emoji_word EmojiPresentationStyle.Default = codes "default"
 
 -- ---- how strictly lines are broken
 
-abbrev pub line_break_style_key : Text
-line_break_style_key = codes "lb"
+abbrev pub line_break_key : Text
+line_break_key = codes "lb"
 
-abbrev pub line_break_styles : List LineBreakStyle
-line_break_styles = LineBreakStyle.Strict ∷ LineBreakStyle.Normal ∷ LineBreakStyle.Loose ∷ []
+abbrev pub line_break_cases : List LineBreakStyle
+line_break_cases = LineBreakStyle.Strict ∷ LineBreakStyle.Normal ∷ LineBreakStyle.Loose ∷ []
 
-abbrev pub line_break_style_word : LineBreakStyle → Text
-line_break_style_word LineBreakStyle.Strict = codes "strict"
-line_break_style_word LineBreakStyle.Normal = codes "normal"
-line_break_style_word LineBreakStyle.Loose = codes "loose"
+abbrev pub line_break_word : LineBreakStyle → Text
+line_break_word LineBreakStyle.Strict = codes "strict"
+line_break_word LineBreakStyle.Normal = codes "normal"
+line_break_word LineBreakStyle.Loose = codes "loose"
 
 -- ---- where lines are broken within words
 
-abbrev pub line_break_word_handling_key : Text
-line_break_word_handling_key = codes "lw"
+abbrev pub word_handling_key : Text
+word_handling_key = codes "lw"
 
-abbrev pub line_break_word_handlings : List LineBreakWordHandling
-line_break_word_handlings = LineBreakWordHandling.Normal ∷ LineBreakWordHandling.BreakAll ∷ LineBreakWordHandling.KeepAll ∷ LineBreakWordHandling.Phrase ∷ []
+abbrev pub word_handling_cases : List LineBreakWordHandling
+word_handling_cases =
+    LineBreakWordHandling.Normal ∷ LineBreakWordHandling.BreakAll ∷ LineBreakWordHandling.KeepAll ∷
+    LineBreakWordHandling.Phrase ∷ []
 
-abbrev pub line_break_word_handling_word : LineBreakWordHandling → Text
-line_break_word_handling_word LineBreakWordHandling.Normal = codes "normal"
-line_break_word_handling_word LineBreakWordHandling.BreakAll = codes "breakall"
-line_break_word_handling_word LineBreakWordHandling.KeepAll = codes "keepall"
-line_break_word_handling_word LineBreakWordHandling.Phrase = codes "phrase"
+abbrev pub word_handling_word : LineBreakWordHandling → Text
+word_handling_word LineBreakWordHandling.Normal = codes "normal"
+word_handling_word LineBreakWordHandling.BreakAll = codes "breakall"
+word_handling_word LineBreakWordHandling.KeepAll = codes "keepall"
+word_handling_word LineBreakWordHandling.Phrase = codes "phrase"
 
 -- ---- which case is sorted first
 
-abbrev pub collation_case_first_key : Text
-collation_case_first_key = codes "kf"
+abbrev pub case_first_key : Text
+case_first_key = codes "kf"
 
-abbrev pub collation_case_firsts : List CollationCaseFirst
-collation_case_firsts = CollationCaseFirst.Upper ∷ CollationCaseFirst.Lower ∷ CollationCaseFirst.False ∷ []
+abbrev pub case_first_cases : List CollationCaseFirst
+case_first_cases = CollationCaseFirst.Upper ∷ CollationCaseFirst.Lower ∷ CollationCaseFirst.False ∷ []
 
-abbrev pub collation_case_first_word : CollationCaseFirst → Text
-collation_case_first_word CollationCaseFirst.Upper = codes "upper"
-collation_case_first_word CollationCaseFirst.Lower = codes "lower"
-collation_case_first_word CollationCaseFirst.False = codes "false"
+abbrev pub case_first_word : CollationCaseFirst → Text
+case_first_word CollationCaseFirst.Upper = codes "upper"
+case_first_word CollationCaseFirst.Lower = codes "lower"
+case_first_word CollationCaseFirst.False = codes "false"
 
 -- ---- whether digits are sorted as numbers
 
-abbrev pub collation_numeric_ordering_key : Text
-collation_numeric_ordering_key = codes "kn"
+abbrev pub numeric_ordering_key : Text
+numeric_ordering_key = codes "kn"
 
-abbrev pub collation_numeric_orderings : List CollationNumericOrdering
-collation_numeric_orderings = CollationNumericOrdering.True ∷ CollationNumericOrdering.False ∷ []
+abbrev pub numeric_ordering_cases : List CollationNumericOrdering
+numeric_ordering_cases = CollationNumericOrdering.True ∷ CollationNumericOrdering.False ∷ []
 
-abbrev pub collation_numeric_ordering_word : CollationNumericOrdering → Text
-collation_numeric_ordering_word CollationNumericOrdering.True = codes "true"
-collation_numeric_ordering_word CollationNumericOrdering.False = codes "false"
+abbrev pub numeric_ordering_word : CollationNumericOrdering → Text
+numeric_ordering_word CollationNumericOrdering.True = codes "true"
+numeric_ordering_word CollationNumericOrdering.False = codes "false"

@@ -12,17 +12,18 @@ use Rattle.icu_locale_core_keywords.specs.declared.error.PreferencesParseError.T
 
 -- what is stated is answered, and what states nothing is refused
 abbrev pub IsReading : {A : Type 0} → Option A → Result A PreferencesParseError → Type 0
-IsReading stated answer = MatchResult answer (λ p. stated ≡ Some p) (λ e. (stated ≡ None) × (e ≡ InvalidKeywordValue))
+IsReading stated answer =
+    MatchResult answer (λ p. stated ≡ Some p) (λ e. (stated ≡ None) × (e ≡ InvalidKeywordValue))
 
--- what a keyword answers: nothing at another key
-abbrev pub is_answered : {A : Type 0} → Bool → Option A → Result (Option A) PreferencesParseError
-is_answered false stated = Ok None
-is_answered true (Some p) = Ok (Some p)
-is_answered true None = Err InvalidKeywordValue
+-- what a preference answers to a keyword: nothing where the key is another's
+abbrev pub keyword_answer : {A : Type 0} → Bool → Option A → Result (Option A) PreferencesParseError
+keyword_answer false stated = Ok None
+keyword_answer true (Some p) = Ok (Some p)
+keyword_answer true None = Err InvalidKeywordValue
 
 -- ---- words
 
--- the word that a value is: `true` where it has no piece
+-- the word that a value is: `true` where it has no piece, and none where it has more than one
 abbrev pub word_in : List Text → Option Text
 word_in [] = Some true_text
 word_in (v ∷ []) = Some v
@@ -46,6 +47,7 @@ stated_case word cases vs = option_and_then (case_of word cases) (word_in vs)
 abbrev pub stated_subdivision : List Text → Option Subdivision
 stated_subdivision vs = option_and_then subdivision_of (one_piece vs)
 
+-- the key of a currency; those of `nu`, `sd` and `rg` stand with the preferences of a tag
 abbrev pub currency_key : Text
 currency_key = codes "cu"
 
@@ -53,6 +55,7 @@ currency_key = codes "cu"
 abbrev pub is_currency : Text → Bool
 is_currency p = (length p == 3) && list_all is_ascii_alphabetic p
 
+-- the currency that a piece in lower case is
 abbrev pub currency_of : Text → Option Text
 currency_of p = if is_currency p then Some p else None
 

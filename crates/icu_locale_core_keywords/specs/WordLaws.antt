@@ -4,7 +4,14 @@
 use Rattle.std.proofs.Common.{◌≡◌, true, List, Some, refl}
 use Rattle.icu_locale_core_grammar.specs.Subtags.{Text, is_key, is_other_piece, lower}
 use Rattle.icu_locale_core_keywords.specs.TypedKeywords.{stated_case, word_value}
-use Rattle.icu_locale_core_keywords.specs.KeywordWords.{first_day_key, first_days, first_day_word, measurement_system_key, measurement_systems, measurement_system_word, currency_format_style_key, currency_format_styles, currency_format_style_word, emoji_presentation_style_key, emoji_presentation_styles, emoji_presentation_style_word, line_break_style_key, line_break_styles, line_break_style_word, line_break_word_handling_key, line_break_word_handlings, line_break_word_handling_word, collation_case_first_key, collation_case_firsts, collation_case_first_word, collation_numeric_ordering_key, collation_numeric_orderings, collation_numeric_ordering_word}
+use Rattle.icu_locale_core_keywords.specs.KeywordWords.{first_day_key, first_day_cases, first_day_word}
+use Rattle.icu_locale_core_keywords.specs.KeywordWords.{measurement_key, measurement_cases, measurement_word}
+use Rattle.icu_locale_core_keywords.specs.KeywordWords.{currency_format_key, currency_format_cases, currency_format_word}
+use Rattle.icu_locale_core_keywords.specs.KeywordWords.{emoji_key, emoji_cases, emoji_word}
+use Rattle.icu_locale_core_keywords.specs.KeywordWords.{line_break_key, line_break_cases, line_break_word}
+use Rattle.icu_locale_core_keywords.specs.KeywordWords.{word_handling_key, word_handling_cases, word_handling_word}
+use Rattle.icu_locale_core_keywords.specs.KeywordWords.{case_first_key, case_first_cases, case_first_word}
+use Rattle.icu_locale_core_keywords.specs.KeywordWords.{numeric_ordering_key, numeric_ordering_cases, numeric_ordering_word}
 use Rattle.icu_locale_core_keywords.specs.declared.keywords.first_day.FirstDay.{FirstDay}
 use Rattle.icu_locale_core_keywords.specs.declared.keywords.measurement_system.MeasurementSystem.{MeasurementSystem}
 use Rattle.icu_locale_core_keywords.specs.declared.keywords.currency_format.CurrencyFormatStyle.{CurrencyFormatStyle}
@@ -28,7 +35,7 @@ pub record IsOwnWord {A : Type 0} (word : A → Text) (cases : List A) (case : A
 pub first_day_is_key : IsOwnKey first_day_key
 first_day_is_key = record { taken = refl; lowered = refl }
 
-pub first_day_words : (c : FirstDay) → IsOwnWord first_day_word first_days c
+pub first_day_words : (c : FirstDay) → IsOwnWord first_day_word first_day_cases c
 first_day_words FirstDay.Sun = record { taken = refl; lowered = refl; stated = refl }
 first_day_words FirstDay.Mon = record { taken = refl; lowered = refl; stated = refl }
 first_day_words FirstDay.Tue = record { taken = refl; lowered = refl; stated = refl }
@@ -37,57 +44,57 @@ first_day_words FirstDay.Thu = record { taken = refl; lowered = refl; stated = r
 first_day_words FirstDay.Fri = record { taken = refl; lowered = refl; stated = refl }
 first_day_words FirstDay.Sat = record { taken = refl; lowered = refl; stated = refl }
 
-pub measurement_system_is_key : IsOwnKey measurement_system_key
-measurement_system_is_key = record { taken = refl; lowered = refl }
+pub measurement_is_key : IsOwnKey measurement_key
+measurement_is_key = record { taken = refl; lowered = refl }
 
-pub measurement_system_words : (c : MeasurementSystem) → IsOwnWord measurement_system_word measurement_systems c
-measurement_system_words MeasurementSystem.Metric = record { taken = refl; lowered = refl; stated = refl }
-measurement_system_words MeasurementSystem.Ussystem = record { taken = refl; lowered = refl; stated = refl }
-measurement_system_words MeasurementSystem.Uksystem = record { taken = refl; lowered = refl; stated = refl }
+pub measurement_words : (c : MeasurementSystem) → IsOwnWord measurement_word measurement_cases c
+measurement_words MeasurementSystem.Metric = record { taken = refl; lowered = refl; stated = refl }
+measurement_words MeasurementSystem.Ussystem = record { taken = refl; lowered = refl; stated = refl }
+measurement_words MeasurementSystem.Uksystem = record { taken = refl; lowered = refl; stated = refl }
 
-pub currency_format_style_is_key : IsOwnKey currency_format_style_key
-currency_format_style_is_key = record { taken = refl; lowered = refl }
+pub currency_format_is_key : IsOwnKey currency_format_key
+currency_format_is_key = record { taken = refl; lowered = refl }
 
-pub currency_format_style_words : (c : CurrencyFormatStyle) → IsOwnWord currency_format_style_word currency_format_styles c
-currency_format_style_words CurrencyFormatStyle.Standard = record { taken = refl; lowered = refl; stated = refl }
-currency_format_style_words CurrencyFormatStyle.Account = record { taken = refl; lowered = refl; stated = refl }
+pub currency_format_words : (c : CurrencyFormatStyle) → IsOwnWord currency_format_word currency_format_cases c
+currency_format_words CurrencyFormatStyle.Standard = record { taken = refl; lowered = refl; stated = refl }
+currency_format_words CurrencyFormatStyle.Account = record { taken = refl; lowered = refl; stated = refl }
 
-pub emoji_presentation_style_is_key : IsOwnKey emoji_presentation_style_key
-emoji_presentation_style_is_key = record { taken = refl; lowered = refl }
+pub emoji_is_key : IsOwnKey emoji_key
+emoji_is_key = record { taken = refl; lowered = refl }
 
-pub emoji_presentation_style_words : (c : EmojiPresentationStyle) → IsOwnWord emoji_presentation_style_word emoji_presentation_styles c
-emoji_presentation_style_words EmojiPresentationStyle.Emoji = record { taken = refl; lowered = refl; stated = refl }
-emoji_presentation_style_words EmojiPresentationStyle.Text = record { taken = refl; lowered = refl; stated = refl }
-emoji_presentation_style_words EmojiPresentationStyle.Default = record { taken = refl; lowered = refl; stated = refl }
+pub emoji_words : (c : EmojiPresentationStyle) → IsOwnWord emoji_word emoji_cases c
+emoji_words EmojiPresentationStyle.Emoji = record { taken = refl; lowered = refl; stated = refl }
+emoji_words EmojiPresentationStyle.Text = record { taken = refl; lowered = refl; stated = refl }
+emoji_words EmojiPresentationStyle.Default = record { taken = refl; lowered = refl; stated = refl }
 
-pub line_break_style_is_key : IsOwnKey line_break_style_key
-line_break_style_is_key = record { taken = refl; lowered = refl }
+pub line_break_is_key : IsOwnKey line_break_key
+line_break_is_key = record { taken = refl; lowered = refl }
 
-pub line_break_style_words : (c : LineBreakStyle) → IsOwnWord line_break_style_word line_break_styles c
-line_break_style_words LineBreakStyle.Strict = record { taken = refl; lowered = refl; stated = refl }
-line_break_style_words LineBreakStyle.Normal = record { taken = refl; lowered = refl; stated = refl }
-line_break_style_words LineBreakStyle.Loose = record { taken = refl; lowered = refl; stated = refl }
+pub line_break_words : (c : LineBreakStyle) → IsOwnWord line_break_word line_break_cases c
+line_break_words LineBreakStyle.Strict = record { taken = refl; lowered = refl; stated = refl }
+line_break_words LineBreakStyle.Normal = record { taken = refl; lowered = refl; stated = refl }
+line_break_words LineBreakStyle.Loose = record { taken = refl; lowered = refl; stated = refl }
 
-pub line_break_word_handling_is_key : IsOwnKey line_break_word_handling_key
-line_break_word_handling_is_key = record { taken = refl; lowered = refl }
+pub word_handling_is_key : IsOwnKey word_handling_key
+word_handling_is_key = record { taken = refl; lowered = refl }
 
-pub line_break_word_handling_words : (c : LineBreakWordHandling) → IsOwnWord line_break_word_handling_word line_break_word_handlings c
-line_break_word_handling_words LineBreakWordHandling.Normal = record { taken = refl; lowered = refl; stated = refl }
-line_break_word_handling_words LineBreakWordHandling.BreakAll = record { taken = refl; lowered = refl; stated = refl }
-line_break_word_handling_words LineBreakWordHandling.KeepAll = record { taken = refl; lowered = refl; stated = refl }
-line_break_word_handling_words LineBreakWordHandling.Phrase = record { taken = refl; lowered = refl; stated = refl }
+pub word_handling_words : (c : LineBreakWordHandling) → IsOwnWord word_handling_word word_handling_cases c
+word_handling_words LineBreakWordHandling.Normal = record { taken = refl; lowered = refl; stated = refl }
+word_handling_words LineBreakWordHandling.BreakAll = record { taken = refl; lowered = refl; stated = refl }
+word_handling_words LineBreakWordHandling.KeepAll = record { taken = refl; lowered = refl; stated = refl }
+word_handling_words LineBreakWordHandling.Phrase = record { taken = refl; lowered = refl; stated = refl }
 
-pub collation_case_first_is_key : IsOwnKey collation_case_first_key
-collation_case_first_is_key = record { taken = refl; lowered = refl }
+pub case_first_is_key : IsOwnKey case_first_key
+case_first_is_key = record { taken = refl; lowered = refl }
 
-pub collation_case_first_words : (c : CollationCaseFirst) → IsOwnWord collation_case_first_word collation_case_firsts c
-collation_case_first_words CollationCaseFirst.Upper = record { taken = refl; lowered = refl; stated = refl }
-collation_case_first_words CollationCaseFirst.Lower = record { taken = refl; lowered = refl; stated = refl }
-collation_case_first_words CollationCaseFirst.False = record { taken = refl; lowered = refl; stated = refl }
+pub case_first_words : (c : CollationCaseFirst) → IsOwnWord case_first_word case_first_cases c
+case_first_words CollationCaseFirst.Upper = record { taken = refl; lowered = refl; stated = refl }
+case_first_words CollationCaseFirst.Lower = record { taken = refl; lowered = refl; stated = refl }
+case_first_words CollationCaseFirst.False = record { taken = refl; lowered = refl; stated = refl }
 
-pub collation_numeric_ordering_is_key : IsOwnKey collation_numeric_ordering_key
-collation_numeric_ordering_is_key = record { taken = refl; lowered = refl }
+pub numeric_ordering_is_key : IsOwnKey numeric_ordering_key
+numeric_ordering_is_key = record { taken = refl; lowered = refl }
 
-pub collation_numeric_ordering_words : (c : CollationNumericOrdering) → IsOwnWord collation_numeric_ordering_word collation_numeric_orderings c
-collation_numeric_ordering_words CollationNumericOrdering.True = record { taken = refl; lowered = refl; stated = refl }
-collation_numeric_ordering_words CollationNumericOrdering.False = record { taken = refl; lowered = refl; stated = refl }
+pub numeric_ordering_words : (c : CollationNumericOrdering) → IsOwnWord numeric_ordering_word numeric_ordering_cases c
+numeric_ordering_words CollationNumericOrdering.True = record { taken = refl; lowered = refl; stated = refl }
+numeric_ordering_words CollationNumericOrdering.False = record { taken = refl; lowered = refl; stated = refl }

@@ -14,7 +14,7 @@ use std::alloc::{AllocError, Global};
 pub trait PreferenceKey: Sized {
     ghost use Rattle.std.specs.Prelude.{◌≡◌, ℕ, List, [], Option, None, Some, IfOk, IsOk, option_and_then};
     ghost use Rattle.icu_locale_core_grammar.specs.Subtags.{same_text};
-    ghost use Rattle.icu_locale_core_keywords.specs.TypedKeywords.{IsReading, is_answered};
+    ghost use Rattle.icu_locale_core_keywords.specs.TypedKeywords.{IsReading, keyword_answer};
 
     // the key of the keyword
     ghost keyword: { List ℕ };
@@ -45,7 +45,7 @@ pub trait PreferenceKey: Sized {
 
     /// The preference that the value of this key states, as `try_from_value`; `None` of any other key.
     fn try_from_key_value(key: &Key, value: &Value) -> Result<Option<Self>, PreferencesParseError>
-        ensures { result ≡ is_answered (same_text keyword key.now) (stated value.now) }
+        ensures { result ≡ keyword_answer (same_text keyword key.now) (stated value.now) }
     {
         match Self::unicode_extension_key() {
             Some(own) if own == *key => match Self::try_from_value(value) {

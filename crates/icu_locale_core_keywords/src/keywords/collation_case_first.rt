@@ -1,7 +1,7 @@
 //! Which case is sorted first.
 
 ghost use Rattle.std.specs.Prelude.{◌≡◌};
-ghost use Rattle.icu_locale_core_keywords.specs.KeywordWords.{collation_case_first_word};
+ghost use Rattle.icu_locale_core_keywords.specs.KeywordWords.{case_first_word};
 
 use crate::error::PreferencesParseError;
 use crate::preference_key::PreferenceKey;
@@ -24,7 +24,7 @@ pub enum CollationCaseFirst {
 impl CollationCaseFirst {
     /// The word of the order: `upper` of `Upper`.
     pub const fn as_str(&self) -> &'static str
-        ensures { result.now ≡ collation_case_first_word self.now }
+        ensures { result.now ≡ case_first_word self.now }
     {
         match self {
             CollationCaseFirst::Upper => "upper",
@@ -35,18 +35,18 @@ impl CollationCaseFirst {
 }
 
 impl WordKeyword for CollationCaseFirst {
-    ghost use Rattle.icu_locale_core_keywords.specs.KeywordWords.{collation_case_first_key, collation_case_firsts, collation_case_first_word};
-    ghost use Rattle.icu_locale_core_keywords.specs.WordLaws.{collation_case_first_is_key, collation_case_first_words};
+    ghost use Rattle.icu_locale_core_keywords.specs.KeywordWords.{case_first_key, case_first_cases, case_first_word};
+    ghost use Rattle.icu_locale_core_keywords.specs.WordLaws.{case_first_is_key, case_first_words};
 
-    ghost key = { collation_case_first_key };
+    ghost key = { case_first_key };
 
-    ghost cases = { collation_case_firsts };
+    ghost cases = { case_first_cases };
 
-    ghost word = { collation_case_first_word };
+    ghost word = { case_first_word };
 
-    ghost is_key = { collation_case_first_is_key };
+    ghost is_key = { case_first_is_key };
 
-    ghost are_words = { collation_case_first_words };
+    ghost are_words = { case_first_words };
 
     fn key() -> &'static str {
         "kf"
@@ -70,9 +70,9 @@ impl TryFrom<&Value> for CollationCaseFirst {
     type Error = PreferencesParseError;
 
     ghost use Rattle.icu_locale_core_keywords.specs.TypedKeywords.{IsReading, stated_case};
-    ghost use Rattle.icu_locale_core_keywords.specs.KeywordWords.{collation_case_firsts, collation_case_first_word};
+    ghost use Rattle.icu_locale_core_keywords.specs.KeywordWords.{case_first_cases, case_first_word};
 
-    ghost try_from_gives = { λ value r. IsReading (stated_case collation_case_first_word collation_case_firsts value.now) r };
+    ghost try_from_gives = { λ value r. IsReading (stated_case case_first_word case_first_cases value.now) r };
 
     fn try_from(value: &Value) -> Result<Self, PreferencesParseError> {
         Self::try_from_value(value)

@@ -1,7 +1,7 @@
 //! Whether digits are sorted as numbers.
 
 ghost use Rattle.std.specs.Prelude.{◌≡◌};
-ghost use Rattle.icu_locale_core_keywords.specs.KeywordWords.{collation_numeric_ordering_word};
+ghost use Rattle.icu_locale_core_keywords.specs.KeywordWords.{numeric_ordering_word};
 
 use crate::error::PreferencesParseError;
 use crate::preference_key::PreferenceKey;
@@ -22,7 +22,7 @@ pub enum CollationNumericOrdering {
 impl CollationNumericOrdering {
     /// The word of the order: `true` of `True`.
     pub const fn as_str(&self) -> &'static str
-        ensures { result.now ≡ collation_numeric_ordering_word self.now }
+        ensures { result.now ≡ numeric_ordering_word self.now }
     {
         match self {
             CollationNumericOrdering::True => "true",
@@ -32,18 +32,18 @@ impl CollationNumericOrdering {
 }
 
 impl WordKeyword for CollationNumericOrdering {
-    ghost use Rattle.icu_locale_core_keywords.specs.KeywordWords.{collation_numeric_ordering_key, collation_numeric_orderings, collation_numeric_ordering_word};
-    ghost use Rattle.icu_locale_core_keywords.specs.WordLaws.{collation_numeric_ordering_is_key, collation_numeric_ordering_words};
+    ghost use Rattle.icu_locale_core_keywords.specs.KeywordWords.{numeric_ordering_key, numeric_ordering_cases, numeric_ordering_word};
+    ghost use Rattle.icu_locale_core_keywords.specs.WordLaws.{numeric_ordering_is_key, numeric_ordering_words};
 
-    ghost key = { collation_numeric_ordering_key };
+    ghost key = { numeric_ordering_key };
 
-    ghost cases = { collation_numeric_orderings };
+    ghost cases = { numeric_ordering_cases };
 
-    ghost word = { collation_numeric_ordering_word };
+    ghost word = { numeric_ordering_word };
 
-    ghost is_key = { collation_numeric_ordering_is_key };
+    ghost is_key = { numeric_ordering_is_key };
 
-    ghost are_words = { collation_numeric_ordering_words };
+    ghost are_words = { numeric_ordering_words };
 
     fn key() -> &'static str {
         "kn"
@@ -66,9 +66,9 @@ impl TryFrom<&Value> for CollationNumericOrdering {
     type Error = PreferencesParseError;
 
     ghost use Rattle.icu_locale_core_keywords.specs.TypedKeywords.{IsReading, stated_case};
-    ghost use Rattle.icu_locale_core_keywords.specs.KeywordWords.{collation_numeric_orderings, collation_numeric_ordering_word};
+    ghost use Rattle.icu_locale_core_keywords.specs.KeywordWords.{numeric_ordering_cases, numeric_ordering_word};
 
-    ghost try_from_gives = { λ value r. IsReading (stated_case collation_numeric_ordering_word collation_numeric_orderings value.now) r };
+    ghost try_from_gives = { λ value r. IsReading (stated_case numeric_ordering_word numeric_ordering_cases value.now) r };
 
     fn try_from(value: &Value) -> Result<Self, PreferencesParseError> {
         Self::try_from_value(value)

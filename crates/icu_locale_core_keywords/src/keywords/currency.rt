@@ -20,7 +20,7 @@ use tinystr::TinyAsciiStr;
 /// Source: UTS 35, section 3.6.1.
 #[derive(Clone, Copy, Debug, PartialEq, Eq, Hash)]
 pub struct CurrencyType {
-    code: TinyAsciiStr<3>,
+    pub(crate) code: TinyAsciiStr<3>,
 }
 
 impl Model for CurrencyType {

@@ -1,7 +1,7 @@
 //! How amounts of money are written.
 
 ghost use Rattle.std.specs.Prelude.{◌≡◌};
-ghost use Rattle.icu_locale_core_keywords.specs.KeywordWords.{currency_format_style_word};
+ghost use Rattle.icu_locale_core_keywords.specs.KeywordWords.{currency_format_word};
 
 use crate::error::PreferencesParseError;
 use crate::preference_key::PreferenceKey;
@@ -22,7 +22,7 @@ pub enum CurrencyFormatStyle {
 impl CurrencyFormatStyle {
     /// The word of the style: `standard` of `Standard`.
     pub const fn as_str(&self) -> &'static str
-        ensures { result.now ≡ currency_format_style_word self.now }
+        ensures { result.now ≡ currency_format_word self.now }
     {
         match self {
             CurrencyFormatStyle::Standard => "standard",
@@ -32,18 +32,18 @@ impl CurrencyFormatStyle {
 }
 
 impl WordKeyword for CurrencyFormatStyle {
-    ghost use Rattle.icu_locale_core_keywords.specs.KeywordWords.{currency_format_style_key, currency_format_styles, currency_format_style_word};
-    ghost use Rattle.icu_locale_core_keywords.specs.WordLaws.{currency_format_style_is_key, currency_format_style_words};
+    ghost use Rattle.icu_locale_core_keywords.specs.KeywordWords.{currency_format_key, currency_format_cases, currency_format_word};
+    ghost use Rattle.icu_locale_core_keywords.specs.WordLaws.{currency_format_is_key, currency_format_words};
 
-    ghost key = { currency_format_style_key };
+    ghost key = { currency_format_key };
 
-    ghost cases = { currency_format_styles };
+    ghost cases = { currency_format_cases };
 
-    ghost word = { currency_format_style_word };
+    ghost word = { currency_format_word };
 
-    ghost is_key = { currency_format_style_is_key };
+    ghost is_key = { currency_format_is_key };
 
-    ghost are_words = { currency_format_style_words };
+    ghost are_words = { currency_format_words };
 
     fn key() -> &'static str {
         "cf"
@@ -63,9 +63,9 @@ impl TryFrom<&Value> for CurrencyFormatStyle {
     type Error = PreferencesParseError;
 
     ghost use Rattle.icu_locale_core_keywords.specs.TypedKeywords.{IsReading, stated_case};
-    ghost use Rattle.icu_locale_core_keywords.specs.KeywordWords.{currency_format_styles, currency_format_style_word};
+    ghost use Rattle.icu_locale_core_keywords.specs.KeywordWords.{currency_format_cases, currency_format_word};
 
-    ghost try_from_gives = { λ value r. IsReading (stated_case currency_format_style_word currency_format_styles value.now) r };
+    ghost try_from_gives = { λ value r. IsReading (stated_case currency_format_word currency_format_cases value.now) r };
 
     fn try_from(value: &Value) -> Result<Self, PreferencesParseError> {
         Self::try_from_value(value)

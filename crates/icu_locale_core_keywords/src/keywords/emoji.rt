@@ -1,7 +1,7 @@
 //! How emoji are shown.
 
 ghost use Rattle.std.specs.Prelude.{◌≡◌};
-ghost use Rattle.icu_locale_core_keywords.specs.KeywordWords.{emoji_presentation_style_word};
+ghost use Rattle.icu_locale_core_keywords.specs.KeywordWords.{emoji_word};
 
 use crate::error::PreferencesParseError;
 use crate::preference_key::PreferenceKey;
@@ -24,7 +24,7 @@ pub enum EmojiPresentationStyle {
 impl EmojiPresentationStyle {
     /// The word of the style: `emoji` of `Emoji`.
     pub const fn as_str(&self) -> &'static str
-        ensures { result.now ≡ emoji_presentation_style_word self.now }
+        ensures { result.now ≡ emoji_word self.now }
     {
         match self {
             EmojiPresentationStyle::Emoji => "emoji",
@@ -35,18 +35,18 @@ impl EmojiPresentationStyle {
 }
 
 impl WordKeyword for EmojiPresentationStyle {
-    ghost use Rattle.icu_locale_core_keywords.specs.KeywordWords.{emoji_presentation_style_key, emoji_presentation_styles, emoji_presentation_style_word};
-    ghost use Rattle.icu_locale_core_keywords.specs.WordLaws.{emoji_presentation_style_is_key, emoji_presentation_style_words};
+    ghost use Rattle.icu_locale_core_keywords.specs.KeywordWords.{emoji_key, emoji_cases, emoji_word};
+    ghost use Rattle.icu_locale_core_keywords.specs.WordLaws.{emoji_is_key, emoji_words};
 
-    ghost key = { emoji_presentation_style_key };
+    ghost key = { emoji_key };
 
-    ghost cases = { emoji_presentation_styles };
+    ghost cases = { emoji_cases };
 
-    ghost word = { emoji_presentation_style_word };
+    ghost word = { emoji_word };
 
-    ghost is_key = { emoji_presentation_style_is_key };
+    ghost is_key = { emoji_is_key };
 
-    ghost are_words = { emoji_presentation_style_words };
+    ghost are_words = { emoji_words };
 
     fn key() -> &'static str {
         "em"
@@ -70,9 +70,9 @@ impl TryFrom<&Value> for EmojiPresentationStyle {
     type Error = PreferencesParseError;
 
     ghost use Rattle.icu_locale_core_keywords.specs.TypedKeywords.{IsReading, stated_case};
-    ghost use Rattle.icu_locale_core_keywords.specs.KeywordWords.{emoji_presentation_styles, emoji_presentation_style_word};
+    ghost use Rattle.icu_locale_core_keywords.specs.KeywordWords.{emoji_cases, emoji_word};
 
-    ghost try_from_gives = { λ value r. IsReading (stated_case emoji_presentation_style_word emoji_presentation_styles value.now) r };
+    ghost try_from_gives = { λ value r. IsReading (stated_case emoji_word emoji_cases value.now) r };
 
     fn try_from(value: &Value) -> Result<Self, PreferencesParseError> {
         Self::try_from_value(value)

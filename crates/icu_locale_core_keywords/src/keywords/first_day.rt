@@ -47,12 +47,12 @@ impl FirstDay {
 }
 
 impl WordKeyword for FirstDay {
-    ghost use Rattle.icu_locale_core_keywords.specs.KeywordWords.{first_day_key, first_days, first_day_word};
+    ghost use Rattle.icu_locale_core_keywords.specs.KeywordWords.{first_day_key, first_day_cases, first_day_word};
     ghost use Rattle.icu_locale_core_keywords.specs.WordLaws.{first_day_is_key, first_day_words};
 
     ghost key = { first_day_key };
 
-    ghost cases = { first_days };
+    ghost cases = { first_day_cases };
 
     ghost word = { first_day_word };
 
@@ -86,9 +86,9 @@ impl TryFrom<&Value> for FirstDay {
     type Error = PreferencesParseError;
 
     ghost use Rattle.icu_locale_core_keywords.specs.TypedKeywords.{IsReading, stated_case};
-    ghost use Rattle.icu_locale_core_keywords.specs.KeywordWords.{first_days, first_day_word};
+    ghost use Rattle.icu_locale_core_keywords.specs.KeywordWords.{first_day_cases, first_day_word};
 
-    ghost try_from_gives = { λ value r. IsReading (stated_case first_day_word first_days value.now) r };
+    ghost try_from_gives = { λ value r. IsReading (stated_case first_day_word first_day_cases value.now) r };
 
     fn try_from(value: &Value) -> Result<Self, PreferencesParseError> {
         Self::try_from_value(value)

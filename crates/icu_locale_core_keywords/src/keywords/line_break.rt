@@ -1,7 +1,7 @@
 //! How strictly lines are broken.
 
 ghost use Rattle.std.specs.Prelude.{◌≡◌};
-ghost use Rattle.icu_locale_core_keywords.specs.KeywordWords.{line_break_style_word};
+ghost use Rattle.icu_locale_core_keywords.specs.KeywordWords.{line_break_word};
 
 use crate::error::PreferencesParseError;
 use crate::preference_key::PreferenceKey;
@@ -24,7 +24,7 @@ pub enum LineBreakStyle {
 impl LineBreakStyle {
     /// The word of the style: `strict` of `Strict`.
     pub const fn as_str(&self) -> &'static str
-        ensures { result.now ≡ line_break_style_word self.now }
+        ensures { result.now ≡ line_break_word self.now }
     {
         match self {
             LineBreakStyle::Strict => "strict",
@@ -35,18 +35,18 @@ impl LineBreakStyle {
 }
 
 impl WordKeyword for LineBreakStyle {
-    ghost use Rattle.icu_locale_core_keywords.specs.KeywordWords.{line_break_style_key, line_break_styles, line_break_style_word};
-    ghost use Rattle.icu_locale_core_keywords.specs.WordLaws.{line_break_style_is_key, line_break_style_words};
+    ghost use Rattle.icu_locale_core_keywords.specs.KeywordWords.{line_break_key, line_break_cases, line_break_word};
+    ghost use Rattle.icu_locale_core_keywords.specs.WordLaws.{line_break_is_key, line_break_words};
 
-    ghost key = { line_break_style_key };
+    ghost key = { line_break_key };
 
-    ghost cases = { line_break_styles };
+    ghost cases = { line_break_cases };
 
-    ghost word = { line_break_style_word };
+    ghost word = { line_break_word };
 
-    ghost is_key = { line_break_style_is_key };
+    ghost is_key = { line_break_is_key };
 
-    ghost are_words = { line_break_style_words };
+    ghost are_words = { line_break_words };
 
     fn key() -> &'static str {
         "lb"
@@ -70,9 +70,9 @@ impl TryFrom<&Value> for LineBreakStyle {
     type Error = PreferencesParseError;
 
     ghost use Rattle.icu_locale_core_keywords.specs.TypedKeywords.{IsReading, stated_case};
-    ghost use Rattle.icu_locale_core_keywords.specs.KeywordWords.{line_break_styles, line_break_style_word};
+    ghost use Rattle.icu_locale_core_keywords.specs.KeywordWords.{line_break_cases, line_break_word};
 
-    ghost try_from_gives = { λ value r. IsReading (stated_case line_break_style_word line_break_styles value.now) r };
+    ghost try_from_gives = { λ value r. IsReading (stated_case line_break_word line_break_cases value.now) r };
 
     fn try_from(value: &Value) -> Result<Self, PreferencesParseError> {
         Self::try_from_value(value)

@@ -1,7 +1,7 @@
 //! Where lines are broken within words.
 
 ghost use Rattle.std.specs.Prelude.{◌≡◌};
-ghost use Rattle.icu_locale_core_keywords.specs.KeywordWords.{line_break_word_handling_word};
+ghost use Rattle.icu_locale_core_keywords.specs.KeywordWords.{word_handling_word};
 
 use crate::error::PreferencesParseError;
 use crate::preference_key::PreferenceKey;
@@ -26,7 +26,7 @@ pub enum LineBreakWordHandling {
 impl LineBreakWordHandling {
     /// The word of the handling: `normal` of `Normal`.
     pub const fn as_str(&self) -> &'static str
-        ensures { result.now ≡ line_break_word_handling_word self.now }
+        ensures { result.now ≡ word_handling_word self.now }
     {
         match self {
             LineBreakWordHandling::Normal => "normal",
@@ -38,18 +38,18 @@ impl LineBreakWordHandling {
 }
 
 impl WordKeyword for LineBreakWordHandling {
-    ghost use Rattle.icu_locale_core_keywords.specs.KeywordWords.{line_break_word_handling_key, line_break_word_handlings, line_break_word_handling_word};
-    ghost use Rattle.icu_locale_core_keywords.specs.WordLaws.{line_break_word_handling_is_key, line_break_word_handling_words};
+    ghost use Rattle.icu_locale_core_keywords.specs.KeywordWords.{word_handling_key, word_handling_cases, word_handling_word};
+    ghost use Rattle.icu_locale_core_keywords.specs.WordLaws.{word_handling_is_key, word_handling_words};
 
-    ghost key = { line_break_word_handling_key };
+    ghost key = { word_handling_key };
 
-    ghost cases = { line_break_word_handlings };
+    ghost cases = { word_handling_cases };
 
-    ghost word = { line_break_word_handling_word };
+    ghost word = { word_handling_word };
 
-    ghost is_key = { line_break_word_handling_is_key };
+    ghost is_key = { word_handling_is_key };
 
-    ghost are_words = { line_break_word_handling_words };
+    ghost are_words = { word_handling_words };
 
     fn key() -> &'static str {
         "lw"
@@ -74,9 +74,9 @@ impl TryFrom<&Value> for LineBreakWordHandling {
     type Error = PreferencesParseError;
 
     ghost use Rattle.icu_locale_core_keywords.specs.TypedKeywords.{IsReading, stated_case};
-    ghost use Rattle.icu_locale_core_keywords.specs.KeywordWords.{line_break_word_handlings, line_break_word_handling_word};
+    ghost use Rattle.icu_locale_core_keywords.specs.KeywordWords.{word_handling_cases, word_handling_word};
 
-    ghost try_from_gives = { λ value r. IsReading (stated_case line_break_word_handling_word line_break_word_handlings value.now) r };
+    ghost try_from_gives = { λ value r. IsReading (stated_case word_handling_word word_handling_cases value.now) r };
 
     fn try_from(value: &Value) -> Result<Self, PreferencesParseError> {
         Self::try_from_value(value)

@@ -1,7 +1,7 @@
 //! The system of measurement.
 
 ghost use Rattle.std.specs.Prelude.{◌≡◌};
-ghost use Rattle.icu_locale_core_keywords.specs.KeywordWords.{measurement_system_word};
+ghost use Rattle.icu_locale_core_keywords.specs.KeywordWords.{measurement_word};
 
 use crate::error::PreferencesParseError;
 use crate::preference_key::PreferenceKey;
@@ -24,7 +24,7 @@ pub enum MeasurementSystem {
 impl MeasurementSystem {
     /// The word of the system: `metric` of `Metric`.
     pub const fn as_str(&self) -> &'static str
-        ensures { result.now ≡ measurement_system_word self.now }
+        ensures { result.now ≡ measurement_word self.now }
     {
         match self {
             MeasurementSystem::Metric => "metric",
@@ -35,18 +35,18 @@ impl MeasurementSystem {
 }
 
 impl WordKeyword for MeasurementSystem {
-    ghost use Rattle.icu_locale_core_keywords.specs.KeywordWords.{measurement_system_key, measurement_systems, measurement_system_word};
-    ghost use Rattle.icu_locale_core_keywords.specs.WordLaws.{measurement_system_is_key, measurement_system_words};
+    ghost use Rattle.icu_locale_core_keywords.specs.KeywordWords.{measurement_key, measurement_cases, measurement_word};
+    ghost use Rattle.icu_locale_core_keywords.specs.WordLaws.{measurement_is_key, measurement_words};
 
-    ghost key = { measurement_system_key };
+    ghost key = { measurement_key };
 
-    ghost cases = { measurement_systems };
+    ghost cases = { measurement_cases };
 
-    ghost word = { measurement_system_word };
+    ghost word = { measurement_word };
 
-    ghost is_key = { measurement_system_is_key };
+    ghost is_key = { measurement_is_key };
 
-    ghost are_words = { measurement_system_words };
+    ghost are_words = { measurement_words };
 
     fn key() -> &'static str {
         "ms"
@@ -70,9 +70,9 @@ impl TryFrom<&Value> for MeasurementSystem {
     type Error = PreferencesParseError;
 
     ghost use Rattle.icu_locale_core_keywords.specs.TypedKeywords.{IsReading, stated_case};
-    ghost use Rattle.icu_locale_core_keywords.specs.KeywordWords.{measurement_systems, measurement_system_word};
+    ghost use Rattle.icu_locale_core_keywords.specs.KeywordWords.{measurement_cases, measurement_word};
 
-    ghost try_from_gives = { λ value r. IsReading (stated_case measurement_system_word measurement_systems value.now) r };
+    ghost try_from_gives = { λ value r. IsReading (stated_case measurement_word measurement_cases value.now) r };
 
     fn try_from(value: &Value) -> Result<Self, PreferencesParseError> {
         Self::try_from_value(value)
