@@ -88,7 +88,7 @@ impl<W: WordKeyword + 'static> PreferenceKey for W {
 
     ghost keyword = { W.key };
 
-    ghost stated = { λ vs. stated_case W.word W.cases vs };
+    ghost stated = { stated_case W.word W.cases };
 
     ghost written = { λ c. word_value (W.word c) };
 
@@ -105,7 +105,7 @@ impl<W: WordKeyword + 'static> PreferenceKey for W {
     }
 
     fn try_from_value(value: &Value) -> Result<Self, PreferencesParseError> {
-        match case_in(value) {
+        match case_in::<Self>(value) {
             Some(case) => Ok(case),
             None => Err(PreferencesParseError::InvalidKeywordValue),
         }
