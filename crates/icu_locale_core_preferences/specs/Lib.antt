@@ -1,1 +1,4 @@
 pub mod DataExtensions
+pub mod DataLocales
+pub mod DataText
+pub mod HeldTag

@@ -13,9 +13,12 @@
 //! ```
 #![tactic(auto)]
 
+mod comparing;
 mod data_locale;
 mod keywords;
 mod locale_preferences;
+mod making;
+mod printing;
 mod reading;
 
 pub use crate::data_locale::DataLocale;

@@ -2,11 +2,14 @@
 
 ghost use Rattle.std.specs.Prelude.{◌≡◌};
 ghost use Rattle.icu_locale_core_grammar.specs.TagPreferences.{locale_preferences_of, language_priority, region_priority};
+ghost use Rattle.icu_locale_core_grammar.specs.PreferenceChanges.{joined_preferences};
 ghost use Rattle.icu_locale_core_grammar.specs.PreferenceLaws.{no_preferences};
+ghost use Rattle.icu_locale_core_preferences.specs.DataLocales.{language_preferences};
 
 use crate::data_locale::DataLocale;
 use crate::keywords::{key_of_override, key_of_subdivision, subdivision_at};
 use icu_locale_core_keywords::SubdivisionId;
+use icu_locale_core_langid::LanguageIdentifier;
 use icu_locale_core_locale::Locale;
 use icu_locale_core_subtags::{Language, Region, Script, Variant};
 use std::marker::Model;
@@ -16,12 +19,12 @@ use std::marker::Model;
 /// Source: UTS 35, section 3.6, keys `rg` and `sd`.
 #[derive(Clone, Copy, PartialEq, Eq, Hash)]
 pub struct LocalePreferences {
-    language: Language,
-    script: Option<Script>,
-    region: Option<Region>,
-    variant: Option<Variant>,
-    subdivision: Option<SubdivisionId>,
-    region_override: Option<SubdivisionId>,
+    pub(crate) language: Language,
+    pub(crate) script: Option<Script>,
+    pub(crate) region: Option<Region>,
+    pub(crate) variant: Option<Variant>,
+    pub(crate) subdivision: Option<SubdivisionId>,
+    pub(crate) region_override: Option<SubdivisionId>,
 }
 
 impl Model for LocalePreferences {
@@ -85,7 +88,53 @@ impl From<&Locale> for LocalePreferences {
     }
 }
 
+/// The language, script, region and first variant of the identifier. It takes no memory.
+impl From<&LanguageIdentifier> for LocalePreferences {
+    ghost from_gives = { λ id p. p ≡ language_preferences id.now };
+
+    fn from(id: &LanguageIdentifier) -> Self {
+        LocalePreferences {
+            language: id.language,
+            script: id.script,
+            region: id.region,
+            variant: id.variants.first().copied(),
+            subdivision: None,
+            region_override: None,
+        }
+    }
+}
+
 impl LocalePreferences {
+    /// The language; `und` where it is not known.
+    pub fn language(&self) -> Language
+        ensures { result ≡ self.now.language }
+    {
+        self.language
+    }
+
+    /// The region of the language part, where there is one; neither `sd` nor `rg` changes it.
+    pub fn region(&self) -> Option<Region>
+        ensures { result ≡ self.now.region }
+    {
+        self.region
+    }
+
+    /// Puts each part of the other that is there in place of this one's; the language `und` is not there. It takes no memory.
+    ///
+    /// `de-AT` extended by `und-CH-u-sd-chzh` is `de-CH-u-sd-chzh`.
+    pub fn extend(&mut self, other: LocalePreferences)
+        ensures { self.new ≡ joined_preferences self.old other }
+    {
+        if !other.language.is_unknown() {
+            self.language = other.language;
+        }
+        self.script = other.script.or(self.script);
+        self.region = other.region.or(self.region);
+        self.variant = other.variant.or(self.variant);
+        self.subdivision = other.subdivision.or(self.subdivision);
+        self.region_override = other.region_override.or(self.region_override);
+    }
+
     /// The data locale with the language first: the region as it stands, and the subdivision of `sd`.
     ///
     /// Of `en-US-u-rg-gbeng-sd-ustx` it is `en-US-u-sd-ustx`. It takes no memory.
