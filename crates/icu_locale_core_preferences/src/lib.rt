@@ -16,6 +16,7 @@
 mod comparing;
 mod data_locale;
 mod keywords;
+pub mod laws;
 mod locale_preferences;
 mod making;
 mod printing;
