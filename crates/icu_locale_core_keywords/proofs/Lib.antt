@@ -1,1 +1,3 @@
 pub mod SubdivisionLemmas
+pub mod OnePieceLemmas
+pub mod KnownValues

@@ -1,0 +1,80 @@
+//! How emoji are shown.
+
+ghost use Rattle.std.specs.Prelude.{◌≡◌};
+ghost use Rattle.icu_locale_core_keywords.specs.KeywordWords.{emoji_word};
+
+use crate::error::PreferencesParseError;
+use crate::preference_key::PreferenceKey;
+use crate::word_keyword::WordKeyword;
+use icu_locale_core_entries::unicode::Value;
+
+/// How emoji are shown, key `em`: `emoji`, `text` or `default`.
+///
+/// Source: UTS 35, section 3.6.1.
+#[derive(Clone, Copy, Debug, PartialEq, Eq, Hash)]
+pub enum EmojiPresentationStyle {
+    /// As pictures where there are some.
+    Emoji,
+    /// As text where there is some.
+    Text,
+    /// As each character is shown by default.
+    Default,
+}
+
+impl EmojiPresentationStyle {
+    /// The word of the style: `emoji` of `Emoji`.
+    pub const fn as_str(&self) -> &'static str
+        ensures { result.now ≡ emoji_word self.now }
+    {
+        match self {
+            EmojiPresentationStyle::Emoji => "emoji",
+            EmojiPresentationStyle::Text => "text",
+            EmojiPresentationStyle::Default => "default",
+        }
+    }
+}
+
+impl WordKeyword for EmojiPresentationStyle {
+    ghost use Rattle.icu_locale_core_keywords.specs.KeywordWords.{emoji_key, emoji_cases, emoji_word};
+    ghost use Rattle.icu_locale_core_keywords.specs.WordLaws.{emoji_is_key, emoji_words};
+
+    ghost key = { emoji_key };
+
+    ghost cases = { emoji_cases };
+
+    ghost word = { emoji_word };
+
+    ghost is_key = { emoji_is_key };
+
+    ghost are_words = { emoji_words };
+
+    fn key() -> &'static str {
+        "em"
+    }
+
+    fn cases() -> &'static [Self] {
+        &[
+            EmojiPresentationStyle::Emoji,
+            EmojiPresentationStyle::Text,
+            EmojiPresentationStyle::Default,
+        ]
+    }
+
+    fn word(&self) -> &'static str {
+        self.as_str()
+    }
+}
+
+/// The style whose word the value is; other values are `InvalidKeywordValue`. It takes no memory.
+impl TryFrom<&Value> for EmojiPresentationStyle {
+    type Error = PreferencesParseError;
+
+    ghost use Rattle.icu_locale_core_keywords.specs.TypedKeywords.{IsReading, stated_case};
+    ghost use Rattle.icu_locale_core_keywords.specs.KeywordWords.{emoji_cases, emoji_word};
+
+    ghost try_from_gives = { λ value r. IsReading (stated_case emoji_word emoji_cases value.now) r };
+
+    fn try_from(value: &Value) -> Result<Self, PreferencesParseError> {
+        Self::try_from_value(value)
+    }
+}

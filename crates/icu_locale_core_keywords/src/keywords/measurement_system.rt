@@ -1,0 +1,80 @@
+//! The system of measurement.
+
+ghost use Rattle.std.specs.Prelude.{◌≡◌};
+ghost use Rattle.icu_locale_core_keywords.specs.KeywordWords.{measurement_word};
+
+use crate::error::PreferencesParseError;
+use crate::preference_key::PreferenceKey;
+use crate::word_keyword::WordKeyword;
+use icu_locale_core_entries::unicode::Value;
+
+/// The system of measurement, key `ms`: `metric`, `ussystem` or `uksystem`.
+///
+/// Source: UTS 35, section 3.6.1.
+#[derive(Clone, Copy, Debug, PartialEq, Eq, Hash)]
+pub enum MeasurementSystem {
+    /// The metric system.
+    Metric,
+    /// The system of the United States.
+    Ussystem,
+    /// The system of the United Kingdom.
+    Uksystem,
+}
+
+impl MeasurementSystem {
+    /// The word of the system: `metric` of `Metric`.
+    pub const fn as_str(&self) -> &'static str
+        ensures { result.now ≡ measurement_word self.now }
+    {
+        match self {
+            MeasurementSystem::Metric => "metric",
+            MeasurementSystem::Ussystem => "ussystem",
+            MeasurementSystem::Uksystem => "uksystem",
+        }
+    }
+}
+
+impl WordKeyword for MeasurementSystem {
+    ghost use Rattle.icu_locale_core_keywords.specs.KeywordWords.{measurement_key, measurement_cases, measurement_word};
+    ghost use Rattle.icu_locale_core_keywords.specs.WordLaws.{measurement_is_key, measurement_words};
+
+    ghost key = { measurement_key };
+
+    ghost cases = { measurement_cases };
+
+    ghost word = { measurement_word };
+
+    ghost is_key = { measurement_is_key };
+
+    ghost are_words = { measurement_words };
+
+    fn key() -> &'static str {
+        "ms"
+    }
+
+    fn cases() -> &'static [Self] {
+        &[
+            MeasurementSystem::Metric,
+            MeasurementSystem::Ussystem,
+            MeasurementSystem::Uksystem,
+        ]
+    }
+
+    fn word(&self) -> &'static str {
+        self.as_str()
+    }
+}
+
+/// The system whose word the value is; other values are `InvalidKeywordValue`. It takes no memory.
+impl TryFrom<&Value> for MeasurementSystem {
+    type Error = PreferencesParseError;
+
+    ghost use Rattle.icu_locale_core_keywords.specs.TypedKeywords.{IsReading, stated_case};
+    ghost use Rattle.icu_locale_core_keywords.specs.KeywordWords.{measurement_cases, measurement_word};
+
+    ghost try_from_gives = { λ value r. IsReading (stated_case measurement_word measurement_cases value.now) r };
+
+    fn try_from(value: &Value) -> Result<Self, PreferencesParseError> {
+        Self::try_from_value(value)
+    }
+}

@@ -1,0 +1,113 @@
+//! Keywords whose values are words of a list.
+
+ghost use Rattle.std.specs.Prelude.{◌≡◌, true, [], Some, IfOk, IsOk};
+ghost use Rattle.icu_locale_core_grammar.specs.Subtags.{is_other_piece, lower};
+ghost use Rattle.icu_locale_core_keywords.specs.TypedKeywords.{case_of, stated_case, word_value};
+
+use crate::error::PreferencesParseError;
+use crate::laws::words_state_cases;
+use crate::preference_key::PreferenceKey;
+use icu_locale_core_entries::unicode::Value;
+use icu_locale_core_subtags::Subtag;
+use icu_locale_core_subtags::unicode::Key;
+use std::alloc::{AllocError, Global};
+
+/// A keyword whose values are words, one a case.
+pub trait WordKeyword: Copy {
+    ghost use Rattle.std.specs.Prelude.{◌≡◌, ℕ, List};
+    ghost use Rattle.icu_locale_core_keywords.specs.WordLaws.{IsOwnKey, IsOwnWord};
+
+    // the key of the keyword
+    ghost key: { List ℕ };
+
+    // the cases, in their order
+    ghost cases: { List Self };
+
+    // the word of a case
+    ghost word: { Self → List ℕ };
+
+    /// The key.
+    fn key() -> &'static str
+        ensures { result.now ≡ key };
+
+    /// The cases, in their order.
+    fn cases() -> &'static [Self]
+    where
+        Self: 'static,
+        ensures { result.now ≡ cases };
+
+    /// The word of the case.
+    fn word(&self) -> &'static str
+        ensures { result.now ≡ word self.now };
+
+    // the key is one
+    ghost is_key: { IsOwnKey key };
+
+    // each word states its case
+    ghost are_words: { (c : Self) → IsOwnWord word cases c };
+}
+
+// The case of which this is the word.
+fn case_of<W: WordKeyword + 'static>(text: &str) -> Option<W>
+    ensures { result ≡ case_of W.word W.cases text.now }
+{
+    for case in W::cases() {
+        if case.word() == text {
+            return Some(*case);
+        }
+    }
+    None
+}
+
+// The word that the value is, handed to the search for its case.
+fn case_in<W: WordKeyword + 'static>(value: &Value) -> Option<W>
+    ensures { result ≡ stated_case W.word W.cases value.now }
+{
+    match value.as_subtags_slice() {
+        [] => case_of::<W>("true"),
+        [subtag] => case_of::<W>(subtag.as_str()),
+        _ => None,
+    }
+}
+
+// The value that is a word.
+fn value_of(alloc: Global, word: &str) -> Result<Value, AllocError>
+    requires taken { is_other_piece word.now ≡ true }
+    requires lowered { lower word.now ≡ word.now }
+    ensures value { IfOk result (λ v. v ≡ word_value word.now) }
+    ensures succeeds { word_value word.now ≡ [] → IsOk result }
+{
+    match Subtag::try_from_str(word) {
+        Ok(subtag) => Value::from_subtag(alloc, Some(subtag)),
+        Err(_) => unreachable!(),
+    }
+}
+
+impl<W: WordKeyword + 'static> PreferenceKey for W {
+    ghost use Rattle.icu_locale_core_keywords.specs.TypedKeywords.{stated_case, word_value};
+
+    ghost keyword = { W.key };
+
+    ghost stated = { λ vs. stated_case W.word W.cases vs };
+
+    ghost written = { λ c. word_value (W.word c) };
+
+    fn unicode_extension_key() -> Option<Key> {
+        Key::try_from_str(W::key()).ok()
+    }
+
+    fn unicode_extension_value(&self, alloc: Global) -> Result<Option<Value>, AllocError> {
+        words_state_cases(self);
+        match value_of(alloc, self.word()) {
+            Ok(value) => Ok(Some(value)),
+            Err(error) => Err(error),
+        }
+    }
+
+    fn try_from_value(value: &Value) -> Result<Self, PreferencesParseError> {
+        match case_in(value) {
+            Some(case) => Ok(case),
+            None => Err(PreferencesParseError::InvalidKeywordValue),
+        }
+    }
+}
