@@ -1,4 +1,4 @@
--- What a language identifier prefers, and the data locale of it, of a language with a script and a region, and of `und` alone.
+-- What a language identifier prefers, and the data locale of it, of a language, a script and a region, and of `und` alone.
 -- Defined in docs/tags.md, "Preferences" and "Data locales".
 -- Cited by the conversions into preferences and data locales, and by their defaults.
 use Rattle.std.specs.Prelude.{[], Option, None}

@@ -2,6 +2,7 @@
 
 ghost use Rattle.std.specs.Prelude.{◌≡◌};
 ghost use Rattle.icu_locale_core_grammar.specs.TagPreferences.{subdivision_key, override_key, numbering_key, keyword_piece, keyword_subdivision, preferences_of};
+ghost use Rattle.icu_locale_core_grammar.specs.PreferenceChanges.{fails_subdivision};
 
 use icu_locale_core_entries::unicode::Keywords;
 use icu_locale_core_keywords::SubdivisionId;
@@ -58,6 +59,13 @@ pub(crate) fn subdivision_at(keywords: &Keywords, key: &Key) -> Option<Subdivisi
         Ok(subdivision) => Some(subdivision),
         Err(_) => None,
     }
+}
+
+// Whether the key is there, and its value spells no subdivision.
+pub(crate) fn fails_at(keywords: &Keywords, key: &Key) -> bool
+    ensures { result ≡ fails_subdivision key.now keywords.now }
+{
+    keywords.contains_key(key) && subdivision_at(keywords, key).is_none()
 }
 
 /// The numbering system that the locale prefers: the value of its keyword `nu`, where that is one piece.

@@ -1,14 +1,15 @@
 //! What a locale prefers.
 
-ghost use Rattle.std.specs.Prelude.{◌≡◌};
+ghost use Rattle.std.specs.Prelude.{◌≡◌, true, false, MatchResult};
 ghost use Rattle.icu_locale_core_grammar.specs.TagPreferences.{locale_preferences_of, language_priority, region_priority};
-ghost use Rattle.icu_locale_core_grammar.specs.PreferenceChanges.{joined_preferences};
+ghost use Rattle.icu_locale_core_grammar.specs.PreferenceChanges.{joined_preferences, fails_strictly};
 ghost use Rattle.icu_locale_core_grammar.specs.PreferenceLaws.{no_preferences};
+ghost use Rattle.icu_locale_core_keywords.specs.declared.error.PreferencesParseError.{PreferencesParseError};
 ghost use Rattle.icu_locale_core_preferences.specs.DataLocales.{language_preferences};
 
 use crate::data_locale::DataLocale;
-use crate::keywords::{key_of_override, key_of_subdivision, subdivision_at};
-use icu_locale_core_keywords::SubdivisionId;
+use crate::keywords::{fails_at, key_of_override, key_of_subdivision, subdivision_at};
+use icu_locale_core_keywords::{PreferencesParseError, SubdivisionId};
 use icu_locale_core_langid::LanguageIdentifier;
 use icu_locale_core_locale::Locale;
 use icu_locale_core_subtags::{Language, Region, Script, Variant};
@@ -105,6 +106,20 @@ impl From<&LanguageIdentifier> for LocalePreferences {
 }
 
 impl LocalePreferences {
+    /// What the locale prefers, as `from`, where its keywords `sd` and `rg` are subdivisions or are not there.
+    ///
+    /// `InvalidKeywordValue`: an `sd` or an `rg` is there and is no subdivision, as in `en-u-sd-12a` and `en-u-rg`. It takes no
+    /// memory.
+    pub fn from_locale_strict(locale: &Locale) -> Result<Self, PreferencesParseError>
+        ensures { MatchResult result (λ p. (fails_strictly locale.now ≡ false) × (p ≡ locale_preferences_of locale.now)) (λ e. (fails_strictly locale.now ≡ true) × (e ≡ PreferencesParseError.InvalidKeywordValue)) }
+    {
+        let keywords = &locale.extensions.unicode.keywords;
+        if fails_at(keywords, &key_of_subdivision()) || fails_at(keywords, &key_of_override()) {
+            return Err(PreferencesParseError::InvalidKeywordValue);
+        }
+        Ok(Self::from(locale))
+    }
+
     /// The language; `und` where it is not known.
     pub fn language(&self) -> Language
         ensures { result ≡ self.now.language }
