@@ -1,0 +1,3 @@
+pub mod DataTextLemmas
+pub mod LawLemmas
+pub mod SameLemmas

@@ -1,0 +1,24 @@
+-- What a language identifier prefers, and the data locale of it, of a language, a script and a region, and of `und` alone.
+-- Defined in docs/tags.md, "Preferences" and "Data locales".
+-- Cited by the conversions into preferences and data locales, and by their defaults.
+use Rattle.std.specs.Prelude.{[], Option, None}
+use Rattle.icu_locale_core_grammar.specs.Subtags.{Text}
+use Rattle.icu_locale_core_grammar.specs.LanguagePart.{LanguageId}
+use Rattle.icu_locale_core_grammar.specs.TagPreferences.{LocalePreferencesMeaning, DataLocaleMeaning, locale_preferences_of, language_priority}
+use Rattle.icu_locale_core_grammar.specs.PreferenceChanges.{unknown_language}
+use Rattle.icu_locale_core_langid.specs.Parts.{with_parts}
+use Rattle.icu_locale_core_locale.specs.LocaleValue.{language_alone}
+
+-- what the locale prefers that has this language part and no extension
+abbrev pub language_preferences : LanguageId → LocalePreferencesMeaning
+language_preferences id = locale_preferences_of (language_alone id)
+
+abbrev pub language_data : LanguageId → DataLocaleMeaning
+language_data id = language_priority (language_preferences id)
+
+abbrev pub triple_data : Text → Option Text → Option Text → DataLocaleMeaning
+triple_data language script region = language_data (with_parts language script region [])
+
+-- the language `und` alone
+abbrev pub unknown_data : DataLocaleMeaning
+unknown_data = triple_data unknown_language None None

@@ -1,0 +1,5 @@
+pub mod DataExtensions
+pub mod DataLocales
+pub mod DataText
+pub mod HeldTag
+pub mod Laws

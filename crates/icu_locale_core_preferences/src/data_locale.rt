@@ -1,0 +1,125 @@
+//! The locale that data is asked for.
+
+ghost use Rattle.std.specs.Prelude.{◌≡◌, ◌↔◌, IsTrue};
+ghost use Rattle.icu_locale_core_grammar.specs.TagPreferences.{locale_preferences_of, language_priority};
+ghost use Rattle.icu_locale_core_preferences.specs.DataLocales.{language_data, triple_data, unknown_data};
+
+use crate::locale_preferences::LocalePreferences;
+use icu_locale_core_keywords::SubdivisionId;
+use icu_locale_core_langid::LanguageIdentifier;
+use icu_locale_core_locale::Locale;
+use icu_locale_core_subtags::{Language, Region, Script, Variant};
+use std::marker::Model;
+
+/// The locale that data is asked for: `en-US-u-sd-ustx` is the language `en`, the region `US` and the subdivision `ustx`.
+#[derive(Clone, Copy, PartialEq, Eq, Hash)]
+pub struct DataLocale {
+    /// The language; `und` where it is not known.
+    pub language: Language,
+    /// The script, where one is asked for.
+    pub script: Option<Script>,
+    /// The region, where one is asked for.
+    pub region: Option<Region>,
+    /// The variant, where one is asked for.
+    pub variant: Option<Variant>,
+    /// The subdivision, where one is asked for.
+    pub subdivision: Option<SubdivisionId>,
+}
+
+impl Model for DataLocale {
+    ghost use Rattle.icu_locale_core_grammar.specs.TagPreferences.{DataLocaleMeaning};
+
+    ghost Value = { DataLocaleMeaning };
+
+    ghost view = { λ d. record {
+      language = d.language;
+      script = d.script;
+      region = d.region;
+      variant = d.variant;
+      subdivision = d.subdivision;
+    } };
+
+    ghost inverse = { λ v. record {
+      language = v.language;
+      script = v.script;
+      region = v.region;
+      variant = v.variant;
+      subdivision = v.subdivision;
+    } };
+}
+
+/// The language `und`, and nothing else.
+impl Default for DataLocale {
+    ghost is_default = { λ d. d ≡ unknown_data };
+
+    fn default() -> Self {
+        Self::from((Language::default(), None, None))
+    }
+}
+
+impl DataLocale {
+    /// Whether this is the language `und`, and nothing else.
+    pub fn is_unknown(&self) -> bool
+        ensures { IsTrue result ↔ (self.now ≡ unknown_data) }
+    {
+        self.language.is_unknown()
+            && self.script.is_none()
+            && self.region.is_none()
+            && self.variant.is_none()
+            && self.subdivision.is_none()
+    }
+}
+
+/// The data locale of a language, a script and a region: of `en`, none and `US` it is `en-US`. It takes no memory.
+impl From<(Language, Option<Script>, Option<Region>)> for DataLocale {
+    ghost from_gives = { λ triple d. d ≡ triple_data triple.0 triple.1 triple.2 };
+
+    fn from(triple: (Language, Option<Script>, Option<Region>)) -> Self {
+        let (language, script, region) = triple;
+        DataLocale {
+            language,
+            script,
+            region,
+            variant: None,
+            subdivision: None,
+        }
+    }
+}
+
+/// The language-first form of what the locale prefers: of `en-US-u-nu-thai-rg-gbeng-sd-ustx` it is `en-US-u-sd-ustx`.
+///
+/// It takes no memory.
+impl From<&Locale> for DataLocale {
+    ghost from_gives = { λ locale d. d ≡ language_priority (locale_preferences_of locale.now) };
+
+    fn from(locale: &Locale) -> Self {
+        LocalePreferences::from(locale).to_data_locale_language_priority()
+    }
+}
+
+/// As of a borrowed locale.
+impl From<Locale> for DataLocale {
+    ghost from_gives = { λ locale d. d ≡ language_priority (locale_preferences_of locale) };
+
+    fn from(locale: Locale) -> Self {
+        Self::from(&locale)
+    }
+}
+
+/// The identifier with its first variant alone: of `de-1996-fonipa` it is `de-1996`. It takes no memory.
+impl From<&LanguageIdentifier> for DataLocale {
+    ghost from_gives = { λ id d. d ≡ language_data id.now };
+
+    fn from(id: &LanguageIdentifier) -> Self {
+        LocalePreferences::from(id).to_data_locale_language_priority()
+    }
+}
+
+/// As of a borrowed identifier.
+impl From<LanguageIdentifier> for DataLocale {
+    ghost from_gives = { λ id d. d ≡ language_data id };
+
+    fn from(id: LanguageIdentifier) -> Self {
+        Self::from(&id)
+    }
+}

@@ -1,0 +1,100 @@
+//! Laws of preferences and of data locales, beside the clauses of their calls.
+
+ghost use Rattle.std.specs.Prelude.{◌≡◌, ◌↔◌, IfSome, IsTrue};
+ghost use Rattle.icu_locale_core_grammar.specs.Subtags.{is_script, is_region, is_variant, title, upper, lower};
+ghost use Rattle.icu_locale_core_grammar.specs.WellFormed.{IsNormalPiece};
+ghost use Rattle.icu_locale_core_grammar.specs.PreferenceLaws.{IsNormalSubdivision};
+ghost use Rattle.icu_locale_core_preferences.specs.Laws.{IsNormalData, IsNormalPreferences, ReadDataReadsBack, NormalDataReadsBack, PreferencesAreHeld, DataIsHeld, AcceptedTextsPreferAlike, DataLocaleIsOfItsTag, TagsHoldNoTrue};
+
+use crate::data_locale::DataLocale;
+use crate::locale_preferences::LocalePreferences;
+use icu_locale_core_keywords::SubdivisionId;
+use icu_locale_core_subtags::laws::subtags_are_words;
+use icu_locale_core_subtags::{Region, Script, Variant};
+
+fn scripts_are_normal(script: Option<Script>)
+    ensures { IfSome script (IsNormalPiece is_script title) }
+{
+    if let Some(script) = script {
+        subtags_are_words(&script);
+    }
+}
+
+fn regions_are_normal(region: Option<Region>)
+    ensures { IfSome region (IsNormalPiece is_region upper) }
+{
+    if let Some(region) = region {
+        subtags_are_words(&region);
+    }
+}
+
+fn variants_are_normal(variant: Option<Variant>)
+    ensures { IfSome variant (IsNormalPiece is_variant lower) }
+{
+    if let Some(variant) = variant {
+        subtags_are_words(&variant);
+    }
+}
+
+fn subdivisions_are_normal(subdivision: Option<SubdivisionId>)
+    ensures { IfSome subdivision IsNormalSubdivision }
+{
+    if let Some(subdivision) = subdivision {
+        subtags_are_words(&subdivision.region);
+        subtags_are_words(&subdivision.suffix);
+    }
+}
+
+/// Each data locale is in normal form: its parts are of their classes and in their normal case.
+pub fn data_locales_are_normal(data_locale: &DataLocale)
+    ensures { IsNormalData data_locale.now }
+{
+    subtags_are_words(&data_locale.language);
+    scripts_are_normal(data_locale.script);
+    regions_are_normal(data_locale.region);
+    variants_are_normal(data_locale.variant);
+    subdivisions_are_normal(data_locale.subdivision);
+}
+
+/// All preferences are in normal form.
+pub fn preferences_are_normal(preferences: &LocalePreferences)
+    ensures { IsNormalPreferences preferences.now }
+{
+    data_locales_are_normal(&preferences.to_data_locale_language_priority());
+    subdivisions_are_normal(preferences.region_override);
+}
+
+/// A data locale that was read and printed reads back equal, and so does each one in normal form whose subdivision is not `true`.
+pub fn data_locales_read_back()
+    ensures read { ReadDataReadsBack }
+    ensures normal { NormalDataReadsBack }
+{}
+
+/// The locale made of preferences has these preferences, and so has the locale made of a data locale, where no subdivision is
+/// `true`.
+pub fn locales_hold_preferences()
+    ensures preferences { PreferencesAreHeld }
+    ensures data_locale { DataIsHeld }
+{}
+
+/// An accepted text and its normal text prefer alike, a text that is a data locale is the one of its tag, and no tag prefers the
+/// subdivision `true`.
+pub fn accepted_texts_prefer_alike()
+    ensures alike { AcceptedTextsPreferAlike }
+    ensures data_locale { DataLocaleIsOfItsTag }
+    ensures never_true { TagsHoldNoTrue }
+{}
+
+/// Two data locales are `==` exactly where they are one value.
+pub fn same_data_locales(one: &DataLocale, other: &DataLocale) -> bool
+    ensures { IsTrue result ↔ (one.now ≡ other.now) }
+{
+    one == other
+}
+
+/// Two preferences are `==` exactly where they are one value.
+pub fn same_preferences(one: &LocalePreferences, other: &LocalePreferences) -> bool
+    ensures { IsTrue result ↔ (one.now ≡ other.now) }
+{
+    one == other
+}
