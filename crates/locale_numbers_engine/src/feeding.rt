@@ -1,4 +1,4 @@
-ghost use Rattle.std.specs.Prelude.{◌≡◌, false, ◌++◌, [], string_bytes, MatchResult, OnOk};
+ghost use Rattle.std.specs.Prelude.{◌≡◌, ◌<◌, false, ◌++◌, [], length, string_bytes, MatchResult, OnOk};
 ghost use Rattle.locale_numbers_engine.specs.Lines.{HasNoFeed};
 ghost use Rattle.locale_numbers_engine.specs.Outcomes.{MatchRun, ends_in_write};
 ghost use Rattle.locale_numbers_engine.specs.Progress.{Progress, Answered, AnsweredPart};
@@ -8,7 +8,7 @@ use crate::answering::answer_held;
 use crate::byte_writer::ByteWriter;
 use crate::first_line::split_line;
 use crate::run_error::RunError;
-use crate::writing::{write_full, write_ready};
+use crate::writing::{PIECE, write_full, write_ready};
 
 // Answers the lines that end in this piece, and holds what stands after the last line feed. Answers
 // may be left ready; after Memory those that are left are whole.
@@ -32,6 +32,7 @@ fn gather<A: Answerer, W: ByteWriter>(
         (λ count. Progress answer bytes held.new.items [] (string_bytes ready.new) before after lines count
         (A.made_over answerer.old) (A.made_over answerer.new))
         (λ refusal. MatchRun refusal ⊥ (AnsweredPart answer bytes before after) (Answered answer bytes (string_bytes ready.new) before after)) }
+    ensures short { OnOk result (length (string_bytes ready.new) < PIECE) }
     ensures fault { W.failed writer.new ≡ ends_in_write result }
     ensures same { A.answer_of answerer.new ≡ A.answer_of answerer.old }
     ensures can_answer { A.is_ready answerer.new }

@@ -26,9 +26,9 @@ impl RunError {
         ensures value { result ≡ run_error_number self.now }
     {
         match self {
-            RunError::Read => 1,
-            RunError::Write => 2,
-            RunError::Memory => 3,
+            Self::Read => 1,
+            Self::Write => 2,
+            Self::Memory => 3,
         }
     }
 }

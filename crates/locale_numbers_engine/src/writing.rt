@@ -1,4 +1,4 @@
-ghost use Rattle.std.specs.Prelude.{◌≡◌, false, [], string_bytes, is_err, MatchResult};
+ghost use Rattle.std.specs.Prelude.{◌≡◌, ◌<◌, false, [], length, string_bytes, is_err, MatchResult, OnOk};
 ghost use Rattle.std.specs.Io.KnownBytes.{Appends};
 ghost use Rattle.locale_numbers_engine.specs.Run.{WritesFront};
 ghost use Rattle.locale_numbers_engine.specs.Progress.{Moves};
@@ -49,6 +49,7 @@ pub fn write_full<W: ByteWriter>(writer: &mut W, ready: &mut String) -> Result<(
     ensures moved { MatchResult result
         (λ _. Moves (string_bytes ready.old) (string_bytes ready.new) (W.contents writer.old) (W.contents writer.new))
         (λ _. WritesFront (string_bytes ready.old) (W.contents writer.old) (W.contents writer.new)) }
+    ensures short { OnOk result (length (string_bytes ready.new) < PIECE) }
     ensures fault { W.failed writer.new ≡ is_err result }
 {
     if ready.len() < PIECE {

@@ -234,5 +234,8 @@ fn push_text(out: &mut String, text: &str) -> Result<(), AllocError>
     ensures room { HasRoom out.old (encode_utf8_all (chars text.now)) → IsOk result }
     ensures capacity { string_capacity out.old ≤ string_capacity out.new }
 {
+    if text.is_empty() {
+        return Ok(());
+    }
     out.push_str(text)
 }

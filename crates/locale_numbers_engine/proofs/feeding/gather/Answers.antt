@@ -1,4 +1,4 @@
-use Rattle.std.proofs.Common.{rules, refl}
+use Rattle.std.proofs.Common.{lit<, rules, refl}
 use Rattle.std.proofs.lemmas.Result.{err_from_is_err_and}
 use Rattle.locale_numbers_engine.proofs.ProgressLemmas.{progress_begun, progress_line, progress_moved, progress_held, progress_answered, answered_part}
 use Rattle.locale_numbers_engine.proofs.feeding.gather.Goals as goal
@@ -9,6 +9,7 @@ line-init g c = record {
   same = search rules;
   can_answer = search rules;
   well = search rules;
+  short = rw c.requires.nothing (lit< tt);
 }
 
 pub line-preserved : goal.line-preserved
@@ -20,6 +21,7 @@ line-preserved g c =
       same = search rules;
       can_answer = search rules;
       well = search rules;
+      short = c.in_ok-write_full.ensures.short;
     }
 
 pub returns-in_err-write_full-clause-came : goal.returns-in_err-write_full-clause-came

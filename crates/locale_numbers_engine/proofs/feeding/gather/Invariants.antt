@@ -1,5 +1,6 @@
-use Rattle.std.proofs.Common.{◌≡◌, false, ◌++◌, string_bytes, length}
+use Rattle.std.proofs.Common.{◌≡◌, ◌<◌, false, ◌++◌, string_bytes, length}
 use Rattle.locale_numbers_engine.specs.Progress.{Progress}
+use Rattle.locale_numbers_engine.specs.declared.writing.TheConstants.{PIECE}
 use Rattle.locale_numbers_engine.proofs.feeding.gather.Given as goal
 
 abbrev pub invariant-line : goal.invariant-line
@@ -10,6 +11,7 @@ invariant-line g l = record {
   same : g.A.Answerer.answer_of l.answerer ≡ g.A.Answerer.answer_of l.initial.answerer;
   can_answer : g.A.Answerer.is_ready l.answerer;
   well : g.W.ByteWriter.failed l.writer ≡ false;
+  short : length (string_bytes l.ready) < PIECE;
 }
 
 abbrev pub decreases-line : goal.decreases-line
