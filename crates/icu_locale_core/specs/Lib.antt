@@ -16,3 +16,9 @@ pub use Rattle.icu_locale_core_grammar.specs.PreferenceChanges
 pub use Rattle.icu_locale_core_grammar.specs.TagLaws
 pub use Rattle.icu_locale_core_grammar.specs.PartLaws
 pub use Rattle.icu_locale_core_grammar.specs.PreferenceLaws
+-- One variant and one keyword, in each mode.
+pub use Rattle.icu_locale_core_grammar.specs.SingleVariant
+pub use Rattle.icu_locale_core_single.specs.SingleModes
+-- Keywords with a type of their own.
+pub use Rattle.icu_locale_core_keywords.specs.KeywordWords
+pub use Rattle.icu_locale_core_keywords.specs.TypedKeywords

@@ -7,6 +7,7 @@ pub use icu_locale_core_locale::Extensions;
 pub mod unicode {
     pub use icu_locale_core_entries::unicode::{Keywords, Value};
     pub use icu_locale_core_extensions::Unicode;
+    pub use icu_locale_core_keywords::SubdivisionId;
     pub use icu_locale_core_sets::Attributes;
     pub use icu_locale_core_subtags::unicode::{Attribute, Key, SubdivisionSuffix};
 }

@@ -1,4 +1,4 @@
-//! Locale tags: read, changed, compared and printed, after the ICU4X crate of this name.
+//! Locale tags: read, changed, compared and printed, and what they prefer, after the ICU4X crate of this name.
 //!
 //! `en-Latn-US-u-nu-thai` is the language `en`, the script `Latn`, the region `US` and a keyword `nu` with the value `thai`.
 //! The rules are in docs/tags.md. This crate raises its inner crates under ICU4X's paths and computes nothing itself.
@@ -12,8 +12,10 @@
 
 pub mod extensions;
 pub mod parser;
+pub mod preferences;
 pub mod subtags;
 
 pub use icu_locale_core_grammar::ParseError;
 pub use icu_locale_core_langid::LanguageIdentifier;
 pub use icu_locale_core_locale::Locale;
+pub use icu_locale_core_preferences::DataLocale;
