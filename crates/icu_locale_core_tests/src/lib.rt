@@ -5,13 +5,21 @@
 #[cfg(test)]
 mod comparing;
 #[cfg(test)]
+mod data_locale;
+#[cfg(test)]
+mod keywords;
+#[cfg(test)]
 mod long;
 #[cfg(test)]
 mod other;
 #[cfg(test)]
+mod preferences;
+#[cfg(test)]
 mod printed;
 #[cfg(test)]
 mod refused;
+#[cfg(test)]
+mod single;
 #[cfg(test)]
 mod transform;
 #[cfg(test)]
