@@ -5,15 +5,11 @@
 #[cfg(test)]
 mod comparing;
 #[cfg(test)]
-mod data_locale;
-#[cfg(test)]
-mod keywords;
-#[cfg(test)]
 mod long;
 #[cfg(test)]
 mod other;
 #[cfg(test)]
-mod preferences;
+mod paths;
 #[cfg(test)]
 mod printed;
 #[cfg(test)]

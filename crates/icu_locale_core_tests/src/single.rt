@@ -6,79 +6,50 @@ use icu_locale_core::parser::{
     parse_locale_with_single_variant_single_keyword_unicode_extension_from_iter,
     parse_locale_with_single_variant_single_keyword_unicode_keyword_extension,
 };
+use std::alloc::{AllocError, Global};
 use std::test::Fail;
 
-// The texts of the parts, and `-` for each that is missing.
-fn texts(parts: &SingleParts) -> [&str; 6] {
+// The texts of the parts, with `-` for each that is missing.
+fn shown(alloc: Global, parts: &SingleParts) -> Result<String, AllocError> {
     let (language, script, region, variant, keyword) = parts;
-    let mut shown = [language.as_str(), "-", "-", "-", "-", "-"];
-    if let Some(script) = script {
-        shown[1] = script.as_str();
-    }
-    if let Some(region) = region {
-        shown[2] = region.as_str();
-    }
-    if let Some(variant) = variant {
-        shown[3] = variant.as_str();
-    }
-    if let Some((key, value)) = keyword {
-        shown[4] = key.as_str();
-        if let Some(value) = value {
-            shown[5] = value.as_str();
-        }
-    }
-    shown
+    let mut text = String::new(alloc);
+    text.push_str(language.as_str())?;
+    push_part(&mut text, script.as_ref().map(|script| script.as_str()))?;
+    push_part(&mut text, region.as_ref().map(|region| region.as_str()))?;
+    push_part(&mut text, variant.as_ref().map(|variant| variant.as_str()))?;
+    let Some((key, value)) = keyword else {
+        return Ok(text);
+    };
+    push_part(&mut text, Some(key.as_str()))?;
+    push_part(&mut text, value.as_ref().map(|value| value.as_str()))?;
+    Ok(text)
+}
+
+fn push_part(text: &mut String, part: Option<&str>) -> Result<(), AllocError> {
+    text.push_str(" ")?;
+    text.push_str(part.unwrap_or("-"))
 }
 
 #[test]
 fn a_mode_reads(rt: HostRuntime) -> Result<(), Fail> {
     for (mode, text, want) in [
-        (
-            ParserMode::Locale,
-            "EN-us-u-NU-Thai",
-            ["en", "-", "US", "-", "nu", "thai"],
-        ),
+        (ParserMode::Locale, "EN-us-u-NU-Thai", "en - US - nu thai"),
         // `true` is left out
-        (
-            ParserMode::Locale,
-            "en-u-nu-TRUE",
-            ["en", "-", "-", "-", "nu", "-"],
-        ),
-        (
-            ParserMode::Locale,
-            "en-u-nu",
-            ["en", "-", "-", "-", "nu", "-"],
-        ),
+        (ParserMode::Locale, "en-u-nu-TRUE", "en - - - nu -"),
         (
             ParserMode::LanguageIdentifier,
             "en-latn-us-FONIPA",
-            ["en", "Latn", "US", "fonipa", "-", "-"],
+            "en Latn US fonipa",
         ),
         // what does not fit is left
-        (
-            ParserMode::Partial,
-            "en-US-u-nu-thai",
-            ["en", "-", "US", "-", "-", "-"],
-        ),
-        (
-            ParserMode::Partial,
-            "de-1996-fonipa",
-            ["de", "-", "-", "1996", "-", "-"],
-        ),
-        (
-            ParserMode::Partial,
-            "en-t-de",
-            ["en", "-", "-", "-", "-", "-"],
-        ),
+        (ParserMode::Partial, "en-US-u-nu-thai", "en - US -"),
+        (ParserMode::Partial, "de-1996-fonipa", "de - - 1996"),
     ] {
         let parts = parse_locale_with_single_variant_single_keyword_unicode_keyword_extension(
             text.as_bytes(),
             mode,
         )?;
-        let shown = texts(&parts);
-        for (one, other) in shown.iter().zip(want.iter()) {
-            assert_eq!(rt; one, other, "{text}");
-        }
+        assert_eq!(rt; shown(rt.alloc(), &parts)?.as_str(), want, "{text}");
     }
     Ok(())
 }
