@@ -1,7 +1,7 @@
 //! Typed values of the keywords of a locale: a first day, a currency, a numbering system.
 //!
-//! `en-u-fw-mon` has the keyword `fw`, whose value `mon` is the [`FirstDay`] `Mon`. Each type knows its key and the values
-//! that state it ([`PreferenceKey`]). The rules are in docs/tags.md, "Typed keywords" and "Preferences".
+//! `en-u-fw-mon` has the keyword `fw`, whose value `mon` is the [`FirstDay`] `Mon`. Each type knows its key and which
+//! values state it ([`PreferenceKey`]). The rules are in docs/tags.md, "Typed keywords" and "Preferences".
 //!
 //! ```rust
 //! use icu_locale_core_entries::unicode::Value;
