@@ -1,12 +1,13 @@
-//! The subdivision that two keywords of a locale hold.
+//! Typed values of the keywords of a locale: a first day, a currency, a numbering system.
 //!
-//! `sd` and `rg` name a subdivision such as `ustx`: a region, and a suffix of 1 to 4 letters and digits.
-//! The rules are in docs/tags.md, "Preferences".
+//! `en-u-fw-mon` has the keyword `fw`, whose value `mon` is the [`FirstDay`] `Mon`. Each type knows its key and which
+//! values state it ([`PreferenceKey`]). The rules are in docs/tags.md, "Typed keywords" and "Preferences".
 //!
 //! ```rust
-//! use icu_locale_core_keywords::SubdivisionId;
+//! use icu_locale_core_entries::unicode::Value;
+//! use icu_locale_core_keywords::FirstDay;
 //!
-//! let texas = SubdivisionId::try_from_str("USTX")?;      // region US, suffix tx
+//! let first = FirstDay::try_from(&Value::try_from_str(alloc, "mon")?)?;      // FirstDay::Mon
 //! ```
 #![tactic(auto)]
 

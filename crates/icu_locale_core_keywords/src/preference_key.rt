@@ -37,13 +37,15 @@ pub trait PreferenceKey: Sized {
         ensures reads_back { IfOk result (λ v. option_and_then stated v ≡ Some self.now) }
         ensures succeeds { written self.now ≡ [] → IsOk result };
 
-    /// The preference that the value states: `FirstDay::Sun` of `sun`; a value that states none is `InvalidKeywordValue`.
+    /// The preference that the value states: `FirstDay::Sun` of `sun`.
     ///
-    /// It takes no memory.
+    /// A value that states none is `InvalidKeywordValue`. It takes no memory.
     fn try_from_value(value: &Value) -> Result<Self, PreferencesParseError>
         ensures { IsReading (stated value.now) result };
 
-    /// The preference that the value of this key states, as `try_from_value`; `None` of any other key.
+    /// The preference that the value of this key states, as `try_from_value`; `None` at any other key.
+    ///
+    /// `FirstDay` at `fw` and `sun` is `FirstDay::Sun`, and at `nu` and `sun` there is none. It takes no memory.
     fn try_from_key_value(key: &Key, value: &Value) -> Result<Option<Self>, PreferencesParseError>
         ensures { result ≡ keyword_answer (same_text keyword key.now) (stated value.now) }
     {
