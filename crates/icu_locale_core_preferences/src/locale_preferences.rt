@@ -18,7 +18,7 @@ use std::marker::Model;
 /// What a locale prefers: its language, script, region and first variant, and the subdivisions of its keywords `sd` and `rg`.
 ///
 /// Source: UTS 35, section 3.6, keys `rg` and `sd`.
-#[derive(Clone, Copy, PartialEq, Eq, Hash)]
+#[derive(Clone, Copy, Debug, PartialEq, Eq, Hash)]
 pub struct LocalePreferences {
     pub(crate) language: Language,
     pub(crate) script: Option<Script>,
