@@ -15,6 +15,7 @@
 
 mod comparing;
 mod data_locale;
+mod joining;
 mod keywords;
 pub mod laws;
 mod locale_preferences;

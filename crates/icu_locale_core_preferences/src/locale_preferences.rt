@@ -2,7 +2,7 @@
 
 ghost use Rattle.std.specs.Prelude.{◌≡◌, true, false, MatchResult};
 ghost use Rattle.icu_locale_core_grammar.specs.TagPreferences.{locale_preferences_of, language_priority, region_priority};
-ghost use Rattle.icu_locale_core_grammar.specs.PreferenceChanges.{joined_preferences, fails_strictly};
+ghost use Rattle.icu_locale_core_grammar.specs.PreferenceChanges.{fails_strictly};
 ghost use Rattle.icu_locale_core_grammar.specs.PreferenceLaws.{no_preferences};
 ghost use Rattle.icu_locale_core_keywords.specs.declared.error.PreferencesParseError.{PreferencesParseError};
 ghost use Rattle.icu_locale_core_preferences.specs.DataLocales.{language_preferences};
@@ -18,7 +18,7 @@ use std::marker::Model;
 /// What a locale prefers: its language, script, region and first variant, and the subdivisions of its keywords `sd` and `rg`.
 ///
 /// Source: UTS 35, section 3.6, keys `rg` and `sd`.
-#[derive(Clone, Copy, PartialEq, Eq, Hash)]
+#[derive(Clone, Copy, Debug, PartialEq, Eq, Hash)]
 pub struct LocalePreferences {
     pub(crate) language: Language,
     pub(crate) script: Option<Script>,
@@ -76,16 +76,11 @@ impl From<&Locale> for LocalePreferences {
     ghost from_gives = { λ locale p. p ≡ locale_preferences_of locale.now };
 
     fn from(locale: &Locale) -> Self {
-        let id = &locale.id;
         let keywords = &locale.extensions.unicode.keywords;
-        LocalePreferences {
-            language: id.language,
-            script: id.script,
-            region: id.region,
-            variant: id.variants.first().copied(),
-            subdivision: subdivision_at(keywords, &key_of_subdivision()),
-            region_override: subdivision_at(keywords, &key_of_override()),
-        }
+        let mut preferences = Self::from(&locale.id);
+        preferences.subdivision = subdivision_at(keywords, &key_of_subdivision());
+        preferences.region_override = subdivision_at(keywords, &key_of_override());
+        preferences
     }
 }
 
@@ -132,22 +127,6 @@ impl LocalePreferences {
         ensures { result ≡ self.now.region }
     {
         self.region
-    }
-
-    /// Puts each part of the other that is there in place of this one's; the language `und` is not there. It takes no memory.
-    ///
-    /// `de-AT` extended by `und-CH-u-sd-chzh` is `de-CH-u-sd-chzh`.
-    pub fn extend(&mut self, other: LocalePreferences)
-        ensures { self.new ≡ joined_preferences self.old other }
-    {
-        if !other.language.is_unknown() {
-            self.language = other.language;
-        }
-        self.script = other.script.or(self.script);
-        self.region = other.region.or(self.region);
-        self.variant = other.variant.or(self.variant);
-        self.subdivision = other.subdivision.or(self.subdivision);
-        self.region_override = other.region_override.or(self.region_override);
     }
 
     /// The data locale with the language first: the region as it stands, and the subdivision of `sd`.

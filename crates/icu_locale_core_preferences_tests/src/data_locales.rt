@@ -1,0 +1,90 @@
+//! Which texts are data locales, and how they print.
+
+use icu_locale_core_grammar::ParseError;
+use icu_locale_core_keywords::SubdivisionId;
+use icu_locale_core_locale::Locale;
+use icu_locale_core_preferences::DataLocale;
+use std::test::Fail;
+use writeable::{LengthHint, Writeable};
+
+#[test]
+fn accepted_texts_read_as_their_locales_do(rt: HostRuntime) -> Result<(), Fail> {
+    for (text, want) in [
+        ("und", "und"),
+        ("EN-latn-us-FONIPA-u-SD-ustx", "en-Latn-US-fonipa-u-sd-ustx"),
+        // a subdivision of another region
+        ("en-US-u-sd-gbeng", "en-US-u-sd-gbeng"),
+        // the first of equal keys stands, and `true` is left out
+        ("en-u-sd-ustx-sd-gbeng", "en-u-sd-ustx"),
+        ("en-u-sd-true-ustx", "en-u-sd-ustx"),
+        ("es-419-u-sd-419abc", "es-419-u-sd-419abc"),
+    ] {
+        let data_locale = DataLocale::try_from_str(rt.alloc(), text)?;
+        assert_eq!(rt;
+            data_locale.write_to_string(rt.alloc())?.as_str(),
+            want,
+            "{text}"
+        );
+        assert_eq!(rt;
+            data_locale.writeable_length_hint(),
+            LengthHint::exact(want.len()),
+            "{text}"
+        );
+        assert_eq!(rt;
+            DataLocale::try_from_str(rt.alloc(), want)?,
+            data_locale,
+            "{text}"
+        );
+        let locale = Locale::try_from_str(rt.alloc(), text)?;
+        assert_eq!(rt; DataLocale::from(&locale), data_locale, "{text}");
+        assert!(rt; data_locale.into_locale(rt.alloc())? == locale, "{text}");
+    }
+    Ok(())
+}
+
+#[test]
+fn refused_texts_have_their_faults(rt: HostRuntime) -> Result<(), Fail> {
+    for (text, fault) in [
+        ("abcd", ParseError::InvalidLanguage),
+        ("en-", ParseError::InvalidSubtag),
+        ("en-u", ParseError::InvalidExtension),
+        ("en-a-foo-a-bar", ParseError::DuplicatedExtension),
+        // the faults of a tag come first
+        ("de-1996-fonipa-u", ParseError::InvalidExtension),
+        ("de-1996-fonipa", ParseError::InvalidSubtag),
+        // a second variant comes before an extension
+        ("de-1996-fonipa-u-nu-latn", ParseError::InvalidSubtag),
+        ("en-US-u-nu-latn", ParseError::InvalidExtension),
+        ("en-u-sd-ustx-nu-latn", ParseError::InvalidExtension),
+        ("en-u-foo", ParseError::InvalidExtension),
+        ("en-u-rg-gbeng", ParseError::InvalidExtension),
+        ("en-u-sd-12a", ParseError::InvalidExtension),
+        ("en-u-sd-true", ParseError::InvalidExtension),
+        ("en-u-sd-ustx-gbeng", ParseError::InvalidExtension),
+        ("en-t-de", ParseError::InvalidExtension),
+        ("en-a-foo", ParseError::InvalidExtension),
+        ("en-x-foo", ParseError::InvalidExtension),
+    ] {
+        assert_eq!(rt;
+            DataLocale::try_from_str(rt.alloc(), text).err(),
+            Some(fault),
+            "{text}"
+        );
+    }
+    Ok(())
+}
+
+// The one subdivision that a value of a keyword does not hold.
+#[test]
+fn the_subdivision_true_is_printed_and_not_held(rt: HostRuntime) -> Result<(), Fail> {
+    let mut data_locale = DataLocale::default();
+    data_locale.subdivision = Some(SubdivisionId::try_from_str("true")?);
+    assert_eq!(rt;
+        data_locale.to_string(rt.alloc())?.as_str(),
+        "und-u-sd-true"
+    );
+    let locale = data_locale.into_locale(rt.alloc())?;
+    assert_eq!(rt; locale.to_string(rt.alloc())?.as_str(), "und-u-sd");
+    assert!(rt; DataLocale::from(&locale).is_unknown());
+    Ok(())
+}

@@ -1,0 +1,150 @@
+//! The examples of the public docs, each under its item's name.
+
+use icu_locale_core_grammar::ParseError;
+use icu_locale_core_keywords::{PreferencesParseError, SubdivisionId};
+use icu_locale_core_langid::LanguageIdentifier;
+use icu_locale_core_locale::Locale;
+use icu_locale_core_preferences::laws::{same_data_locales, same_preferences};
+use icu_locale_core_preferences::{DataLocale, LocalePreferences, numbering_system};
+use icu_locale_core_subtags::{Language, Region, Variant};
+use std::cmp::Ordering;
+use std::test::Fail;
+use writeable::{LengthHint, Writeable};
+
+#[test]
+fn data_locale(rt: HostRuntime) -> Result<(), Fail> {
+    let data_locale = DataLocale::try_from_str(rt.alloc(), "en-us-u-sd-ustx")?;
+    assert_eq!(rt; data_locale.language.as_str(), "en");
+    assert_eq!(rt; data_locale.script, None);
+    assert_eq!(rt; data_locale.region, Some(Region::try_from_str("US")?));
+    assert_eq!(rt; data_locale.variant, None);
+    assert_eq!(rt;
+        data_locale.subdivision,
+        Some(SubdivisionId::try_from_str("ustx")?)
+    );
+    assert_eq!(rt;
+        data_locale.write_to_string(rt.alloc())?.as_str(),
+        "en-US-u-sd-ustx"
+    );
+    assert_eq!(rt;
+        data_locale.to_string(rt.alloc())?.as_str(),
+        "en-US-u-sd-ustx"
+    );
+    assert_eq!(rt; data_locale.writeable_length_hint(), LengthHint::exact(15));
+    Ok(())
+}
+
+#[test]
+fn readers_of_data_locales(rt: HostRuntime) -> Result<(), Fail> {
+    let data_locale = DataLocale::try_from_utf8(rt.alloc(), b"DE-1996")?;
+    assert_eq!(rt; data_locale.variant, Some(Variant::try_from_str("1996")?));
+    assert_eq!(rt;
+        DataLocale::try_from_str(rt.alloc(), "de-1996-fonipa").err(),
+        Some(ParseError::InvalidSubtag)
+    );
+    assert_eq!(rt;
+        DataLocale::try_from_utf8(rt.alloc(), b"en-u-nu-latn").err(),
+        Some(ParseError::InvalidExtension)
+    );
+    Ok(())
+}
+
+#[test]
+fn data_locales_from_others(rt: HostRuntime) -> Result<(), Fail> {
+    let locale = Locale::try_from_str(rt.alloc(), "en-US-u-nu-thai-rg-gbeng-sd-ustx")?;
+    let id = LanguageIdentifier::try_from_str(rt.alloc(), "de-fonipa-1996")?;
+    let english = Language::try_from_str("en")?;
+    let america = Region::try_from_str("us")?;
+    let of_locale = DataLocale::from(&locale);
+    let of_id = DataLocale::from(&id);
+    for (data_locale, want) in [
+        (of_locale, "en-US-u-sd-ustx"),
+        (DataLocale::from(locale), "en-US-u-sd-ustx"),
+        (of_id, "de-1996"),
+        (DataLocale::from(id), "de-1996"),
+        (DataLocale::from((english, None, Some(america))), "en-US"),
+        (DataLocale::default(), "und"),
+    ] {
+        assert_eq!(rt; data_locale.write_to_string(rt.alloc())?.as_str(), want);
+        assert_eq!(rt; data_locale.is_unknown(), want == "und");
+    }
+    Ok(())
+}
+
+#[test]
+fn into_locale(rt: HostRuntime) -> Result<(), Fail> {
+    let data_locale = DataLocale::try_from_str(rt.alloc(), "en-US-1996-u-sd-ustx")?;
+    let locale = data_locale.into_locale(rt.alloc())?;
+    assert!(rt; locale == Locale::try_from_str(rt.alloc(), "en-US-1996-u-sd-ustx")?);
+    Ok(())
+}
+
+#[test]
+fn orders_of_data_locales(rt: HostRuntime) -> Result<(), Fail> {
+    let data_locale = DataLocale::try_from_str(rt.alloc(), "en-US")?;
+    let latin = DataLocale::try_from_str(rt.alloc(), "en-Latn")?;
+    assert_eq!(rt; data_locale.total_cmp(&latin), Ordering::Less);
+    assert_eq!(rt; data_locale.strict_cmp(b"en+"), Ordering::Greater);
+    assert_eq!(rt; data_locale.strict_cmp(b"en-US-u"), Ordering::Less);
+    assert!(rt; same_data_locales(&data_locale, &data_locale));
+    assert!(rt; !same_data_locales(&data_locale, &latin));
+    Ok(())
+}
+
+#[test]
+fn locale_preferences(rt: HostRuntime) -> Result<(), Fail> {
+    let locale = Locale::try_from_str(rt.alloc(), "de-fonipa-1996-u-rg-atzzzz-sd-ch")?;
+    let preferences = LocalePreferences::from(&locale);
+    assert_eq!(rt; preferences.language().as_str(), "de");
+    assert_eq!(rt; preferences.region(), None);
+    assert_eq!(rt;
+        preferences
+            .to_locale(rt.alloc())?
+            .to_string(rt.alloc())?
+            .as_str(),
+        "de-1996-u-rg-atzzzz"
+    );
+    assert_eq!(rt;
+        LocalePreferences::from_locale_strict(&locale).err(),
+        Some(PreferencesParseError::InvalidKeywordValue)
+    );
+    assert!(rt; !same_preferences(&preferences, &LocalePreferences::default()));
+    assert!(rt;
+        same_preferences(
+            &LocalePreferences::from(&locale.id),
+            &LocalePreferences::from(&locale.id)
+        )
+    );
+    Ok(())
+}
+
+#[test]
+fn priorities(rt: HostRuntime) -> Result<(), Fail> {
+    let locale = Locale::try_from_str(rt.alloc(), "en-US-u-rg-gbeng-sd-ustx")?;
+    let preferences = LocalePreferences::from(&locale);
+    let language_first = preferences.to_data_locale_language_priority();
+    let region_first = preferences.to_data_locale_region_priority();
+    assert_eq!(rt;
+        language_first.to_string(rt.alloc())?.as_str(),
+        "en-US-u-sd-ustx"
+    );
+    assert_eq!(rt;
+        region_first.to_string(rt.alloc())?.as_str(),
+        "en-GB-u-sd-gbeng"
+    );
+    Ok(())
+}
+
+#[test]
+fn numbering_systems(rt: HostRuntime) -> Result<(), Fail> {
+    let thai = Locale::try_from_str(rt.alloc(), "en-u-nu-thai")?;
+    let Some(system) = numbering_system(&thai) else {
+        return Err(Fail::new("no numbering system"));
+    };
+    assert_eq!(rt; system.as_str(), "thai");
+    for text in ["en-u-nu-latn-thai", "en-u-nu", "en"] {
+        let locale = Locale::try_from_str(rt.alloc(), text)?;
+        assert!(rt; numbering_system(&locale).is_none(), "{text}");
+    }
+    Ok(())
+}

@@ -1,0 +1,108 @@
+//! What locales prefer, and what becomes of preferences.
+
+use icu_locale_core_keywords::PreferencesParseError;
+use icu_locale_core_locale::Locale;
+use icu_locale_core_preferences::LocalePreferences;
+use std::alloc::Global;
+use std::test::Fail;
+
+fn preferences_of(alloc: Global, text: &str) -> Result<LocalePreferences, Fail> {
+    let locale = Locale::try_from_str(alloc, text)?;
+    Ok(LocalePreferences::from(&locale))
+}
+
+#[test]
+fn both_priorities(rt: HostRuntime) -> Result<(), Fail> {
+    for (text, language_first, region_first) in [
+        (
+            "en-US-u-rg-gbeng-sd-ustx",
+            "en-US-u-sd-ustx",
+            "en-GB-u-sd-gbeng",
+        ),
+        // the region of `sd` is not the locale's
+        ("en-US-u-sd-gbeng", "en-US-u-sd-gbeng", "en-US-u-sd-gbeng"),
+        ("en-US-u-rg-gbr", "en-US", "en-GB-u-sd-gbr"),
+        ("es-u-rg-419abc", "es", "es-419-u-sd-419abc"),
+        // two pieces, a region alone, and no region do not read
+        ("en-u-sd-ustx-gbeng", "en", "en"),
+        (
+            "en-US-u-rg-gb-sd-ustx",
+            "en-US-u-sd-ustx",
+            "en-US-u-sd-ustx",
+        ),
+        ("en-u-sd-12a", "en", "en"),
+        // the first variant in byte order
+        ("de-fonipa-1996", "de-1996", "de-1996"),
+        ("en-Latn-US-x-foo", "en-Latn-US", "en-Latn-US"),
+    ] {
+        let preferences = preferences_of(rt.alloc(), text)?;
+        let language = preferences.to_data_locale_language_priority();
+        let region = preferences.to_data_locale_region_priority();
+        assert_eq!(rt;
+            language.to_string(rt.alloc())?.as_str(),
+            language_first,
+            "{text}"
+        );
+        assert_eq!(rt;
+            region.to_string(rt.alloc())?.as_str(),
+            region_first,
+            "{text}"
+        );
+    }
+    Ok(())
+}
+
+#[test]
+fn parts_that_are_there_win(rt: HostRuntime) -> Result<(), Fail> {
+    for (text, other, want) in [
+        ("de-AT", "und-CH-u-sd-chzh", "de-CH-u-sd-chzh"),
+        ("en-US", "und", "en-US"),
+        ("und", "fr-u-rg-cazzzz", "fr-u-rg-cazzzz"),
+        ("de-Latn-1996", "en-fonipa", "en-Latn-fonipa"),
+        (
+            "en-u-rg-gbeng-sd-ustx",
+            "en-u-rg-cazzzz",
+            "en-u-rg-cazzzz-sd-ustx",
+        ),
+    ] {
+        let mut preferences = preferences_of(rt.alloc(), text)?;
+        preferences.extend(preferences_of(rt.alloc(), other)?);
+        let locale = preferences.to_locale(rt.alloc())?;
+        assert_eq!(rt;
+            locale.to_string(rt.alloc())?.as_str(),
+            want,
+            "{text}, {other}"
+        );
+        assert_eq!(rt;
+            LocalePreferences::from(&locale),
+            preferences,
+            "{text}, {other}"
+        );
+    }
+    Ok(())
+}
+
+#[test]
+fn strict_reading_refuses_what_does_not_read(rt: HostRuntime) -> Result<(), Fail> {
+    for (text, refused) in [
+        ("en-u-sd-12a", true),
+        ("en-u-rg", true),
+        ("en-u-sd-ustx-gbeng", true),
+        ("en-u-rg-gb-sd-ustx", true),
+        ("en-US-u-nu-latn-thai-rg-gbeng-sd-ustx", false),
+        ("und", false),
+    ] {
+        let locale = Locale::try_from_str(rt.alloc(), text)?;
+        match LocalePreferences::from_locale_strict(&locale) {
+            Ok(preferences) => {
+                assert!(rt; !refused, "{text}");
+                assert_eq!(rt; preferences, LocalePreferences::from(&locale), "{text}");
+            }
+            Err(error) => {
+                assert!(rt; refused, "{text}");
+                assert_eq!(rt; error, PreferencesParseError::InvalidKeywordValue, "{text}");
+            }
+        }
+    }
+    Ok(())
+}
