@@ -1,8 +1,8 @@
 -- Laws of small texts, beside the clauses of the calls: one form, one fault, and how the changes of a text meet.
 -- Defined in docs/small-text.md, "Laws".
 -- Each is the clause of a function of `laws` that has an empty body.
-use Rattle.std.specs.Prelude.{◌≡◌, ℕ, ◌^◌, ◌<◌, ◌≤◌, Bool, List, ◌++◌, length, take}
-use Rattle.tinystr.specs.SmallText.{IsSmall, padded}
+use Rattle.std.specs.Prelude.{◌≡◌, ℕ, ◌^◌, ◌<◌, ◌≤◌, Bool, List, ◌++◌, length, take, replicate}
+use Rattle.tinystr.specs.SmallText.{IsSmall, IsForm, padded}
 use Rattle.tinystr.specs.declared.error.ParseError.{ParseError}
 use Rattle.tinystr.specs.Faults.{IsFault}
 use Rattle.tinystr.specs.Decimal.{IsDecimalText}
@@ -12,6 +12,10 @@ use Rattle.tinystr.specs.Case.{lowercase, uppercase, titlecase}
 abbrev pub OneForm : Type 0
 OneForm = (capacity : ℕ) (one other : List ℕ) → IsSmall capacity one → IsSmall capacity other
     → padded capacity one ≡ padded capacity other → one ≡ other
+
+-- bytes 255, as many as the capacity, are the form of no text
+abbrev pub NicheIsNoForm : Type 0
+NicheIsNoForm = (capacity : ℕ) → 0 < capacity → ¬ (IsForm capacity (replicate capacity 255))
 
 -- what has a fault is no text, and has no other fault
 abbrev pub OneFault : Type 0
