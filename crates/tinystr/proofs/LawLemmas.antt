@@ -1,14 +1,20 @@
 -- The laws of `specs/Laws.antt`.
-use Rattle.std.proofs.Common.{◌≡◌, ℕ, suc, zero, ◌<◌, ◌≤◌, Bool, true, ◌⊎◌, inl, inr, List, [], ◌∷◌, ◌++◌, take, map, refl, sym, ap, arith, ◌∙◌}
+use Rattle.std.proofs.Common.{◌≡◌, ℕ, suc, zero, ◌<◌, ◌≤◌, Bool, true, false, ◌⊎◌, inl, inr, List, [], ◌∷◌, ◌++◌, take, map, refl, sym, ap, subst, arith, ◌∙◌}
+use Rattle.std.specs.Prelude.{replicate, nat_eq}
+use Rattle.std.specs.Bool.{Decides}
+use Rattle.std.specs.Cmp.Lexicographic.{pointwise, texts_ties}
+use Rattle.std.specs.List.{list_all}
 use Rattle.std.specs.Char.{to_ascii_uppercase, to_ascii_lowercase}
+use Rattle.std.proofs.lemmas.Bool.Decides.{Decides-eqb}
+use Rattle.std.proofs.lemmas.Slice.Eq.{slice_eq-Decides}
 use Rattle.std.proofs.lemmas.List.{append_assoc, take-map, take-take}
 use Rattle.std.proofs.lemmas.Str.Ascii.{lowercase-lowercase, uppercase-uppercase, lowercase-uppercase}
 use Rattle.tinystr.specs.SmallText.{LAST_ASCII, is_text_byte}
 use Rattle.tinystr.specs.declared.error.ParseError.TheVariants.{TooLong, ContainsNull, NonAscii}
 use Rattle.tinystr.specs.Faults.{StopsAtNonAscii, StopsBehindNul, IsFault}
 use Rattle.tinystr.specs.Case.{lowercase, titlecase}
-use Rattle.tinystr.specs.Laws.{OneForm, OneFault, TextsHaveNoFault, CaseSettles, CaseMeetsCut, JoinsAlike}
-use Rattle.tinystr.proofs.SmallTextLemmas.{text_of-padded}
+use Rattle.tinystr.specs.Laws.{OneForm, EqualTexts, NicheIsNoForm, OneFault, TextsHaveNoFault, CaseSettles, CaseMeetsCut, JoinsAlike}
+use Rattle.tinystr.proofs.SmallTextLemmas.{text_of-cons, text_of-padded}
 use Rattle.tinystr.specs.SmallText.{text_of}
 use Rattle.tinystr.proofs.CaseLemmas.{length-titlecase}
 use Rattle.tinystr.proofs.FaultsLemmas.{fault_refuses, above_is_no_text}
@@ -17,6 +23,20 @@ use Rattle.tinystr.proofs.RawLemmas.{clean_refuses_high, clean_refuses_behind}
 pub one_form_law : OneForm
 one_form_law n one other first second e =
     sym (text_of-padded n one first.ascii) ∙ ap text_of e ∙ text_of-padded n other second.ascii
+
+same_texts : (one other : List ℕ) → Decides (pointwise nat_eq one other) (one ≡ other)
+same_texts one other = slice_eq-Decides Decides-eqb one other (pointwise nat_eq one other) refl
+
+pub equal_texts_law : (one other : List ℕ) → EqualTexts one other
+equal_texts_law one other = record {
+  same = same_texts one other;
+  order = subst (λ r. Decides r (one ≡ other)) (texts_ties one other) (same_texts one other);
+}
+
+pub niche_law : NicheIsNoForm
+niche_law zero some form = absurd (omega (arith, some))
+niche_law (suc k) some form =
+    let wrong : false ≡ true = sym (ap (list_all is_text_byte) (text_of-cons 255 (replicate k 255) refl)) ∙ form.small.ascii in cc
 
 -- of two units in one list, they are one, or one lies in front of the other
 record LiesIn (front : List ℕ) (unit : ℕ) (other : List ℕ) : Type 0 where

@@ -1,8 +1,11 @@
 -- Laws of small texts, beside the clauses of the calls: one form, one fault, and how the changes of a text meet.
 -- Defined in docs/small-text.md, "Laws".
 -- Each is the clause of a function of `laws` that has an empty body.
-use Rattle.std.specs.Prelude.{◌≡◌, ℕ, ◌^◌, ◌<◌, ◌≤◌, Bool, List, ◌++◌, length, take}
-use Rattle.tinystr.specs.SmallText.{IsSmall, padded}
+use Rattle.std.specs.Prelude.{◌≡◌, ℕ, ◌^◌, ◌<◌, ◌≤◌, Bool, List, ◌++◌, length, take, replicate, nat_eq}
+use Rattle.std.specs.Bool.{Decides}
+use Rattle.std.specs.Ordering.{nat_cmp, is_eq}
+use Rattle.std.specs.Cmp.Lexicographic.{pointwise, slice_cmp}
+use Rattle.tinystr.specs.SmallText.{IsSmall, IsForm, padded}
 use Rattle.tinystr.specs.declared.error.ParseError.{ParseError}
 use Rattle.tinystr.specs.Faults.{IsFault}
 use Rattle.tinystr.specs.Decimal.{IsDecimalText}
@@ -12,6 +15,15 @@ use Rattle.tinystr.specs.Case.{lowercase, uppercase, titlecase}
 abbrev pub OneForm : Type 0
 OneForm = (capacity : ℕ) (one other : List ℕ) → IsSmall capacity one → IsSmall capacity other
     → padded capacity one ≡ padded capacity other → one ≡ other
+
+-- `==` and an order of Equal say that the texts are one
+pub record EqualTexts (one other : List ℕ) : Type 0 where
+  pub same : Decides (pointwise nat_eq one other) (one ≡ other)
+  pub order : Decides (is_eq (slice_cmp nat_cmp one other)) (one ≡ other)
+
+-- bytes 255, as many as the capacity, are the form of no text
+abbrev pub NicheIsNoForm : Type 0
+NicheIsNoForm = (capacity : ℕ) → 0 < capacity → ¬ (IsForm capacity (replicate capacity 255))
 
 -- what has a fault is no text, and has no other fault
 abbrev pub OneFault : Type 0

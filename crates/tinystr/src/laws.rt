@@ -1,11 +1,21 @@
 //! Laws of small texts. Each function does nothing; its clause is the law.
 
 ghost use Rattle.std.specs.Prelude.{ℕ, List};
-ghost use Rattle.tinystr.specs.Laws.{OneForm, OneFault, TextsHaveNoFault, CaseSettles, CaseMeetsCut, JoinsAlike, OneDecimal, TenDigits};
+ghost use Rattle.tinystr.specs.Laws.{OneForm, EqualTexts, NicheIsNoForm, OneFault, TextsHaveNoFault, CaseSettles, CaseMeetsCut, JoinsAlike, OneDecimal, TenDigits};
 
 /// A form at a capacity is that of one text.
 pub fn one_form()
     ensures { OneForm }
+{}
+
+/// `==` is true exactly where the texts are one, and so is an order of `Equal`.
+pub fn equal_texts()
+    ensures { (one other : List ℕ) → EqualTexts one other }
+{}
+
+/// The bytes of `NICHE_BIT_PATTERN` are the form of no text where N is above 0.
+pub fn niche_is_no_form()
+    ensures { NicheIsNoForm }
 {}
 
 /// Units that are refused have one fault, and no text has one.

@@ -4,7 +4,7 @@ use std::test::Fail;
 use tinystr::TinyAsciiStr;
 
 /// The nine answers: alphabetic, alphanumeric, numeric, lower, upper, title, then letters in lower, upper, title.
-fn answers<const N: usize>(text: TinyAsciiStr<N>) -> [bool; 9] {
+pub fn answers<const N: usize>(text: TinyAsciiStr<N>) -> [bool; 9] {
     [
         text.is_ascii_alphabetic(),
         text.is_ascii_alphanumeric(),
@@ -27,9 +27,9 @@ fn every_class_holds_of_the_empty_text(rt: HostRuntime) {
     assert_eq!(rt; answers(TinyAsciiStr::<16>::default()), [true; 9]);
 }
 
-const T: bool = true;
+pub const T: bool = true;
 
-const F: bool = false;
+pub const F: bool = false;
 
 /// A byte, and the nine answers of the text that it is alone.
 const EDGES: [(u8, [bool; 9]); 14] = [

@@ -1,8 +1,9 @@
 //! The examples of the public docs, each under its item's name.
 
+use crate::classes::{F, T, answers};
 use std::convert::AsStr;
 use std::test::Fail;
-use tinystr::{ParseError, TinyAsciiStr, TinyStr4, TinyStr8, TinyStr16};
+use tinystr::{ParseError, TinyAsciiStr, TinyStr4, TinyStr8, TinyStr16, UleError};
 
 #[test]
 fn try_from_str(rt: HostRuntime) -> Result<(), Fail> {
@@ -79,6 +80,7 @@ fn borrowed_and_counted(rt: HostRuntime) -> Result<(), Fail> {
     assert_eq!(rt; text.len(), 2);
     assert!(rt; !text.is_empty());
     assert!(rt; TinyStr16::EMPTY.is_empty());
+    assert_eq!(rt; TinyStr16::EMPTY.len(), 0);
     assert!(rt; TinyStr16::default().is_empty());
     assert_eq!(rt; TinyAsciiStr::<3>::UND.as_str(), "und");
     assert_eq!(rt; AsStr::as_str(&text), "ab");
@@ -110,5 +112,62 @@ fn to_ascii_titlecase(rt: HostRuntime) -> Result<(), Fail> {
     assert_eq!(rt; text.to_ascii_titlecase().as_str(), "Test");
     assert_eq!(rt; text.to_ascii_lowercase().as_str(), "test");
     assert_eq!(rt; text.to_ascii_uppercase().as_str(), "TEST");
+    Ok(())
+}
+
+#[test]
+fn words_of_the_errors(rt: HostRuntime) -> Result<(), Fail> {
+    let alloc = rt.alloc();
+    let long = ParseError::TooLong { max: 4, len: 5 };
+    assert_eq!(rt;
+        long.to_string(alloc)?.as_str(),
+        "at most 4 bytes fit, and there are 5"
+    );
+    assert_eq!(rt;
+        ParseError::ContainsNull.to_string(alloc)?.as_str(),
+        "a NUL stands in the text"
+    );
+    assert_eq!(rt;
+        ParseError::NonAscii.to_string(alloc)?.as_str(),
+        "a unit is not ASCII"
+    );
+    assert_eq!(rt;
+        UleError::Length(5).to_string(alloc)?.as_str(),
+        "5 bytes are no form"
+    );
+    assert_eq!(rt;
+        UleError::Parse.to_string(alloc)?.as_str(),
+        "the bytes are no small text"
+    );
+    Ok(())
+}
+
+#[test]
+fn class_questions_of_letters(rt: HostRuntime) -> Result<(), Fail> {
+    for (text, want) in [
+        ("aB", [T, T, F, F, F, F, F, F, F]),
+        ("ab", [T, T, F, T, F, F, T, F, F]),
+        ("AB", [T, T, F, F, T, F, F, T, F]),
+        ("Ab", [T, T, F, F, F, T, F, F, T]),
+        ("a-", [F, F, F, T, F, F, F, F, F]),
+    ] {
+        assert_eq!(rt; answers(TinyStr4::try_from_str(text)?), want, "{text}");
+    }
+    Ok(())
+}
+
+#[test]
+fn class_questions_of_digits(rt: HostRuntime) -> Result<(), Fail> {
+    for (text, want) in [
+        ("12", [F, T, T, T, T, T, F, F, F]),
+        ("1a", [F, T, F, T, F, T, F, F, F]),
+        ("1b", [F, T, F, T, F, T, F, F, F]),
+        ("a1", [F, T, F, T, F, F, F, F, F]),
+        ("A1", [F, T, F, F, T, T, F, F, F]),
+        ("a1-", [F, F, F, T, F, F, F, F, F]),
+        ("A1-", [F, F, F, F, T, T, F, F, F]),
+    ] {
+        assert_eq!(rt; answers(TinyStr4::try_from_str(text)?), want, "{text}");
+    }
     Ok(())
 }

@@ -3,6 +3,8 @@
 #![tactic(auto)]
 
 #[cfg(test)]
+mod ascii_bytes;
+#[cfg(test)]
 mod case;
 #[cfg(test)]
 mod classes;

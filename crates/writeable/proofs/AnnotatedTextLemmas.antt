@@ -1,6 +1,6 @@
 -- The text of events.
-use Rattle.std.proofs.Common.{◌≡◌, ℕ, List, [], ◌∷◌, refl, ap}
-use Rattle.writeable.specs.AnnotatedText.{bytes, opening, closing, text_of}
+use Rattle.std.proofs.Common.{◌≡◌, ℕ, List, [], ◌∷◌, ◌++◌, refl, ap}
+use Rattle.writeable.specs.AnnotatedText.{byte, bytes, opening, closing, text_of}
 use Rattle.writeable.specs.PartName.{PartName}
 
 -- bytes alone write themselves
@@ -8,6 +8,17 @@ pub text_of_bytes : (text : List ℕ) → text_of (bytes text) ≡ text
 unfolding bytes
 text_of_bytes [] = refl
 text_of_bytes (b ∷ text) = ap (λ rest. b ∷ rest) (text_of_bytes text)
+
+-- no text is no events
+pub no_bytes : bytes [] ≡ []
+unfolding bytes
+no_bytes = refl
+
+-- a text in two pieces is the one piece and then the other
+pub bytes_joined : (front back : List ℕ) → bytes (front ++ back) ≡ bytes front ++ bytes back
+unfolding bytes
+bytes_joined [] back = refl
+bytes_joined (b ∷ front) back = ap (λ rest. byte b ∷ rest) (bytes_joined front back)
 
 -- a part that opens writes nothing
 pub text_of_opening : (part : PartName) → text_of (opening part) ≡ []

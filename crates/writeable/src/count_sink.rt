@@ -1,4 +1,7 @@
-ghost use Rattle.std.specs.Prelude.{◌≡◌, false};
+ghost use Rattle.std.specs.Prelude.{◌≡◌, false, OnOk, OnErr, is_err};
+ghost use Rattle.writeable.specs.AnnotatedText.{bytes};
+ghost use Rattle.writeable.specs.HeldCount.{Counts, PassesLimit};
+ghost use Rattle.writeable.specs.Taking.{HasBegun};
 
 use crate::error::Error;
 use crate::part::Part;
@@ -7,8 +10,8 @@ use std::marker::Model;
 
 /// A sink that counts the bytes of the text, in a `u64`, and keeps nothing else.
 ///
-/// A call is refused exactly where the count would pass the greatest `u64`; the count stays then.
-/// It takes no memory.
+/// A call is refused exactly where the count would pass the greatest `u64`; a refused `write_str`
+/// leaves the count as it was. It takes no memory.
 #[derive(Clone, Copy, Debug)]
 pub struct CountSink {
     count: u64,
@@ -66,7 +69,13 @@ impl Sink for CountSink {
     }
 
     #[tactic(auto, using(crate::proofs::AnnotatedTextLemmas::text_of_bytes), unfolding(crate::specs::HeldCount::count_limit))]
-    fn write_str(&mut self, text: &str) -> Result<(), Error> {
+    fn write_str(&mut self, text: &str) -> Result<(), Error>
+        requires { self.old.refused ≡ false }
+        ensures ok { OnOk result (Counts self.old (bytes text.now) self.new) }
+        ensures refused { self.new.refused ≡ is_err result }
+        ensures begun { OnErr result (HasBegun Counts PassesLimit self.old (bytes text.now) self.new) }
+        ensures kept { OnErr result (self.new.count ≡ self.old.count) }
+    {
         match self.count.checked_add(text.len() as u64) {
             Some(count) => {
                 self.count = count;

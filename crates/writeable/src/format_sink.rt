@@ -60,8 +60,8 @@ impl<'f, W: fmt::Write> Sink for FormatSink<'f, W> {
 
 /// Shows `value` in `f`: the text that `write_to` writes, without its parts.
 ///
-/// Each `Display` of a value that is `Writeable` is this call. It answers `fmt::Error` only where
-/// the formatter did, and takes no memory of its own. `a,b` with parts is shown as `a,b`.
+/// Each `Display` of a value that is `Writeable` is this call. `a,b` with parts is shown as `a,b`.
+/// Where the formatter fails it answers `fmt::Error`. It takes no memory of its own.
 pub fn display<T: Writeable, W: fmt::Write>(value: &T, f: &mut fmt::Formatter<W>) -> fmt::Result
     ensures { DisplaysOnOk W.write_str_gives f.old result
         (Some (text_of (T.events value.now))) f.new }

@@ -24,18 +24,20 @@ pub trait Sink {
     // whether a call was refused
     ghost refused: { Self → Bool };
 
-    /// Whether a call was refused. It is set for good by a refused call, and by nothing else.
+    /// Whether a call was refused: not of a new sink. It is set for good by a refused call, and by
+    /// nothing else.
     fn has_refused(&self) -> bool
         ensures { result ≡ refused self.now };
 
-    /// Takes the bytes of `text`, or answers [`Error`] where it has no room for them.
+    /// Takes the bytes of `text`, as the two of `a,`; [`Error`] where it has no room for them.
     fn write_str(&mut self, text: &str) -> Result<(), Error>
         requires { refused self.old ≡ false }
         ensures ok { OnOk result (takes self.old (bytes text.now) self.new) }
         ensures refused { refused self.new ≡ is_err result }
         ensures begun { OnErr result (HasBegun takes lacks_room self.old (bytes text.now) self.new) };
 
-    /// Takes the bytes of `character` in UTF-8, one to four; [`Error`] as for `write_str`.
+    /// Takes the bytes of `character` in UTF-8, one to four: `b` is one, `٬` two. [`Error`] as for
+    /// `write_str`.
     fn write_char(&mut self, character: char) -> Result<(), Error>
         requires { refused self.old ≡ false }
         ensures ok { OnOk result (takes self.old (bytes (encode_utf8 character)) self.new) }
@@ -47,7 +49,8 @@ pub trait Sink {
         self.write_str(character.encode_utf8(&mut buffer))
     }
 
-    /// Opens `part` at the end of the text so far, inside the parts that are open.
+    /// Opens `part` at the end of the text so far, inside the parts that are open: A, `a` and a close
+    /// are the part (0, 1, A).
     ///
     /// [`Error`] where the sink has no room for it.
     fn open_part(&mut self, part: Part) -> Result<(), Error>

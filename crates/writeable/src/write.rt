@@ -18,7 +18,7 @@ pub trait Writeable {
     // what the value writes
     ghost events: { Self → List Event };
 
-    /// Writes the value into `sink`, which has not refused yet.
+    /// Writes the value into `sink`, which has not refused yet: `a,b` behind `x` is `xa,b`.
     ///
     /// `Ok`: the sink took the whole value behind what it held. [`Error`], only where the sink
     /// refused: it took a beginning. It takes no memory but the sink's.
@@ -35,7 +35,9 @@ pub trait Writeable {
         LengthHint::at_least(0)
     }
 
-    /// The text of the value, without its parts. `AllocError` is answered for memory alone.
+    /// The text of the value, without its parts: `a,b` with parts gives the string `a,b`.
+    ///
+    /// It takes memory; `AllocError` is answered where that is refused.
     final fn write_to_string(&self, alloc: Global) -> Result<String, AllocError>
         ensures { IfOk result (λ text. string_bytes text ≡ text_of (events self.now)) }
     {

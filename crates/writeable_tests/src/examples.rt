@@ -1,7 +1,7 @@
 //! The example of each public item.
-use crate::fakes::{INNER, OUTER, Pair};
+use crate::fakes::{Failing, INNER, OUTER, Pair};
 use std::cmp::Ordering;
-use std::fmt;
+use std::fmt::{self, Write};
 use std::test::Fail;
 use writeable::{
     CompareSink, CountSink, Error, LengthHint, Part, PartsSink, Sink, TextSink, Writeable, display,
@@ -84,6 +84,21 @@ fn parts_sink(rt: HostRuntime) -> Result<(), Fail> {
 }
 
 #[test]
+fn write_to(rt: HostRuntime) -> Result<(), Fail> {
+    let mut sink = PartsSink::new(rt.alloc());
+    Pair.write_to(&mut sink)?;
+    assert_eq!(rt; sink.text(), "a,b");
+    assert_eq!(rt; sink.parts().len(), 2);
+    assert_eq!(rt; sink.parts()[0], (0, 3, OUTER));
+    assert_eq!(rt; sink.parts()[1], (1, 2, INNER));
+    let mut behind = TextSink::new(rt.alloc());
+    behind.write_str("x")?;
+    Pair.write_to(&mut behind)?;
+    assert_eq!(rt; behind.text(), "xa,b");
+    Ok(())
+}
+
+#[test]
 fn compare_sink(rt: HostRuntime) -> Result<(), Fail> {
     let mut sink = CompareSink::new(b"a,");
     assert_eq!(rt; sink.verdict(), Ordering::Less);
@@ -122,4 +137,10 @@ fn display_shows_the_text(rt: HostRuntime) -> Result<(), Fail> {
     let shown = Shown(Pair);
     assert_eq!(rt; format!(in rt.alloc(); "<{shown}>")?.as_str(), "<a,b>");
     Ok(())
+}
+
+#[test]
+fn display_fails_where_the_formatter_fails(rt: HostRuntime) {
+    let shown = Shown(Pair);
+    assert_eq!(rt; write!(Failing, "{shown}"), Err(fmt::Error));
 }

@@ -10,3 +10,5 @@ mod examples;
 mod fakes;
 #[cfg(test)]
 mod parts_sink;
+#[cfg(test)]
+mod refusals;
