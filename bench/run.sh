@@ -5,19 +5,32 @@
 set -eu
 top=$(cd "$(dirname "$0")/.." && pwd)
 made=$top/bench/made
+built=$top/crates/locale_numbers_program/out/locale_numbers_program
 lines=${1:-1000000}
 longest=${2:-12}
+for needed in python3 rustc; do
+    command -v "$needed" >/dev/null || {
+        echo "bench: $needed is needed" >&2
+        exit 1
+    }
+done
 mkdir -p "$made"
 input=$made/lines-$lines-$longest.txt
-[ -f "$input" ] || python3 "$top/bench/make_lines.py" "$lines" 1 "$longest" >"$input"
+if [ ! -f "$input" ]; then
+    python3 "$top/bench/make_lines.py" "$lines" 1 "$longest" >"$input.part"
+    mv "$input.part" "$input"
+fi
 rustc -O --edition 2021 -o "$made/plain" "$top/bench/plain/main.rs"
 : | "$top/locale_numbers" >/dev/null
 
-python3 - "$input" "$made" "$top/locale_numbers" <<'PYTHON'
-import os, shutil, subprocess, sys, time
+python3 - "$input" "$made" "$built" <<'PYTHON'
+import filecmp, os, subprocess, sys, time
 
 source, made, program = sys.argv[1:]
+plain = f"{made}/plain"
 size = os.path.getsize(source)
+with open(source, "rb") as given:
+    count = sum(1 for _ in given)
 
 
 def run(command, name):
@@ -36,11 +49,16 @@ def run(command, name):
     return best
 
 
-def memory(command):
-    """The most memory that the program held, in MB: asked of a program that has read all lines and still waits for more."""
+def memory(command, share):
+    """The most memory, in MB, that a program held for this share of the lines: it is asked once it has taken them, while it waits for more."""
+    left = int(count * share)
     with open(source, "rb") as given:
         child = subprocess.Popen(command, stdin=subprocess.PIPE, stdout=subprocess.DEVNULL)
-        shutil.copyfileobj(given, child.stdin)
+        for line in given:
+            if left == 0:
+                break
+            left -= 1
+            child.stdin.write(line)
         child.stdin.flush()
         time.sleep(0.3)
         with open(f"/proc/{child.pid}/status") as status:
@@ -50,15 +68,16 @@ def memory(command):
     return held / 1024
 
 
-cat = run(["cat"], "cat")
-plain = run([f"{made}/plain"], "plain")
-ours = run([program], "ours")
-same = subprocess.run(["cmp", f"{made}/plain.out", f"{made}/ours.out"]).returncode == 0
-print(f"input             {size / 1e6:.1f} MB, {sum(1 for _ in open(source, 'rb'))} lines")
+cat_time = run(["cat"], "cat")
+plain_time = run([plain], "plain")
+our_time = run([program], "ours")
+same = filecmp.cmp(f"{made}/plain.out", f"{made}/ours.out", shallow=False)
+print(f"input             {size / 1e6:.1f} MB, {count} lines")
 print(f"answers           {'the same bytes' if same else 'DIFFERENT'}")
-print(f"processor, plain  {ours[0] / plain[0]:.2f} times the small program")
-print(f"processor, cat    {ours[0] / max(cat[0], 1e-3):.1f} times cat")
-print(f"wall, plain       {ours[1] / plain[1]:.2f} times the small program")
-print(f"memory            {memory([program]):.1f} MB at most (small program {memory([f'{made}/plain']):.1f} MB)")
+print(f"processor, plain  {our_time[0] / plain_time[0]:.2f} times the small program")
+print(f"processor, cat    {our_time[0] / max(cat_time[0], 1e-3):.1f} times cat")
+print(f"wall, plain       {our_time[1] / plain_time[1]:.2f} times the small program")
+print(f"memory            {memory([program], 1):.1f} MB at most, {memory([program], 0.1):.1f} MB for a tenth of the lines")
+print(f"memory, plain     {memory([plain], 1):.1f} MB at most")
 sys.exit(0 if same else 1)
 PYTHON

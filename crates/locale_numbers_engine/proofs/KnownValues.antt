@@ -1,5 +1,5 @@
 -- The lines of some bytes, as the page on requests gives them.
-use Rattle.std.proofs.Common.{◌≡◌, ℕ, List, [], ◌∷◌, refl}
+use Rattle.std.proofs.Common.{◌≡◌, [], ◌∷◌, refl}
 use Rattle.locale_numbers_engine.specs.Lines.{lines_of, whole_lines, output_of}
 
 -- no bytes have no line

@@ -9,7 +9,7 @@ use locale_numbers_symbols::{GroupingSizes, GroupingStrategy};
 /// `upper_magnitude` is the highest magnitude written; both count powers of ten, 0 for units.
 /// With sizes 3, 2, 1 and `Auto`, 100000 is written `1,00,000`: true at 5 and at 3, false at 4.
 /// Above `upper_magnitude` it says where a separator would stand if there were digits; below 0,
-/// in the fraction, none stands.
+/// in the fraction, none stands. Takes no memory.
 #[tactic(auto, using(crate::proofs::GrouperLemmas::ends_is_separated))]
 pub fn check(
     upper_magnitude: i16,
