@@ -1,6 +1,6 @@
 ghost use Rattle.std.specs.Prelude.{◌≡◌, ◌≢◌, ℕ, ◌+◌, ◌<◌, ◌≤◌, OnOk, OnErr, IsOk};
 ghost use Rattle.fixed_decimal_unsigned.specs.Number.{place};
-ghost use Rattle.fixed_decimal_unsigned.specs.Range.{Rounds, HoldsDigits};
+ghost use Rattle.fixed_decimal_unsigned.specs.Range.{Rounds, HoldsDigits, MayGrowAt};
 ghost use Rattle.fixed_decimal_unsigned.specs.Rounding.{IsLimited};
 ghost use Rattle.fixed_decimal_unsigned.specs.RoundingSteps.{IsTrimmed};
 ghost use Rattle.fixed_decimal_unsigned.specs.Stored.{count_of};
@@ -24,6 +24,7 @@ impl UnsignedDecimal {
         turns: &mut Turns<L>,
     ) -> Result<(), AllocError>
         ensures succeeds { increment ≢ RoundingIncrement.MultiplesOf25 → IsOk result }
+        ensures room { OnErr result (MayGrowAt (place position) self.old.count) }
         ensures value { OnOk result (Rounds mode increment (place position) self.old self.new) }
         ensures same { OnErr result (self.new ≡ self.old) }
         ensures turns { (low digits : ℕ) → HoldsDigits self.old.count low digits → turns.new ≤ turns.old + digits + 2 }

@@ -1,6 +1,6 @@
 ghost use Rattle.std.specs.Prelude.{◌≡◌, ◌≢◌, ◌<◌, OnOk, OnErr, IfOk, IfErr, IsOk};
 ghost use Rattle.fixed_decimal_unsigned.specs.Number.{place};
-ghost use Rattle.fixed_decimal_unsigned.specs.Range.{Rounds};
+ghost use Rattle.fixed_decimal_unsigned.specs.Range.{Rounds, MayGrowAt};
 
 use crate::modes::{RoundingIncrement, UnsignedRoundingMode};
 use crate::turns::Turns;
@@ -22,6 +22,7 @@ impl UnsignedDecimal {
         requires parts { blank.parts ≡ L.parts }
         requires some { 0 < L.parts }
         ensures succeeds { increment ≢ RoundingIncrement.MultiplesOf25 → IsOk result }
+        ensures room { OnErr result (MayGrowAt (place position) self.old.count) }
         ensures value { OnOk result (Rounds mode increment (place position) self.old self.new) }
         ensures same { OnErr result (self.new ≡ self.old) }
     {
@@ -37,6 +38,7 @@ impl UnsignedDecimal {
         increment: RoundingIncrement,
     ) -> Result<(), AllocError>
         ensures succeeds { increment ≢ RoundingIncrement.MultiplesOf25 → IsOk result }
+        ensures room { OnErr result (MayGrowAt (place position) self.old.count) }
         ensures value { OnOk result (Rounds mode increment (place position) self.old self.new) }
         ensures same { OnErr result (self.new ≡ self.old) }
     {
@@ -83,6 +85,7 @@ impl UnsignedDecimal {
         increment: RoundingIncrement,
     ) -> Result<UnsignedDecimal, AllocFailed<UnsignedDecimal>>
         ensures succeeds { increment ≢ RoundingIncrement.MultiplesOf25 → IsOk result }
+        ensures room { OnErr result (MayGrowAt (place position) self.count) }
         ensures value { IfOk result (λ v. Rounds mode increment (place position) self v) }
         ensures same { IfErr result (λ e. e.value ≡ self) }
     {
