@@ -36,7 +36,7 @@ impl Default for RoundingIncrement {
     ghost is_default = { λ increment. increment ≡ MultiplesOf1 };
 
     fn default() -> RoundingIncrement {
-        RoundingIncrement::MultiplesOf1
+        Self::MultiplesOf1
     }
 }
 
