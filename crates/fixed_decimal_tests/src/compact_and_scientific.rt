@@ -70,16 +70,32 @@ fn compact_texts_outside_the_grammar(rt: HostRuntime) {
     }
 }
 
+// A compact number of its parts.
+fn compact(alloc: Global, significand: &str, exponent: u8) -> Result<CompactDecimal, Fail> {
+    let significand = Decimal::try_from_str(alloc, significand)?;
+    Ok(CompactDecimal::from_significand_and_exponent(significand, exponent))
+}
+
+// Whether a compact number is the one that a text spells.
+fn is_compact(alloc: Global, number: &CompactDecimal, text: &str) -> Result<bool, Fail> {
+    Ok(*number == CompactDecimal::try_from_str(alloc, text)?)
+}
+
 #[test]
 fn a_compact_number_is_made_of_its_parts(rt: HostRuntime) -> Result<(), Fail> {
-    let significand = Decimal::try_from_str(rt.alloc(), "1.2")?;
-    let million = CompactDecimal::from_significand_and_exponent(significand, 6);
-    assert_eq!(rt; million.write_to_string(rt.alloc())?.as_str(), "1.2c6");
-    assert!(rt; million == CompactDecimal::try_from_str(rt.alloc(), "1.2c6")?);
-    assert!(rt; million != CompactDecimal::try_from_str(rt.alloc(), "1.2c3")?);
-    assert!(rt; million == million.try_clone()?);
-    let back = million.into_significand();
-    assert_eq!(rt; back.write_to_string(rt.alloc())?.as_str(), "1.2");
+    let million = compact(rt.alloc(), "1.2", 6)?;
+    assert!(rt; is_compact(rt.alloc(), &million, "1.2c6")?);
+    assert!(rt; !is_compact(rt.alloc(), &million, "1.2c3")?);
+    assert!(rt; !is_compact(rt.alloc(), &million, "1.20c6")?);
+    Ok(())
+}
+
+#[test]
+fn a_compact_number_is_copied_and_taken_apart(rt: HostRuntime) -> Result<(), Fail> {
+    let copy = compact(rt.alloc(), "1.2", 6)?.try_clone()?;
+    assert!(rt; is_compact(rt.alloc(), &copy, "1.2c6")?);
+    let significand = copy.into_significand();
+    assert_eq!(rt; significand.write_to_string(rt.alloc())?.as_str(), "1.2");
     Ok(())
 }
 
@@ -107,14 +123,23 @@ fn scientific_texts_that_are_none(rt: HostRuntime) {
     }
 }
 
+// A scientific number of its parts.
+fn scientific(alloc: Global, significand: &str, exponent: i8) -> Result<ScientificDecimal, Fail> {
+    let significand = Decimal::try_from_str(alloc, significand)?;
+    let exponent = FixedInteger::from_i8(alloc, exponent)?;
+    Ok(ScientificDecimal::from(significand, exponent))
+}
+
+// Whether a scientific number is the one that a text spells.
+fn is_scientific(alloc: Global, number: &ScientificDecimal, text: &[u8]) -> Result<bool, Fail> {
+    Ok(*number == ScientificDecimal::try_from_utf8(alloc, text)?)
+}
+
 #[test]
 fn a_scientific_number_is_made_of_its_parts(rt: HostRuntime) -> Result<(), Fail> {
-    let significand = Decimal::try_from_str(rt.alloc(), "1.2")?;
-    let exponent = FixedInteger::from_i8(rt.alloc(), -6)?;
-    let number = ScientificDecimal::from(significand, exponent);
-    assert_eq!(rt; number.write_to_string(rt.alloc())?.as_str(), "1.2e-6");
-    assert!(rt; number == ScientificDecimal::try_from_utf8(rt.alloc(), b"1.2e-6")?);
-    assert!(rt; number != ScientificDecimal::try_from_utf8(rt.alloc(), b"1.2e-06")?);
-    assert!(rt; number == number.try_clone()?);
+    let number = scientific(rt.alloc(), "1.2", -6)?.try_clone()?;
+    assert!(rt; is_scientific(rt.alloc(), &number, b"1.2e-6")?);
+    assert!(rt; !is_scientific(rt.alloc(), &number, b"1.2e-06")?);
+    assert!(rt; !is_scientific(rt.alloc(), &number, b"-1.2e-6")?);
     Ok(())
 }

@@ -31,28 +31,31 @@ fn numbers_are_joined(rt: HostRuntime) -> Result<(), Fail> {
     Ok(())
 }
 
+// The second number, handed back where the two overlap.
+fn handed_back(
+    alloc: Global,
+    number: &mut UnsignedDecimal,
+    second: &str,
+) -> Result<UnsignedDecimal, Fail> {
+    match number.concatenate_end(read(alloc, second)?) {
+        Ok(()) => Err(Fail::from("it is accepted")),
+        Err(ConcatenateError::Overlap(back)) => Ok(back),
+        Err(ConcatenateError::Memory(_back)) => Err(Fail::from("it is no overlap")),
+    }
+}
+
 #[test]
 fn an_overlap_hands_the_second_back(rt: HostRuntime) -> Result<(), Fail> {
     for (first, second) in [
         ("12.3", "0.3"),
         ("1", "12"),
         ("5", "5"),
-        ("1e-32768", "1e-32768"),
-        ("10.01", "0.10"),
+        ("10.01", "000.10"),
     ] {
         let mut number = read(rt.alloc(), first)?;
-        let refused = number
-            .concatenate_end(read(rt.alloc(), second)?)
-            .err()
-            .ok_or("it is accepted")?;
-        assert_eq!(rt; refused.number(), 1, "{first} and {second}");
-        match refused {
-            ConcatenateError::Overlap(back) => {
-                assert!(rt; back == read(rt.alloc(), second)?, "{first} and {second}");
-            }
-            ConcatenateError::Memory(_) => return Err(Fail::from("it is no want of memory")),
-        }
-        assert!(rt; number == read(rt.alloc(), first)?, "{first} and {second}");
+        let back = handed_back(rt.alloc(), &mut number, second)?;
+        assert_eq!(rt; back.write_to_string(rt.alloc())?.as_str(), second);
+        assert_eq!(rt; number.write_to_string(rt.alloc())?.as_str(), first);
     }
     Ok(())
 }

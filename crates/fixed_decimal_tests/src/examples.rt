@@ -12,6 +12,11 @@ fn read(alloc: Global, text: &str) -> Result<Decimal, Fail> {
     Ok(Decimal::try_from_str(alloc, text)?)
 }
 
+// Whether a number is printed so.
+fn shows<W: Writeable + Drop>(alloc: Global, number: W, want: &str) -> Result<bool, Fail> {
+    Ok(number.write_to_string(alloc)?.as_str() == want)
+}
+
 // The unsigned number that a text spells.
 fn read_unsigned(alloc: Global, text: &str) -> Result<UnsignedDecimal, Fail> {
     Ok(UnsignedDecimal::try_from_str(alloc, text)?)
@@ -84,15 +89,35 @@ fn nonzero_magnitudes(rt: HostRuntime) -> Result<(), Fail> {
     Ok(())
 }
 
+// Whether two texts spell one unsigned number.
+fn is_one_number(alloc: Global, text: &str, other: &str) -> Result<bool, Fail> {
+    Ok(read_unsigned(alloc, text)? == read_unsigned(alloc, other)?)
+}
+
+// Whether two texts spell one decimal.
+fn is_one_decimal(alloc: Global, text: &str, other: &str) -> Result<bool, Fail> {
+    Ok(read(alloc, text)? == read(alloc, other)?)
+}
+
 #[test]
 fn equality_is_that_of_texts(rt: HostRuntime) -> Result<(), Fail> {
-    let half = read_unsigned(rt.alloc(), "0.5")?;
-    assert!(rt; half == half.try_clone()?);
-    assert!(rt; half != read_unsigned(rt.alloc(), "0.50")?);
-    let zero = Decimal::zero(rt.alloc());
-    assert!(rt; zero == zero.try_clone()?);
-    assert!(rt; zero != read(rt.alloc(), "-0")?);
-    assert!(rt; Decimal::one(rt.alloc()) == read(rt.alloc(), "1")?);
+    assert!(rt; is_one_number(rt.alloc(), "0.5", "5e-1")?);
+    assert!(rt; !is_one_number(rt.alloc(), "0.5", "0.50")?);
+    assert!(rt; is_one_decimal(rt.alloc(), "-0", "-0e5")?);
+    assert!(rt; !is_one_decimal(rt.alloc(), "0", "-0")?);
+    Ok(())
+}
+
+#[test]
+fn zero_one_and_copies(rt: HostRuntime) -> Result<(), Fail> {
+    let alloc = rt.alloc();
+    assert!(rt; shows(alloc, Decimal::zero(alloc), "0")?);
+    assert!(rt; shows(alloc, Decimal::one(alloc), "1")?);
+    assert!(rt; shows(alloc, UnsignedDecimal::one(alloc), "1")?);
+    let copy = read(alloc, "-012.30")?.try_clone()?;
+    assert!(rt; shows(alloc, copy, "-012.30")?);
+    let copy = read_unsigned(alloc, "012.30")?.try_clone()?;
+    assert!(rt; shows(alloc, copy, "012.30")?);
     Ok(())
 }
 
@@ -148,19 +173,18 @@ fn roundings_by_size(rt: HostRuntime) -> Result<(), Fail> {
 #[test]
 fn rounded_numbers(rt: HostRuntime) -> Result<(), Fail> {
     let alloc = rt.alloc();
-    for (number, want) in [
-        (read(alloc, "2.5")?.rounded(0), "2"),
-        (read(alloc, "-7.3")?.expanded(0), "-8"),
-        (read(alloc, "-7.3")?.trunced(0), "-7"),
-        (read(alloc, "-7.3")?.ceiled(0), "-7"),
-        (read(alloc, "-7.3")?.floored(0), "-8"),
-        (
+    assert!(rt; shows(alloc, read(alloc, "2.5")?.rounded(0), "2")?);
+    assert!(rt; shows(alloc, read(alloc, "-7.3")?.expanded(0), "-8")?);
+    assert!(rt; shows(alloc, read(alloc, "-7.3")?.trunced(0), "-7")?);
+    assert!(rt; shows(alloc, read(alloc, "-7.3")?.ceiled(0), "-7")?);
+    assert!(rt; shows(alloc, read(alloc, "-7.3")?.floored(0), "-8")?);
+    assert!(rt;
+        shows(
+            alloc,
             read(alloc, "-7.3")?.rounded_with_mode(0, SignedRoundingMode::HalfCeil),
-            "-7",
-        ),
-    ] {
-        assert_eq!(rt; number.write_to_string(alloc)?.as_str(), want);
-    }
+            "-7"
+        )?
+    );
     Ok(())
 }
 
@@ -189,55 +213,73 @@ fn rounded_to_an_increment(rt: HostRuntime) -> Result<(), Fail> {
 fn unsigned_roundings(rt: HostRuntime) -> Result<(), Fail> {
     let alloc = rt.alloc();
     let to_zero = UnsignedRoundingMode::HalfTrunc;
-    for (number, want) in [
-        (
+    assert!(rt;
+        shows(
+            alloc,
             read_unsigned(alloc, "7.5")?.rounded_with_mode(0, to_zero),
-            "7",
-        ),
-        (read_unsigned(alloc, "2.5")?.rounded(0), "2"),
-        (read_unsigned(alloc, "7.3")?.expanded(0), "8"),
-        (read_unsigned(alloc, "7.8")?.trunced(0), "7"),
-    ] {
-        assert_eq!(rt; number.write_to_string(alloc)?.as_str(), want);
-    }
+            "7"
+        )?
+    );
+    assert!(rt; shows(alloc, read_unsigned(alloc, "2.5")?.rounded(0), "2")?);
+    assert!(rt; shows(alloc, read_unsigned(alloc, "7.3")?.expanded(0), "8")?);
+    assert!(rt; shows(alloc, read_unsigned(alloc, "7.8")?.trunced(0), "7")?);
     Ok(())
 }
 
 #[test]
 fn consuming_forms(rt: HostRuntime) -> Result<(), Fail> {
     let alloc = rt.alloc();
-    for (number, want) in [
-        (read(alloc, "-12")?.multiplied_pow10(2), "-1200"),
-        (read(alloc, "-012")?.trimmed_start(), "-12"),
-        (read(alloc, "-1.20")?.trimmed_end(), "-1.2"),
-        (read(alloc, "-1.00")?.trimmed_end_if_integer(), "-1"),
-        (read(alloc, "-1.20")?.trimmed_end_if_integer(), "-1.20"),
-        (read(alloc, "-12")?.padded_start(4), "-0012"),
-        (read(alloc, "-12")?.padded_end(-2), "-12.00"),
-        (read(alloc, "-1234.5")?.with_max_position(2), "-34.5"),
-    ] {
-        assert_eq!(rt; number.write_to_string(alloc)?.as_str(), want);
-    }
+    assert!(rt; shows(alloc, read(alloc, "-12")?.multiplied_pow10(2), "-1200")?);
+    assert!(rt; shows(alloc, read(alloc, "-012")?.trimmed_start(), "-12")?);
+    assert!(rt; shows(alloc, read(alloc, "-1.20")?.trimmed_end(), "-1.2")?);
+    assert!(rt; shows(alloc, read(alloc, "-1.00")?.trimmed_end_if_integer(), "-1")?);
+    assert!(rt;
+        shows(
+            alloc,
+            read(alloc, "-1.20")?.trimmed_end_if_integer(),
+            "-1.20"
+        )?
+    );
+    assert!(rt; shows(alloc, read(alloc, "-12")?.padded_start(4), "-0012")?);
+    assert!(rt; shows(alloc, read(alloc, "-12")?.padded_end(-2), "-12.00")?);
+    assert!(rt; shows(alloc, read(alloc, "-1234.5")?.with_max_position(2), "-34.5")?);
     Ok(())
 }
 
 #[test]
 fn unsigned_consuming_forms(rt: HostRuntime) -> Result<(), Fail> {
     let alloc = rt.alloc();
-    for (number, want) in [
-        (read_unsigned(alloc, "12")?.multiplied_pow10(2), "1200"),
-        (read_unsigned(alloc, "012")?.trimmed_start(), "12"),
-        (read_unsigned(alloc, "1.20")?.trimmed_end(), "1.2"),
-        (read_unsigned(alloc, "1.00")?.trimmed_end_if_integer(), "1"),
-        (
+    assert!(rt;
+        shows(
+            alloc,
+            read_unsigned(alloc, "12")?.multiplied_pow10(2),
+            "1200"
+        )?
+    );
+    assert!(rt; shows(alloc, read_unsigned(alloc, "012")?.trimmed_start(), "12")?);
+    assert!(rt; shows(alloc, read_unsigned(alloc, "1.20")?.trimmed_end(), "1.2")?);
+    assert!(rt;
+        shows(
+            alloc,
+            read_unsigned(alloc, "1.00")?.trimmed_end_if_integer(),
+            "1"
+        )?
+    );
+    assert!(rt;
+        shows(
+            alloc,
             read_unsigned(alloc, "1.20")?.trimmed_end_if_integer(),
-            "1.20",
-        ),
-        (read_unsigned(alloc, "12")?.padded_start(4), "0012"),
-        (read_unsigned(alloc, "12")?.padded_end(-2), "12.00"),
-        (read_unsigned(alloc, "1234.5")?.with_max_position(2), "34.5"),
-    ] {
-        assert_eq!(rt; number.write_to_string(alloc)?.as_str(), want);
-    }
+            "1.20"
+        )?
+    );
+    assert!(rt; shows(alloc, read_unsigned(alloc, "12")?.padded_start(4), "0012")?);
+    assert!(rt; shows(alloc, read_unsigned(alloc, "12")?.padded_end(-2), "12.00")?);
+    assert!(rt;
+        shows(
+            alloc,
+            read_unsigned(alloc, "1234.5")?.with_max_position(2),
+            "34.5"
+        )?
+    );
     Ok(())
 }
