@@ -1,20 +1,19 @@
 -- Rows of docs/numbers.md, so that a wrong definition does not pass. Roundings are in units of which ten make the unit at the position.
-use Rattle.std.proofs.Common.{◌≡◌, ◌≢◌, ℕ, zero, suc, ◌+◌, ◌-◌, ◌*◌, ◌^◌, ◌<◌, ◌≤◌, ◌⊎◌, Bool, true, false, inl, inr, List, [], ◌∷◌, ◌++◌, codes, refl, sym, ap, ◌∙◌, subst, arith, lit≤, lit<}
+use Rattle.std.proofs.Common.{◌≡◌, ◌≢◌, ℕ, ◌+◌, ◌*◌, ◌^◌, ◌≤◌, true, false, inl, inr, List, [], ◌∷◌, codes, refl, sym, arith, lit≤}
 use Rattle.std.specs.Prelude.{ℤ, pos, negsuc, ◌-ℤ◌, ◌≤ℤ◌, nat_abs}
 use Rattle.std.proofs.lemmas.Int.{ints}
 use Rattle.fixed_decimal_unsigned.specs.Number.{Number}
-use Rattle.fixed_decimal_unsigned.specs.NumberText.{Parts, Spells, Reads, IsBeyond, digit_zero}
+use Rattle.fixed_decimal_unsigned.specs.NumberText.{Reads, digit_zero}
 use Rattle.fixed_decimal_unsigned.proofs.TextPartsLemmas.{cons_head, cons_tail}
-use Rattle.fixed_decimal.specs.Calls.{Makes, Run}
-use Rattle.fixed_decimal.specs.CompactText.{CompactValue, behind_compact_mark, StartsNoZero, SpellsCompact, ReadsCompact, IsBeyondCompact, IsNoCompactText, compact_text_of}
+use Rattle.fixed_decimal.specs.Calls.{Run}
+use Rattle.fixed_decimal.specs.CompactText.{behind_compact_mark, StartsNoZero, SpellsCompact, ReadsCompact, IsBeyondCompact, IsNoCompactText, compact_text_of}
 use Rattle.fixed_decimal.specs.IntegerText.{ReadsInteger, ReadsFraction}
 use Rattle.fixed_decimal.specs.PlainText.{MarksExponent, HasNoMark, compact_mark}
-use Rattle.fixed_decimal.specs.ScientificText.{ScientificValue, ReadsScientific, scientific_text_of}
+use Rattle.fixed_decimal.specs.ScientificText.{ReadsScientific, scientific_text_of}
 use Rattle.fixed_decimal.specs.SignChoice.{chosen_sign}
 use Rattle.fixed_decimal.specs.SignedEquality.{are_equal_decimals, are_equal_compact}
-use Rattle.fixed_decimal.specs.SignedOrder.{IsFloor, IsCeil, IsNearestSigned, IsRoundedByOrder}
+use Rattle.fixed_decimal.specs.SignedOrder.{IsRoundedByOrder}
 use Rattle.fixed_decimal.specs.SignedText.{ReadsSigned, signed_text_of}
-use Rattle.fixed_decimal.specs.SignedValue.{SignedValue}
 use Rattle.fixed_decimal.specs.declared.call.Call.TheVariants.{SetSign, ApplySignDisplay}
 use Rattle.fixed_decimal.specs.declared.modes.SignedRoundingMode.TheVariants.{Ceil, Floor, HalfCeil, HalfFloor}
 use Rattle.fixed_decimal.specs.declared.sign.Sign.TheVariants.{None, Negative, Positive}

@@ -1,11 +1,11 @@
 -- A text has one first mark: what stands before it, and the rest.
-use Rattle.std.proofs.Common.{◌≡◌, ℕ, zero, suc, ◌+◌, ◌-◌, ◌<◌, ◌⊎◌, List, [], ◌∷◌, ◌++◌, length, get_or, map, take, refl, sym, ap, ◌∙◌, subst, arith, add-one, inl, inr}
+use Rattle.std.proofs.Common.{◌≡◌, ℕ, zero, suc, ◌+◌, ◌-◌, ◌<◌, List, [], ◌∷◌, ◌++◌, length, get_or, map, take, refl, sym, subst, arith, add-one, inl, inr}
 use Rattle.std.specs.Char.{digit_value}
 use Rattle.fixed_decimal_unsigned.specs.Number.{Number, whole_digits, fraction_digits}
 use Rattle.fixed_decimal_unsigned.specs.NumberText.{AreDigits, minus, point, behind_point, character, text_of}
 use Rattle.fixed_decimal_unsigned.proofs.PrintedLemmas.{printed_digits}
 use Rattle.fixed_decimal_unsigned.proofs.TextPartsLemmas.{cons_head, cons_tail}
-use Rattle.fixed_decimal.specs.PlainText.{compact_mark, MarksExponent, HasNoMark}
+use Rattle.fixed_decimal.specs.PlainText.{MarksExponent, HasNoMark}
 use Rattle.fixed_decimal.specs.SignedText.{plus, sign_text, signed_text_of}
 use Rattle.fixed_decimal.specs.SignedValue.{SignedValue}
 use Rattle.fixed_decimal.specs.declared.sign.Sign.{Sign}

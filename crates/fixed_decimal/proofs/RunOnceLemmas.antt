@@ -1,12 +1,12 @@
 -- Each call makes one decimal of a decimal, so a run of calls ends in one.
-use Rattle.std.proofs.Common.{◌≡◌, ◌≢◌, ℕ, zero, suc, ◌+◌, ◌-◌, ◌*◌, ◌/◌, ◌%◌, ◌^◌, ◌<◌, ◌≤◌, ◌⊎◌, min, max, List, [], ◌∷◌, refl, sym, ap, ◌∙◌, subst, arith, inl, inr}
-use Rattle.std.specs.Prelude.{ℤ, pos, negsuc}
+use Rattle.std.proofs.Common.{◌≡◌, ◌≢◌, ℕ, zero, suc, ◌+◌, ◌*◌, ◌/◌, ◌%◌, ◌^◌, ◌<◌, ◌≤◌, ◌⊎◌, List, [], ◌∷◌, refl, sym, ap, ◌∙◌, subst, arith, inl, inr}
+use Rattle.std.specs.Prelude.{ℤ}
 use Rattle.std.proofs.Math.Nat.{mul-div_cancel, mul-le-mul_right}
 use Rattle.std.proofs.lemmas.Bool.{cases_lt}
 use Rattle.fixed_decimal_unsigned.specs.Number.{Number, place}
 use Rattle.fixed_decimal_unsigned.specs.Range.{IsHighest, IsLowest, Rounds}
-use Rattle.fixed_decimal_unsigned.specs.Rounding.{IsMultiple, distance, IsTruncated, IsExpanded, IsNearest, IsRounded, IsLimited, count_limit, Takes, increment_number}
-use Rattle.fixed_decimal_unsigned.specs.Shifts.{rise, fall, KeepsPlaces, IsShifted, Shifts, TrimsStart, TrimsEnd, TrimsWhole, PadsStart, PadsEnd, Cuts, plain_zero}
+use Rattle.fixed_decimal_unsigned.specs.Rounding.{IsMultiple, distance, IsNearest, IsRounded, IsLimited, count_limit, Takes, increment_number}
+use Rattle.fixed_decimal_unsigned.specs.Shifts.{rise, fall, KeepsPlaces, IsShifted, Shifts, TrimsStart, TrimsEnd, TrimsWhole, PadsStart, PadsEnd, Cuts}
 use Rattle.fixed_decimal_unsigned.specs.declared.UnsignedRoundingMode.{UnsignedRoundingMode}
 use Rattle.fixed_decimal_unsigned.specs.declared.UnsignedRoundingMode.TheVariants.{Expand, Trunc, HalfExpand, HalfTrunc, HalfEven}
 use Rattle.fixed_decimal_unsigned.specs.declared.RoundingIncrement.{RoundingIncrement}

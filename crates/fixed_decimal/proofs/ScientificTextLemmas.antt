@@ -1,7 +1,7 @@
 -- A scientific text has two sides and one reading, and a printed one reads back.
-use Rattle.std.proofs.Common.{◌≡◌, ℕ, ◌<◌, List, [], ◌∷◌, ◌++◌, length, refl, sym, ap, ◌∙◌, subst, arith, inl, inr}
+use Rattle.std.proofs.Common.{◌≡◌, ℕ, List, [], ◌∷◌, ◌++◌, length, refl, sym, ap, ◌∙◌, subst, inl, inr}
 use Rattle.writeable.specs.AnnotatedText.{bytes}
-use Rattle.fixed_decimal_unsigned.specs.Number.{Number, IsNumber}
+use Rattle.fixed_decimal_unsigned.specs.Number.{Number}
 use Rattle.fixed_decimal_unsigned.specs.NumberText.{small_mark}
 use Rattle.fixed_decimal_unsigned.specs.declared.ParseError.{ParseError}
 use Rattle.fixed_decimal_unsigned.specs.declared.ParseError.TheVariants.{Limit, Syntax, Memory}

@@ -1,9 +1,9 @@
 -- Equality tells values apart, and so do their printed texts.
-use Rattle.std.proofs.Common.{◌≡◌, ℕ, ◌==◌, ◌&&◌, Bool, true, List, refl, sym, ap, ◌∙◌, arith}
+use Rattle.std.proofs.Common.{◌≡◌, ℕ, ◌==◌, Bool, List, refl, ap, arith}
 use Rattle.std.specs.Bool.{Decides}
 use Rattle.std.proofs.lemmas.Bool.Decides.{Decides-like, Decides-and, Decides-eqb}
 use Rattle.fixed_decimal_unsigned.specs.Equality.{are_equal}
-use Rattle.fixed_decimal_unsigned.specs.Number.{Number, IsNumber}
+use Rattle.fixed_decimal_unsigned.specs.Number.{Number}
 use Rattle.fixed_decimal_unsigned.proofs.EqualityLemmas.{equal_decides}
 use Rattle.fixed_decimal.specs.CompactText.{CompactValue, IsCompact, compact_text_of}
 use Rattle.fixed_decimal.specs.ScientificText.{ScientificValue, IsScientific, scientific_text_of}

@@ -1,6 +1,6 @@
 -- Rounding by size under a sign is rounding by order: above zero the two say the same, and below it each is the other's mirror.
-use Rattle.std.proofs.Common.{◌≡◌, ◌≢◌, ℕ, zero, suc, ◌+◌, ◌-◌, ◌*◌, ◌<◌, ◌≤◌, refl, sym, ap, ◌∙◌, subst, arith}
-use Rattle.std.specs.Prelude.{ℤ, pos, negsuc, ◌-ℤ◌, ◌≤ℤ◌, neg_ℤ, nat_abs, ◌↔◌}
+use Rattle.std.proofs.Common.{◌≡◌, ◌≢◌, ℕ, suc, ◌+◌, ◌≤◌, refl, sym, ap, ◌∙◌, subst, arith}
+use Rattle.std.specs.Prelude.{ℤ, pos, negsuc, ◌≤ℤ◌, neg_ℤ, nat_abs, ◌↔◌}
 use Rattle.std.proofs.lemmas.Int.{ints}
 use Rattle.fixed_decimal_unsigned.specs.Rounding.{IsMultiple, distance, IsTruncated, IsExpanded, IsNearest, IsRounded}
 use Rattle.fixed_decimal_unsigned.specs.declared.UnsignedRoundingMode.{UnsignedRoundingMode}

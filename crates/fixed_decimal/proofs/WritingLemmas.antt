@@ -1,5 +1,5 @@
 -- The events of a decimal are the bytes of its printed text.
-use Rattle.std.proofs.Common.{◌≡◌, ℕ, ◌+◌, ◌-◌, ◌<◌, ◌≤◌, ◌⊎◌, inl, inr, List, ◌++◌, length, length-append, map, sym, ap, ◌∙◌, arith}
+use Rattle.std.proofs.Common.{◌≡◌, ◌≤◌, inl, inr, ◌++◌, length, map, sym, ap, ◌∙◌, arith}
 use Rattle.writeable.specs.AnnotatedText.{bytes}
 use Rattle.fixed_decimal_unsigned.specs.Number.{Number, IsNumber, whole_digits, fraction_digits}
 use Rattle.fixed_decimal_unsigned.specs.NumberText.{character, behind_point, text_of as printed}

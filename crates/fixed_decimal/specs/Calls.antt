@@ -3,6 +3,7 @@
 -- Cited by `run_calls`, and by the law that a run has one end.
 use Rattle.std.specs.Prelude.{◌≡◌, ℕ, ◌==◌, ◌⊎◌, List, [], ◌∷◌}
 use Rattle.fixed_decimal_unsigned.specs.Number.{Number, place}
+use Rattle.fixed_decimal_unsigned.specs.Range.{MayGrowAt}
 use Rattle.fixed_decimal_unsigned.specs.Shifts.{Shifts, TrimsStart, TrimsEnd, TrimsWhole, PadsStart, PadsEnd, Cuts}
 use Rattle.fixed_decimal_unsigned.specs.declared.RoundingIncrement.TheVariants.{MultiplesOf25}
 use Rattle.fixed_decimal.specs.SignChoice.{chosen_sign}
@@ -36,23 +37,29 @@ pub record RunsFrom (text : List ℕ) (calls : List Call) (new : SignedValue Num
   pub reads : ReadsSigned text read
   pub run : Run calls read new
 
--- the call is a rounding to multiples of 25, the one call that may want memory
-abbrev pub GoesByTwentyFive : Call → Type 0
-GoesByTwentyFive (Round position mode increment) = increment ≡ MultiplesOf25
-GoesByTwentyFive (MultiplyPow10 delta) = ⊥
-GoesByTwentyFive TrimStart = ⊥
-GoesByTwentyFive TrimEnd = ⊥
-GoesByTwentyFive TrimEndIfInteger = ⊥
-GoesByTwentyFive (PadStart position) = ⊥
-GoesByTwentyFive (PadEnd position) = ⊥
-GoesByTwentyFive (SetMaxPosition position) = ⊥
-GoesByTwentyFive (SetSign sign) = ⊥
-GoesByTwentyFive (ApplySignDisplay choice) = ⊥
+-- the call is a rounding that may want memory, on this decimal; no other call may
+abbrev pub MayGrowBy : Call → SignedValue Number → Type 0
+MayGrowBy (Round position mode increment) old = (increment ≡ MultiplesOf25) × MayGrowAt (place position) old.absolute.count
+MayGrowBy (MultiplyPow10 delta) old = ⊥
+MayGrowBy TrimStart old = ⊥
+MayGrowBy TrimEnd old = ⊥
+MayGrowBy TrimEndIfInteger old = ⊥
+MayGrowBy (PadStart position) old = ⊥
+MayGrowBy (PadEnd position) old = ⊥
+MayGrowBy (SetMaxPosition position) old = ⊥
+MayGrowBy (SetSign sign) old = ⊥
+MayGrowBy (ApplySignDisplay choice) old = ⊥
 
--- one of the calls is
-abbrev pub HasTwentyFive : List Call → Type 0
-HasTwentyFive [] = ⊥
-HasTwentyFive (call ∷ calls) = GoesByTwentyFive call ⊎ HasTwentyFive calls
+-- one of the calls may, on what those before it left
+abbrev pub MayGrowIn : List Call → SignedValue Number → Type 0
+MayGrowIn [] old = ⊥
+MayGrowIn (call ∷ calls) old = MayGrowBy call old ⊎ ((next : SignedValue Number) × (Makes call old next × MayGrowIn calls next))
+
+-- the text spells a decimal on which the calls may want memory
+pub record RunsLong (text : List ℕ) (calls : List Call) : Type 0 where
+  pub read : SignedValue Number
+  pub reads : ReadsSigned text read
+  pub grows : MayGrowIn calls read
 
 -- a text and a list of calls lead to one decimal
 abbrev pub RunsHaveOneEnd : Type 0

@@ -4,7 +4,7 @@
 use Rattle.std.specs.Prelude.{◌≡◌, ℕ, Bool, List}
 use Rattle.std.specs.Bool.{Decides}
 use Rattle.fixed_decimal_unsigned.specs.Number.{Number, IsNumber}
-use Rattle.fixed_decimal.specs.CompactText.{CompactValue, IsCompact, ReadsCompact, IsBeyondCompact, compact_text_of}
+use Rattle.fixed_decimal.specs.CompactText.{IsCompact, ReadsCompact, IsBeyondCompact, compact_text_of}
 use Rattle.fixed_decimal.specs.IntegerText.{ShowsNoFraction, ReadsInteger, IsBeyondInteger}
 use Rattle.fixed_decimal.specs.ScientificText.{ScientificValue, IsScientific, ReadsScientific, scientific_text_of}
 use Rattle.fixed_decimal.specs.SignedEquality.{are_equal_decimals, are_equal_compact, are_equal_scientific}

@@ -2,7 +2,7 @@ ghost use Rattle.std.specs.Prelude.{◌≡◌, ◌≢◌, ◌↔◌, IsTrue, fal
 ghost use Rattle.writeable.specs.AnnotatedText.{bytes};
 ghost use Rattle.writeable.specs.Taking.{HasBegun};
 ghost use Rattle.fixed_decimal_unsigned.specs.Number.{Number};
-ghost use Rattle.fixed_decimal.specs.Calls.{Makes, Run, RunsFrom, GoesByTwentyFive, HasTwentyFive};
+ghost use Rattle.fixed_decimal.specs.Calls.{Makes, Run, RunsFrom, RunsLong, MayGrowBy, MayGrowIn};
 ghost use Rattle.fixed_decimal.specs.SignedText.{ReadsSigned, ReadsLongSigned, IsBeyondSigned, IsNoSignedText, signed_text_of};
 ghost use Rattle.fixed_decimal.specs.SignedValue.{SignedValue};
 
@@ -15,7 +15,7 @@ use writeable::{Sink, Writeable};
 // Makes one call.
 fn make_call(decimal: &mut Decimal, call: Call) -> Result<(), AllocError>
     ensures value { OnOk result (Makes call decimal.old decimal.new) }
-    ensures room { OnErr result (GoesByTwentyFive call) }
+    ensures room { OnErr result (MayGrowBy call decimal.old) }
 {
     match call {
         Call::MultiplyPow10(delta) => decimal.absolute.multiply_pow10(delta),
@@ -37,7 +37,7 @@ fn make_call(decimal: &mut Decimal, call: Call) -> Result<(), AllocError>
 // Makes the calls, one after the other.
 fn make_calls(decimal: &mut Decimal, calls: &[Call]) -> Result<(), AllocError>
     ensures value { OnOk result (Run calls.now decimal.old decimal.new) }
-    ensures room { OnErr result (HasTwentyFive calls.now) }
+    ensures room { OnErr result (MayGrowIn calls.now decimal.old) }
 {
     for call in calls {
         make_call(decimal, *call)?;
@@ -67,8 +67,8 @@ fn read_start(alloc: Global, start: &[u8]) -> Result<Decimal, CallsError>
 /// `12.345` with `Round(-2, .., ..)` and `ApplySignDisplay(Always)` writes `+12.34`. The sink has not
 /// refused yet. `Parse` where the text is not read, for another cause than memory; `Write` exactly
 /// where the sink refused, which has then taken a beginning of the text; `Memory` where memory was
-/// refused, for reading more than eight digits or for a rounding to multiples of 25. After `Parse`
-/// and `Memory` the sink is as it was.
+/// refused, for reading more than eight digits or for a rounding that wants it. After `Parse` and
+/// `Memory` the sink is as it was.
 pub fn run_calls<S: Sink>(
     alloc: Global,
     start: &[u8],
@@ -80,7 +80,7 @@ pub fn run_calls<S: Sink>(
     ensures limit { IsErrOf result (CallsError.Parse ParseError.Limit) → IsBeyondSigned start.now }
     ensures parse { ¬ (IsErrOf result (CallsError.Parse ParseError.Memory)) }
     ensures write { IsTrue (S.refused sink.new) ↔ IsErrOf result CallsError.Write }
-    ensures memory { IsErrOf result CallsError.Memory → ReadsLongSigned start.now ⊎ HasTwentyFive calls.now }
+    ensures memory { IsErrOf result CallsError.Memory → ReadsLongSigned start.now ⊎ RunsLong start.now calls.now }
     ensures text { OnOk result ((v : SignedValue Number) × (RunsFrom start.now calls.now v × S.takes sink.old (bytes (signed_text_of v)) sink.new)) }
     ensures begun { IsErrOf result CallsError.Write → (v : SignedValue Number) × (RunsFrom start.now calls.now v × HasBegun S.takes S.lacks_room sink.old (bytes (signed_text_of v)) sink.new) }
     ensures same { IfErr result (λ e. e ≢ CallsError.Write → sink.new ≡ sink.old) }

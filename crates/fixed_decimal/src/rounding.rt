@@ -1,6 +1,6 @@
 ghost use Rattle.std.specs.Prelude.{◌≡◌, ◌≢◌, ℕ, ◌+◌, ◌<◌, ◌≤◌, OnOk, OnErr, IfOk, IfErr, IsOk};
 ghost use Rattle.fixed_decimal_unsigned.specs.Number.{place};
-ghost use Rattle.fixed_decimal_unsigned.specs.Range.{HoldsDigits};
+ghost use Rattle.fixed_decimal_unsigned.specs.Range.{HoldsDigits, MayGrowAt};
 ghost use Rattle.fixed_decimal.specs.SignedRounding.{RoundsSigned};
 
 use crate::decimal::Decimal;
@@ -23,6 +23,7 @@ impl Signed<UnsignedDecimal> {
         turns: &mut Turns<L>,
     ) -> Result<(), AllocError>
         ensures succeeds { increment ≢ RoundingIncrement.MultiplesOf25 → IsOk result }
+        ensures room { OnErr result (MayGrowAt (place position) self.old.absolute.count) }
         ensures value { OnOk result (RoundsSigned mode increment (place position) self.old self.new) }
         ensures same { OnErr result (self.new ≡ self.old) }
         ensures turns { (low digits : ℕ) → HoldsDigits self.old.absolute.count low digits → turns.new ≤ turns.old + digits + 2 }
@@ -35,7 +36,8 @@ impl Signed<UnsignedDecimal> {
     /// Rounds to a multiple of the increment at a position: `-7.3` at -2 by `Ceil` to 25 is `-7.25`.
     ///
     /// Zero stands in place of a multiple whose size reaches ten to the power 32768; the sign is kept.
-    /// Memory is wanted only for `MultiplesOf25`; where it was refused the number is as it was.
+    /// Memory is wanted only for `MultiplesOf25` and a number of eight digits or more whose last one, that
+    /// is not zero, stands right above the position; where it was refused the number is as it was.
     pub fn round_with_mode_and_increment(
         &mut self,
         position: i16,
@@ -43,6 +45,7 @@ impl Signed<UnsignedDecimal> {
         increment: RoundingIncrement,
     ) -> Result<(), AllocError>
         ensures succeeds { increment ≢ RoundingIncrement.MultiplesOf25 → IsOk result }
+        ensures room { OnErr result (MayGrowAt (place position) self.old.absolute.count) }
         ensures value { OnOk result (RoundsSigned mode increment (place position) self.old self.new) }
         ensures same { OnErr result (self.new ≡ self.old) }
     {
@@ -105,7 +108,7 @@ impl Signed<UnsignedDecimal> {
 
     /// The number rounded to a multiple of the increment: `37.5` at 0 by `HalfEven` to 25 gives `50`.
     ///
-    /// The refusal for memory, which is wanted only for `MultiplesOf25`, hands the number back.
+    /// The refusal for memory, which is wanted where `round_with_mode_and_increment` wants it, hands the number back.
     pub fn rounded_with_mode_and_increment(
         mut self,
         position: i16,
@@ -113,6 +116,7 @@ impl Signed<UnsignedDecimal> {
         increment: RoundingIncrement,
     ) -> Result<Decimal, AllocFailed<Decimal>>
         ensures succeeds { increment ≢ RoundingIncrement.MultiplesOf25 → IsOk result }
+        ensures room { OnErr result (MayGrowAt (place position) self.absolute.count) }
         ensures value { IfOk result (λ v. RoundsSigned mode increment (place position) self v) }
         ensures same { IfErr result (λ e. e.value ≡ self) }
     {

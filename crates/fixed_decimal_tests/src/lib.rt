@@ -3,13 +3,21 @@
 #![tactic(auto)]
 
 #[cfg(test)]
+mod compact_and_scientific;
+#[cfg(test)]
+mod concatenation;
+#[cfg(test)]
 mod ends;
 #[cfg(test)]
 mod examples;
 #[cfg(test)]
 mod increments;
 #[cfg(test)]
+mod integers;
+#[cfg(test)]
 mod rounding;
+#[cfg(test)]
+mod runs;
 #[cfg(test)]
 mod shifts_and_trims;
 #[cfg(test)]

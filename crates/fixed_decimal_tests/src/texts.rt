@@ -49,10 +49,20 @@ fn an_exponent_moves_both_ends(rt: HostRuntime) -> Result<(), Fail> {
         ("1E3", "1000"),
         ("12e-3", "0.012"),
         ("5e-0", "5"),
+    ] {
+        assert_eq!(rt; printed(rt.alloc(), text)?.as_str(), want, "{text}");
+    }
+    Ok(())
+}
+
+#[test]
+fn the_exponent_of_zero_is_ignored(rt: HostRuntime) -> Result<(), Fail> {
+    for (text, want) in [
         ("0e5", "0"),
-        // of zero it is ignored, whatever its size
         ("0e99999", "0"),
+        ("0e99999999999999999999", "0"),
         ("00.0e-99999999999999999999", "00.0"),
+        ("00.0e7", "00.0"),
     ] {
         assert_eq!(rt; printed(rt.alloc(), text)?.as_str(), want, "{text}");
     }

@@ -6,7 +6,7 @@ use Rattle.fixed_decimal_unsigned.specs.NumberText.{Parts, Spells, Reads, IsBeyo
 use Rattle.fixed_decimal_unsigned.specs.Rounding.{IsRounded, increment_number}
 use Rattle.fixed_decimal_unsigned.specs.declared.modes.UnsignedRoundingMode.TheVariants.{Expand, Trunc, HalfExpand, HalfTrunc, HalfEven}
 use Rattle.fixed_decimal_unsigned.specs.declared.modes.RoundingIncrement.TheVariants.{MultiplesOf25}
-use Rattle.fixed_decimal_unsigned.specs.Range.{IsHighest, IsLowest}
+use Rattle.fixed_decimal_unsigned.specs.Range.{IsHighest, IsLowest, MayGrowAt}
 use Rattle.fixed_decimal_unsigned.specs.Shifts.{Shifts, Cuts, plain_zero}
 use Rattle.fixed_decimal_unsigned.specs.NonzeroPlaces.{IsFirstPlace, IsLastPlace}
 use Rattle.fixed_decimal_unsigned.specs.Concatenation.{Overlaps, Concatenates}
@@ -156,6 +156,20 @@ no_tie_to_three h =
 -- 37.5 by 25: twice 25 is even, once is not
 tie_by_twenty_five : IsRounded HalfEven (increment_number MultiplesOf25 * 10) 375 500
 tie_by_twenty_five = record { multiple = (2, refl); nearest = λ other m. let is = m.1 in omega arith; tied = λ other m ne e. (1, refl) }
+
+-- written at place 0 as a multiple of 25, 110000010 gets a digit more; 11000010 has room for it, and 110000012 has it already
+grows_by_one : MayGrowAt 0 110000010
+grows_by_one = record { first = lit≤ tt; last = record { nonzero = lit≤ tt; lowest = not_lower } }
+  where
+    not_lower : (p : ℕ) → 0 < digit 110000010 p → 1 ≤ p
+    not_lower zero h = absurd (omega arith)
+    not_lower (suc p) h = omega arith
+
+has_room : ¬ (MayGrowAt 0 11000010)
+has_room h = let first = h.first in absurd (omega arith)
+
+stays_as_long : ¬ (MayGrowAt 0 110000012)
+stays_as_long h = let last = h.last.lowest 0 (lit≤ tt) in absurd (omega arith)
 
 -- ends of ranges
 

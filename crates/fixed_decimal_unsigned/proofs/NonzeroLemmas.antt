@@ -1,16 +1,17 @@
 -- The highest and the lowest place with a digit that is not zero: those of the first and the last kept digit.
-use Rattle.std.proofs.Common.{◌≡◌, ℕ, ℤ, pos, negsuc, ◌+◌, ◌-◌, ◌%◌, ◌<◌, ◌≤◌, List, length, get_or, sym, ap, ◌∙◌, subst, arith, ⊎_elim}
+use Rattle.std.proofs.Common.{◌≡◌, ℕ, ℤ, pos, negsuc, ◌+◌, ◌-◌, ◌%◌, ◌^◌, ◌<◌, ◌≤◌, List, length, get_or, sym, ap, ◌∙◌, subst, arith, ⊎_elim}
 use Rattle.std.proofs.Math.Nat.{eq-zero-or-pos}
 use Rattle.std.proofs.lemmas.Bool.{cases_lt}
 use Rattle.std.proofs.lemmas.List.{take_all}
 use Rattle.std.specs.Int.Digits.{number_from_digits, AllBelowBase}
 use Rattle.fixed_decimal_unsigned.specs.Number.{Number, digit, place}
 use Rattle.fixed_decimal_unsigned.specs.NonzeroPlaces.{IsFirstPlace, IsLastPlace}
+use Rattle.fixed_decimal_unsigned.specs.Range.{MayGrowAt}
 use Rattle.fixed_decimal_unsigned.specs.RoundingSteps.{IsTrimmed}
 use Rattle.fixed_decimal_unsigned.specs.Stored.{count_of, IsStored}
-use Rattle.fixed_decimal_unsigned.proofs.TenLemmas.{digit_under}
+use Rattle.fixed_decimal_unsigned.proofs.TenLemmas.{digit_under, tens_apart}
 use Rattle.fixed_decimal_unsigned.proofs.LoopLemmas.{front_last}
-use Rattle.fixed_decimal_unsigned.proofs.StoredLemmas.{digit_inside, digit_over, count_none, count_positive}
+use Rattle.fixed_decimal_unsigned.proofs.StoredLemmas.{digit_inside, digit_over, count_none, count_positive, count_reaches}
 use Rattle.fixed_decimal_unsigned.proofs.MantissaLemmas.{number_made}
 use Rattle.fixed_decimal_unsigned.proofs.RangeLemmas.{trimmed_of}
 
@@ -50,6 +51,22 @@ none_kept ds top h z = ⊎_elim (λ e. e) (λ p. let some = count_positive ds to
 
 pub some_kept : (ds : List ℕ) (top : ℕ) → 0 < count_of ds top → 0 < length ds
 some_kept ds top p = ⊎_elim (λ e. let z = count_none ds top e in absurd (omega arith)) (λ h. h) (eq-zero-or-pos (length ds))
+
+last_is : (p n top : ℕ) → p + n ≡ top → top + 1 - n ≡ p + 1
+last_is p n top e = omega arith
+
+-- where a rounding to multiples of 25 asks for more room
+pub grows_at : (ds : List ℕ) (top low high : ℕ) → IsStored ds top low high → (old : Number) → number_made (count_of ds top) low high ≡ old → (p q : ℕ) → p ≡ q → p + 8 ≤ top → p + length ds ≡ top → MayGrowAt q old.count
+grows_at ds top low high s old e p q at far end =
+    let kept : IsTrimmed ds top = trimmed_of ds top low high s in
+    let some : 0 < length ds = omega arith in
+    subst (λ x. MayGrowAt x old.count) at (subst (λ v. MayGrowAt p v.count) e (record {
+      first =
+          let up : 10 ^ (p + 8) ≤ 10 ^ top = tens_apart (p + 8) top far in
+          let reach : 10 ^ top ≤ count_of ds top = count_reaches ds top some (kept.first some) kept.room in
+          omega arith;
+      last = subst (IsLastPlace (count_of ds top)) (last_is p (length ds) top end) (last_place ds top kept some);
+    }))
 
 module _ (ds : List ℕ) (top low high : ℕ) (s : IsStored ds top low high) (old : Number) (e : number_made (count_of ds top) low high ≡ old) (r : ℤ) where
   kept : IsTrimmed ds top

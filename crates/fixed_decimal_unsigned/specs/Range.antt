@@ -3,6 +3,7 @@
 -- Cited by the roundings, the shifts, the trims, the pads and the cuts, and by each call that may want memory.
 use Rattle.std.specs.Prelude.{◌≡◌, ℕ, ◌+◌, ◌*◌, ◌%◌, ◌^◌, ◌<◌, ◌≤◌, min}
 use Rattle.fixed_decimal_unsigned.specs.Number.{Number}
+use Rattle.fixed_decimal_unsigned.specs.NonzeroPlaces.{IsLastPlace}
 use Rattle.fixed_decimal_unsigned.specs.Rounding.{Takes, increment_number}
 use Rattle.fixed_decimal_unsigned.specs.declared.modes.UnsignedRoundingMode.{UnsignedRoundingMode}
 use Rattle.fixed_decimal_unsigned.specs.declared.modes.RoundingIncrement.{RoundingIncrement}
@@ -34,3 +35,8 @@ pub record HoldsDigits (count low places : ℕ) : Type 0 where
 -- from the first to the last digit that is not zero a count has more than eight digits, so many as need no memory
 abbrev pub IsLong : ℕ → Type 0
 IsLong count = (low : ℕ) → ¬ (HoldsDigits count low 8)
+
+-- the last digit that is not zero stands right above a place, and the first at least eight above it: to write a multiple of 25 there may take memory
+pub record MayGrowAt (place count : ℕ) : Type 0 where
+  pub first : 10 ^ (place + 8) ≤ count
+  pub last : IsLastPlace count (place + 1)

@@ -52,7 +52,7 @@ fn cut_above(digits: &mut Digits, top: u16, place: u16) -> u16
 }
 
 impl UnsignedDecimal {
-    /// Cuts the digits from a magnitude up away: `1234.5` cut at 2 is `34.5`.
+    /// Cuts the digits from a magnitude up away: `1234.5` cut at 2 is `34.5`. It takes no memory.
     pub fn set_max_position(&mut self, position: i16)
         ensures { Cuts (place position) self.old self.new }
     {
@@ -62,7 +62,7 @@ impl UnsignedDecimal {
         self.high = place.saturating_sub(1).max(ONES);
     }
 
-    /// The number without the digits from a magnitude up.
+    /// The number without the digits from a magnitude up: `1234.5` and 2 give `34.5`. It takes no memory.
     pub fn with_max_position(mut self, position: i16) -> UnsignedDecimal
         ensures { Cuts (place position) self result }
     {

@@ -29,6 +29,17 @@ pub enum RoundingIncrement {
     MultiplesOf25,
 }
 
+/// The increment that looks at every count.
+impl Default for RoundingIncrement {
+    ghost use Rattle.fixed_decimal_unsigned.specs.declared.modes.RoundingIncrement.TheVariants.{MultiplesOf1};
+
+    ghost is_default = { λ increment. increment ≡ MultiplesOf1 };
+
+    fn default() -> RoundingIncrement {
+        Self::MultiplesOf1
+    }
+}
+
 impl RoundingIncrement {
     // The number in the name of the increment.
     pub(crate) fn step(self) -> u8

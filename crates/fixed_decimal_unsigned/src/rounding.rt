@@ -1,6 +1,6 @@
 ghost use Rattle.std.specs.Prelude.{◌≡◌, ◌≢◌, ℕ, ◌+◌, ◌<◌, ◌≤◌, OnOk, OnErr, IsOk};
 ghost use Rattle.fixed_decimal_unsigned.specs.Number.{place};
-ghost use Rattle.fixed_decimal_unsigned.specs.Range.{Rounds, HoldsDigits};
+ghost use Rattle.fixed_decimal_unsigned.specs.Range.{Rounds, HoldsDigits, MayGrowAt};
 ghost use Rattle.fixed_decimal_unsigned.specs.Rounding.{IsLimited};
 ghost use Rattle.fixed_decimal_unsigned.specs.RoundingSteps.{IsTrimmed};
 ghost use Rattle.fixed_decimal_unsigned.specs.Stored.{count_of};
@@ -16,6 +16,9 @@ use std::sync::ledger::Ledger;
 
 impl UnsignedDecimal {
     /// Rounds to a multiple of the increment at a position, and counts the turns of the loops over digits.
+    ///
+    /// It answers and does what `round_with_mode_and_increment` does, in at most two more turns than the
+    /// number has digits, from the first to the last one that is not zero.
     pub fn round_counted<L: Ledger>(
         &mut self,
         position: i16,
@@ -24,6 +27,7 @@ impl UnsignedDecimal {
         turns: &mut Turns<L>,
     ) -> Result<(), AllocError>
         ensures succeeds { increment ≢ RoundingIncrement.MultiplesOf25 → IsOk result }
+        ensures room { OnErr result (MayGrowAt (place position) self.old.count) }
         ensures value { OnOk result (Rounds mode increment (place position) self.old self.new) }
         ensures same { OnErr result (self.new ≡ self.old) }
         ensures turns { (low digits : ℕ) → HoldsDigits self.old.count low digits → turns.new ≤ turns.old + digits + 2 }

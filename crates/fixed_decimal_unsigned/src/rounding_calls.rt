@@ -1,6 +1,6 @@
 ghost use Rattle.std.specs.Prelude.{◌≡◌, ◌≢◌, ◌<◌, OnOk, OnErr, IfOk, IfErr, IsOk};
 ghost use Rattle.fixed_decimal_unsigned.specs.Number.{place};
-ghost use Rattle.fixed_decimal_unsigned.specs.Range.{Rounds};
+ghost use Rattle.fixed_decimal_unsigned.specs.Range.{Rounds, MayGrowAt};
 
 use crate::modes::{RoundingIncrement, UnsignedRoundingMode};
 use crate::turns::Turns;
@@ -22,6 +22,7 @@ impl UnsignedDecimal {
         requires parts { blank.parts ≡ L.parts }
         requires some { 0 < L.parts }
         ensures succeeds { increment ≢ RoundingIncrement.MultiplesOf25 → IsOk result }
+        ensures room { OnErr result (MayGrowAt (place position) self.old.count) }
         ensures value { OnOk result (Rounds mode increment (place position) self.old self.new) }
         ensures same { OnErr result (self.new ≡ self.old) }
     {
@@ -29,7 +30,11 @@ impl UnsignedDecimal {
         self.round_counted(position, mode, increment, &mut turns)
     }
 
-    /// Rounds to a multiple of the increment at a position.
+    /// Rounds to a multiple of the increment at a position: `37.5` at 0 by `HalfEven` to 25 is `50`.
+    ///
+    /// Zero stands in place of a multiple that reaches ten to the power 32768. Memory is wanted only for
+    /// `MultiplesOf25` and a number of eight digits or more whose last one, that is not zero, stands right
+    /// above the position; where it was refused the number is as it was.
     pub fn round_with_mode_and_increment(
         &mut self,
         position: i16,
@@ -37,13 +42,14 @@ impl UnsignedDecimal {
         increment: RoundingIncrement,
     ) -> Result<(), AllocError>
         ensures succeeds { increment ≢ RoundingIncrement.MultiplesOf25 → IsOk result }
+        ensures room { OnErr result (MayGrowAt (place position) self.old.count) }
         ensures value { OnOk result (Rounds mode increment (place position) self.old self.new) }
         ensures same { OnErr result (self.new ≡ self.old) }
     {
         self.round_with_blank::<Brand>(position, mode, increment, Blank::new(1))
     }
 
-    /// Rounds at a position as the mode says.
+    /// Rounds at a position as the mode says: `7.5` at 0 by `HalfTrunc` is `7`. It takes no memory.
     pub fn round_with_mode(&mut self, position: i16, mode: UnsignedRoundingMode)
         ensures { Rounds mode RoundingIncrement.MultiplesOf1 (place position) self.old self.new }
     {
@@ -54,28 +60,30 @@ impl UnsignedDecimal {
         );
     }
 
-    /// Rounds at a position to the nearest multiple, a tie to the even one.
+    /// Rounds at a position to the nearest multiple, a tie to the even one: `2.5` at 0 is `2`. It takes no memory.
     pub fn round(&mut self, position: i16)
         ensures { Rounds UnsignedRoundingMode.HalfEven RoundingIncrement.MultiplesOf1 (place position) self.old self.new }
     {
         self.round_with_mode(position, UnsignedRoundingMode::HalfEven);
     }
 
-    /// Rounds at a position away from zero.
+    /// Rounds at a position away from zero: `7.3` at 0 is `8`. It takes no memory.
     pub fn expand(&mut self, position: i16)
         ensures { Rounds UnsignedRoundingMode.Expand RoundingIncrement.MultiplesOf1 (place position) self.old self.new }
     {
         self.round_with_mode(position, UnsignedRoundingMode::Expand);
     }
 
-    /// Rounds at a position towards zero.
+    /// Rounds at a position towards zero: `7.8` at 0 is `7`. It takes no memory.
     pub fn trunc(&mut self, position: i16)
         ensures { Rounds UnsignedRoundingMode.Trunc RoundingIncrement.MultiplesOf1 (place position) self.old self.new }
     {
         self.round_with_mode(position, UnsignedRoundingMode::Trunc);
     }
 
-    /// The number rounded to a multiple of the increment, or the number itself where memory was refused.
+    /// The number rounded to a multiple of the increment: `37.5` at 0 by `HalfEven` to 25 gives `50`.
+    ///
+    /// The refusal for memory, which is wanted where `round_with_mode_and_increment` wants it, hands the number back.
     pub fn rounded_with_mode_and_increment(
         mut self,
         position: i16,
@@ -83,6 +91,7 @@ impl UnsignedDecimal {
         increment: RoundingIncrement,
     ) -> Result<UnsignedDecimal, AllocFailed<UnsignedDecimal>>
         ensures succeeds { increment ≢ RoundingIncrement.MultiplesOf25 → IsOk result }
+        ensures room { OnErr result (MayGrowAt (place position) self.count) }
         ensures value { IfOk result (λ v. Rounds mode increment (place position) self v) }
         ensures same { IfErr result (λ e. e.value ≡ self) }
     {
@@ -92,7 +101,7 @@ impl UnsignedDecimal {
         }
     }
 
-    /// The number rounded at a position as the mode says.
+    /// The number rounded at a position as the mode says: `7.5` at 0 by `HalfTrunc` gives `7`. It takes no memory.
     pub fn rounded_with_mode(mut self, position: i16, mode: UnsignedRoundingMode) -> UnsignedDecimal
         ensures { Rounds mode RoundingIncrement.MultiplesOf1 (place position) self result }
     {
@@ -100,7 +109,7 @@ impl UnsignedDecimal {
         self
     }
 
-    /// The number rounded at a position to the nearest multiple, a tie to the even one.
+    /// The number rounded at a position to the nearest multiple, a tie to the even one: `2.5` at 0 gives `2`. It takes no memory.
     pub fn rounded(mut self, position: i16) -> UnsignedDecimal
         ensures { Rounds UnsignedRoundingMode.HalfEven RoundingIncrement.MultiplesOf1 (place position) self result }
     {
@@ -108,7 +117,7 @@ impl UnsignedDecimal {
         self
     }
 
-    /// The number rounded at a position away from zero.
+    /// The number rounded at a position away from zero: `7.3` at 0 gives `8`. It takes no memory.
     pub fn expanded(mut self, position: i16) -> UnsignedDecimal
         ensures { Rounds UnsignedRoundingMode.Expand RoundingIncrement.MultiplesOf1 (place position) self result }
     {
@@ -116,7 +125,7 @@ impl UnsignedDecimal {
         self
     }
 
-    /// The number rounded at a position towards zero.
+    /// The number rounded at a position towards zero: `7.8` at 0 gives `7`. It takes no memory.
     pub fn trunced(mut self, position: i16) -> UnsignedDecimal
         ensures { Rounds UnsignedRoundingMode.Trunc RoundingIncrement.MultiplesOf1 (place position) self result }
     {

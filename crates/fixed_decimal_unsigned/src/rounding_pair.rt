@@ -138,6 +138,8 @@ pub fn round_digits<L: Ledger>(
     ensures value { IfOk result (λ t. IsRounded mode (increment_number increment * 10 ^ place) (count_of digits.old.items top) (count_of digits.new.items t)) }
     ensures same { OnErr result (digits.new ≡ digits.old) }
     ensures succeeds { increment ≢ RoundingIncrement.MultiplesOf25 → IsOk result }
+    ensures room { OnErr result (place + 8 ≤ top) }
+    ensures last { OnErr result (place + length digits.old.items ≡ top) }
     ensures turns { turns.new ≤ turns.old + length digits.old.items }
 {
     let Some(pair) = rounded_pair(digits, top, place, mode, increment) else {

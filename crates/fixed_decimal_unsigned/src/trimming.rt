@@ -15,21 +15,22 @@ fn end_below(digits: &Digits, top: u16, most: u16) -> u16
 }
 
 impl UnsignedDecimal {
-    /// Takes the zeros away that the number begins with: `012` becomes `12`.
+    /// Takes the zeros away that the number begins with: `012` becomes `12`. It takes no memory.
     pub fn trim_start(&mut self)
         ensures { TrimsStart self.old self.new }
     {
         self.high = self.top.max(ONES);
     }
 
-    /// Takes the zeros away that the number ends in behind the point: `1.20` becomes `1.2`, and `120` stays.
+    /// Takes the zeros away that the number ends in behind the point: `1.20` becomes `1.2`, and `120` stays. It takes no memory.
     pub fn trim_end(&mut self)
         ensures { TrimsEnd self.old self.new }
     {
         self.low = end_below(&self.digits, self.top, ONES);
     }
 
-    /// Takes the zeros behind the point away where there is no other digit behind it: `1.00` becomes `1`, and `1.20` stays.
+    /// Takes the zeros behind the point away where there is no other digit behind it: `1.00` becomes `1`, and
+    /// `1.20` stays. It takes no memory.
     pub fn trim_end_if_integer(&mut self)
         ensures { TrimsWhole self.old self.new }
     {
@@ -40,7 +41,7 @@ impl UnsignedDecimal {
 
     /// Shows zeros before the number up to a position, or no more than it needs: `12` and 4 give `0012`.
     ///
-    /// A position of 0 or below changes nothing.
+    /// A position of 0 or below changes nothing. It takes no memory.
     pub fn pad_start(&mut self, position: i16)
         ensures { PadsStart (place position) self.old self.new }
     {
@@ -52,7 +53,7 @@ impl UnsignedDecimal {
 
     /// Shows zeros behind the number down to a position, or no more than it needs: `12` and -2 give `12.00`.
     ///
-    /// A position above 0 changes nothing.
+    /// A position above 0 changes nothing. It takes no memory.
     pub fn pad_end(&mut self, position: i16)
         ensures { PadsEnd (place position) self.old self.new }
     {

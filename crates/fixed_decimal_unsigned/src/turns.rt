@@ -35,7 +35,7 @@ impl<L: Ledger> Turns<L> {
     }
 
     // One turn more.
-    pub fn turn(&mut self)
+    pub(crate) fn turn(&mut self)
         ensures { self.new ≡ self.old + 1 }
     {
         self.book.add(&mut self.share, 1);

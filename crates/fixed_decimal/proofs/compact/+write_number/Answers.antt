@@ -1,4 +1,4 @@
-use Rattle.std.proofs.Common.{◌≡◌, ◌++◌, ◌+◌, ◌/◌, ◌%◌, map, OnOk, OnErr, rules, arith, refl, sym, subst}
+use Rattle.std.proofs.Common.{◌++◌, ◌+◌, ◌/◌, ◌%◌, map, OnOk, OnErr, rules, arith, refl, sym, subst}
 use Rattle.std.specs.Char.{encode_utf8}
 use Rattle.std.specs.Int.Digits.{digits_of}
 use Rattle.writeable.specs.AnnotatedText.{bytes}

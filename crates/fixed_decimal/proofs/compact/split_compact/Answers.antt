@@ -1,6 +1,5 @@
-use Rattle.std.proofs.Common.{◌≡◌, ◌∷◌, ◌++◌, rules, subst}
+use Rattle.std.proofs.Common.{◌≡◌, ◌∷◌, ◌++◌, rules}
 use Rattle.fixed_decimal.specs.PlainText.{MarksExponent}
-use Rattle.fixed_decimal.specs.PlainParts.{StartsWithMark, IsCompactExponent}
 use Rattle.fixed_decimal.proofs.CompactTextLemmas.{other_mark, no_compact_exponent}
 use Rattle.fixed_decimal.proofs.compact.split_compact.Goals as goal
 

@@ -1,4 +1,4 @@
-use Rattle.std.proofs.Common.{◌≡◌, ◌∷◌, ◌++◌, [], rules}
+use Rattle.std.proofs.Common.{◌≡◌, ◌∷◌, ◌++◌, rules}
 use Rattle.fixed_decimal.specs.PlainText.{MarksExponent}
 use Rattle.fixed_decimal.proofs.ScientificTextLemmas.{no_marks, no_small_mark, second_mark}
 use Rattle.fixed_decimal.proofs.scientific.split_scientific.Goals as goal

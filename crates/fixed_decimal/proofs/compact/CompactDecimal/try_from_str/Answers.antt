@@ -1,4 +1,4 @@
-use Rattle.std.proofs.Common.{◌≡◌, rules}
+use Rattle.std.proofs.Common.{rules}
 use Rattle.fixed_decimal.specs.CompactText.{SpellsCompact}
 use Rattle.fixed_decimal.proofs.CompactTextLemmas.{no_compact_text}
 use Rattle.fixed_decimal.proofs.compact.CompactDecimal.try_from_str.Goals as goal
