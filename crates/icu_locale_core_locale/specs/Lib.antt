@@ -1,3 +1,4 @@
+pub mod ExtensionsOrder
 pub mod ExtensionsValue
 pub mod LocaleText
 pub mod LocaleValue
