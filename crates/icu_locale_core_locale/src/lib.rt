@@ -12,8 +12,10 @@
 
 mod comparing;
 mod extensions;
+mod json;
 pub mod laws;
 mod locale;
+mod normalizing;
 mod parser;
 mod printing;
 

@@ -139,8 +139,7 @@ impl fmt::Debug for Locale {
 
     ghost debug_output = { λ m. Some (normal_text m) };
 
-    #[tactic(auto, using(writeable::proofs::AnnotatedTextLemmas::text_of_bytes))]
     fn fmt<W: fmt::Write>(&self, f: &mut fmt::Formatter<W>) -> fmt::Result {
-        display(self, f)
+        fmt::Display::fmt(self, f)
     }
 }

@@ -191,8 +191,7 @@ impl fmt::Debug for Extensions {
 
     ghost debug_output = { λ e. Some (extensions_alone e) };
 
-    #[tactic(auto, using(writeable::proofs::AnnotatedTextLemmas::text_of_bytes))]
     fn fmt<W: fmt::Write>(&self, f: &mut fmt::Formatter<W>) -> fmt::Result {
-        display(self, f)
+        fmt::Display::fmt(self, f)
     }
 }
