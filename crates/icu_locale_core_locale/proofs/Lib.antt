@@ -7,3 +7,4 @@ pub mod PlacedLemmas
 pub mod RetainingLemmas
 pub mod SingletonLemmas
 pub mod StageLemmas
+pub mod WellFormedLemmas

@@ -18,6 +18,7 @@ mod locale;
 mod normalizing;
 mod parser;
 mod printing;
+mod well_formed;
 
 pub use crate::extensions::Extensions;
 pub use crate::locale::Locale;
