@@ -2,7 +2,6 @@
 use Rattle.std.proofs.Common.{◌≡◌, true, eqb, ◌&&◌, List, [], ◌∷◌, Option, None, Some, length, refl, arith}
 use Rattle.std.specs.Prelude.{is_none}
 use Rattle.std.proofs.lemmas.Bool.{and_parts, eqb-true}
-use Rattle.icu_locale_core_grammar.specs.Subtags.{Text}
 use Rattle.icu_locale_core_extensions.specs.ExtensionText.{is_empty_unicode, is_empty_transform}
 use Rattle.icu_locale_core_locale.specs.ExtensionsValue.{ExtensionsValue, nothing}
 use Rattle.icu_locale_core_locale.specs.LocaleValue.{is_empty_extensions}

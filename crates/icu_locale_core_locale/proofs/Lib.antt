@@ -1,4 +1,10 @@
+pub mod CountingLemmas
 pub mod ExtensionsLemmas
 pub mod LocaleTextLemmas
+pub mod NormalizingLemmas
+pub mod OrderLemmas
+pub mod PlacedLemmas
+pub mod RetainingLemmas
 pub mod SingletonLemmas
 pub mod StageLemmas
+pub mod WellFormedLemmas

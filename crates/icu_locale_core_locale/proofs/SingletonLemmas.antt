@@ -1,10 +1,10 @@
 -- A list of singletons has a piece exactly where the piece is one character and its byte is there.
-use Rattle.std.proofs.Common.{◌≡◌, ℕ, ◌<◌, ◌≤◌, Bool, true, false, ◌||◌, ◌&&◌, List, [], ◌∷◌, length, map, refl, sym, ap, ◌∙◌, nat_eq, arith}
+use Rattle.std.proofs.Common.{◌≡◌, ℕ, ◌<◌, ◌≤◌, Bool, true, false, ◌||◌, ◌&&◌, List, [], ◌∷◌, length, refl, sym, ap, ◌∙◌, nat_eq, arith}
 use Rattle.std.specs.List.{list_any}
 use Rattle.std.specs.Char.{to_ascii_lowercase}
 use Rattle.std.specs.Prelude.{slice_index_or}
 use Rattle.std.specs.Cmp.{nat_eq_equiv}
-use Rattle.icu_locale_core_grammar.specs.Subtags.{Text, lower, same_text}
+use Rattle.icu_locale_core_grammar.specs.Subtags.{Text, lower}
 use Rattle.icu_locale_core_grammar.specs.Collections.{contains_text}
 use Rattle.icu_locale_core_locale.specs.StageView.{singletons}
 

@@ -1,5 +1,5 @@
 -- A part that has ended goes on with what comes behind it.
-use Rattle.std.proofs.Common.{◌≡◌, List, [], ◌∷◌, ◌++◌, Option, None, Some, refl, sym, ap, ◌∙◌}
+use Rattle.std.proofs.Common.{◌≡◌, List, [], ◌∷◌, ◌++◌, Option, None, Some, ap, ◌∙◌}
 use Rattle.icu_locale_core_grammar.specs.Subtags.{Text, is_private, is_private_piece}
 use Rattle.icu_locale_core_grammar.specs.LanguagePart.{LanguageId}
 use Rattle.icu_locale_core_grammar.specs.Meaning.{Part, ExtensionMeanings, put_part, no_extensions}

@@ -3,7 +3,7 @@
 -- Cited by the calls of `Extensions` and `Locale`.
 use Rattle.std.specs.Prelude.{List, []}
 use Rattle.icu_locale_core_grammar.specs.Subtags.{Text}
-use Rattle.icu_locale_core_grammar.specs.Meaning.{ExtensionMeanings, no_extensions}
+use Rattle.icu_locale_core_grammar.specs.Meaning.{UnicodeMeaning, ExtensionMeanings, no_transform, no_extensions}
 
 pub record ExtensionsValue : Type 0 where
   pub blocks : ExtensionMeanings
@@ -11,3 +11,7 @@ pub record ExtensionsValue : Type 0 where
 
 abbrev pub nothing : ExtensionsValue
 nothing = record { blocks = no_extensions; own = [] }
+
+-- the extension `u` alone
+abbrev pub only_unicode : UnicodeMeaning → ExtensionsValue
+only_unicode u = record { blocks = record { unicode = u; transform = no_transform; others = [] }; own = [] }

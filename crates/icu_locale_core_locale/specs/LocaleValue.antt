@@ -8,7 +8,7 @@ use Rattle.std.specs.Cmp.{IsEquivalence, on_equiv, and_equiv}
 use Rattle.std.specs.Cmp.Lexicographic.{pointwise, bytes_decides, pointwise_decides, nat_list_eq_equiv, lists_equiv}
 use Rattle.std.specs.Hash as fed
 use Rattle.std.proofs.lemmas.Bool.{and_parts}
-use Rattle.icu_locale_core_grammar.specs.Subtags.{Text, same_text}
+use Rattle.icu_locale_core_grammar.specs.Subtags.{same_text}
 use Rattle.icu_locale_core_grammar.specs.LanguagePart.{LanguageId}
 use Rattle.icu_locale_core_grammar.specs.Meaning.{UnicodeMeaning, TransformMeaning, TagMeaning, no_extensions}
 use Rattle.icu_locale_core_langid.specs.Parts.{with_parts, und_text}

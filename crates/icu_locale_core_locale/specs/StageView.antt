@@ -1,8 +1,7 @@
 -- What the definitions see of the stage of a tag that is being read.
 -- Defined in docs/tags.md, "Stages".
 -- Cited by the functions that read whole tags.
-use Rattle.std.specs.Prelude.{◌≡◌, ℕ, Bool, true, false, List, [], ◌∷◌, ◌++◌, map, Option, None, Some, if◌then◌else◌}
-use Rattle.icu_locale_core_grammar.specs.declared.error.ParseError.{ParseError}
+use Rattle.std.specs.Prelude.{◌≡◌, ℕ, Bool, true, false, List, [], ◌∷◌, map, Option, None, Some, if◌then◌else◌}
 use Rattle.icu_locale_core_grammar.specs.Subtags.{Text, is_private, lower}
 use Rattle.icu_locale_core_grammar.specs.Collections.{contains_text}
 use Rattle.icu_locale_core_grammar.specs.LanguagePart.{LanguageId}

@@ -1,13 +1,16 @@
-//! Equality, hash and byte order of locales, and of their extensions.
+//! Equality, hash and orders of locales, and of their extensions.
 
 ghost use Rattle.std.specs.Prelude.{◌≡◌};
 ghost use Rattle.std.specs.Cmp.{partial_equiv_from_equiv};
 ghost use Rattle.writeable.specs.Order.{byte_order};
 ghost use Rattle.icu_locale_core_grammar.specs.NormalText.{normal_text};
+ghost use Rattle.icu_locale_core_grammar.specs.TagOrder.{entries_cmp, tag_cmp};
+ghost use Rattle.icu_locale_core_locale.specs.ExtensionsOrder.{extensions_cmp};
 ghost use Rattle.icu_locale_core_locale.specs.LocaleValue.{same_extensions, same_locale, extensions_fed, locale_fed, extensions_equiv, locale_equiv, extensions_alike, locale_alike};
 
 use crate::extensions::Extensions;
 use crate::locale::Locale;
+use icu_locale_core_extensions::Other;
 use std::cmp::Ordering;
 use std::hash::{Hash, Hasher};
 use writeable::strict_cmp;
@@ -42,6 +45,34 @@ impl Hash for Extensions {
     }
 }
 
+// The order of two lists of extensions: by their first difference; where one begins the other, the shorter is less.
+fn others_order(others: &[Other], against: &[Other]) -> Ordering
+    ensures { result ≡ entries_cmp others.now against.now }
+{
+    for (one, other) in others.iter().zip(against) {
+        let order = one.total_cmp(other);
+        if order.is_ne() {
+            return order;
+        }
+    }
+    others.len().cmp(&against.len())
+}
+
+impl Extensions {
+    /// The order of two values, part by part: `u`, `t`, the private pieces, all others. It takes no memory.
+    ///
+    /// `u-nu-latn` before `u-nu-thai`, and `t-de` before `u-foo`, which has an attribute. `Equal` exactly where they are equal.
+    pub fn total_cmp(&self, other: &Self) -> Ordering
+        ensures { result ≡ extensions_cmp self.now other.now }
+    {
+        self.unicode
+            .total_cmp(&other.unicode)
+            .then(self.transform.total_cmp(&other.transform))
+            .then(self.private.cmp(&other.private))
+            .then(others_order(self.other.as_slice(), other.other.as_slice()))
+    }
+}
+
 impl PartialEq for Locale {
     ghost eq = { same_locale };
 
@@ -68,6 +99,17 @@ impl Hash for Locale {
 }
 
 impl Locale {
+    /// The order of two locales, part by part: the language part, then the extensions. It takes no memory.
+    ///
+    /// `en-US-u-nu-thai` before `en-Latn`, since no script comes before one. `Equal` exactly where they are equal.
+    pub fn total_cmp(&self, other: &Self) -> Ordering
+        ensures { result ≡ tag_cmp self.now other.now }
+    {
+        self.id
+            .total_cmp(&other.id)
+            .then(self.extensions.total_cmp(&other.extensions))
+    }
+
     /// The byte order of the text against these bytes; the text is not built, and it takes no memory.
     ///
     /// `en-US` is `Greater` than `en+`, and `Less` than `en-US-x`.

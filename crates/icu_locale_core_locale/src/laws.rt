@@ -1,5 +1,6 @@
 //! Laws of locales: each is the contract of a function that computes nothing.
 
+ghost use Rattle.icu_locale_core_locale.specs.ExtensionsOrder.{OrdersAreTotal};
 ghost use Rattle.icu_locale_core_locale.specs.LocaleValue.{SameIsEqual};
 ghost use Rattle.icu_locale_core_locale.specs.ReadsBack.{LocalesReadBack};
 
@@ -14,4 +15,9 @@ pub fn locales_read_back()
 /// `==` holds exactly of equal locales.
 pub fn same_is_equal()
     ensures { SameIsEqual }
+{}
+
+/// `total_cmp` of locales, and of extensions, is a total order, and answers `Equal` exactly where `==` holds.
+pub fn orders_are_total()
+    ensures { OrdersAreTotal }
 {}

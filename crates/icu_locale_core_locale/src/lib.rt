@@ -12,11 +12,16 @@
 
 mod comparing;
 mod extensions;
+mod json;
 pub mod laws;
 mod locale;
+mod locale_bytes;
+mod normalizing;
 mod parser;
 mod printing;
+mod well_formed;
 
 pub use crate::extensions::Extensions;
 pub use crate::locale::Locale;
+pub use crate::locale_bytes::TryFromLocaleBytes;
 pub use crate::parser::parse_locale;

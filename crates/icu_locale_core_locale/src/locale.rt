@@ -1,16 +1,18 @@
 //! The locale: its parts, and how it is read.
 
-ghost use Rattle.std.specs.Prelude.{◌≡◌, ◌↔◌, ◌⊎◌, IfOk, IfErr, IsTrue};
+ghost use Rattle.std.specs.Prelude.{◌≡◌, ◌↔◌, ◌⊎◌, [], None, IfOk, IfErr, IsTrue};
 ghost use Rattle.icu_locale_core_grammar.specs.declared.error.ParseError.{ParseError};
 ghost use Rattle.icu_locale_core_grammar.specs.Pieces.{pieces};
 ghost use Rattle.icu_locale_core_grammar.specs.Meaning.{MeansTag};
 ghost use Rattle.icu_locale_core_grammar.specs.FaultyPiece.{HasFault};
+ghost use Rattle.icu_locale_core_langid.specs.Parts.{with_parts, und_text};
 ghost use Rattle.icu_locale_core_locale.specs.LocaleValue.{language_alone, unknown_locale};
 
 use crate::extensions::Extensions;
 use crate::parser::parse_locale;
 use icu_locale_core_grammar::ParseError;
 use icu_locale_core_langid::LanguageIdentifier;
+use icu_locale_core_subtags::{Language, Region, Script};
 use std::alloc::{AllocError, Global};
 use std::marker::Model;
 
@@ -49,6 +51,34 @@ impl Locale {
         }
     }
 
+    /// The locale of this language alone: of `en` it is `en`. It takes no memory.
+    pub fn from_language(alloc: Global, language: Language) -> Self
+        ensures { result ≡ language_alone (with_parts language None None []) }
+    {
+        Self::from_id(alloc, LanguageIdentifier::from_language(alloc, language))
+    }
+
+    /// The language `und` with this script, or alone: of `Latn` it is `und-Latn`. It takes no memory.
+    pub fn from_script(alloc: Global, script: Option<Script>) -> Self
+        ensures { result ≡ language_alone (with_parts und_text script None []) }
+    {
+        Self::from_id(alloc, LanguageIdentifier::from_script(alloc, script))
+    }
+
+    /// The language `und` with this region, or alone: of `US` it is `und-US`. It takes no memory.
+    pub fn from_region(alloc: Global, region: Option<Region>) -> Self
+        ensures { result ≡ language_alone (with_parts und_text None region []) }
+    {
+        Self::from_id(alloc, LanguageIdentifier::from_region(alloc, region))
+    }
+
+    /// The locale of these three parts: of `en`, no script and `US` it is `en-US`. It takes no memory.
+    pub fn from_triple(alloc: Global, triple: (Language, Option<Script>, Option<Region>)) -> Self
+        ensures { result ≡ language_alone (with_parts triple.0 triple.1 triple.2 []) }
+    {
+        Self::from_id(alloc, LanguageIdentifier::from_triple(alloc, triple))
+    }
+
     /// Whether this is the language `und`, and nothing else.
     pub fn is_unknown(&self) -> bool
         ensures { IsTrue result ↔ (self.now ≡ unknown_locale) }
@@ -82,5 +112,14 @@ impl Locale {
         ensures fault { IfErr result (λ e. (e ≡ ParseError.Memory) ⊎ HasFault MeansTag (pieces code_units.now) e) }
     {
         parse_locale(alloc, code_units)
+    }
+}
+
+impl AsRef<LanguageIdentifier> for Locale {
+    /// The language part: of `en-US-u-nu-thai` it is `en-US`.
+    fn as_ref(&self) -> &LanguageIdentifier
+        ensures { result.now ≡ self.now.front }
+    {
+        &self.id
     }
 }

@@ -28,7 +28,7 @@ fn write_behind<S: Sink>(private: &Private, sink: &mut S) -> Result<(), Error>
 
 // Writes the private pieces behind what was written; nothing where there is none.
 #[tactic(auto, using(crate::proofs::LocaleTextLemmas::tail_events, crate::proofs::LocaleTextLemmas::no_tail_events))]
-fn write_private<S: Sink>(private: &Private, sink: &mut S) -> Result<(), Error>
+pub(crate) fn write_private<S: Sink>(private: &Private, sink: &mut S) -> Result<(), Error>
     requires { S.refused sink.old ≡ false }
     ensures ok { OnOk result (S.takes sink.old (bytes (private_tail private.now)) sink.new) }
     ensures refused { S.refused sink.new ≡ is_err result }
@@ -130,5 +130,16 @@ impl fmt::Display for Locale {
     #[tactic(auto, using(writeable::proofs::AnnotatedTextLemmas::text_of_bytes))]
     fn fmt<W: fmt::Write>(&self, f: &mut fmt::Formatter<W>) -> fmt::Result {
         display(self, f)
+    }
+}
+
+impl fmt::Debug for Locale {
+    ghost use Rattle.std.specs.Prelude.{Some};
+    ghost use Rattle.icu_locale_core_grammar.specs.NormalText.{normal_text};
+
+    ghost debug_output = { λ m. Some (normal_text m) };
+
+    fn fmt<W: fmt::Write>(&self, f: &mut fmt::Formatter<W>) -> fmt::Result {
+        fmt::Display::fmt(self, f)
     }
 }

@@ -1,7 +1,7 @@
 //! All extensions of a locale.
 
 ghost use Rattle.std.specs.Prelude.{◌≡◌, ◌↔◌, IfOk, IsTrue};
-ghost use Rattle.icu_locale_core_locale.specs.ExtensionsValue.{nothing};
+ghost use Rattle.icu_locale_core_locale.specs.ExtensionsValue.{nothing, only_unicode};
 ghost use Rattle.icu_locale_core_locale.specs.LocaleValue.{is_empty_extensions};
 
 use icu_locale_core_extensions::{Blocks, Other, Transform, Unicode};
@@ -57,6 +57,28 @@ impl Extensions {
             private: Private::new(alloc),
             other: Vec::new(alloc),
         }
+    }
+
+    /// The extension `u` alone. It takes no memory.
+    pub fn from_unicode(alloc: Global, unicode: Unicode) -> Self
+        ensures { result ≡ only_unicode unicode }
+    {
+        Extensions {
+            unicode,
+            transform: Transform::new(alloc),
+            private: Private::new(alloc),
+            other: Vec::new(alloc),
+        }
+    }
+
+    /// Takes all extensions away. It takes no memory.
+    pub fn clear(&mut self)
+        ensures { self.new ≡ nothing }
+    {
+        self.unicode.clear();
+        self.transform.clear();
+        self.private.clear();
+        self.other.clear();
     }
 
     // Whether no part has anything.

@@ -1,0 +1,37 @@
+//! The JSON form of a locale: its text.
+
+ghost use Rattle.std.specs.Prelude.{◌≡◌, ◌⊎◌, IfOk, IfErr};
+ghost use Rattle.serde_json.specs.Data.{string};
+ghost use Rattle.serde_json.specs.View.{view};
+ghost use Rattle.icu_locale_core_grammar.specs.declared.error.ParseError.{ParseError};
+ghost use Rattle.icu_locale_core_grammar.specs.Pieces.{pieces};
+ghost use Rattle.icu_locale_core_grammar.specs.Meaning.{MeansTag};
+ghost use Rattle.icu_locale_core_grammar.specs.FaultyPiece.{HasFault};
+ghost use Rattle.icu_locale_core_grammar.specs.NormalText.{normal_text};
+ghost use Rattle.icu_locale_core_subtags.specs.JsonText.{json_text};
+
+use crate::locale::Locale;
+use crate::normalizing::built_text;
+use icu_locale_core_grammar::ParseError;
+use icu_locale_core_subtags::text_of_json;
+use serde_json::Value;
+use std::alloc::{AllocError, Global};
+
+impl Locale {
+    /// The text as a JSON value: `en-u-nu-thai` gives `"en-u-nu-thai"`. `AllocError` is answered for memory alone.
+    pub fn to_json(&self, alloc: Global) -> Result<Value, AllocError>
+        ensures { IfOk result (λ value. view value ≡ string (normal_text self.now)) }
+    {
+        Ok(Value::String(built_text(alloc, self)?))
+    }
+
+    /// The locale of the text in a JSON value, as `try_from_str`: `"EN-u-NU-Thai"` gives `en-u-nu-thai`.
+    ///
+    /// A value that is no text is refused as the empty text is: `InvalidLanguage`.
+    pub fn from_json(alloc: Global, value: &Value) -> Result<Self, ParseError>
+        ensures value { IfOk result (MeansTag (pieces (json_text (view value.now)))) }
+        ensures fault { IfErr result (λ e. (e ≡ ParseError.Memory) ⊎ HasFault MeansTag (pieces (json_text (view value.now))) e) }
+    {
+        Self::try_from_str(alloc, text_of_json(value))
+    }
+}

@@ -1,0 +1,36 @@
+//! The language part of a whole tag.
+
+ghost use Rattle.std.specs.Prelude.{◌≡◌, ◌⊎◌, IfOk, IfErr};
+ghost use Rattle.icu_locale_core_grammar.specs.declared.error.ParseError.{ParseError};
+ghost use Rattle.icu_locale_core_grammar.specs.Pieces.{pieces};
+ghost use Rattle.icu_locale_core_grammar.specs.Meaning.{TagMeaning, MeansTag};
+ghost use Rattle.icu_locale_core_grammar.specs.FaultyPiece.{HasFault};
+
+use crate::locale::Locale;
+use crate::parser::parse_locale;
+use icu_locale_core_grammar::ParseError;
+use icu_locale_core_langid::LanguageIdentifier;
+use std::alloc::Global;
+
+/// What is read from a whole tag, without its extensions: `LanguageIdentifier::try_from_locale_bytes`.
+pub trait TryFromLocaleBytes {
+    /// Reads the whole tag, and leaves its extensions out. It refuses as `Locale::try_from_utf8` does.
+    fn try_from_locale_bytes(alloc: Global, v: &[u8]) -> Result<Self, ParseError>
+    where
+        Self: Sized;
+}
+
+impl TryFromLocaleBytes for LanguageIdentifier {
+    /// The language part of the tag that these bytes are: of `en-US-u-nu-thai` it is `en-US`.
+    ///
+    /// The extensions are read too: `en-u` is `InvalidExtension`. It refuses as `Locale::try_from_utf8` does.
+    fn try_from_locale_bytes(alloc: Global, v: &[u8]) -> Result<Self, ParseError>
+        ensures value { IfOk result (λ id. (m : TagMeaning) × MeansTag (pieces v.now) m × (id ≡ m.front)) }
+        ensures fault { IfErr result (λ e. (e ≡ ParseError.Memory) ⊎ HasFault MeansTag (pieces v.now) e) }
+    {
+        match parse_locale(alloc, v) {
+            Ok(Locale { id, extensions: _ }) => Ok(id),
+            Err(error) => Err(error),
+        }
+    }
+}

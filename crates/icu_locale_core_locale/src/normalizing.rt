@@ -1,0 +1,102 @@
+//! The normal text of a text that is a tag, and whether a text means a given locale.
+
+ghost use Rattle.std.specs.Prelude.{◌≡◌, ◌↔◌, ◌⊎◌, IsTrue, IfOk, IfErr};
+ghost use Rattle.std.specs.String.{string_bytes};
+ghost use Rattle.icu_locale_core_grammar.specs.declared.error.ParseError.{ParseError};
+ghost use Rattle.icu_locale_core_grammar.specs.Pieces.{pieces};
+ghost use Rattle.icu_locale_core_grammar.specs.Meaning.{TagMeaning, MeansTag};
+ghost use Rattle.icu_locale_core_grammar.specs.FaultyPiece.{HasFault};
+ghost use Rattle.icu_locale_core_grammar.specs.NormalText.{normal_text};
+ghost use Rattle.icu_locale_core_langid.specs.NormalizedText.{IsNormalized};
+
+use crate::locale::Locale;
+use icu_locale_core_grammar::ParseError;
+use std::alloc::{AllocError, Global};
+use std::borrow::CowStr;
+use std::str;
+use writeable::Writeable;
+
+// The text, in memory of its own.
+pub(crate) fn built_text(alloc: Global, locale: &Locale) -> Result<String, AllocError>
+    ensures { IfOk result (λ text. string_bytes text ≡ normal_text locale.now) }
+{
+    locale.write_to_string(alloc)
+}
+
+// Whether this is the text of the locale.
+fn is_text_of(locale: &Locale, text: &[u8]) -> bool
+    ensures { IsTrue result ↔ (text.now ≡ normal_text locale.now) }
+{
+    locale.strict_cmp(text).is_eq()
+}
+
+// The text of the locale, which is `input` itself or not.
+fn text_or_input<'a>(
+    alloc: Global,
+    locale: &Locale,
+    input: &'a str,
+) -> Result<CowStr<'a, Global>, AllocError>
+    ensures { IfOk result (IsNormalized input.now (normal_text locale.now)) }
+{
+    if is_text_of(locale, input.as_bytes()) {
+        Ok(CowStr::Borrowed(input))
+    } else {
+        Ok(CowStr::Owned(built_text(alloc, locale)?))
+    }
+}
+
+impl Locale {
+    /// The normal text of a text, borrowed where the text is normal.
+    ///
+    /// `EN-us-u-NU-Thai` gives a new `en-US-u-nu-thai`, which gives itself. It refuses as `try_from_str` does.
+    pub fn normalize(alloc: Global, input: &str) -> Result<CowStr<'_, Global>, ParseError>
+        ensures value { IfOk result (λ text. (m : TagMeaning) × MeansTag (pieces input.now) m × IsNormalized input.now (normal_text m) text) }
+        ensures fault { IfErr result (λ e. (e ≡ ParseError.Memory) ⊎ HasFault MeansTag (pieces input.now) e) }
+    {
+        match Self::try_from_str(alloc, input) {
+            Ok(locale) => match text_or_input(alloc, &locale, input) {
+                Ok(text) => Ok(text),
+                Err(_) => Err(ParseError::Memory),
+            },
+            Err(error) => Err(error),
+        }
+    }
+
+    /// The normal text of the bytes of a text, as `normalize`.
+    pub fn normalize_utf8(alloc: Global, input: &[u8]) -> Result<CowStr<'_, Global>, ParseError>
+        ensures value { IfOk result (λ text. (m : TagMeaning) × MeansTag (pieces input.now) m × IsNormalized input.now (normal_text m) text) }
+        ensures fault { IfErr result (λ e. (e ≡ ParseError.Memory) ⊎ HasFault MeansTag (pieces input.now) e) }
+    {
+        match str::from_utf8(input) {
+            Ok(text) => Self::normalize(alloc, text),
+            Err(_) => match Self::try_from_utf8(alloc, input) {
+                Ok(locale) => match built_text(alloc, &locale) {
+                    Ok(text) => {
+                        let _shown = text.as_str();
+                        Ok(CowStr::Owned(text))
+                    }
+                    Err(_) => Err(ParseError::Memory),
+                },
+                Err(error) => Err(error),
+            },
+        }
+    }
+
+    /// Whether the text reads as this locale: `EN-u-NU-Thai` does as `en-u-nu-thai`, and `en` does not.
+    ///
+    /// A text that is no tag does not. `AllocError` is answered for memory alone.
+    pub fn normalizing_eq(&self, alloc: Global, other: &str) -> Result<bool, AllocError>
+        ensures { IfOk result (λ same. IsTrue same ↔ MeansTag (pieces other.now) self.now) }
+    {
+        match Self::try_from_str(alloc, other) {
+            Ok(locale) => Ok(locale == *self),
+            Err(error) => {
+                if error == ParseError::Memory {
+                    Err(AllocError)
+                } else {
+                    Ok(false)
+                }
+            }
+        }
+    }
+}

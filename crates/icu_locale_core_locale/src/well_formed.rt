@@ -1,0 +1,118 @@
+//! Whether a locale reads back from its text.
+
+ghost use Rattle.std.specs.Prelude.{◌↔◌, [], ◌∷◌, IsTrue, IfSome};
+ghost use Rattle.std.specs.List.{AllByRecursion};
+ghost use Rattle.icu_locale_core_grammar.specs.Subtags.{is_other, is_other_piece, lower};
+ghost use Rattle.icu_locale_core_grammar.specs.Collections.{Rises, keys_of};
+ghost use Rattle.icu_locale_core_grammar.specs.Meaning.{MeansTag};
+ghost use Rattle.icu_locale_core_grammar.specs.NormalText.{normal_text};
+ghost use Rattle.icu_locale_core_grammar.specs.Pieces.{pieces};
+ghost use Rattle.icu_locale_core_grammar.specs.WellFormed.{IsNormalPiece, AreLower, IsNormalLanguage, IsNormalUnicode, IsNormalTransform, IsNormalOther, AreNormalOthers, IsNormalTag};
+
+use crate::locale::Locale;
+use icu_locale_core_extensions::{Other, Transform, Unicode};
+use icu_locale_core_langid::LanguageIdentifier;
+use icu_locale_core_langid::laws::identifiers_read_back;
+use icu_locale_core_subtags::Subtag;
+use icu_locale_core_subtags::laws::subtags_are_words;
+
+// Whether each keyword is well-formed.
+fn is_normal_unicode(unicode: &Unicode) -> bool
+    ensures { IsTrue result ↔ IsNormalUnicode unicode.now }
+{
+    let _attributes = unicode.attributes.as_slice();
+    unicode.keywords.is_well_formed()
+}
+
+// A language part, where there is one, is in normal form.
+fn languages_are_normal(language: &Option<LanguageIdentifier>)
+    ensures { IfSome language.now IsNormalLanguage }
+{
+    if let Some(language) = language {
+        identifiers_read_back(language);
+    }
+}
+
+// Whether each field is well-formed.
+fn is_normal_transform(transform: &Transform) -> bool
+    ensures { IsTrue result ↔ IsNormalTransform transform.now }
+{
+    languages_are_normal(&transform.lang);
+    transform.fields.is_well_formed()
+}
+
+// Whether this is a lower-case letter or a digit, and neither `t`, `u` nor `x`.
+fn is_free(singleton: u8) -> bool
+    ensures { IsTrue result ↔ IsNormalPiece is_other lower (singleton ∷ []) }
+{
+    let in_case = singleton.is_ascii_lowercase() || singleton.is_ascii_digit();
+    in_case && singleton != b't' && singleton != b'u' && singleton != b'x'
+}
+
+// The pieces of an extension are in normal form.
+fn pieces_are_normal(pieces: &[Subtag])
+    ensures { AreLower is_other_piece pieces.now }
+{
+    for piece in pieces {
+        subtags_are_words(piece);
+    }
+}
+
+// Whether the singleton is free, and there is a piece.
+fn is_normal_other(other: &Other) -> bool
+    ensures { IsTrue result ↔ IsNormalOther other.now }
+{
+    pieces_are_normal(other.as_slice());
+    !other.is_empty() && is_free(other.get_ext_byte())
+}
+
+// Whether each extension is well-formed.
+fn each_is_normal(others: &[Other]) -> bool
+    ensures { IsTrue result ↔ AllByRecursion IsNormalOther others.now }
+{
+    for other in others {
+        if !is_normal_other(other) {
+            return false;
+        }
+    }
+    true
+}
+
+// Whether each singleton is below the next.
+fn singletons_rise(others: &[Other]) -> bool
+    ensures { IsTrue result ↔ Rises (keys_of others.now) }
+{
+    others.is_sorted_by(|one, other| one.get_ext_str() < other.get_ext_str())
+}
+
+// Whether each extension is well-formed, and the singletons rise.
+fn are_normal_others(others: &[Other]) -> bool
+    ensures { IsTrue result ↔ AreNormalOthers others.now }
+{
+    each_is_normal(others) && singletons_rise(others)
+}
+
+// Whether each part is in normal form.
+fn has_normal_parts(locale: &Locale) -> bool
+    ensures { IsTrue result ↔ IsNormalTag locale.now }
+{
+    let extensions = &locale.extensions;
+    identifiers_read_back(&locale.id);
+    let _private = extensions.private.as_slice();
+    is_normal_unicode(&extensions.unicode)
+        && is_normal_transform(&extensions.transform)
+        && are_normal_others(extensions.other.as_slice())
+}
+
+impl Locale {
+    /// Whether the text reads back as this locale: true of every locale that was read. It takes no memory.
+    ///
+    /// It may not be of one that was put together by hand: where another extension has no piece, where two of them have one
+    /// singleton or stand out of order, as `b-foo-a-bar`, and where a subtag of a value has 2 characters.
+    #[tactic(auto, using(crate::proofs::WellFormedLemmas::reads_where_normal))]
+    pub fn is_well_formed(&self) -> bool
+        ensures { IsTrue result ↔ MeansTag (pieces (normal_text self.now)) self.now }
+    {
+        has_normal_parts(self)
+    }
+}
