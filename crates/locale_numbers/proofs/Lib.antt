@@ -1,3 +1,4 @@
+pub mod AlikeTags
 pub mod KnownValues
 pub mod LawsLemmas
 pub mod NumberReadingLemmas

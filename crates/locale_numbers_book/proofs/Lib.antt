@@ -1,5 +1,3 @@
-pub mod SubtagLemmas
-pub mod PieceLemmas
 pub mod TagLemmas
 pub mod BookLemmas
 pub mod KnownValues
