@@ -1,0 +1,118 @@
+//! What a locale prefers.
+
+ghost use Rattle.std.specs.Prelude.{◌≡◌};
+ghost use Rattle.icu_locale_core_grammar.specs.TagPreferences.{locale_preferences_of, language_priority, region_priority};
+ghost use Rattle.icu_locale_core_grammar.specs.PreferenceLaws.{no_preferences};
+
+use crate::data_locale::DataLocale;
+use crate::keywords::{key_of_override, key_of_subdivision, subdivision_at};
+use icu_locale_core_keywords::SubdivisionId;
+use icu_locale_core_locale::Locale;
+use icu_locale_core_subtags::{Language, Region, Script, Variant};
+use std::marker::Model;
+
+/// What a locale prefers: its language, script, region and first variant, and the subdivisions of its keywords `sd` and `rg`.
+///
+/// Source: UTS 35, section 3.6, keys `rg` and `sd`.
+#[derive(Clone, Copy, PartialEq, Eq, Hash)]
+pub struct LocalePreferences {
+    language: Language,
+    script: Option<Script>,
+    region: Option<Region>,
+    variant: Option<Variant>,
+    subdivision: Option<SubdivisionId>,
+    region_override: Option<SubdivisionId>,
+}
+
+impl Model for LocalePreferences {
+    ghost use Rattle.icu_locale_core_grammar.specs.TagPreferences.{LocalePreferencesMeaning};
+
+    ghost Value = { LocalePreferencesMeaning };
+
+    ghost view = { λ p. record {
+      language = p.language;
+      script = p.script;
+      region = p.region;
+      variant = p.variant;
+      subdivision = p.subdivision;
+      region_override = p.region_override;
+    } };
+
+    ghost inverse = { λ v. record {
+      language = v.language;
+      script = v.script;
+      region = v.region;
+      variant = v.variant;
+      subdivision = v.subdivision;
+      region_override = v.region_override;
+    } };
+}
+
+/// The language `und`, and nothing else.
+impl Default for LocalePreferences {
+    ghost is_default = { λ p. p ≡ no_preferences };
+
+    fn default() -> Self {
+        LocalePreferences {
+            language: Language::default(),
+            script: None,
+            region: None,
+            variant: None,
+            subdivision: None,
+            region_override: None,
+        }
+    }
+}
+
+/// What the locale prefers: of `de-fonipa-1996-u-rg-atzzzz-sd-ch` the language `de`, the variant `1996` and the region override
+/// `atzzzz`.
+///
+/// A keyword `sd` or `rg` whose value is no subdivision, as `ch` here, counts as not there. It takes no memory.
+impl From<&Locale> for LocalePreferences {
+    ghost from_gives = { λ locale p. p ≡ locale_preferences_of locale.now };
+
+    fn from(locale: &Locale) -> Self {
+        let id = &locale.id;
+        let keywords = &locale.extensions.unicode.keywords;
+        LocalePreferences {
+            language: id.language,
+            script: id.script,
+            region: id.region,
+            variant: id.variants.first().copied(),
+            subdivision: subdivision_at(keywords, &key_of_subdivision()),
+            region_override: subdivision_at(keywords, &key_of_override()),
+        }
+    }
+}
+
+impl LocalePreferences {
+    /// The data locale with the language first: the region as it stands, and the subdivision of `sd`.
+    ///
+    /// Of `en-US-u-rg-gbeng-sd-ustx` it is `en-US-u-sd-ustx`. It takes no memory.
+    pub fn to_data_locale_language_priority(self) -> DataLocale
+        ensures { result ≡ language_priority self }
+    {
+        DataLocale {
+            language: self.language,
+            script: self.script,
+            region: self.region,
+            variant: self.variant,
+            subdivision: self.subdivision,
+        }
+    }
+
+    /// The data locale with the region first: region and subdivision of the region override, where there is one.
+    ///
+    /// Of `en-US-u-rg-gbeng-sd-ustx` it is `en-GB-u-sd-gbeng`; without `rg` it is the form with the language first. It takes no
+    /// memory.
+    pub fn to_data_locale_region_priority(self) -> DataLocale
+        ensures { result ≡ region_priority self }
+    {
+        let mut data_locale = self.to_data_locale_language_priority();
+        if let Some(subdivision) = self.region_override {
+            data_locale.region = Some(subdivision.region);
+            data_locale.subdivision = Some(subdivision);
+        }
+        data_locale
+    }
+}
