@@ -1,3 +1,4 @@
+pub mod SystemLemmas
 pub mod TagLemmas
 pub mod BookLemmas
 pub mod KnownValues

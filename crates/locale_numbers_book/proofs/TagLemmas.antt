@@ -1,5 +1,5 @@
 -- What is read of a list of pieces is what it means: `specs/TagReading.antt`.
-use Rattle.std.proofs.Common.{◌≡◌, Bool, true, false, List, Option, None, Some, refl, sym, ap, ◌∙◌, subst}
+use Rattle.std.proofs.Common.{◌≡◌, Bool, true, false, List, Option, None, Some, ◌⊎◌, inl, inr, refl, sym, ap, ◌∙◌}
 use Rattle.std.specs.Prelude.{option_and_then, if◌then◌else◌}
 use Rattle.icu_locale_core_grammar.specs.declared.error.ParseError.{ParseError}
 use Rattle.icu_locale_core_grammar.specs.Subtags.{Text}
@@ -15,6 +15,11 @@ use Rattle.icu_locale_core_grammar.proofs.DataFaults.{data_never_both}
 use Rattle.icu_locale_core_locale.specs.LocaleValue.{same_locale, locale_decides}
 use Rattle.locale_numbers_book.specs.TagReading.{tag_of, data_locale_in, says_no_more, alone, data_locale_of}
 use Rattle.locale_numbers_book.specs.Laws.{TagsAreRead, DataLocalesAreRead}
+
+-- the second, where the first is not
+pub other_one : {A B : Type 0} → A ⊎ B → (A → ⊥) → B
+other_one (inl a) never = absurd (never a)
+other_one (inr b) never = b
 
 -- where nothing is meant, nothing is read
 none_read : {M : Type 0} (o : Option M) → ((m : M) → o ≡ Some m → ⊥) → o ≡ None
@@ -39,8 +44,8 @@ pub tags_read : TagsAreRead
 tags_read list tag = (tag_read list tag, tag_meant list tag)
 
 -- a faulty list is not read
-pub tag_refused : (list : List Text) (e : ParseError) → HasFault MeansTag list e → tag_of list ≡ None
-tag_refused list e fault = none_read (tag_of list) (λ tag h. never_both list tag e (tag_meant list tag h) fault)
+pub tag_faulty : (list : List Text) (e : ParseError) → HasFault MeansTag list e → tag_of list ≡ None
+tag_faulty list e fault = none_read (tag_of list) (λ tag h. never_both list tag e (tag_meant list tag h) fault)
 
 -- ---- data locales
 
@@ -72,5 +77,5 @@ data_read list locale m =
 pub data_locales_read : DataLocalesAreRead
 data_locales_read list locale = (data_read list locale, data_meant list locale)
 
-pub data_refused : (list : List Text) (e : ParseError) → HasDataFault list e → data_locale_of list ≡ None
-data_refused list e fault = none_read (data_locale_of list) (λ locale h. data_never_both list locale e (data_meant list locale h) fault)
+pub data_faulty : (list : List Text) (e : ParseError) → HasDataFault list e → data_locale_of list ≡ None
+data_faulty list e fault = none_read (data_locale_of list) (λ locale h. data_never_both list locale e (data_meant list locale h) fault)

@@ -37,10 +37,10 @@ impl Book {
     /// The digits under the first key that the book has.
     fn digits_for(
         &self,
-        numbering_system: Option<Subtag>,
+        numbering_system: Option<&Subtag>,
         symbols: &DecimalSymbols,
     ) -> Option<&[char; 10]>
-        ensures { option_copied result ≡ digits_chosen self.now numbering_system symbols.now }
+        ensures { option_copied result ≡ digits_chosen self.now (option_copied numbering_system.entry) symbols.now }
     {
         if let Some(system) = numbering_system {
             if let Some(found) = self.digits(system.as_str()) {
@@ -65,7 +65,7 @@ impl Book {
             ≡ chosen self.now locale numbering_system }
     {
         let symbols = self.symbols_for(locale, numbering_system)?;
-        let digits = self.digits_for(numbering_system, symbols)?;
+        let digits = self.digits_for(numbering_system.as_ref(), symbols)?;
         Some(Tables { symbols, digits })
     }
 }

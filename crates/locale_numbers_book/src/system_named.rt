@@ -7,21 +7,12 @@ ghost use Rattle.std.specs.Str.{bytes_eq};
 
 use icu_locale_core_subtags::Subtag;
 use indexmap::Equivalent;
-use std::hash::{Hash, Hasher};
 
 /// The name of a system, by which its entry is looked up.
-#[derive(Clone, Copy)]
+#[derive(Clone, Copy, PartialEq, Eq, Hash)]
 pub struct SystemNamed<'a> {
     /// The name.
     pub name: &'a str,
-}
-
-impl<'a> Hash for SystemNamed<'a> {
-    ghost hash_input = { λ s. fed.str s.name.now };
-
-    fn hash<H: Hasher>(&self, state: &mut H) {
-        self.name.hash(state);
-    }
 }
 
 impl<'a> Equivalent<Subtag> for SystemNamed<'a> {

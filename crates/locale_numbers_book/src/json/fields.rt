@@ -77,8 +77,10 @@ fn read_locale(alloc: Global, text: &str) -> Result<DataLocale, BookError>
 {
     match DataLocale::try_from_utf8(alloc, text.as_bytes()) {
         Ok(locale) => Ok(locale),
-        Err(ParseError::Memory) => Err(BookError::Memory),
-        Err(_) => Err(BookError::Shape),
+        Err(fault) => match fault {
+            ParseError::Memory => Err(BookError::Memory),
+            _ => Err(BookError::Shape),
+        },
     }
 }
 
