@@ -19,13 +19,12 @@ use Rattle.icu_locale_core_grammar.proofs.PlainPieces.{tag_plain, joined-pieces}
 use Rattle.icu_locale_core_grammar.proofs.NormalTags.{read_again}
 use Rattle.locale_numbers_symbols.specs.declared.GroupingStrategy.{GroupingStrategy}
 use Rattle.locale_numbers_book.specs.Book.{BookTables}
-use Rattle.locale_numbers_book.specs.TagReading.{tag_of}
-use Rattle.locale_numbers_book.proofs.TagLemmas.{tag_read}
 use Rattle.locale_numbers.specs.NumberReading.{reading_of}
 use Rattle.locale_numbers.specs.Request.{tab, is_tab, fields, form_named, grouping_named, keeps_sign, keeps_digits, request_by, request_in, request_of}
 use Rattle.locale_numbers.specs.declared.request.Form.{Form}
 use Rattle.locale_numbers.specs.Wanted.{Wanted, wanted_by, wanted_of}
 use Rattle.locale_numbers.specs.Answer.{answer_tagged, answer_asked, answer_of}
+use Rattle.locale_numbers.proofs.WantedLemmas.{asks_of}
 use Rattle.locale_numbers.specs.Laws.{AreAlike, AlikeTagsAreAnsweredAlike, NormalTextIsAnsweredAlike}
 
 -- ---- the bytes of a tag
@@ -70,8 +69,7 @@ tag_bytes text m means = subst (λ t. list_all is_tag_byte t ≡ true) (joined-p
 utf8_past : (b : ℕ) (rest : List ℕ) → b < 128 → is_utf8 (b ∷ rest) ≡ is_utf8 rest
 utf8_past b rest h =
     same_from_decides (is_utf8 (b ∷ rest)) (is_utf8 rest)
-    (IsUtf8-from_is_utf8 (b ∷ rest), is_utf8-from_IsUtf8 (b ∷ rest))
-    (
+    (IsUtf8-from_is_utf8 (b ∷ rest), is_utf8-from_IsUtf8 (b ∷ rest)) (
       (λ e. IsUtf8-append (b ∷ []) rest (IsUtf8-from_ascii (b ∷ []) (IsAscii-cons b [] h IsAscii-nil)) (IsUtf8-from_is_utf8 rest e)),
       (λ u. is_utf8-from_IsUtf8 rest (IsUtf8-past_char (b ∷ rest) rest b u (sym (ap (λ e. e ++ rest) (encode_ascii b h))))),
     )
@@ -119,9 +117,6 @@ module _ (book : BookTables) (text other : List ℕ) (alike : wanted_of text ≡
   read_alike rest false = refl
 
 -- ---- alike tags
-
-asks_of : (text : Text) (m : TagMeaning) → MeansTag (pieces text) m → wanted_of text ≡ Some (wanted_by (preferences_of m))
-asks_of text m means = ap (option_map (λ tag. wanted_by (preferences_of tag))) (tag_read (pieces text) m means)
 
 asks_alike : (m n : TagMeaning) → AreAlike m n → wanted_by (preferences_of m) ≡ wanted_by (preferences_of n)
 asks_alike m n a = λ i. record {

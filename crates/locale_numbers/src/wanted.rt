@@ -45,7 +45,9 @@ pub(crate) fn read_wanted(alloc: Global, text: &[u8]) -> Result<Option<Wanted>, 
 {
     match Locale::try_from_utf8(alloc, text) {
         Ok(locale) => Ok(Some(wanted_by(&locale))),
-        Err(ParseError::Memory) => Err(AllocError),
-        Err(_) => Ok(None),
+        Err(fault) => match fault {
+            ParseError::Memory => Err(AllocError),
+            _ => Ok(None),
+        },
     }
 }
