@@ -58,8 +58,8 @@ fn book_of(alloc: Global, value: &Value) -> Result<Book, BookError>
 impl Book {
     /// The book that a JSON text is.
     ///
-    /// An array of five arrays: of symbols, of digits, and three more of which only that they are arrays is looked at.
-    /// `SAMPLE_BOOK` is one. Refused with `Json` where the bytes have no reading as JSON, with `Shape` where the value that
+    /// An array of five arrays: of symbols, each under a data locale and a system or none, of digits, and three more of which
+    /// only that they are arrays is looked at. `SAMPLE_BOOK` is one. Refused with `Json` where the bytes have no reading as JSON, with `Shape` where the value that
     /// they say is no book, with `Memory` where memory is refused; no other error comes today. Takes memory.
     pub fn from_json(alloc: Global, bytes: &[u8]) -> Result<Book, BookError>
         ensures value { IfOk result (λ book. (value : Data) × Reads bytes.now value × IsBook value book) }

@@ -1,4 +1,4 @@
-use Rattle.std.proofs.Common.{sym, ap, ◌∙◌, Some}
+use Rattle.std.proofs.Common.{sym, ap, Some}
 use Rattle.locale_numbers_book.proofs.SystemLemmas.{system_piece, system_lower}
 use Rattle.locale_numbers_book.proofs.json.fields.read_system.Goals as goal
 
