@@ -1,4 +1,4 @@
--- Known values of the definitions: lines taken apart, texts of numbers, words of refusals, lines of the program.
+-- Known values of the definitions: lines taken apart, what tags ask for, texts of numbers, lines of the program.
 use Rattle.std.proofs.Common.{◌≡◌, [], ◌∷◌, ◌++◌, codes, true, false, Some, None, refl}
 use Rattle.locale_numbers_symbols.specs.declared.GroupingStrategy.TheVariants.{Min2}
 use Rattle.locale_numbers_engine.specs.declared.RunError.TheVariants as run
@@ -8,6 +8,10 @@ use Rattle.locale_numbers.specs.declared.fault.ProgramFault.TheVariants.{Usage, 
 use Rattle.locale_numbers.specs.Fault.{status_of, line_of}
 use Rattle.locale_numbers.specs.NumberReading.{reading_of, parts_of, nothing, beyond}
 use Rattle.locale_numbers.specs.Request.{tab, fields, request_in, grouping_named}
+use Rattle.icu_locale_core_grammar.specs.Stepping.{headed_after, whole_after}
+use Rattle.icu_locale_core_grammar.specs.TagStages.{with_piece, body_after}
+use Rattle.locale_numbers_book.specs.TagReading.{tag_of}
+use Rattle.locale_numbers.specs.Wanted.{wanted_of}
 
 -- ---- request lines
 
@@ -31,6 +35,39 @@ capital_word = refl
 
 short_word : grouping_named (codes "min") ≡ None
 short_word = refl
+
+-- ---- what tags ask for
+
+-- case, `rg`, attributes, other keywords and extensions, private pieces and later variants say nothing
+all_of_a_tag : wanted_of (codes "DE-at-fonipa-1996-a-foo-u-attr-ca-buddhist-nu-LATN-rg-gbzzzz-sd-at9-x-foo") ≡ Some (record {
+  locale = record {
+    language = codes "de";
+    script = None;
+    region = Some (codes "AT");
+    variant = Some (codes "1996");
+    subdivision = Some (record { region = codes "AT"; suffix = codes "9" });
+  };
+  numbering_system = Some (codes "latn");
+})
+unfolding tag_of whole_after headed_after body_after with_piece
+all_of_a_tag = refl
+
+-- a subdivision without a region, and a system of two pieces, are none
+nothing_that_reads : wanted_of (codes "en-u-nu-latn-thai-sd-12a") ≡ wanted_of (codes "en")
+unfolding tag_of whole_after headed_after body_after with_piece
+nothing_that_reads = refl
+
+-- a region that stands in `sd` alone is none
+no_region : wanted_of (codes "en-u-sd-ustx") ≡ Some (record {
+  locale = record { language = codes "en"; script = None; region = None; variant = None; subdivision = Some (record { region = codes "US"; suffix = codes "tx" }) };
+  numbering_system = None;
+})
+unfolding tag_of whole_after headed_after body_after with_piece
+no_region = refl
+
+no_tag : wanted_of (codes "en-u") ≡ None
+unfolding tag_of whole_after headed_after body_after with_piece
+no_tag = refl
 
 -- ---- texts of numbers
 

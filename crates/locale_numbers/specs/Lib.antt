@@ -5,3 +5,4 @@ pub mod NumberReading
 pub mod Program
 pub mod Refusal
 pub mod Request
+pub mod Wanted

@@ -8,8 +8,9 @@ ghost use Rattle.locale_numbers.specs.NumberReading.{number, beyond, nothing, re
 
 use crate::refusal::Refusal;
 use crate::request::{Form, read_request};
+use crate::wanted::{Wanted, read_wanted};
 use fixed_decimal::{Decimal, ParseError};
-use locale_numbers_book::{Book, Tag};
+use locale_numbers_book::Book;
 use locale_numbers_plain::push_plain;
 use locale_numbers_symbols::GroupingStrategy;
 use std::alloc::{AllocError, Global};
@@ -32,40 +33,40 @@ fn push_refusal(out: &mut String, cause: Refusal) -> Result<(), AllocError>
     out.push_str(cause.word())
 }
 
-// Puts a number, with the tables that a tag asks for, behind what `out` holds.
+// Puts a number, with the tables that are asked for, behind what `out` holds.
 fn push_number(
     book: &Book,
-    tag: &Tag,
+    wanted: &Wanted,
     grouping: GroupingStrategy,
     value: &Decimal,
     out: &mut String,
 ) -> Result<(), AllocError>
     ensures text { OnOk result (string_bytes out.new
-        ≡ string_bytes out.old ++ answer_with (chosen book.now tag.now) grouping value.now) }
+        ≡ string_bytes out.old ++ answer_with (chosen book.now wanted.now.locale wanted.now.numbering_system) grouping value.now) }
     ensures err { OnErr result (Grows (string_bytes out.old) (string_bytes out.new)) }
 {
-    let Some(tables) = book.tables_for(tag) else {
+    let Some(tables) = book.tables_for(wanted.locale, wanted.numbering_system) else {
         return push_refusal(out, Refusal::Table);
     };
     out.push_str("ok\t")?;
     push_plain(out, value, tables.symbols, tables.digits, grouping)
 }
 
-// Puts the answer to a tag, a grouping and a number's text behind what `out` holds.
+// Puts the answer to what a tag asks for, a grouping and a number's text behind what `out` holds.
 fn push_text(
     alloc: Global,
     book: &Book,
-    tag: &Tag,
+    wanted: &Wanted,
     grouping: GroupingStrategy,
     text: &[u8],
     out: &mut String,
 ) -> Result<(), AllocError>
     ensures text { OnOk result (string_bytes out.new
-        ≡ string_bytes out.old ++ answer_to book.now tag.now grouping (reading_of text.now)) }
+        ≡ string_bytes out.old ++ answer_to book.now wanted.now grouping (reading_of text.now)) }
     ensures err { OnErr result (Grows (string_bytes out.old) (string_bytes out.new)) }
 {
     match read_number(alloc, text) {
-        Ok(value) => push_number(book, tag, grouping, &value, out),
+        Ok(value) => push_number(book, wanted, grouping, &value, out),
         Err(ParseError::Syntax) => push_refusal(out, Refusal::Number),
         Err(ParseError::Limit) => push_refusal(out, Refusal::Limit),
         Err(ParseError::Memory) => Err(AllocError),
@@ -86,11 +87,11 @@ pub(crate) fn answer_onto(
     let Some(request) = read_request(line) else {
         return push_refusal(out, Refusal::Shape);
     };
-    let Some(tag) = Tag::try_from_utf8(request.tag) else {
+    let Some(wanted) = read_wanted(alloc, request.tag)? else {
         return push_refusal(out, Refusal::Tag);
     };
     match request.form {
-        Form::Plain => push_text(alloc, book, &tag, request.grouping, request.text, out),
+        Form::Plain => push_text(alloc, book, &wanted, request.grouping, request.text, out),
     }
 }
 
@@ -100,8 +101,9 @@ pub(crate) fn answer_onto(
 /// book `en`, `plain`, `auto`, `keep`, `-`, `-987654.321` with tabs between is answered by `ok`, a
 /// tab and `-987,654.321`. A line that is refused is answered by `err`, a tab and the first word
 /// that applies: `shape`, `tag`, `number`, `limit`, `table`; an empty line by `shape`. A line feed
-/// in it is an ordinary byte. Takes memory, and fails for want of it alone. Tags are those of UTS
-/// 35; the lines are defined in docs/requests.md.
+/// in it is an ordinary byte. Takes memory, and fails for want of it alone. Tags are the whole
+/// locale tags of UTS 35, of which the preferences alone count; the lines are defined in
+/// docs/requests.md.
 pub fn answer(alloc: Global, book: &Book, line: &[u8]) -> Result<Vec<u8>, AllocError>
     ensures text { IfOk result (λ text. text.items ≡ answer_of book.now line.now) }
 {

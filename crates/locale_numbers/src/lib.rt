@@ -20,8 +20,7 @@ mod program_run;
 mod refusal;
 mod request;
 mod running;
-#[cfg(test)]
-mod tests;
+mod wanted;
 mod words;
 
 pub use answering::answer;

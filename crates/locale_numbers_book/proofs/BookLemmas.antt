@@ -5,11 +5,12 @@ use Rattle.std.specs.Option.{option_eq}
 use Rattle.std.specs.Str.{bytes_eq}
 use Rattle.std.proofs.lemmas.Slice.Eq.{bytes_eq-Decides}
 use Rattle.std.proofs.lemmas.Bool.Decides.{Decides-and, Decides-like, same_from_decides}
-use Rattle.locale_numbers_book.specs.Tags.{Text, Locale}
+use Rattle.icu_locale_core_grammar.specs.Subtags.{Text}
+use Rattle.icu_locale_core_grammar.specs.TagPreferences.{Subdivision, DataLocaleMeaning}
 use Rattle.serde_json.specs.Data.{Data, Items}
 use Rattle.serde_json.specs.View.{items_view, view}
 use Rattle.serde_json.specs.declared.value.Value.{Value}
-use Rattle.locale_numbers_book.specs.Book.{count_of_items, all_of, table_at, has_no_key_twice, table_in, SymbolsKey, same_locale, same_key, BookTables, IsBook}
+use Rattle.locale_numbers_book.specs.Book.{count_of_items, all_of, table_at, has_no_key_twice, table_in, SymbolsKey, same_subdivision, same_data_locale, same_key, BookTables, IsBook}
 
 pub count-items : (fields : List Value) → count_of_items (items_view fields) ≡ length fields
 count-items [] = refl
@@ -104,23 +105,36 @@ module _ {E : Type 0} (read : Data → Option E) where
 
 -- ---- keys are one exactly where they are equal
 
-pub same_texts : (a b : Option Text) → Decides (option_eq bytes_eq a b) (a ≡ b)
-same_texts None None = (λ h. refl, λ h. refl)
-same_texts None (Some b) = (λ h. absurd (true≢false (sym h)), λ h. cc)
-same_texts (Some a) None = (λ h. absurd (true≢false (sym h)), λ h. cc)
-same_texts (Some a) (Some b) = (λ h. ap Some ((bytes_eq-Decides a b).0 h), λ h. (bytes_eq-Decides a b).1 cc)
+-- an option is tested as what it holds is
+same_options : {A : Type 0} (same : A → A → Bool) → ((a b : A) → Decides (same a b) (a ≡ b)) → (a b : Option A) → Decides (option_eq same a b) (a ≡ b)
+same_options same each None None = (λ h. refl, λ h. refl)
+same_options same each None (Some b) = (λ h. absurd (true≢false (sym h)), λ h. cc)
+same_options same each (Some a) None = (λ h. absurd (true≢false (sym h)), λ h. cc)
+same_options same each (Some a) (Some b) = (λ h. ap Some ((each a b).0 h), λ h. (each a b).1 cc)
 
-pub same_locales : (a b : Locale) → Decides (same_locale a b) (a ≡ b)
-same_locales a b = Decides-like (same_locale a b)
-    (λ h i. record { language = h.0 i; script = h.1.0 i; region = h.1.1 i })
-    (λ h. (ap (λ l. l.language) h, (ap (λ l. l.script) h, ap (λ l. l.region) h)))
-    (Decides-and _ _ (bytes_eq-Decides a.language b.language) (Decides-and _ _ (same_texts a.script b.script) (same_texts a.region b.region)))
+same_texts : (a b : Option Text) → Decides (option_eq bytes_eq a b) (a ≡ b)
+same_texts a b = same_options bytes_eq bytes_eq-Decides a b
+
+same_subdivisions : (a b : Subdivision) → Decides (same_subdivision a b) (a ≡ b)
+same_subdivisions a b = Decides-like (same_subdivision a b)
+    (λ h i. record { region = h.0 i; suffix = h.1 i })
+    (λ h. (ap (λ s. s.region) h, ap (λ s. s.suffix) h))
+    (Decides-and _ _ (bytes_eq-Decides a.region b.region) (bytes_eq-Decides a.suffix b.suffix))
+
+same_data_locales : (a b : DataLocaleMeaning) → Decides (same_data_locale a b) (a ≡ b)
+same_data_locales a b = Decides-like (same_data_locale a b)
+    (λ h i. record { language = h.0 i; script = h.1.0 i; region = h.1.1.0 i; variant = h.1.1.1.0 i; subdivision = h.1.1.1.1 i })
+    (λ h. (ap (λ l. l.language) h, (ap (λ l. l.script) h, (ap (λ l. l.region) h, (ap (λ l. l.variant) h, ap (λ l. l.subdivision) h)))))
+    (Decides-and _ _ (bytes_eq-Decides a.language b.language)
+    (Decides-and _ _ (same_texts a.script b.script)
+    (Decides-and _ _ (same_texts a.region b.region)
+    (Decides-and _ _ (same_texts a.variant b.variant) (same_options same_subdivision same_subdivisions a.subdivision b.subdivision)))))
 
 pub same_keys : (a b : SymbolsKey) → Decides (same_key a b) (a ≡ b)
 same_keys a b = Decides-like (same_key a b)
     (λ h i. record { locale = h.0 i; numbering_system = h.1 i })
     (λ h. (ap (λ k. k.locale) h, ap (λ k. k.numbering_system) h))
-    (Decides-and _ _ (same_locales a.locale b.locale) (same_texts a.numbering_system b.numbering_system))
+    (Decides-and _ _ (same_data_locales a.locale b.locale) (same_texts a.numbering_system b.numbering_system))
 
 pub same_key_symmetric : (a b : SymbolsKey) → same_key a b ≡ same_key b a
 same_key_symmetric a b = same_from_decides (same_key a b) (same_key b a) (same_keys a b) (Decides-like (same_key b a) sym sym (same_keys b a))

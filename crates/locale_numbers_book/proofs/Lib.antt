@@ -1,5 +1,4 @@
-pub mod SubtagLemmas
-pub mod PieceLemmas
+pub mod SystemLemmas
 pub mod TagLemmas
 pub mod BookLemmas
 pub mod KnownValues

@@ -6,16 +6,17 @@ use Rattle.std.specs.Option.{option_map_or, option_eq}
 use Rattle.std.specs.Str.{bytes_eq}
 use Rattle.serde_json.specs.Data.{Data, Items, no_items, item}
 use Rattle.serde_json.specs.Find.{at, as_array}
+use Rattle.icu_locale_core_grammar.specs.Subtags.{Text}
+use Rattle.icu_locale_core_grammar.specs.TagPreferences.{Subdivision, DataLocaleMeaning}
 use Rattle.locale_numbers_symbols.specs.Symbols.{Symbols}
 use Rattle.locale_numbers_symbols.specs.declared.grouping_sizes.GroupingSizes.{GroupingSizes}
 use Rattle.locale_numbers_book.specs.Fields.{plain_text_in, system_in, system_or_none_in, locale_in, size_in, digits_in}
-use Rattle.locale_numbers_book.specs.Tags.{Text, Locale}
 
 -- ---- one entry
 
 -- what a table of symbols is looked up by
 pub record SymbolsKey : Type 0 where
-  pub locale : Locale
+  pub locale : DataLocaleMeaning
   pub numbering_system : Option Text
 
 -- how many items an array has; a value that is no array has none
@@ -96,11 +97,18 @@ all_of read no_items = Some []
 all_of {E} read (item d ds) = option_and_then (λ e. option_map {T = List E} {U = List E} (λ es. e ∷ es) (all_of read ds)) (read d)
 
 -- two keys are one where each of their parts is
-abbrev pub same_locale : Locale → Locale → Bool
-same_locale a b = bytes_eq a.language b.language && (option_eq bytes_eq a.script b.script && option_eq bytes_eq a.region b.region)
+abbrev pub same_subdivision : Subdivision → Subdivision → Bool
+same_subdivision a b = bytes_eq a.region b.region && bytes_eq a.suffix b.suffix
+
+abbrev pub same_data_locale : DataLocaleMeaning → DataLocaleMeaning → Bool
+same_data_locale a b =
+    bytes_eq a.language b.language
+    && (option_eq bytes_eq a.script b.script
+    && (option_eq bytes_eq a.region b.region
+    && (option_eq bytes_eq a.variant b.variant && option_eq same_subdivision a.subdivision b.subdivision)))
 
 abbrev pub same_key : SymbolsKey → SymbolsKey → Bool
-same_key a b = same_locale a.locale b.locale && option_eq bytes_eq a.numbering_system b.numbering_system
+same_key a b = same_data_locale a.locale b.locale && option_eq bytes_eq a.numbering_system b.numbering_system
 
 -- what stands with a key in a list of pairs
 abbrev pub table_at : {K V : Type 0} → (K → K → Bool) → K → List (K × V) → Option V

@@ -1,15 +1,23 @@
--- Laws of the definitions: a text has one meaning, and two keys are one exactly where they are equal.
+-- Laws of the definitions: which tags and data locales are read, when two keys are one, and that a value is one book.
 -- Defined in docs/books.md, "Tags" and "The form".
 -- Cited by the functions of `laws.rt`.
-use Rattle.std.specs.Prelude.{◌≡◌, List}
+use Rattle.std.specs.Prelude.{◌≡◌, ◌↔◌, List, Some}
 use Rattle.std.specs.Bool.{Decides}
-use Rattle.locale_numbers_book.specs.Tags.{Text, TagMeaning, MeansTag}
-use Rattle.locale_numbers_book.specs.Book.{SymbolsKey, BookTables, same_key, IsBook}
 use Rattle.serde_json.specs.Data.{Data}
+use Rattle.icu_locale_core_grammar.specs.Subtags.{Text}
+use Rattle.icu_locale_core_grammar.specs.Meaning.{TagMeaning, MeansTag}
+use Rattle.icu_locale_core_grammar.specs.TagPreferences.{DataLocaleMeaning}
+use Rattle.icu_locale_core_grammar.specs.DataTags.{MeansDataLocale}
+use Rattle.locale_numbers_book.specs.TagReading.{tag_of, data_locale_of}
+use Rattle.locale_numbers_book.specs.Book.{SymbolsKey, BookTables, same_key, IsBook}
 
--- a list of pieces means one tag at most
-abbrev pub MeansOneTag : Type 0
-MeansOneTag = (list : List Text) (tag other : TagMeaning) → MeansTag list tag → MeansTag list other → tag ≡ other
+-- a list of pieces is read as a tag exactly where it means one, and as that one
+abbrev pub TagsAreRead : Type 0
+TagsAreRead = (list : List Text) (tag : TagMeaning) → MeansTag list tag ↔ (tag_of list ≡ Some tag)
+
+-- and as a data locale exactly where it is one
+abbrev pub DataLocalesAreRead : Type 0
+DataLocalesAreRead = (list : List Text) (locale : DataLocaleMeaning) → MeansDataLocale list locale ↔ (data_locale_of list ≡ Some locale)
 
 -- the test of two keys is true exactly where they are equal
 abbrev pub KeysAreOneWhereEqual : Type 0

@@ -1,5 +1,3 @@
-pub mod Subtag
-pub mod Tags
 pub mod TagReading
 pub mod BookError
 pub mod Json

@@ -11,7 +11,9 @@ ghost use Rattle.locale_numbers_book.specs.Book.{IsBook, IsNoBook, table_at, sam
 use crate::BookError;
 use crate::json::{array_at, digits_table, has_form, symbols_table, value_of};
 use crate::key::SymbolsKey;
-use crate::tags::{LocaleKey, Subtag};
+use crate::system_named::SystemNamed;
+use icu_locale_core_preferences::DataLocale;
+use icu_locale_core_subtags::Subtag;
 use indexmap::IndexMap;
 use locale_numbers_symbols::DecimalSymbols;
 use serde_json::Value;
@@ -22,7 +24,7 @@ use std::marker::Model;
 #[derive(Drop)]
 pub struct Book {
     symbols: IndexMap<SymbolsKey, DecimalSymbols>,
-    digits: IndexMap<Subtag<8>, [char; 10]>,
+    digits: IndexMap<Subtag, [char; 10]>,
 }
 
 impl Model for Book {
@@ -56,8 +58,8 @@ fn book_of(alloc: Global, value: &Value) -> Result<Book, BookError>
 impl Book {
     /// The book that a JSON text is.
     ///
-    /// An array of five arrays: of symbols, of digits, and three more of which only that they are arrays is looked at.
-    /// `SAMPLE_BOOK` is one. Refused with `Json` where the bytes have no reading as JSON, with `Shape` where the value that
+    /// An array of five arrays: of symbols, each under a data locale and a system or none, of digits, and three more of which
+    /// only that they are arrays is looked at. `SAMPLE_BOOK` is one. Refused with `Json` where the bytes have no reading as JSON, with `Shape` where the value that
     /// they say is no book, with `Memory` where memory is refused; no other error comes today. Takes memory.
     pub fn from_json(alloc: Global, bytes: &[u8]) -> Result<Book, BookError>
         ensures value { IfOk result (λ book. (value : Data) × Reads bytes.now value × IsBook value book) }
@@ -76,8 +78,8 @@ impl Book {
     /// `None` where the book has no such entry. Takes no memory.
     pub fn symbols(
         &self,
-        locale: LocaleKey,
-        numbering_system: Option<Subtag<8>>,
+        locale: DataLocale,
+        numbering_system: Option<Subtag>,
     ) -> Option<&DecimalSymbols>
         ensures { option_copied result
             ≡ table_at same_key (record { locale = locale; numbering_system = numbering_system }) self.now.symbols }
@@ -86,12 +88,15 @@ impl Book {
         self.symbols.get(&key)
     }
 
-    /// The ten digits of the entry with this numbering system, from zero up.
+    /// The ten digits of the entry with this numbering system, as `thai`, from zero up.
     ///
     /// `None` where the book has no such entry. Takes no memory.
-    pub fn digits(&self, numbering_system: Subtag<8>) -> Option<&[char; 10]>
-        ensures { option_copied result ≡ table_at bytes_eq numbering_system self.now.digits }
+    pub fn digits(&self, numbering_system: &str) -> Option<&[char; 10]>
+        ensures { option_copied result ≡ table_at bytes_eq numbering_system.now self.now.digits }
     {
-        self.digits.get(&numbering_system)
+        let named = SystemNamed {
+            name: numbering_system,
+        };
+        self.digits.get(named)
     }
 }

@@ -1,14 +1,15 @@
 //! What a table of symbols is looked up by.
 ghost use Rattle.std.specs.Prelude.{◌≡◌};
 
-use crate::tags::{LocaleKey, Subtag};
+use icu_locale_core_preferences::DataLocale;
+use icu_locale_core_subtags::Subtag;
 use std::marker::Model;
 
 /// What a table of symbols is looked up by: a locale, and a numbering system or none.
 #[derive(Clone, Copy, PartialEq, Eq, Hash)]
 pub struct SymbolsKey {
-    locale: LocaleKey,
-    numbering_system: Option<Subtag<8>>,
+    locale: DataLocale,
+    numbering_system: Option<Subtag>,
 }
 
 impl Model for SymbolsKey {
@@ -23,7 +24,7 @@ impl Model for SymbolsKey {
 
 impl SymbolsKey {
     /// The key of a locale and a system.
-    pub fn new(locale: LocaleKey, numbering_system: Option<Subtag<8>>) -> Self
+    pub fn new(locale: DataLocale, numbering_system: Option<Subtag>) -> Self
         ensures { result ≡ record { locale = locale; numbering_system = numbering_system } }
     {
         SymbolsKey {

@@ -1,9 +1,14 @@
 //! Laws of the definitions, each the contract of a function that does nothing.
-ghost use Rattle.locale_numbers_book.specs.Laws.{MeansOneTag, KeysAreOneWhereEqual, IsOneBook};
+ghost use Rattle.locale_numbers_book.specs.Laws.{TagsAreRead, DataLocalesAreRead, KeysAreOneWhereEqual, IsOneBook};
 
-/// A text means one tag at most.
-pub fn means_one_tag()
-    ensures { MeansOneTag }
+/// The function by which a line is answered reads as a tag exactly what means one in the grammar, and as that meaning.
+pub fn tags_are_read()
+    ensures { TagsAreRead }
+{}
+
+/// The function by which an entry is read takes as a locale exactly the data locales of the grammar, and as that one.
+pub fn data_locales_are_read()
+    ensures { DataLocalesAreRead }
 {}
 
 /// Two keys of symbols are one exactly where they are equal: locales are compared as values.

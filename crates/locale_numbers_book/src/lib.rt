@@ -1,7 +1,7 @@
-//! Books: tables of symbols and digits as a JSON text names them, and the choice of tables for a tag.
+//! Books: tables of symbols and digits as a JSON text names them, and the choice of tables for a locale.
 //!
-//! From `SAMPLE_BOOK` the tag `ar-EG-u-nu-thai` gets the Arabic separators of the entry `ar-EG` and the digits of the
-//! entry `thai`; the tag `en` gets `.`, `,` and the digits of `latn`, which its symbols name.
+//! From `SAMPLE_BOOK` the locale `ar-EG` with the system `thai` gets the Arabic separators of the entry `ar-EG` and the digits
+//! of the entry `thai`; the locale `en` with none gets `.`, `,` and the digits of `latn`, which its symbols name.
 
 #![tactic(auto)]
 
@@ -12,14 +12,10 @@ mod json;
 mod key;
 pub mod laws;
 mod sample_book;
+mod system_named;
 mod table;
-mod tags;
 
 pub use book::Book;
 pub use choosing::Tables;
 pub use error::BookError;
 pub use sample_book::SAMPLE_BOOK;
-pub use tags::{LocaleKey, Subtag, Tag};
-
-#[cfg(test)]
-mod tests;

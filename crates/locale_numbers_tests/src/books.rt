@@ -12,6 +12,9 @@ fn books_of_the_form_are_taken(rt: HostRuntime) -> Result<(), Fail> {
         "[[],[],[],[],[]]",
         // of the last three arrays only that they are arrays is looked at
         "[[],[],[1],[2],[3]]",
+        r#"[[["ca-ES-valencia-u-sd-esvc","","latn","-","","+","",".",",",3,3,1]],[],[],[],[]]"#,
+        // of two equal keys the first stands
+        r#"[[["en-u-sd-ustx-sd-gbeng","","latn","-","","+","",".",",",3,3,1]],[],[],[],[]]"#,
         "[[[\"en-Latn-US\",\"latn\",\"latn\",\"\",\"\",\"\",\"\",\"\",\"\",0,255,1]],[[\"abc12345\",\"0123456789\"]],[],[],[]]",
     ] {
         assert!(rt; Book::from_json(alloc, text.as_bytes()).is_ok(), "{text}");
@@ -145,11 +148,27 @@ fn symbols_are_named_by_locale_and_system(rt: HostRuntime) -> Result<(), Fail> {
             r#"["","","latn","-","","+","",".",",",3,3,1]"#,
             r#"["e","","latn","-","","+","",".",",",3,3,1]"#,
             r#"["en-","","latn","-","","+","",".",",",3,3,1]"#,
-            r#"["en-u-nu-thai","","latn","-","","+","",".",",",3,3,1]"#,
             r#"["en","Thai","latn","-","","+","",".",",",3,3,1]"#,
             r#"["en","th","latn","-","","+","",".",",",3,3,1]"#,
             r#"["en","","","-","","+","",".",",",3,3,1]"#,
             r#"["en","","latn-thai","-","","+","",".",",",3,3,1]"#,
+        ],
+    )
+}
+
+#[test]
+fn a_locale_is_no_more_than_its_parts(rt: HostRuntime) -> Result<(), Fail> {
+    are_no_symbols(
+        &rt,
+        rt.alloc(),
+        &[
+            r#"["en-u-nu-thai","","latn","-","","+","",".",",",3,3,1]"#,
+            r#"["en-u-rg-gbzzzz","","latn","-","","+","",".",",",3,3,1]"#,
+            r#"["en-u-sd-12a","","latn","-","","+","",".",",",3,3,1]"#,
+            r#"["en-u-sd-ustx-ca-buddhist","","latn","-","","+","",".",",",3,3,1]"#,
+            r#"["en-u-attr","","latn","-","","+","",".",",",3,3,1]"#,
+            r#"["en-x-foo","","latn","-","","+","",".",",",3,3,1]"#,
+            r#"["de-1996-fonipa","","latn","-","","+","",".",",",3,3,1]"#,
         ],
     )
 }
@@ -201,6 +220,7 @@ fn no_key_stands_twice(rt: HostRuntime) -> Result<(), Fail> {
         &[
             // locales are compared as values
             r#"["en","","latn","-","","+","",".",",",3,3,1],["EN","","latn","-","","+","",".",",",3,3,1]"#,
+            r#"["en-u-sd-ustx","","latn","-","","+","",".",",",3,3,1],["EN-u-SD-USTX","","latn","-","","+","",".",",",3,3,1]"#,
             r#"["en","thai","latn","-","","+","",".",",",3,3,1],["en","thai","thai","-","","+","",".",",",3,3,1]"#,
         ],
     )

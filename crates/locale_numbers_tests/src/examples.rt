@@ -63,14 +63,19 @@ fn example_program(rt: HostRuntime) -> Result<(), Fail> {
 }
 
 #[test]
-fn example_numbers_and_words_of_refusals(rt: HostRuntime) {
+fn example_numbers_and_words_of_refusals(rt: HostRuntime) -> Result<(), Fail> {
     assert_eq!(rt; ProgramFault::Usage.status(), 2);
     assert_eq!(rt; ProgramFault::File.number(), 3);
     assert_eq!(rt; BookError::Json.number(), 1);
     assert_eq!(rt; BookError::Memory.number(), 12);
     assert_eq!(rt; BookError::Json.word(), "json");
     assert_eq!(rt; BookError::Memory.word(), "memory");
+    assert_eq!(rt;
+        BookError::Duplicate.to_string(rt.alloc())?.as_str(),
+        "duplicate"
+    );
     assert_eq!(rt; RunError::Read.number(), 1);
+    Ok(())
 }
 
 #[test]

@@ -7,17 +7,21 @@ ghost use Rattle.locale_numbers_book.specs.Book.{symbols_key, grouping_sizes_of,
 use super::fields::{digits, locale, numsys, size, symbol, system, system_or_none};
 use crate::BookError;
 use crate::key::SymbolsKey;
-use crate::tags::Subtag;
+use icu_locale_core_subtags::Subtag;
 use locale_numbers_symbols::{DecimalSymbols, GroupingSizes};
 use serde_json::Value;
 use std::alloc::Global;
 
-fn key(entry: &Value) -> Option<SymbolsKey>
-    ensures { result ≡ symbols_key (view entry.now) }
+fn key(alloc: Global, entry: &Value) -> Result<SymbolsKey, BookError>
+    ensures value { IfOk result (λ key. symbols_key (view entry.now) ≡ Some key) }
+    ensures shape { IsErrOf result BookError.Shape → symbols_key (view entry.now) ≡ None }
+    ensures only { IfErr result IsShapeOrMemory }
 {
-    let locale = locale(entry, 0)?;
-    let system = system_or_none(entry, 1)?;
-    Some(SymbolsKey::new(locale, system))
+    let locale = locale(alloc, entry, 0)?;
+    let Some(system) = system_or_none(entry, 1) else {
+        return Err(BookError::Shape);
+    };
+    Ok(SymbolsKey::new(locale, system))
 }
 
 fn grouping_sizes(entry: &Value) -> Option<GroupingSizes>
@@ -84,15 +88,13 @@ pub fn symbols_entry(
     if !has_count(entry, 12) {
         return Err(BookError::Shape);
     }
-    let Some(key) = key(entry) else {
-        return Err(BookError::Shape);
-    };
+    let key = key(alloc, entry)?;
     let symbols = symbols(alloc, entry)?;
     Ok((key, symbols))
 }
 
 /// The digits of an entry, with their system.
-pub fn digits_entry(alloc: Global, entry: &Value) -> Result<(Subtag<8>, [char; 10]), BookError>
+pub fn digits_entry(alloc: Global, entry: &Value) -> Result<(Subtag, [char; 10]), BookError>
     ensures value { IfOk result (λ pair. digits_entry (view entry.now) ≡ Some pair) }
     ensures shape { IsErrOf result BookError.Shape → digits_entry (view entry.now) ≡ None }
     ensures only { IfErr result IsShapeOrMemory }

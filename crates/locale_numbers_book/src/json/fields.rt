@@ -2,13 +2,18 @@
 ghost use Rattle.std.specs.Prelude.{◌≡◌, IfOk, IsErrOf, IfErr, Some, None, chars, option_map, string_bytes};
 ghost use Rattle.std.specs.List.{list_all};
 ghost use Rattle.serde_json.specs.View.{view};
+ghost use Rattle.serde_json.specs.Find.{as_str};
+ghost use Rattle.icu_locale_core_grammar.specs.Pieces.{pieces};
 ghost use Rattle.locale_numbers_book.specs.BookError.{IsShapeOrMemory};
 ghost use Rattle.locale_numbers_book.specs.Book.{field_at};
-ghost use Rattle.locale_numbers_book.specs.Fields.{is_plain, is_small_letter_or_digit, is_system_name, plain_text_in, system_in, system_or_none_in, locale_in, size_in, digits_in, ten_characters};
+ghost use Rattle.locale_numbers_book.specs.TagReading.{data_locale_of};
+ghost use Rattle.locale_numbers_book.specs.Fields.{is_plain, is_small_letter_or_digit, is_system_name, plain_text_in, system_named, system_in, system_or_none_in, locale_in, size_in, digits_in, ten_characters};
 
 use crate::BookError;
-use crate::tags::{LocaleKey, Subtag};
 use arrayvec::ArrayString;
+use icu_locale_core_grammar::ParseError;
+use icu_locale_core_preferences::DataLocale;
+use icu_locale_core_subtags::Subtag;
 use serde_json::Value;
 use std::alloc::{AllocError, Global};
 
@@ -18,11 +23,18 @@ fn is_plain_text(text: &str) -> bool
     text.chars().all(|c| c != '\t' && c != '\n')
 }
 
+/// The text at a place of an entry.
+fn text_at(entry: &Value, place: usize) -> Option<&str>
+    ensures { option_map (λ text. text.now) result ≡ field_at as_str place (view entry.now) }
+{
+    entry.get(place)?.as_str()
+}
+
 /// The text at a place of an entry, where no tab and no line feed stands in it.
 fn plain_text(entry: &Value, place: usize) -> Option<&str>
     ensures { option_map (λ text. chars text.now) result ≡ field_at plain_text_in place (view entry.now) }
 {
-    let text = entry.get(place)?.as_str()?;
+    let text = text_at(entry, place)?;
     if is_plain_text(text) {
         Some(text)
     } else {
@@ -57,12 +69,31 @@ pub fn size(entry: &Value, place: usize) -> Option<u8>
     }
 }
 
-/// The locale at a place of an entry.
-pub fn locale(entry: &Value, place: usize) -> Option<LocaleKey>
-    ensures { result ≡ field_at locale_in place (view entry.now) }
+/// The locale that a text is.
+fn read_locale(alloc: Global, text: &str) -> Result<DataLocale, BookError>
+    ensures value { IfOk result (λ locale. data_locale_of (pieces text.now) ≡ Some locale) }
+    ensures shape { IsErrOf result BookError.Shape → data_locale_of (pieces text.now) ≡ None }
+    ensures only { IfErr result IsShapeOrMemory }
 {
-    let text = entry.get(place)?.as_str()?;
-    LocaleKey::try_from_utf8(text.as_bytes())
+    match DataLocale::try_from_utf8(alloc, text.as_bytes()) {
+        Ok(locale) => Ok(locale),
+        Err(fault) => match fault {
+            ParseError::Memory => Err(BookError::Memory),
+            _ => Err(BookError::Shape),
+        },
+    }
+}
+
+/// The locale at a place of an entry.
+pub fn locale(alloc: Global, entry: &Value, place: usize) -> Result<DataLocale, BookError>
+    ensures value { IfOk result (λ locale. field_at locale_in place (view entry.now) ≡ Some locale) }
+    ensures shape { IsErrOf result BookError.Shape → field_at locale_in place (view entry.now) ≡ None }
+    ensures only { IfErr result IsShapeOrMemory }
+{
+    match text_at(entry, place) {
+        Some(text) => read_locale(alloc, text),
+        None => Err(BookError::Shape),
+    }
 }
 
 fn is_system_name(text: &str) -> bool
@@ -84,7 +115,7 @@ fn is_small_alphanumeric(bytes: &[u8]) -> bool
 pub fn system_name(entry: &Value, place: usize) -> Option<&str>
     ensures { option_map (λ text. text.now) result ≡ field_at system_in place (view entry.now) }
 {
-    let text = entry.get(place)?.as_str()?;
+    let text = text_at(entry, place)?;
     if is_system_name(text) {
         Some(text)
     } else {
@@ -103,30 +134,37 @@ pub fn numsys(entry: &Value, place: usize) -> Option<ArrayString<8>>
     }
 }
 
-/// The name of a system as a key.
-pub fn system(entry: &Value, place: usize) -> Option<Subtag<8>>
-    ensures { result ≡ field_at system_in place (view entry.now) }
+/// The system that a text names.
+fn read_system(text: &str) -> Option<Subtag>
+    ensures { result ≡ system_named text.now }
 {
-    let text = entry.get(place)?.as_str()?;
-    if is_system_name(text) {
-        Some(Subtag::of(text.as_bytes()))
-    } else {
-        None
+    if !is_system_name(text) {
+        return None;
+    }
+    match Subtag::try_from_str(text) {
+        Ok(system) => Some(system),
+        Err(_) => None,
     }
 }
 
+/// The name of a system as a key.
+pub fn system(entry: &Value, place: usize) -> Option<Subtag>
+    ensures { result ≡ field_at system_in place (view entry.now) }
+{
+    let text = text_at(entry, place)?;
+    read_system(text)
+}
+
 /// The system at a place of an entry, which may be empty.
-pub fn system_or_none(entry: &Value, place: usize) -> Option<Option<Subtag<8>>>
+pub fn system_or_none(entry: &Value, place: usize) -> Option<Option<Subtag>>
     ensures { result ≡ field_at system_or_none_in place (view entry.now) }
 {
-    let text = entry.get(place)?.as_str()?;
+    let text = text_at(entry, place)?;
     if text.is_empty() {
-        Some(None)
-    } else if is_system_name(text) {
-        Some(Some(Subtag::of(text.as_bytes())))
-    } else {
-        None
+        return Some(None);
     }
+    let system = read_system(text)?;
+    Some(Some(system))
 }
 
 /// The characters of a text.

@@ -9,7 +9,7 @@ use super::entries::{digits_entry, symbols_entry};
 use crate::BookError;
 use crate::key::SymbolsKey;
 use crate::table::add;
-use crate::tags::Subtag;
+use icu_locale_core_subtags::Subtag;
 use indexmap::IndexMap;
 use locale_numbers_symbols::DecimalSymbols;
 use serde_json::Value;
@@ -39,12 +39,12 @@ pub fn symbols_table(
 pub fn digits_table(
     alloc: Global,
     entries: &[Value],
-) -> Result<IndexMap<Subtag<8>, [char; 10]>, BookError>
+) -> Result<IndexMap<Subtag, [char; 10]>, BookError>
     ensures value { IfOk result (λ table. table_in bytes_eq digits_entry (items_view entries.now) ≡ Some table.entries) }
     ensures shape { IsErrOf result BookError.Shape → table_in bytes_eq digits_entry (items_view entries.now) ≡ None }
     ensures only { IfErr result IsShapeOrMemory }
 {
-    let mut table: IndexMap<Subtag<8>, [char; 10]> = IndexMap::new(alloc);
+    let mut table: IndexMap<Subtag, [char; 10]> = IndexMap::new(alloc);
     for entry in entries {
         let (system, digits) = digits_entry(alloc, entry)?;
         match add(&mut table, system, digits) {

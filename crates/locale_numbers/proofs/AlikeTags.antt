@@ -1,0 +1,137 @@
+-- Lines whose tags are alike have one answer: `specs/Laws.antt`.
+use Rattle.std.proofs.Common.{◌≡◌, ◌<◌, ◌==◌, ℕ, Bool, true, false, cond, ◌&&◌, ◌||◌, List, [], ◌∷◌, ◌++◌, Option, Some, None, option_map, refl, sym, ap, ◌∙◌, subst, arith}
+use Rattle.std.specs.Prelude.{flat_map, if◌then◌else◌}
+use Rattle.std.specs.List.{list_all, onto_first}
+use Rattle.std.specs.Char.{is_ascii_alphanumeric}
+use Rattle.std.specs.Str.{IsUtf8, is_utf8}
+use Rattle.std.proofs.lemmas.Bool.{and_parts, and_from}
+use Rattle.std.proofs.lemmas.Bool.Decides.{nat_tests, same_from_decides}
+use Rattle.std.proofs.lemmas.List.Folds.{list_all-append}
+use Rattle.std.proofs.lemmas.Str.{IsUtf8-append, IsUtf8-from_ascii, IsUtf8-past_char, IsUtf8-from_is_utf8, is_utf8-from_IsUtf8, encode_ascii}
+use Rattle.std.proofs.lemmas.Str.Ascii.{IsAscii-nil, IsAscii-cons}
+use Rattle.icu_locale_core_grammar.specs.Subtags.{Text, is_plain}
+use Rattle.icu_locale_core_grammar.specs.Pieces.{hyphen, pieces, hyphened, joined_text}
+use Rattle.icu_locale_core_grammar.specs.Collections.{Each}
+use Rattle.icu_locale_core_grammar.specs.Meaning.{TagMeaning, MeansTag}
+use Rattle.icu_locale_core_grammar.specs.NormalText.{normal_text}
+use Rattle.icu_locale_core_grammar.specs.TagPreferences.{preferences_of}
+use Rattle.icu_locale_core_grammar.proofs.PlainPieces.{tag_plain, joined-pieces}
+use Rattle.icu_locale_core_grammar.proofs.NormalTags.{read_again}
+use Rattle.locale_numbers_symbols.specs.declared.GroupingStrategy.{GroupingStrategy}
+use Rattle.locale_numbers_book.specs.Book.{BookTables}
+use Rattle.locale_numbers.specs.NumberReading.{reading_of}
+use Rattle.locale_numbers.specs.Request.{tab, is_tab, fields, form_named, grouping_named, keeps_sign, keeps_digits, request_by, request_in, request_of}
+use Rattle.locale_numbers.specs.declared.request.Form.{Form}
+use Rattle.locale_numbers.specs.Wanted.{Wanted, wanted_by, wanted_of}
+use Rattle.locale_numbers.specs.Answer.{answer_tagged, answer_asked, answer_of}
+use Rattle.locale_numbers.proofs.WantedLemmas.{asks_of}
+use Rattle.locale_numbers.specs.Laws.{AreAlike, AlikeTagsAreAnsweredAlike, NormalTextIsAnsweredAlike}
+
+-- ---- the bytes of a tag
+
+-- a letter, a digit or a hyphen
+abbrev is_tag_byte : ℕ → Bool
+is_tag_byte b = is_ascii_alphanumeric b || (b == hyphen)
+
+byte_no_tab : (b : ℕ) → is_tag_byte b ≡ true → is_tab b ≡ false
+byte_no_tab b h = grind (arith, nat_tests)
+
+byte_ascii : (b : ℕ) → is_tag_byte b ≡ true → b < 128
+byte_ascii b h = grind (arith, nat_tests)
+
+letter_byte : (b : ℕ) → is_ascii_alphanumeric b ≡ true → is_tag_byte b ≡ true
+letter_byte b h = ap (λ t. t || (b == hyphen)) h
+
+plain_bytes : (p : Text) → is_plain p ≡ true → list_all is_tag_byte p ≡ true
+plain_bytes [] h = refl
+plain_bytes (b ∷ bs) h =
+    let parts = and_parts (is_ascii_alphanumeric b) (is_plain bs) h in
+    and_from (is_tag_byte b) (list_all is_tag_byte bs) (letter_byte b parts.0) (plain_bytes bs parts.1)
+
+hyphened_bytes : (ps : List Text) → Each is_plain ps → list_all is_tag_byte (flat_map hyphened ps) ≡ true
+hyphened_bytes [] h = refl
+hyphened_bytes (p ∷ ps) h =
+    list_all-append is_tag_byte p (flat_map hyphened ps)
+    ∙ and_from (list_all is_tag_byte p) (list_all is_tag_byte (flat_map hyphened ps)) (plain_bytes p h.0) (hyphened_bytes ps h.1)
+
+joined_bytes : (ps : List Text) → Each is_plain ps → list_all is_tag_byte (joined_text ps) ≡ true
+joined_bytes [] h = refl
+joined_bytes (p ∷ ps) h =
+    list_all-append is_tag_byte p (flat_map hyphened ps)
+    ∙ and_from (list_all is_tag_byte p) (list_all is_tag_byte (flat_map hyphened ps)) (plain_bytes p h.0) (hyphened_bytes ps h.1)
+
+tag_bytes : (text : Text) (m : TagMeaning) → MeansTag (pieces text) m → list_all is_tag_byte text ≡ true
+tag_bytes text m means = subst (λ t. list_all is_tag_byte t ≡ true) (joined-pieces text) (joined_bytes (pieces text) (tag_plain (pieces text) m means))
+
+-- ---- a line behind its tag
+
+-- an ASCII character in front changes nothing
+utf8_past : (b : ℕ) (rest : List ℕ) → b < 128 → is_utf8 (b ∷ rest) ≡ is_utf8 rest
+utf8_past b rest h =
+    same_from_decides (is_utf8 (b ∷ rest)) (is_utf8 rest)
+    (IsUtf8-from_is_utf8 (b ∷ rest), is_utf8-from_IsUtf8 (b ∷ rest)) (
+      (λ e. IsUtf8-append (b ∷ []) rest (IsUtf8-from_ascii (b ∷ []) (IsAscii-cons b [] h IsAscii-nil)) (IsUtf8-from_is_utf8 rest e)),
+      (λ u. is_utf8-from_IsUtf8 rest (IsUtf8-past_char (b ∷ rest) rest b u (sym (ap (λ e. e ++ rest) (encode_ascii b h))))),
+    )
+
+utf8_behind : (text rest : List ℕ) → list_all is_tag_byte text ≡ true → is_utf8 (text ++ tab ∷ rest) ≡ is_utf8 rest
+utf8_behind [] rest h = utf8_past tab rest (omega arith)
+utf8_behind (b ∷ bs) rest h =
+    let parts = and_parts (is_tag_byte b) (list_all is_tag_byte bs) h in
+    utf8_past b (bs ++ tab ∷ rest) (byte_ascii b parts.0) ∙ utf8_behind bs rest parts.1
+
+fields_behind : (text rest : List ℕ) → list_all is_tag_byte text ≡ true → fields (text ++ tab ∷ rest) ≡ text ∷ fields rest
+fields_behind [] rest h = refl
+fields_behind (b ∷ bs) rest h =
+    let parts = and_parts (is_tag_byte b) (list_all is_tag_byte bs) h in
+    ap (λ t. cond t ([] ∷ fields (bs ++ tab ∷ rest)) (onto_first b (fields (bs ++ tab ∷ rest)))) (byte_no_tab b parts.0)
+    ∙ ap (onto_first b) (fields_behind bs rest parts.1)
+
+request_behind : (text rest : List ℕ) → list_all is_tag_byte text ≡ true → request_of (text ++ tab ∷ rest) ≡ (if is_utf8 rest then request_in (text ∷ fields rest) else None)
+request_behind text rest h =
+    ap (λ t. if t then request_in (fields (text ++ tab ∷ rest)) else None) (utf8_behind text rest h)
+    ∙ ap (λ fs. if is_utf8 rest then request_in fs else None) (fields_behind text rest h)
+
+-- ---- fields behind a tag
+
+module _ (book : BookTables) (text other : List ℕ) (alike : wanted_of text ≡ wanted_of other) where
+  known_alike : (number : List ℕ) (form : Option Form) (grouping : Option GroupingStrategy) (kept : Bool)
+      → answer_asked book (request_by text form grouping kept number) ≡ answer_asked book (request_by other form grouping kept number)
+  known_alike number (Some form) (Some grouping) true = ap (λ w. answer_tagged book w grouping (reading_of number)) alike
+  known_alike number (Some form) (Some grouping) false = refl
+  known_alike number (Some form) None kept = refl
+  known_alike number None grouping kept = refl
+
+  fields_alike : (fs : List (List ℕ)) → answer_asked book (request_in (text ∷ fs)) ≡ answer_asked book (request_in (other ∷ fs))
+  fields_alike [] = refl
+  fields_alike (a ∷ []) = refl
+  fields_alike (a ∷ b ∷ []) = refl
+  fields_alike (a ∷ b ∷ c ∷ []) = refl
+  fields_alike (a ∷ b ∷ c ∷ d ∷ []) = refl
+  fields_alike (form ∷ grouping ∷ sign ∷ rounding ∷ number ∷ []) = known_alike number (form_named form) (grouping_named grouping) (keeps_sign sign && keeps_digits rounding)
+  fields_alike (a ∷ b ∷ c ∷ d ∷ e ∷ f ∷ fs) = refl
+
+  read_alike : (rest : List ℕ) (t : Bool)
+      → answer_asked book (if t then request_in (text ∷ fields rest) else None) ≡ answer_asked book (if t then request_in (other ∷ fields rest) else None)
+  read_alike rest true = fields_alike (fields rest)
+  read_alike rest false = refl
+
+-- ---- alike tags
+
+asks_alike : (m n : TagMeaning) → AreAlike m n → wanted_by (preferences_of m) ≡ wanted_by (preferences_of n)
+asks_alike m n a = λ i. record {
+  locale = record { language = a.language i; script = a.script i; region = a.region i; variant = a.variant i; subdivision = a.subdivision i };
+  numbering_system = a.numbering_system i;
+}
+
+pub alike_tags : AlikeTagsAreAnsweredAlike
+alike_tags book text other rest m n first second a =
+    let alike : wanted_of text ≡ wanted_of other = asks_of text m first ∙ ap Some (asks_alike m n a) ∙ sym (asks_of other n second) in
+    ap (answer_asked book) (request_behind text rest (tag_bytes text m first))
+    ∙ read_alike book text other alike rest (is_utf8 rest)
+    ∙ sym (ap (answer_asked book) (request_behind other rest (tag_bytes other n second)))
+
+pub normal_text_alike : NormalTextIsAnsweredAlike
+normal_text_alike book text rest m means =
+    alike_tags book text (normal_text m) rest m m means (read_again (pieces text) m means)
+    (record { language = refl; script = refl; region = refl; variant = refl; subdivision = refl; numbering_system = refl })
