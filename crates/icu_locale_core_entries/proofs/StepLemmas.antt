@@ -3,8 +3,8 @@ use Rattle.std.proofs.Common.{◌≡◌, Bool, Option, None, sym, subst}
 use Rattle.icu_locale_core_grammar.specs.Subtags.{Text}
 use Rattle.icu_locale_core_grammar.specs.Stepping.{InHead, headed_after}
 use Rattle.icu_locale_core_entries.specs.declared.headed.HeadedStage.{HeadedStage}
-use Rattle.icu_locale_core_entries.specs.declared.step.Step.{Step}
-use Rattle.icu_locale_core_entries.specs.declared.step.Step.TheVariants.{Refused}
+use Rattle.icu_locale_core_subtags.specs.declared.step.Step.{Step}
+use Rattle.icu_locale_core_subtags.specs.declared.step.Step.TheVariants.{Refused}
 use Rattle.icu_locale_core_entries.specs.HeadedView.{headed_view, ends_anywhere}
 use Rattle.icu_locale_core_entries.specs.Steps.{IsStep}
 

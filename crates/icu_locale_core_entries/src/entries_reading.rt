@@ -7,9 +7,8 @@ ghost use Rattle.icu_locale_core_sets.specs.Reading.{IsRefused};
 use crate::entries::EntriesOf;
 use crate::headed::{HeadedStage, NoHead, headed_after, headed_finish};
 use crate::kind::EntryKind;
-use crate::step::Step;
 use icu_locale_core_grammar::ParseError;
-use icu_locale_core_subtags::SubtagIterator;
+use icu_locale_core_subtags::{Step, SubtagIterator};
 use std::alloc::Global;
 
 impl<K: EntryKind> EntriesOf<K> {

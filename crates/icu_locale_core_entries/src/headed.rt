@@ -9,9 +9,8 @@ ghost use Rattle.icu_locale_core_entries.specs.Steps.{IsStep};
 
 use crate::entries::EntriesOf;
 use crate::kind::EntryKind;
-use crate::step::Step;
 use crate::value::ValueOf;
-use icu_locale_core_subtags::SubtagOf;
+use icu_locale_core_subtags::{Step, SubtagOf};
 use std::alloc::{AllocError, Global};
 
 /// How the head before the entries is read, piece by piece; it may end anywhere.

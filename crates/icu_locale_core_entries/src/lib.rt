@@ -20,7 +20,6 @@ mod kind;
 pub mod laws;
 mod lending;
 mod retaining;
-mod step;
 mod value;
 mod value_reading;
 mod well_formed;
@@ -29,8 +28,8 @@ mod writing;
 pub use crate::entries::EntriesOf;
 pub use crate::headed::{HeadReader, HeadedStage, NoHead, headed_after, headed_finish};
 pub use crate::kind::EntryKind;
-pub use crate::step::Step;
 pub use crate::value::ValueOf;
+pub use icu_locale_core_subtags::Step;
 
 /// Keywords of the extension `u`.
 pub mod unicode {

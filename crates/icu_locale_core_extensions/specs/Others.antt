@@ -4,8 +4,8 @@
 use Rattle.std.specs.Prelude.{ℕ, ◌≡◌, ◌≤◌, List, ◌∷◌, ◌++◌, length, take, drop}
 use Rattle.icu_locale_core_grammar.specs.Subtags.{Text}
 use Rattle.icu_locale_core_grammar.specs.Collections.{Entry, put_first}
-use Rattle.icu_locale_core_entries.specs.declared.step.Step.{Step}
-use Rattle.icu_locale_core_entries.specs.declared.step.Step.TheVariants.{Taken, Refused}
+use Rattle.icu_locale_core_subtags.specs.declared.step.Step.{Step}
+use Rattle.icu_locale_core_subtags.specs.declared.step.Step.TheVariants.{Taken, Refused}
 
 -- one more piece leaves the singleton
 abbrev pub KeepsSingleton : Text → Step Entry → Type 0

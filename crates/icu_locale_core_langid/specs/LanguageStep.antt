@@ -6,8 +6,8 @@ use Rattle.icu_locale_core_grammar.specs.Subtags.{Text}
 use Rattle.icu_locale_core_grammar.specs.LanguagePart.{LanguageId}
 use Rattle.icu_locale_core_grammar.specs.Stepping.{run}
 use Rattle.icu_locale_core_grammar.specs.TagStages.{language_after}
-use Rattle.icu_locale_core_langid.specs.declared.step.Step.{Step}
-use Rattle.icu_locale_core_langid.specs.declared.step.Step.TheVariants.{Taken, Refused}
+use Rattle.icu_locale_core_subtags.specs.declared.step.Step.{Step}
+use Rattle.icu_locale_core_subtags.specs.declared.step.Step.TheVariants.{Taken, Refused}
 
 -- the answer to the piece p at the stage s: a refused piece leaves the stage as it was
 abbrev pub IsStep : {S : Type 0} → (S → Text → Option S) → S → Text → Step S → Type 0

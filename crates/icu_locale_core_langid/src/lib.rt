@@ -12,12 +12,11 @@ mod one_variant;
 mod parser;
 mod reading;
 mod spelling;
-mod step;
 mod stepping;
 mod writing;
 
 pub use crate::language_identifier::LanguageIdentifier;
 pub use crate::modes::ParserMode;
 pub use crate::parser::{parse_language_identifier, parse_language_identifier_from_iter};
-pub use crate::step::Step;
 pub use crate::stepping::language_after;
+pub use icu_locale_core_subtags::Step;

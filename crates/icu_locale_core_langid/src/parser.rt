@@ -8,10 +8,9 @@ ghost use Rattle.icu_locale_core_langid.specs.Modes.{ReadsInMode, HasFaultInMode
 
 use crate::language_identifier::LanguageIdentifier;
 use crate::modes::ParserMode;
-use crate::step::Step;
 use crate::stepping::language_after;
 use icu_locale_core_grammar::ParseError;
-use icu_locale_core_subtags::SubtagIterator;
+use icu_locale_core_subtags::{Step, SubtagIterator};
 use std::alloc::{AllocError, Global};
 
 // The longest front that the steps of a language part take, and the pieces left.

@@ -6,8 +6,7 @@ ghost use Rattle.icu_locale_core_grammar.specs.TagStages.{fits_script, fits_regi
 ghost use Rattle.icu_locale_core_langid.specs.LanguageStep.{IsStep};
 
 use crate::language_identifier::LanguageIdentifier;
-use crate::step::Step;
-use icu_locale_core_subtags::{Language, Region, Script, Variant};
+use icu_locale_core_subtags::{Language, Region, Script, Step, Variant};
 use std::alloc::{AllocError, Global};
 
 // The script that the piece is, right behind the language.
