@@ -4,13 +4,13 @@
 # usage: bench/decimals.sh
 set -eu
 top=$(cd "$(dirname "$0")/.." && pwd)
-made=$top/bench/made/decimals
+made=${TMPDIR:-/tmp}/fixed_decimal_bench      # outside the repository: a check of all crates reads every .rt file below it
 mkdir -p "$made/crates/fixed_decimal_bench/src"
 for crate in writeable fixed_decimal_unsigned fixed_decimal; do
     cp -au "$top/crates/$crate" "$made/crates/"
 done
 grep -E '^(writeable|fixed_decimal_unsigned|fixed_decimal):' "$top/crates.txt" >"$made/crates.txt"
 echo 'fixed_decimal_bench: anyhow fixed_decimal writeable' >>"$made/crates.txt"
-cp "$top/bench/decimals/main.rt" "$made/crates/fixed_decimal_bench/src/main.rt"
+cp "$top/bench/decimals/main.rt.txt" "$made/crates/fixed_decimal_bench/src/main.rt"
 cd "$made/crates/fixed_decimal_bench"
 rt run
