@@ -93,8 +93,8 @@ pub fn same_data_locales(one: &DataLocale, other: &DataLocale) -> bool
 }
 
 /// Two preferences are `==` exactly where they are one value.
-pub fn same_preferences(one: &LocalePreferences, other: &LocalePreferences) -> bool
-    ensures { IsTrue result ↔ (one.now ≡ other.now) }
+pub fn same_preferences(first: &LocalePreferences, second: &LocalePreferences) -> bool
+    ensures { IsTrue result ↔ (first.now ≡ second.now) }
 {
-    one == other
+    first == second
 }

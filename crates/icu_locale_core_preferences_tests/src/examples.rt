@@ -31,6 +31,10 @@ fn data_locale(rt: HostRuntime) -> Result<(), Fail> {
         "en-US-u-sd-ustx"
     );
     assert_eq!(rt; data_locale.writeable_length_hint(), LengthHint::exact(15));
+    assert_eq!(rt;
+        format!(in rt.alloc(); "{data_locale:?}")?.as_str(),
+        "DataLocale{en-US-u-sd-ustx}"
+    );
     Ok(())
 }
 

@@ -4,5 +4,5 @@ use Rattle.icu_locale_core_preferences.proofs.laws.same_preferences.Goals as goa
 
 pub returns : goal.returns
 returns c =
-    let decides = preferences_decide c.args.one.now c.args.other.now in
+    let decides = preferences_decide c.args.first.now c.args.second.now in
     (λ e. decides.0 (sym c.eq.ensures ∙ e), λ e. c.eq.ensures ∙ decides.1 e)
