@@ -3,7 +3,7 @@
 ghost use Rattle.icu_locale_core_grammar.specs.TagStages.{attributes_after, language_after as language_stage_after};
 
 use icu_locale_core_entries::{HeadReader, Step};
-use icu_locale_core_langid::{LanguageIdentifier, Step as LanguageStep, language_after};
+use icu_locale_core_langid::{LanguageIdentifier, language_after};
 use icu_locale_core_sets::Attributes;
 use icu_locale_core_subtags::unicode::Attribute;
 use std::alloc::{AllocError, Global};
@@ -44,9 +44,6 @@ impl HeadReader for LanguageHead {
         stage: Option<LanguageIdentifier>,
         piece: &[u8],
     ) -> Result<Step<Option<LanguageIdentifier>>, AllocError> {
-        match language_after(alloc, stage, piece)? {
-            LanguageStep::Taken(stage) => Ok(Step::Taken(stage)),
-            LanguageStep::Refused(stage) => Ok(Step::Refused(stage)),
-        }
+        language_after(alloc, stage, piece)
     }
 }

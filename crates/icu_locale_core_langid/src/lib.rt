@@ -17,6 +17,7 @@ mod writing;
 
 pub use crate::language_identifier::LanguageIdentifier;
 pub use crate::modes::ParserMode;
+pub use crate::one_variant::{OneVariantParts, one_variant_step};
 pub use crate::parser::{parse_language_identifier, parse_language_identifier_from_iter};
 pub use crate::stepping::language_after;
 pub use icu_locale_core_subtags::Step;

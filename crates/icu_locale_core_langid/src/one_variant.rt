@@ -1,6 +1,6 @@
 //! Reading a language identifier of at most one variant, without memory.
 
-ghost use Rattle.std.specs.Prelude.{◌≡◌, ◌&&◌, Some, None, option_map, is_none, MatchResult, if◌then◌else◌};
+ghost use Rattle.std.specs.Prelude.{◌≡◌, ◌&&◌, Some, None, option_map, is_none, MatchOption, MatchResult, if◌then◌else◌};
 ghost use Rattle.icu_locale_core_grammar.specs.Subtags.{title, upper, lower, is_variant};
 ghost use Rattle.icu_locale_core_grammar.specs.Pieces.{pieces};
 ghost use Rattle.icu_locale_core_grammar.specs.FaultyPiece.{HasFault};
@@ -11,20 +11,18 @@ use crate::language_identifier::LanguageIdentifier;
 use icu_locale_core_grammar::ParseError;
 use icu_locale_core_subtags::{Language, Region, Script, SubtagIterator, Variant};
 
-// The parts of an identifier of at most one variant.
-#[derive(Clone, Copy)]
-struct Parts {
-    language: Language,
-    script: Option<Script>,
-    region: Option<Region>,
-    variant: Option<Variant>,
-}
+/// The parts of a language identifier of at most one variant: a language, a script or none, a region or none, and a variant
+/// or none. They are what the readers of one variant hold while they read, and what they answer.
+///
+/// Those of `de-DE-1996` are `de`, no script, `DE` and `1996`. They take no memory.
+pub type OneVariantParts = (Language, Option<Script>, Option<Region>, Option<Variant>);
 
 // The script that the piece is, right behind the language.
-fn next_script(parts: &Parts, piece: &[u8]) -> Option<Script>
+fn next_script(parts: &OneVariantParts, piece: &[u8]) -> Option<Script>
     ensures { result ≡ (if fits_script (parts_id parts.now) piece.now then Some (title piece.now) else None) }
 {
-    if parts.script.is_some() || parts.region.is_some() || parts.variant.is_some() {
+    let (_, script, region, variant) = *parts;
+    if script.is_some() || region.is_some() || variant.is_some() {
         return None;
     }
     match Script::try_from_utf8(piece) {
@@ -34,10 +32,11 @@ fn next_script(parts: &Parts, piece: &[u8]) -> Option<Script>
 }
 
 // The region that the piece is, before a variant.
-fn next_region(parts: &Parts, piece: &[u8]) -> Option<Region>
+fn next_region(parts: &OneVariantParts, piece: &[u8]) -> Option<Region>
     ensures { result ≡ (if fits_region (parts_id parts.now) piece.now then Some (upper piece.now) else None) }
 {
-    if parts.region.is_some() || parts.variant.is_some() {
+    let (_, _, region, variant) = *parts;
+    if region.is_some() || variant.is_some() {
         return None;
     }
     match Region::try_from_utf8(piece) {
@@ -47,10 +46,11 @@ fn next_region(parts: &Parts, piece: &[u8]) -> Option<Region>
 }
 
 // The variant that the piece is, where there is none yet.
-fn next_variant(parts: &Parts, piece: &[u8]) -> Option<Variant>
-    ensures { result ≡ (if is_none parts.now.variant && is_variant piece.now then Some (lower piece.now) else None) }
+fn next_variant(parts: &OneVariantParts, piece: &[u8]) -> Option<Variant>
+    ensures { result ≡ (if is_none parts.now.3 && is_variant piece.now then Some (lower piece.now) else None) }
 {
-    if parts.variant.is_some() {
+    let (_, _, _, variant) = *parts;
+    if variant.is_some() {
         return None;
     }
     match Variant::try_from_utf8(piece) {
@@ -60,43 +60,32 @@ fn next_variant(parts: &Parts, piece: &[u8]) -> Option<Variant>
 }
 
 // The parts with one more piece.
-fn parts_after(parts: &Parts, piece: &[u8]) -> Option<Parts>
-    ensures { option_map (λ next. Some (parts_id next)) result ≡ one_variant_after (Some (parts_id parts.now)) piece.now }
+fn parts_after(parts: &OneVariantParts, piece: &[u8]) -> Option<OneVariantParts>
+    ensures { MatchOption result (one_variant_after (Some (parts_id parts.now)) piece.now ≡ None) (λ next. one_variant_after (Some (parts_id parts.now)) piece.now ≡ Some (Some (parts_id next))) }
 {
-    let mut next = *parts;
+    let (language, script, region, variant) = *parts;
     match next_script(parts, piece) {
-        Some(script) => {
-            next.script = Some(script);
-            Some(next)
-        }
+        Some(script) => Some((language, Some(script), region, variant)),
         None => match next_region(parts, piece) {
-            Some(region) => {
-                next.region = Some(region);
-                Some(next)
-            }
+            Some(region) => Some((language, script, Some(region), variant)),
             None => match next_variant(parts, piece) {
-                Some(variant) => {
-                    next.variant = Some(variant);
-                    Some(next)
-                }
+                Some(variant) => Some((language, script, region, Some(variant))),
                 None => None,
             },
         },
     }
 }
 
-// The parts with one more piece, `None` before the first.
-fn stage_after(stage: &Option<Parts>, piece: &[u8]) -> Option<Parts>
-    ensures { option_map (λ next. Some (parts_id next)) result ≡ one_variant_after (option_map parts_id stage.now) piece.now }
+/// The step that the readers of one variant share: the parts with one more piece, where `None` stands for no part yet.
+///
+/// `None` and `de` give `de`; behind it `DE` gives `de-DE`, and behind `de-1996` the second variant `fonipa` gives `None`, as
+/// any piece that does not fit there. It takes no memory. Source: UTS 35, section 3.1.
+pub fn one_variant_step(parts: &Option<OneVariantParts>, piece: &[u8]) -> Option<OneVariantParts>
+    ensures { MatchOption result (one_variant_after (option_map parts_id parts.now) piece.now ≡ None) (λ next. one_variant_after (option_map parts_id parts.now) piece.now ≡ Some (Some (parts_id next))) }
 {
-    match stage {
+    match parts {
         None => match Language::try_from_utf8(piece) {
-            Ok(language) => Some(Parts {
-                language,
-                script: None,
-                region: None,
-                variant: None,
-            }),
+            Ok(language) => Some((language, None, None, None)),
             Err(_) => None,
         },
         Some(parts) => parts_after(parts, piece),
@@ -104,10 +93,10 @@ fn stage_after(stage: &Option<Parts>, piece: &[u8]) -> Option<Parts>
 }
 
 // The fault where no piece fits behind these.
-fn fault_of(stage: &Option<Parts>) -> ParseError
-    ensures { result ≡ language_fault (option_map parts_id stage.now) }
+fn fault_of(parts: &Option<OneVariantParts>) -> ParseError
+    ensures { result ≡ language_fault (option_map parts_id parts.now) }
 {
-    match stage {
+    match parts {
         None => ParseError::InvalidLanguage,
         Some(_) => ParseError::InvalidSubtag,
     }
@@ -120,18 +109,18 @@ impl LanguageIdentifier {
     /// a later piece does not fit, or is a second variant, as in `de-1996-fonipa`.
     pub fn try_from_utf8_with_single_variant(
         code_units: &[u8],
-    ) -> Result<(Language, Option<Script>, Option<Region>, Option<Variant>), ParseError>
+    ) -> Result<OneVariantParts, ParseError>
         ensures { MatchResult result (λ parts. MeansOneVariant (pieces code_units.now) (one_variant parts.0 parts.1 parts.2 parts.3)) (λ e. HasFault MeansOneVariant (pieces code_units.now) e) }
     {
-        let mut stage: Option<Parts> = None;
+        let mut parts: Option<OneVariantParts> = None;
         for piece in SubtagIterator::new(code_units) {
-            match stage_after(&stage, piece) {
-                Some(next) => stage = Some(next),
-                None => return Err(fault_of(&stage)),
+            match one_variant_step(&parts, piece) {
+                Some(next) => parts = Some(next),
+                None => return Err(fault_of(&parts)),
             }
         }
-        match stage {
-            Some(parts) => Ok((parts.language, parts.script, parts.region, parts.variant)),
+        match parts {
+            Some(parts) => Ok(parts),
             None => Err(ParseError::InvalidLanguage),
         }
     }

@@ -11,11 +11,9 @@ use Rattle.icu_locale_core_grammar.proofs.LanguageReader.{language_runs}
 use Rattle.icu_locale_core_grammar.proofs.LanguageFaults.{language_named}
 use Rattle.icu_locale_core_grammar.proofs.PartialReadingLemmas.{IsRefusedFirst, front_read}
 use Rattle.icu_locale_core_grammar.proofs.CallerLemmas.{none_left}
-use Rattle.icu_locale_core_langid.specs.OneVariant.{MeansOneVariant, one_variant_after}
+use Rattle.icu_locale_core_langid.specs.OneVariant.{MeansOneVariant, parts_id, one_variant_after}
 use Rattle.icu_locale_core_langid.proofs.SteppingLemmas.{TookBy}
 use Rattle.icu_locale_core_langid.proofs.OneVariantReader.{one_variant_reader, one_variant_refused, one_variant_cut}
-use Rattle.icu_locale_core_single.specs.StageView.{parts_id}
-use Rattle.icu_locale_core_single.specs.declared.parts.Parts.{Parts}
 
 -- ---- where the loop stops
 
@@ -38,6 +36,9 @@ front_left ps id rest s =
 pub no_language : (ps rest : List Text) → StopsWith ps None rest → HasFault MeansOneVariant ps InvalidLanguage
 no_language ps [] s = one_variant_cut ps s.took.0 (none_left ps s.took.0 s.took.1) s.took.2
 no_language ps (p ∷ rest) s = one_variant_refused ps s.took.0 rest None p s.took.1 s.took.2 s.stuck
+
+abbrev Parts : Type 0
+Parts = Text × Option Text × Option Text × Option Text
 
 -- the answer there
 pub front_answered : (ps rest : List Text) (parts : Option Parts) (whole : Bool) (r : Result (Parts × Bool) ParseError) → StopsWith ps (option_map parts_id parts) rest → whole ≡ has_none rest

@@ -25,9 +25,9 @@ kept_there l (Some (Some id)) p next e = by_test (has_short id.variants) e
     by_test true e = let same : id ≡ next = cc in ap (λ i. Some (InLanguage (Some i))) same
     by_test false e = cc
 
-pub part_taken : (id : LanguageId) (p : Text) (next : LanguageId) → one_variant_after (Some id) p ≡ Some (Some next) → single_after (InLanguage (Some id)) p ≡ Some (InLanguage (Some next))
+pub part_taken : (l : Option LanguageId) (p : Text) (next : LanguageId) → one_variant_after l p ≡ Some (Some next) → single_after (InLanguage l) p ≡ Some (InLanguage (Some next))
 unfolding single_after
-part_taken id p next e = kept_there (Some id) (language_after (Some id) p) p next e
+part_taken l p next e = kept_there l (language_after l p) p next e
 
 long_refused : (m : Option LanguageId) → kept_one (Some m) ≡ None → kept_short m ≡ None
 long_refused None e = refl
@@ -36,6 +36,14 @@ long_refused (Some id) e = by_test (has_short id.variants) e
     by_test : (b : Bool) → (if b then Some (Some id) else None) ≡ None → (if b then Some (InLanguage (Some id)) else None) ≡ None
     by_test true e = cc
     by_test false e = refl
+
+pub no_language : (p : Text) → one_variant_after None p ≡ None → single_after (InLanguage None) p ≡ None
+unfolding single_after
+no_language p e = by_step (language_after None p) e
+  where
+    by_step : (o : Option (Option LanguageId)) → kept_one o ≡ None → after_language None o p ≡ None
+    by_step None none = refl
+    by_step (Some m) none = long_refused m none
 
 -- what is a piece of the language part is not `u`
 no_unicode : (id : LanguageId) (p : Text) (m : Option LanguageId) → language_after (Some id) p ≡ Some m → is_unicode p ≡ false

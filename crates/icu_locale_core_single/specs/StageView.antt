@@ -1,4 +1,4 @@
--- What the definitions see of the parts and of the stage of a tag that is being read.
+-- What the definitions see of the stage of a tag that is being read.
 -- Defined in docs/tags.md, "Stages".
 -- Cited by the functions that read tags of at most one variant and one keyword piece by piece.
 use Rattle.std.specs.Prelude.{◌≡◌, None, Some, option_map}
@@ -6,15 +6,10 @@ use Rattle.std.specs.declared.result.Result.{Result}
 use Rattle.std.specs.declared.result.Result.TheVariants.{Ok, Err}
 use Rattle.icu_locale_core_grammar.specs.declared.error.ParseError.{ParseError}
 use Rattle.icu_locale_core_grammar.specs.Subtags.{Text}
-use Rattle.icu_locale_core_grammar.specs.LanguagePart.{LanguageId}
 use Rattle.icu_locale_core_grammar.specs.SingleVariant.{SingleStage, InLanguage, BehindUnicode, BehindKey, BehindValue, single_after, single_fault}
-use Rattle.icu_locale_core_langid.specs.OneVariant.{one_variant}
-use Rattle.icu_locale_core_single.specs.declared.parts.Parts.{Parts}
+use Rattle.icu_locale_core_langid.specs.OneVariant.{parts_id}
 use Rattle.icu_locale_core_single.specs.declared.stage.Stage.{Stage}
 use Rattle.icu_locale_core_single.specs.declared.stage.Stage.TheVariants as code
-
-abbrev pub parts_id : Parts → LanguageId
-parts_id parts = one_variant parts.language parts.script parts.region parts.variant
 
 abbrev pub stage_view : Stage → SingleStage
 stage_view (code.InLanguage parts) = InLanguage (option_map parts_id parts)

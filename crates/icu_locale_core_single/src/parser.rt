@@ -7,14 +7,13 @@ ghost use Rattle.icu_locale_core_grammar.specs.FaultyPiece.{HasFault};
 ghost use Rattle.icu_locale_core_grammar.specs.PartialReading.{ReadsFront};
 ghost use Rattle.icu_locale_core_grammar.specs.SingleVariant.{MeansSingle, HasSingleFault};
 ghost use Rattle.icu_locale_core_grammar.specs.TagStages.{has_none};
-ghost use Rattle.icu_locale_core_langid.specs.OneVariant.{MeansOneVariant};
+ghost use Rattle.icu_locale_core_langid.specs.OneVariant.{MeansOneVariant, parts_id};
 ghost use Rattle.icu_locale_core_single.specs.SingleModes.{single, with_keyword, MeansSingleInMode, HasSingleFaultInMode};
-ghost use Rattle.icu_locale_core_single.specs.StageView.{parts_id};
 
-use crate::parts::{Parts, SingleParts, front_after};
+use crate::parts::{SingleParts, joined_parts};
 use crate::stage::{Stage, parts_at_end, stage_after};
 use icu_locale_core_grammar::ParseError;
-use icu_locale_core_langid::ParserMode;
+use icu_locale_core_langid::{OneVariantParts, ParserMode, one_variant_step};
 use icu_locale_core_subtags::{Language, Region, Script, SubtagIterator, Variant};
 
 // The whole tag.
@@ -29,7 +28,10 @@ fn read_tag(from: SubtagIterator<'_>) -> Result<SingleParts, ParseError>
 }
 
 // The parts that a front has, with a word on whether it is all.
-fn front_of(parts: Option<Parts>, whole: bool) -> Result<(Parts, bool), ParseError>
+fn front_of(
+    parts: Option<OneVariantParts>,
+    whole: bool,
+) -> Result<(OneVariantParts, bool), ParseError>
     ensures { MatchResult result (λ front. (parts ≡ Some front.0) × (front.1 ≡ whole)) (λ e. (parts ≡ None) × (e ≡ ParseError.InvalidLanguage)) }
 {
     match parts {
@@ -39,12 +41,12 @@ fn front_of(parts: Option<Parts>, whole: bool) -> Result<(Parts, bool), ParseErr
 }
 
 // The longest front that is a language part of at most one variant, and whether it is all.
-fn read_front(from: SubtagIterator<'_>) -> Result<(Parts, bool), ParseError>
+fn read_front(from: SubtagIterator<'_>) -> Result<(OneVariantParts, bool), ParseError>
     ensures { MatchResult result (λ front. (rest : List (List ℕ)) × ReadsFront MeansOneVariant from.entry (parts_id front.0) rest × (front.1 ≡ has_none rest)) (λ e. HasFault MeansOneVariant from.entry e × (e ≡ ParseError.InvalidLanguage)) }
 {
-    let mut parts: Option<Parts> = None;
+    let mut parts: Option<OneVariantParts> = None;
     for piece in from {
-        match front_after(&parts, piece) {
+        match one_variant_step(&parts, piece) {
             Some(next) => parts = Some(next),
             None => return front_of(parts, false),
         }
@@ -54,7 +56,7 @@ fn read_front(from: SubtagIterator<'_>) -> Result<(Parts, bool), ParseError>
 
 // All pieces as a language part of at most one variant.
 #[tactic(auto, using(crate::proofs::FrontLemmas::whole_front))]
-fn read_language(from: SubtagIterator<'_>) -> Result<Parts, ParseError>
+fn read_language(from: SubtagIterator<'_>) -> Result<OneVariantParts, ParseError>
     ensures { MatchResult result (λ parts. MeansOneVariant from.entry (parts_id parts)) (λ e. HasFault MeansOneVariant from.entry e) }
 {
     let (parts, whole) = read_front(from)?;
@@ -80,11 +82,11 @@ pub fn parse_locale_with_single_variant_single_keyword_unicode_extension_from_it
     ensures { MatchResult result (λ parts. MeansSingleInMode mode iter.entry (single parts)) (λ e. HasSingleFaultInMode mode iter.entry e) }
 {
     match mode {
-        ParserMode::LanguageIdentifier => Ok(read_language(iter)?.with_keyword(None)),
+        ParserMode::LanguageIdentifier => Ok(joined_parts(read_language(iter)?, None)),
         ParserMode::Locale => read_tag(iter),
         ParserMode::Partial => {
             let (parts, _) = read_front(iter)?;
-            Ok(parts.with_keyword(None))
+            Ok(joined_parts(parts, None))
         }
     }
 }

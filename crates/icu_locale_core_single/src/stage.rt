@@ -1,13 +1,15 @@
 //! The stages of a tag of at most one variant and one keyword.
 
-ghost use Rattle.std.specs.Prelude.{◌≡◌, true, false, Some, None, MatchOption, MatchResult};
+ghost use Rattle.std.specs.Prelude.{◌≡◌, true, false, Some, None, MatchOption, MatchResult, option_map};
 ghost use Rattle.icu_locale_core_grammar.specs.Subtags.{is_singleton, is_unicode, is_true, is_value, lower};
 ghost use Rattle.icu_locale_core_grammar.specs.SingleVariant.{InLanguage, BehindUnicode, BehindKey, single_ends, single_fault};
+ghost use Rattle.icu_locale_core_langid.specs.OneVariant.{parts_id, one_variant_after};
 ghost use Rattle.icu_locale_core_single.specs.SingleModes.{single};
-ghost use Rattle.icu_locale_core_single.specs.StageView.{parts_id, stage_view, GoesOn};
+ghost use Rattle.icu_locale_core_single.specs.StageView.{stage_view, GoesOn};
 
-use crate::parts::{Parts, SingleParts, language_alone, parts_after};
+use crate::parts::{SingleParts, joined_parts};
 use icu_locale_core_grammar::ParseError;
+use icu_locale_core_langid::{OneVariantParts, one_variant_step};
 use icu_locale_core_subtags::Subtag;
 use icu_locale_core_subtags::unicode::Key;
 
@@ -15,13 +17,13 @@ use icu_locale_core_subtags::unicode::Key;
 #[derive(Clone, Copy)]
 pub(crate) enum Stage {
     // In the language part, `None` before its first piece.
-    InLanguage(Option<Parts>),
+    InLanguage(Option<OneVariantParts>),
     // Behind `u`.
-    BehindUnicode(Parts),
+    BehindUnicode(OneVariantParts),
     // Behind the key.
-    BehindKey(Parts, Key),
+    BehindKey(OneVariantParts, Key),
     // Behind a piece of the value, `None` where it is `true`.
-    BehindValue(Parts, Key, Option<Subtag>),
+    BehindValue(OneVariantParts, Key, Option<Subtag>),
 }
 
 // Whether the piece is one letter or digit.
@@ -61,33 +63,37 @@ fn value_subtag(piece: &[u8]) -> Option<Subtag>
     Subtag::try_from_utf8(piece).ok()
 }
 
-// Before the first piece: a language.
-#[tactic(auto, unfolding(icu_locale_core_grammar::specs::SingleVariant::single_after))]
-fn after_nothing(piece: &[u8]) -> Result<Stage, ParseError>
-    ensures { GoesOn (InLanguage None) piece.now result }
+// Behind a language part that does not go on with the piece: `u`.
+#[tactic(auto, using(crate::proofs::StageLemmas::unicode_opened, crate::proofs::StageLemmas::nothing_opened))]
+fn behind_language(parts: OneVariantParts, piece: &[u8]) -> Result<Stage, ParseError>
+    ensures { one_variant_after (Some (parts_id parts)) piece.now ≡ None → GoesOn (InLanguage (Some (parts_id parts))) piece.now result }
 {
-    match language_alone(piece) {
-        Some(parts) => Ok(Stage::InLanguage(Some(parts))),
-        None => Err(ParseError::InvalidLanguage),
+    if opens_unicode(piece) {
+        Ok(Stage::BehindUnicode(parts))
+    } else if stands_alone(piece) {
+        Err(ParseError::InvalidExtension)
+    } else {
+        Err(ParseError::InvalidSubtag)
     }
 }
 
-// Behind a language: one more piece of the language part, or `u`.
-#[tactic(auto, using(crate::proofs::StageLemmas::part_taken, crate::proofs::StageLemmas::unicode_opened, crate::proofs::StageLemmas::nothing_opened))]
-fn after_language(parts: Parts, piece: &[u8]) -> Result<Stage, ParseError>
-    ensures { GoesOn (InLanguage (Some (parts_id parts))) piece.now result }
+// In the language part: one more piece of it, or what stands behind it.
+#[tactic(auto, using(crate::proofs::StageLemmas::part_taken, crate::proofs::StageLemmas::no_language))]
+fn in_language(front: Option<OneVariantParts>, piece: &[u8]) -> Result<Stage, ParseError>
+    ensures { GoesOn (InLanguage (option_map parts_id front)) piece.now result }
 {
-    match parts_after(&parts, piece) {
+    match one_variant_step(&front, piece) {
         Some(next) => Ok(Stage::InLanguage(Some(next))),
-        None if opens_unicode(piece) => Ok(Stage::BehindUnicode(parts)),
-        None if stands_alone(piece) => Err(ParseError::InvalidExtension),
-        None => Err(ParseError::InvalidSubtag),
+        None => match front {
+            Some(parts) => behind_language(parts, piece),
+            None => Err(ParseError::InvalidLanguage),
+        },
     }
 }
 
 // Behind `u`: a key.
 #[tactic(auto, unfolding(icu_locale_core_grammar::specs::SingleVariant::single_after))]
-fn after_unicode(parts: Parts, piece: &[u8]) -> Result<Stage, ParseError>
+fn after_unicode(parts: OneVariantParts, piece: &[u8]) -> Result<Stage, ParseError>
     ensures { GoesOn (BehindUnicode (parts_id parts)) piece.now result }
 {
     match Key::try_from_utf8(piece) {
@@ -98,7 +104,7 @@ fn after_unicode(parts: Parts, piece: &[u8]) -> Result<Stage, ParseError>
 
 // Behind a key: a piece of its value, of which `true` is left out.
 #[tactic(auto, unfolding(icu_locale_core_grammar::specs::SingleVariant::single_after))]
-fn after_key(parts: Parts, key: Key, piece: &[u8]) -> Result<Stage, ParseError>
+fn after_key(parts: OneVariantParts, key: Key, piece: &[u8]) -> Result<Stage, ParseError>
     ensures { GoesOn (BehindKey (parts_id parts) key) piece.now result }
 {
     match value_subtag(piece) {
@@ -114,8 +120,7 @@ pub(crate) fn stage_after(stage: Stage, piece: &[u8]) -> Result<Stage, ParseErro
     ensures { GoesOn (stage_view stage) piece.now result }
 {
     match stage {
-        Stage::InLanguage(None) => after_nothing(piece),
-        Stage::InLanguage(Some(parts)) => after_language(parts, piece),
+        Stage::InLanguage(front) => in_language(front, piece),
         Stage::BehindUnicode(parts) => after_unicode(parts, piece),
         Stage::BehindKey(parts, key) => after_key(parts, key, piece),
         Stage::BehindValue(_, _, _) => Err(ParseError::InvalidExtension),
@@ -128,9 +133,9 @@ pub(crate) fn parts_at_end(stage: Stage) -> Result<SingleParts, ParseError>
 {
     match stage {
         Stage::InLanguage(None) => Err(ParseError::InvalidLanguage),
-        Stage::InLanguage(Some(parts)) => Ok(parts.with_keyword(None)),
+        Stage::InLanguage(Some(parts)) => Ok(joined_parts(parts, None)),
         Stage::BehindUnicode(_) => Err(ParseError::InvalidExtension),
-        Stage::BehindKey(parts, key) => Ok(parts.with_keyword(Some((key, None)))),
-        Stage::BehindValue(parts, key, value) => Ok(parts.with_keyword(Some((key, value)))),
+        Stage::BehindKey(parts, key) => Ok(joined_parts(parts, Some((key, None)))),
+        Stage::BehindValue(parts, key, value) => Ok(joined_parts(parts, Some((key, value)))),
     }
 }

@@ -1,7 +1,6 @@
 use Rattle.std.proofs.Common.{option_map}
-use Rattle.icu_locale_core_langid.specs.OneVariant.{one_variant_after}
+use Rattle.icu_locale_core_langid.specs.OneVariant.{parts_id, one_variant_after}
 use Rattle.icu_locale_core_langid.proofs.SteppingLemmas.{TookBy}
-use Rattle.icu_locale_core_single.specs.StageView.{parts_id}
 use Rattle.icu_locale_core_single.proofs.parser.read_front.Given as goal
 
 abbrev pub invariant-loop-piece : goal.invariant-loop-piece

@@ -1,5 +1,5 @@
 use Rattle.std.proofs.Common.{sym, ◌∙◌}
-use Rattle.icu_locale_core_single.specs.StageView.{parts_id}
+use Rattle.icu_locale_core_langid.specs.OneVariant.{parts_id}
 use Rattle.icu_locale_core_single.proofs.FrontLemmas.{rest_refused}
 use Rattle.icu_locale_core_single.proofs.parser.read_language.Goals as goal
 

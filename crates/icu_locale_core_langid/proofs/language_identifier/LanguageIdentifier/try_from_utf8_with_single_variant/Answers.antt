@@ -7,20 +7,20 @@ use Rattle.icu_locale_core_langid.proofs.language_identifier.LanguageIdentifier.
 
 pub loop-piece-preserved : goal.loop-piece-preserved
 loop-piece-preserved c =
-    one_more_taken one_variant_after (pieces c.args.code_units.now) c.loop-piece.piece-iterator c.next.new.self (option_map parts_id c.loop-piece.stage) (Some (parts_id c.in-Some-stage_after.next)) c.in-Some.piece.now
-    c.loop-piece.invariant c.in-Some.ensures.steps (sym c.in-Some-stage_after.ensures)
+    one_more_taken one_variant_after (pieces c.args.code_units.now) c.loop-piece.piece-iterator c.next.new.self (option_map parts_id c.loop-piece.parts) (Some (parts_id c.in-Some-one_variant_step.next)) c.in-Some.piece.now
+    c.loop-piece.invariant c.in-Some.ensures.steps c.in-Some-one_variant_step.ensures
 
-pub returns-in-None-stage_after : goal.returns-in-None-stage_after
-returns-in-None-stage_after c =
-    loop_refused (pieces c.args.code_units.now) c.loop-piece.piece-iterator c.next.new.self (option_map parts_id c.loop-piece.stage) c.in-Some.piece.now c.fault_of.result
-    c.loop-piece.invariant c.in-Some.ensures.steps c.in-None-stage_after.ensures c.fault_of.ensures
+pub returns-in-None-one_variant_step : goal.returns-in-None-one_variant_step
+returns-in-None-one_variant_step c =
+    loop_refused (pieces c.args.code_units.now) c.loop-piece.piece-iterator c.next.new.self (option_map parts_id c.loop-piece.parts) c.in-Some.piece.now c.fault_of.result
+    c.loop-piece.invariant c.in-Some.ensures.steps (sym c.in-None-one_variant_step.ensures) c.fault_of.ensures
 
-pub returns-in-Some-stage : goal.returns-in-Some-stage
-returns-in-Some-stage c =
-    loop_read (pieces c.args.code_units.now) c.loop-piece.piece-iterator (option_map parts_id c.loop-piece.stage) (parts_id c.in-Some-stage.parts)
-    c.loop-piece.invariant c.in-None.ensures.steps.0 (ap (option_map parts_id) c.in-Some-stage.is)
+pub returns-in-Some-parts : goal.returns-in-Some-parts
+returns-in-Some-parts c =
+    loop_read (pieces c.args.code_units.now) c.loop-piece.piece-iterator (option_map parts_id c.loop-piece.parts) (parts_id c.in-Some-parts.parts)
+    c.loop-piece.invariant c.in-None.ensures.steps.0 (ap (option_map parts_id) c.in-Some-parts.is)
 
-pub returns-in-None-stage : goal.returns-in-None-stage
-returns-in-None-stage c =
-    loop_cut (pieces c.args.code_units.now) c.loop-piece.piece-iterator (option_map parts_id c.loop-piece.stage)
-    c.loop-piece.invariant c.in-None.ensures.steps.0 (ap (option_map parts_id) c.in-None-stage.is)
+pub returns-in-None-parts : goal.returns-in-None-parts
+returns-in-None-parts c =
+    loop_cut (pieces c.args.code_units.now) c.loop-piece.piece-iterator (option_map parts_id c.loop-piece.parts)
+    c.loop-piece.invariant c.in-None.ensures.steps.0 (ap (option_map parts_id) c.in-None-parts.is)
