@@ -63,12 +63,9 @@ impl Extensions {
     pub fn from_unicode(alloc: Global, unicode: Unicode) -> Self
         ensures { result ≡ only_unicode unicode }
     {
-        Extensions {
-            unicode,
-            transform: Transform::new(alloc),
-            private: Private::new(alloc),
-            other: Vec::new(alloc),
-        }
+        let mut extensions = Self::new(alloc);
+        extensions.unicode = unicode;
+        extensions
     }
 
     /// Takes all extensions away. It takes no memory.
