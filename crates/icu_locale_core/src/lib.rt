@@ -17,5 +17,5 @@ pub mod subtags;
 
 pub use icu_locale_core_grammar::ParseError;
 pub use icu_locale_core_langid::LanguageIdentifier;
-pub use icu_locale_core_locale::Locale;
+pub use icu_locale_core_locale::{Locale, TryFromLocaleBytes};
 pub use icu_locale_core_preferences::DataLocale;

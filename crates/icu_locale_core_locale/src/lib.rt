@@ -17,6 +17,7 @@ pub mod laws;
 mod locale;
 mod locale_bytes;
 mod normalizing;
+mod one_keyword;
 mod parser;
 mod printing;
 mod well_formed;
