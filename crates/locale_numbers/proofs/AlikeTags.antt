@@ -1,9 +1,9 @@
 -- Lines whose tags are alike have one answer: `specs/Laws.antt`.
-use Rattle.std.proofs.Common.{◌≡◌, ◌<◌, ◌==◌, ℕ, Bool, true, false, cond, ◌&&◌, ◌||◌, List, [], ◌∷◌, ◌++◌, Option, Some, None, option_map, refl, sym, ap, ◌∙◌, subst, arith}
+use Rattle.std.proofs.Common.{◌≡◌, ◌<◌, ◌==◌, ℕ, Bool, true, false, cond, ◌&&◌, ◌||◌, List, [], ◌∷◌, ◌++◌, Option, Some, None, refl, sym, ap, ◌∙◌, subst, arith}
 use Rattle.std.specs.Prelude.{flat_map, if◌then◌else◌}
 use Rattle.std.specs.List.{list_all, onto_first}
 use Rattle.std.specs.Char.{is_ascii_alphanumeric}
-use Rattle.std.specs.Str.{IsUtf8, is_utf8}
+use Rattle.std.specs.Str.{is_utf8}
 use Rattle.std.proofs.lemmas.Bool.{and_parts, and_from}
 use Rattle.std.proofs.lemmas.Bool.Decides.{nat_tests, same_from_decides}
 use Rattle.std.proofs.lemmas.List.Folds.{list_all-append}
@@ -22,8 +22,8 @@ use Rattle.locale_numbers_book.specs.Book.{BookTables}
 use Rattle.locale_numbers.specs.NumberReading.{reading_of}
 use Rattle.locale_numbers.specs.Request.{tab, is_tab, fields, form_named, grouping_named, keeps_sign, keeps_digits, request_by, request_in, request_of}
 use Rattle.locale_numbers.specs.declared.request.Form.{Form}
-use Rattle.locale_numbers.specs.Wanted.{Wanted, wanted_by, wanted_of}
-use Rattle.locale_numbers.specs.Answer.{answer_tagged, answer_asked, answer_of}
+use Rattle.locale_numbers.specs.Wanted.{wanted_by, wanted_of}
+use Rattle.locale_numbers.specs.Answer.{answer_tagged, answer_asked}
 use Rattle.locale_numbers.proofs.WantedLemmas.{asks_of}
 use Rattle.locale_numbers.specs.Laws.{AreAlike, AlikeTagsAreAnsweredAlike, NormalTextIsAnsweredAlike}
 

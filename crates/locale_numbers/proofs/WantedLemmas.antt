@@ -1,5 +1,5 @@
 -- What a text asks for where it is a tag, and where it is none: `specs/Wanted.antt`.
-use Rattle.std.proofs.Common.{◌≡◌, Option, Some, None, option_map, ap}
+use Rattle.std.proofs.Common.{◌≡◌, Some, None, option_map, ap}
 use Rattle.icu_locale_core_grammar.specs.declared.error.ParseError.{ParseError}
 use Rattle.icu_locale_core_grammar.specs.Subtags.{Text}
 use Rattle.icu_locale_core_grammar.specs.Pieces.{pieces}
@@ -7,7 +7,7 @@ use Rattle.icu_locale_core_grammar.specs.Meaning.{TagMeaning, MeansTag}
 use Rattle.icu_locale_core_grammar.specs.FaultyPiece.{HasFault}
 use Rattle.icu_locale_core_grammar.specs.TagPreferences.{preferences_of}
 use Rattle.locale_numbers_book.proofs.TagLemmas.{tag_read, tag_faulty}
-use Rattle.locale_numbers.specs.Wanted.{Wanted, wanted_by, wanted_of}
+use Rattle.locale_numbers.specs.Wanted.{wanted_by, wanted_of}
 
 pub asks_of : (text : Text) (tag : TagMeaning) → MeansTag (pieces text) tag → wanted_of text ≡ Some (wanted_by (preferences_of tag))
 asks_of text tag means = ap (option_map (λ m. wanted_by (preferences_of m))) (tag_read (pieces text) tag means)

@@ -1,10 +1,9 @@
 -- What a tag asks a book for: the locale that data is asked for, the language first, and a numbering system or none.
 -- UTS 35, section 3.6; docs/tags.md, "Preferences" and "Data locales"; docs/books.md, "Tags".
 -- Cited by `answer` and `run`, through Answer.antt.
-use Rattle.std.specs.Prelude.{List, Option, option_map}
+use Rattle.std.specs.Prelude.{Option, option_map}
 use Rattle.icu_locale_core_grammar.specs.Subtags.{Text}
 use Rattle.icu_locale_core_grammar.specs.Pieces.{pieces}
-use Rattle.icu_locale_core_grammar.specs.Meaning.{TagMeaning}
 use Rattle.icu_locale_core_grammar.specs.TagPreferences.{DataLocaleMeaning, Preferences, preferences_of, language_priority}
 use Rattle.locale_numbers_book.specs.TagReading.{tag_of}
 
