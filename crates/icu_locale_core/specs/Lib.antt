@@ -22,3 +22,8 @@ pub use Rattle.icu_locale_core_single.specs.SingleModes
 -- Keywords with a type of their own.
 pub use Rattle.icu_locale_core_keywords.specs.KeywordWords
 pub use Rattle.icu_locale_core_keywords.specs.TypedKeywords
+-- What the readers follow, piece by piece.
+pub use Rattle.icu_locale_core_grammar.specs.Stepping
+pub use Rattle.icu_locale_core_grammar.specs.TagStages
+-- When two locales are one.
+pub use Rattle.icu_locale_core_locale.specs.LocaleValue

@@ -9,14 +9,14 @@ use Rattle.std.proofs.lemmas.Bool.Decides.{nat_tests, same_from_decides}
 use Rattle.std.proofs.lemmas.List.Folds.{list_all-append}
 use Rattle.std.proofs.lemmas.Str.{IsUtf8-append, IsUtf8-from_ascii, IsUtf8-past_char, IsUtf8-from_is_utf8, is_utf8-from_IsUtf8, encode_ascii}
 use Rattle.std.proofs.lemmas.Str.Ascii.{IsAscii-nil, IsAscii-cons}
-use Rattle.icu_locale_core_grammar.specs.Subtags.{Text, is_plain}
-use Rattle.icu_locale_core_grammar.specs.Pieces.{hyphen, pieces, hyphened, joined_text}
-use Rattle.icu_locale_core_grammar.specs.Collections.{Each}
-use Rattle.icu_locale_core_grammar.specs.Meaning.{TagMeaning, MeansTag}
-use Rattle.icu_locale_core_grammar.specs.NormalText.{normal_text}
-use Rattle.icu_locale_core_grammar.specs.TagPreferences.{preferences_of}
-use Rattle.icu_locale_core_grammar.proofs.PlainPieces.{tag_plain, joined-pieces}
-use Rattle.icu_locale_core_grammar.proofs.NormalTags.{read_again}
+use Rattle.icu_locale_core.specs.Subtags.{Text, is_plain}
+use Rattle.icu_locale_core.specs.Pieces.{hyphen, pieces, hyphened, joined_text}
+use Rattle.icu_locale_core.specs.Collections.{Each}
+use Rattle.icu_locale_core.specs.Meaning.{TagMeaning, MeansTag}
+use Rattle.icu_locale_core.specs.NormalText.{normal_text}
+use Rattle.icu_locale_core.specs.TagPreferences.{preferences_of}
+use Rattle.icu_locale_core.proofs.PlainPieces.{tag_plain, joined-pieces}
+use Rattle.icu_locale_core.proofs.NormalTags.{read_again}
 use Rattle.locale_numbers_symbols.specs.declared.GroupingStrategy.{GroupingStrategy}
 use Rattle.locale_numbers_book.specs.Book.{BookTables}
 use Rattle.locale_numbers.specs.NumberReading.{reading_of}

@@ -8,8 +8,8 @@ use Rattle.locale_numbers.specs.declared.fault.ProgramFault.TheVariants.{Usage, 
 use Rattle.locale_numbers.specs.Fault.{status_of, line_of}
 use Rattle.locale_numbers.specs.NumberReading.{reading_of, parts_of, nothing, beyond}
 use Rattle.locale_numbers.specs.Request.{tab, fields, request_in, grouping_named}
-use Rattle.icu_locale_core_grammar.specs.Stepping.{headed_after, whole_after}
-use Rattle.icu_locale_core_grammar.specs.TagStages.{with_piece, body_after}
+use Rattle.icu_locale_core.specs.Stepping.{headed_after, whole_after}
+use Rattle.icu_locale_core.specs.TagStages.{with_piece, body_after}
 use Rattle.locale_numbers_book.specs.TagReading.{tag_of}
 use Rattle.locale_numbers.specs.Wanted.{wanted_of}
 

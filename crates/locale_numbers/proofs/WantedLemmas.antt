@@ -1,11 +1,11 @@
 -- What a text asks for where it is a tag, and where it is none: `specs/Wanted.antt`.
 use Rattle.std.proofs.Common.{◌≡◌, Some, None, option_map, ap}
-use Rattle.icu_locale_core_grammar.specs.declared.error.ParseError.{ParseError}
-use Rattle.icu_locale_core_grammar.specs.Subtags.{Text}
-use Rattle.icu_locale_core_grammar.specs.Pieces.{pieces}
-use Rattle.icu_locale_core_grammar.specs.Meaning.{TagMeaning, MeansTag}
-use Rattle.icu_locale_core_grammar.specs.FaultyPiece.{HasFault}
-use Rattle.icu_locale_core_grammar.specs.TagPreferences.{preferences_of}
+use Rattle.icu_locale_core.specs.declared.ParseError.{ParseError}
+use Rattle.icu_locale_core.specs.Subtags.{Text}
+use Rattle.icu_locale_core.specs.Pieces.{pieces}
+use Rattle.icu_locale_core.specs.Meaning.{TagMeaning, MeansTag}
+use Rattle.icu_locale_core.specs.FaultyPiece.{HasFault}
+use Rattle.icu_locale_core.specs.TagPreferences.{preferences_of}
 use Rattle.locale_numbers_book.proofs.TagLemmas.{tag_read, tag_faulty}
 use Rattle.locale_numbers.specs.Wanted.{wanted_by, wanted_of}
 

@@ -3,10 +3,10 @@
 -- Cited by the functions of `laws`.
 use Rattle.std.specs.Prelude.{◌≡◌, ◌↔◌, List, ℕ, ◌∷◌, ◌++◌}
 use Rattle.fixed_decimal.specs.SignedText.{ReadsSigned, IsBeyondSigned, IsNoSignedText}
-use Rattle.icu_locale_core_grammar.specs.Pieces.{pieces}
-use Rattle.icu_locale_core_grammar.specs.Meaning.{TagMeaning, MeansTag}
-use Rattle.icu_locale_core_grammar.specs.NormalText.{normal_text}
-use Rattle.icu_locale_core_grammar.specs.TagPreferences.{least_of, keyword_piece, keyword_subdivision, numbering_key, subdivision_key}
+use Rattle.icu_locale_core.specs.Pieces.{pieces}
+use Rattle.icu_locale_core.specs.Meaning.{TagMeaning, MeansTag}
+use Rattle.icu_locale_core.specs.NormalText.{normal_text}
+use Rattle.icu_locale_core.specs.TagPreferences.{least_of, keyword_piece, keyword_subdivision, numbering_key, subdivision_key}
 use Rattle.locale_numbers_book.specs.Book.{BookTables}
 use Rattle.locale_numbers.specs.NumberReading.{Reading, number, beyond, nothing, reading_of}
 use Rattle.locale_numbers.specs.Request.{tab}

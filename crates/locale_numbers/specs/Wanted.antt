@@ -2,9 +2,9 @@
 -- UTS 35, section 3.6; docs/tags.md, "Preferences" and "Data locales"; docs/books.md, "Tags".
 -- Cited by `answer` and `run`, through Answer.antt.
 use Rattle.std.specs.Prelude.{Option, option_map}
-use Rattle.icu_locale_core_grammar.specs.Subtags.{Text}
-use Rattle.icu_locale_core_grammar.specs.Pieces.{pieces}
-use Rattle.icu_locale_core_grammar.specs.TagPreferences.{DataLocaleMeaning, Preferences, preferences_of, language_priority}
+use Rattle.icu_locale_core.specs.Subtags.{Text}
+use Rattle.icu_locale_core.specs.Pieces.{pieces}
+use Rattle.icu_locale_core.specs.TagPreferences.{DataLocaleMeaning, Preferences, preferences_of, language_priority}
 use Rattle.locale_numbers_book.specs.TagReading.{tag_of}
 
 pub record Wanted : Type 0 where

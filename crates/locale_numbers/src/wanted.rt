@@ -1,12 +1,11 @@
 //! What a tag asks a book for.
 ghost use Rattle.std.specs.Prelude.{◌≡◌, IfOk};
-ghost use Rattle.icu_locale_core_grammar.specs.TagPreferences.{preferences_of};
+ghost use Rattle.icu_locale_core.specs.TagPreferences.{preferences_of};
 ghost use Rattle.locale_numbers.specs.Wanted.{wanted_by, wanted_of};
 
-use icu_locale_core_grammar::ParseError;
-use icu_locale_core_locale::Locale;
-use icu_locale_core_preferences::{DataLocale, numbering_system};
-use icu_locale_core_subtags::Subtag;
+use icu_locale_core::preferences::numbering_system;
+use icu_locale_core::subtags::Subtag;
+use icu_locale_core::{DataLocale, Locale, ParseError};
 use std::alloc::{AllocError, Global};
 use std::marker::Model;
 

@@ -5,8 +5,8 @@ use Rattle.std.specs.Option.{option_eq}
 use Rattle.std.specs.Str.{bytes_eq}
 use Rattle.std.proofs.lemmas.Slice.Eq.{bytes_eq-Decides}
 use Rattle.std.proofs.lemmas.Bool.Decides.{Decides-and, Decides-like, same_from_decides}
-use Rattle.icu_locale_core_grammar.specs.Subtags.{Text}
-use Rattle.icu_locale_core_grammar.specs.TagPreferences.{Subdivision, DataLocaleMeaning}
+use Rattle.icu_locale_core.specs.Subtags.{Text}
+use Rattle.icu_locale_core.specs.TagPreferences.{Subdivision, DataLocaleMeaning}
 use Rattle.serde_json.specs.Data.{Data, Items}
 use Rattle.serde_json.specs.View.{items_view, view}
 use Rattle.serde_json.specs.declared.value.Value.{Value}

@@ -1,11 +1,11 @@
 -- Worked rows of `specs/TagReading.antt`, `specs/Fields.antt` and `specs/Book.antt`: what known texts and fields say.
 use Rattle.std.proofs.Common.{◌≡◌, ◌∷◌, [], true, codes, Option, Some, None, option_map, refl}
 use Rattle.serde_json.specs.Data.{number, string, unsigned, array, no_items}
-use Rattle.icu_locale_core_grammar.specs.Subtags.{Text}
-use Rattle.icu_locale_core_grammar.specs.Pieces.{pieces}
-use Rattle.icu_locale_core_grammar.specs.TagPreferences.{DataLocaleMeaning, preferences_of}
-use Rattle.icu_locale_core_grammar.specs.Stepping.{headed_after, whole_after}
-use Rattle.icu_locale_core_grammar.specs.TagStages.{with_piece, body_after}
+use Rattle.icu_locale_core.specs.Subtags.{Text}
+use Rattle.icu_locale_core.specs.Pieces.{pieces}
+use Rattle.icu_locale_core.specs.TagPreferences.{DataLocaleMeaning, preferences_of}
+use Rattle.icu_locale_core.specs.Stepping.{headed_after, whole_after}
+use Rattle.icu_locale_core.specs.TagStages.{with_piece, body_after}
 use Rattle.locale_numbers_book.specs.TagReading.{tag_of, data_locale_of}
 use Rattle.locale_numbers_book.specs.Fields.{size_in, system_in, system_or_none_in, digits_in, plain_text_in}
 use Rattle.locale_numbers_book.specs.Book.{has_count}

@@ -5,7 +5,7 @@ use Rattle.std.specs.Int.{is_in_range}
 use Rattle.std.specs.Char.{is_ascii_alphanumeric, to_ascii_lowercase}
 use Rattle.std.proofs.lemmas.Bool.{and_parts, and_from}
 use Rattle.std.proofs.lemmas.Bool.Decides.{nat_tests}
-use Rattle.icu_locale_core_grammar.specs.Subtags.{Text, is_plain, is_other_piece, lower}
+use Rattle.icu_locale_core.specs.Subtags.{Text, is_plain, is_other_piece, lower}
 use Rattle.locale_numbers_book.specs.Fields.{is_small_letter_or_digit, is_system_name}
 
 small_plain : (b : ℕ) → is_small_letter_or_digit b ≡ true → is_ascii_alphanumeric b ≡ true

@@ -1,18 +1,18 @@
 -- What is read of a list of pieces is what it means: `specs/TagReading.antt`.
 use Rattle.std.proofs.Common.{◌≡◌, Bool, true, false, List, Option, None, Some, ◌⊎◌, inl, inr, refl, ap, ◌∙◌}
 use Rattle.std.specs.Prelude.{option_and_then, if◌then◌else◌}
-use Rattle.icu_locale_core_grammar.specs.declared.error.ParseError.{ParseError}
-use Rattle.icu_locale_core_grammar.specs.Subtags.{Text}
-use Rattle.icu_locale_core_grammar.specs.Meaning.{TagMeaning, MeansTag}
-use Rattle.icu_locale_core_grammar.specs.FaultyPiece.{HasFault}
-use Rattle.icu_locale_core_grammar.specs.TagPreferences.{DataLocaleMeaning, data_meaning}
-use Rattle.icu_locale_core_grammar.specs.DataTags.{MeansDataLocale, HasDataFault}
-use Rattle.icu_locale_core_grammar.specs.Stepping.{run}
-use Rattle.icu_locale_core_grammar.specs.TagStages.{TagStage, tag_start, tag_after, tag_ends}
-use Rattle.icu_locale_core_grammar.proofs.TagReader.{tag_reader}
-use Rattle.icu_locale_core_grammar.proofs.FaultyPieceLemmas.{never_both}
-use Rattle.icu_locale_core_grammar.proofs.DataFaults.{data_never_both}
-use Rattle.icu_locale_core_locale.specs.LocaleValue.{locale_decides}
+use Rattle.icu_locale_core.specs.declared.ParseError.{ParseError}
+use Rattle.icu_locale_core.specs.Subtags.{Text}
+use Rattle.icu_locale_core.specs.Meaning.{TagMeaning, MeansTag}
+use Rattle.icu_locale_core.specs.FaultyPiece.{HasFault}
+use Rattle.icu_locale_core.specs.TagPreferences.{DataLocaleMeaning, data_meaning}
+use Rattle.icu_locale_core.specs.DataTags.{MeansDataLocale, HasDataFault}
+use Rattle.icu_locale_core.specs.Stepping.{run}
+use Rattle.icu_locale_core.specs.TagStages.{TagStage, tag_start, tag_after, tag_ends}
+use Rattle.icu_locale_core.proofs.TagReader.{tag_reader}
+use Rattle.icu_locale_core.proofs.FaultyPieceLemmas.{never_both}
+use Rattle.icu_locale_core.proofs.DataFaults.{data_never_both}
+use Rattle.icu_locale_core.specs.LocaleValue.{locale_decides}
 use Rattle.locale_numbers_book.specs.TagReading.{tag_of, data_locale_in, says_no_more, alone, data_locale_of}
 use Rattle.locale_numbers_book.specs.Laws.{TagsAreRead, DataLocalesAreRead}
 

@@ -6,8 +6,8 @@ use Rattle.std.specs.Option.{option_map_or, option_eq}
 use Rattle.std.specs.Str.{bytes_eq}
 use Rattle.serde_json.specs.Data.{Data, Items, no_items, item}
 use Rattle.serde_json.specs.Find.{at, as_array}
-use Rattle.icu_locale_core_grammar.specs.Subtags.{Text}
-use Rattle.icu_locale_core_grammar.specs.TagPreferences.{Subdivision, DataLocaleMeaning}
+use Rattle.icu_locale_core.specs.Subtags.{Text}
+use Rattle.icu_locale_core.specs.TagPreferences.{Subdivision, DataLocaleMeaning}
 use Rattle.locale_numbers_symbols.specs.Symbols.{Symbols}
 use Rattle.locale_numbers_symbols.specs.declared.grouping_sizes.GroupingSizes.{GroupingSizes}
 use Rattle.locale_numbers_book.specs.Fields.{plain_text_in, system_in, system_or_none_in, locale_in, size_in, digits_in}

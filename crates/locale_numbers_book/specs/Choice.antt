@@ -3,8 +3,8 @@
 -- Cited by `Book::tables_for`.
 use Rattle.std.specs.Prelude.{ℕ, List, [], ◌∷◌, ◌++◌, map, Bool, Option, Some, None, option_to_list, option_map, option_and_then}
 use Rattle.std.specs.Str.{bytes_eq}
-use Rattle.icu_locale_core_grammar.specs.Subtags.{Text}
-use Rattle.icu_locale_core_grammar.specs.TagPreferences.{DataLocaleMeaning}
+use Rattle.icu_locale_core.specs.Subtags.{Text}
+use Rattle.icu_locale_core.specs.TagPreferences.{DataLocaleMeaning}
 use Rattle.locale_numbers_symbols.specs.Symbols.{Symbols}
 use Rattle.locale_numbers_book.specs.Book.{BookTables, SymbolsKey, table_at, same_key}
 

@@ -4,10 +4,10 @@
 use Rattle.std.specs.Prelude.{◌≡◌, ◌↔◌, List, Some}
 use Rattle.std.specs.Bool.{Decides}
 use Rattle.serde_json.specs.Data.{Data}
-use Rattle.icu_locale_core_grammar.specs.Subtags.{Text}
-use Rattle.icu_locale_core_grammar.specs.Meaning.{TagMeaning, MeansTag}
-use Rattle.icu_locale_core_grammar.specs.TagPreferences.{DataLocaleMeaning}
-use Rattle.icu_locale_core_grammar.specs.DataTags.{MeansDataLocale}
+use Rattle.icu_locale_core.specs.Subtags.{Text}
+use Rattle.icu_locale_core.specs.Meaning.{TagMeaning, MeansTag}
+use Rattle.icu_locale_core.specs.TagPreferences.{DataLocaleMeaning}
+use Rattle.icu_locale_core.specs.DataTags.{MeansDataLocale}
 use Rattle.locale_numbers_book.specs.TagReading.{tag_of, data_locale_of}
 use Rattle.locale_numbers_book.specs.Book.{SymbolsKey, BookTables, same_key, IsBook}
 

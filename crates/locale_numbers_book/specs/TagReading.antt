@@ -3,12 +3,12 @@
 -- of the relations `MeansTag` and `MeansDataLocale`, which are to be believed in their place.
 -- Cited by `Book::from_json`, through Fields.antt, and by the answer to a line.
 use Rattle.std.specs.Prelude.{Bool, List, Option, None, Some, option_and_then, if◌then◌else◌}
-use Rattle.icu_locale_core_grammar.specs.Subtags.{Text}
-use Rattle.icu_locale_core_grammar.specs.Meaning.{TagMeaning}
-use Rattle.icu_locale_core_grammar.specs.TagPreferences.{DataLocaleMeaning, data_meaning, locale_preferences_of, language_priority}
-use Rattle.icu_locale_core_grammar.specs.Stepping.{run}
-use Rattle.icu_locale_core_grammar.specs.TagStages.{tag_start, tag_after, tag_ends}
-use Rattle.icu_locale_core_locale.specs.LocaleValue.{same_locale}
+use Rattle.icu_locale_core.specs.Subtags.{Text}
+use Rattle.icu_locale_core.specs.Meaning.{TagMeaning}
+use Rattle.icu_locale_core.specs.TagPreferences.{DataLocaleMeaning, data_meaning, locale_preferences_of, language_priority}
+use Rattle.icu_locale_core.specs.Stepping.{run}
+use Rattle.icu_locale_core.specs.TagStages.{tag_start, tag_after, tag_ends}
+use Rattle.icu_locale_core.specs.LocaleValue.{same_locale}
 
 -- the meaning of the stage behind the last piece
 unfoldable pub tag_of : List Text → Option TagMeaning

@@ -4,8 +4,8 @@ ghost use Rattle.std.specs.Option.{option_copied};
 ghost use Rattle.locale_numbers_book.specs.Choice.{chosen, symbols_chosen, digits_chosen, ChosenTables};
 
 use crate::Book;
-use icu_locale_core_preferences::DataLocale;
-use icu_locale_core_subtags::Subtag;
+use icu_locale_core::DataLocale;
+use icu_locale_core::subtags::Subtag;
 use locale_numbers_symbols::DecimalSymbols;
 
 /// The tables that a number is written with, borrowed from a book.

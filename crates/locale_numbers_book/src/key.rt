@@ -1,8 +1,8 @@
 //! What a table of symbols is looked up by.
 ghost use Rattle.std.specs.Prelude.{◌≡◌};
 
-use icu_locale_core_preferences::DataLocale;
-use icu_locale_core_subtags::Subtag;
+use icu_locale_core::DataLocale;
+use icu_locale_core::subtags::Subtag;
 use std::marker::Model;
 
 /// What a table of symbols is looked up by: a locale, and a numbering system or none.

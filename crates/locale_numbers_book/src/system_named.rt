@@ -5,7 +5,7 @@ ghost use Rattle.std.specs.Cmp.Lexicographic.{bytes_decides, nat_list_eq_equiv};
 ghost use Rattle.std.specs.Hash as fed;
 ghost use Rattle.std.specs.Str.{bytes_eq};
 
-use icu_locale_core_subtags::Subtag;
+use icu_locale_core::subtags::Subtag;
 use indexmap::Equivalent;
 
 /// The name of a system, by which its entry is looked up.

@@ -7,7 +7,7 @@ ghost use Rattle.locale_numbers_book.specs.Book.{symbols_key, grouping_sizes_of,
 use super::fields::{digits, locale, numsys, size, symbol, system, system_or_none};
 use crate::BookError;
 use crate::key::SymbolsKey;
-use icu_locale_core_subtags::Subtag;
+use icu_locale_core::subtags::Subtag;
 use locale_numbers_symbols::{DecimalSymbols, GroupingSizes};
 use serde_json::Value;
 use std::alloc::Global;

@@ -3,7 +3,7 @@ ghost use Rattle.std.specs.Prelude.{◌≡◌, IfOk, IsErrOf, IfErr, Some, None,
 ghost use Rattle.std.specs.List.{list_all};
 ghost use Rattle.serde_json.specs.View.{view};
 ghost use Rattle.serde_json.specs.Find.{as_str};
-ghost use Rattle.icu_locale_core_grammar.specs.Pieces.{pieces};
+ghost use Rattle.icu_locale_core.specs.Pieces.{pieces};
 ghost use Rattle.locale_numbers_book.specs.BookError.{IsShapeOrMemory};
 ghost use Rattle.locale_numbers_book.specs.Book.{field_at};
 ghost use Rattle.locale_numbers_book.specs.TagReading.{data_locale_of};
@@ -11,9 +11,8 @@ ghost use Rattle.locale_numbers_book.specs.Fields.{is_plain, is_small_letter_or_
 
 use crate::BookError;
 use arrayvec::ArrayString;
-use icu_locale_core_grammar::ParseError;
-use icu_locale_core_preferences::DataLocale;
-use icu_locale_core_subtags::Subtag;
+use icu_locale_core::subtags::Subtag;
+use icu_locale_core::{DataLocale, ParseError};
 use serde_json::Value;
 use std::alloc::{AllocError, Global};
 

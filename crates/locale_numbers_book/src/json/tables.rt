@@ -9,7 +9,7 @@ use super::entries::{digits_entry, symbols_entry};
 use crate::BookError;
 use crate::key::SymbolsKey;
 use crate::table::add;
-use icu_locale_core_subtags::Subtag;
+use icu_locale_core::subtags::Subtag;
 use indexmap::IndexMap;
 use locale_numbers_symbols::DecimalSymbols;
 use serde_json::Value;

@@ -1,4 +1,4 @@
-use Rattle.icu_locale_core_grammar.specs.Pieces.{pieces}
+use Rattle.icu_locale_core.specs.Pieces.{pieces}
 use Rattle.locale_numbers_book.proofs.TagLemmas.{data_read, data_faulty, other_one}
 use Rattle.locale_numbers_book.proofs.json.fields.read_locale.Goals as goal
 

@@ -1,7 +1,7 @@
 use Rattle.std.proofs.Common.{◌≡◌, ◌++◌, List, ℕ, drop, option_map, true}
 use Rattle.serde_json.specs.View.{items_view}
 use Rattle.std.specs.Str.{bytes_eq}
-use Rattle.icu_locale_core_grammar.specs.Subtags.{Text}
+use Rattle.icu_locale_core.specs.Subtags.{Text}
 use Rattle.locale_numbers_book.specs.Book.{all_of, digits_entry, has_no_key_twice}
 use Rattle.locale_numbers_book.proofs.json.tables.digits_table.Given as goal
 
