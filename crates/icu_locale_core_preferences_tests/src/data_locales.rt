@@ -4,11 +4,12 @@ use icu_locale_core_grammar::ParseError;
 use icu_locale_core_keywords::SubdivisionId;
 use icu_locale_core_locale::Locale;
 use icu_locale_core_preferences::DataLocale;
+use std::alloc::Global;
 use std::test::Fail;
 use writeable::{LengthHint, Writeable};
 
 #[test]
-fn accepted_texts_read_as_their_locales_do(rt: HostRuntime) -> Result<(), Fail> {
+fn accepted_texts_print_their_normal_text(rt: HostRuntime) -> Result<(), Fail> {
     for (text, want) in [
         ("und", "und"),
         ("EN-latn-us-FONIPA-u-SD-ustx", "en-Latn-US-fonipa-u-sd-ustx"),
@@ -21,23 +22,37 @@ fn accepted_texts_read_as_their_locales_do(rt: HostRuntime) -> Result<(), Fail> 
     ] {
         let data_locale = DataLocale::try_from_str(rt.alloc(), text)?;
         assert_eq!(rt;
-            data_locale.write_to_string(rt.alloc())?.as_str(),
-            want,
-            "{text}"
-        );
-        assert_eq!(rt;
             data_locale.writeable_length_hint(),
             LengthHint::exact(want.len()),
             "{text}"
         );
         assert_eq!(rt;
-            DataLocale::try_from_str(rt.alloc(), want)?,
-            data_locale,
+            data_locale.write_to_string(rt.alloc())?.as_str(),
+            want,
             "{text}"
         );
-        let locale = Locale::try_from_str(rt.alloc(), text)?;
-        assert_eq!(rt; DataLocale::from(&locale), data_locale, "{text}");
-        assert!(rt; data_locale.into_locale(rt.alloc())? == locale, "{text}");
+    }
+    Ok(())
+}
+
+// The data locale of the locale of a text.
+fn of_locale(alloc: Global, text: &str) -> Result<DataLocale, ParseError> {
+    let locale = Locale::try_from_str(alloc, text)?;
+    Ok(DataLocale::from(&locale))
+}
+
+#[test]
+fn a_locale_converts_to_what_its_text_reads_as(rt: HostRuntime) -> Result<(), Fail> {
+    for text in [
+        "en-US-u-sd-gbeng",
+        "en-u-sd-ustx-sd-gbeng",
+        "en-u-sd-true-ustx",
+    ] {
+        assert_eq!(rt;
+            of_locale(rt.alloc(), text)?,
+            DataLocale::try_from_str(rt.alloc(), text)?,
+            "{text}"
+        );
     }
     Ok(())
 }

@@ -1,7 +1,5 @@
 //! Locales brought into normal text, compared, told well-formed, and made of parts.
 
-use icu_locale_core::extensions::Extensions;
-use icu_locale_core::extensions::unicode::Unicode;
 use icu_locale_core::subtags::{Language, Region};
 use icu_locale_core::{LanguageIdentifier, Locale, ParseError, TryFromLocaleBytes};
 use serde_json::Value;
@@ -88,16 +86,6 @@ fn extensions_print_alone(rt: HostRuntime) -> Result<(), Fail> {
         extensions.write_to_string(rt.alloc())?.as_str(),
         "1-bar-a-foo"
     );
-    Ok(())
-}
-
-#[test]
-fn extensions_of_u_are_emptied(rt: HostRuntime) -> Result<(), Fail> {
-    let unicode = Unicode::try_from_str(rt.alloc(), "u-nu-thai")?;
-    let mut extensions = Extensions::from_unicode(rt.alloc(), unicode);
-    assert!(rt; !extensions.is_empty());
-    extensions.clear();
-    assert!(rt; extensions.is_empty());
     Ok(())
 }
 
