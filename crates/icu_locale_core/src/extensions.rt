@@ -1,9 +1,12 @@
-//! The extensions of a tag.
+//! The extensions of a tag: behind the language part, each a singleton and its pieces.
+//!
+//! `en-a-foo-t-de-u-nu-thai-x-bar` has the extensions `a`, `t` and `u`, and the private piece `bar`. [`Extensions`] has those of a
+//! locale, and [`ExtensionType`] names one of them.
 
 pub use icu_locale_core_extensions::ExtensionType;
 pub use icu_locale_core_locale::Extensions;
 
-/// The extension `u`.
+/// The extension `u`: attributes and keywords, as in `u-foo-nu-thai`.
 pub mod unicode {
     pub use icu_locale_core_entries::unicode::{Keywords, Value};
     pub use icu_locale_core_extensions::Unicode;
@@ -12,20 +15,20 @@ pub mod unicode {
     pub use icu_locale_core_subtags::unicode::{Attribute, Key, SubdivisionSuffix};
 }
 
-/// The extension `t`.
+/// The extension `t`: a language part and fields, as in `t-de-m0-bgn`.
 pub mod transform {
     pub use icu_locale_core_entries::transform::{Fields, Value};
     pub use icu_locale_core_extensions::Transform;
     pub use icu_locale_core_subtags::transform::Key;
 }
 
-/// The private pieces, those behind `x`.
+/// The private pieces, those behind `x`, as in `x-foo-1`.
 pub mod private {
     pub use icu_locale_core_sets::Private;
     pub use icu_locale_core_subtags::private::Subtag;
 }
 
-/// Extensions that have no rule of their own.
+/// Extensions that have no rule of their own, as `a-foo-bar`.
 pub mod other {
     pub use icu_locale_core_extensions::Other;
 }

@@ -6,11 +6,12 @@
 //! ```rust
 //! use icu_locale_core::Locale;
 //!
-//! let locale = Locale::try_from_str(alloc, "EN-latn-us-u-NU-thai")?;
+//! let locale = Locale::try_from_str(alloc, "EN-latn-us-u-NU-thai")?;      // en-Latn-US-u-nu-thai
 //! ```
 #![tactic(auto)]
 
 pub mod extensions;
+pub mod laws;
 pub mod parser;
 pub mod preferences;
 pub mod subtags;

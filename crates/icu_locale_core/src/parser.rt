@@ -1,8 +1,11 @@
 //! Reading tags piece by piece.
+//!
+//! [`SubtagIterator`] has the pieces of a text, and [`ParserMode`] says where a language part ends: `parse_language_identifier` in
+//! mode `Locale` reads `en-US` of `en-US-u-nu-thai`. The readers with a single variant take no memory.
 
 pub use icu_locale_core_grammar::ParseError;
 pub use icu_locale_core_langid::{
-    ParserMode, parse_language_identifier, parse_language_identifier_from_iter,
+    OneVariantParts, ParserMode, parse_language_identifier, parse_language_identifier_from_iter,
 };
 pub use icu_locale_core_locale::parse_locale;
 pub use icu_locale_core_single::{

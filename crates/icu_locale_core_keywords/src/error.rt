@@ -13,7 +13,7 @@ pub enum PreferencesParseError {
 }
 
 impl PreferencesParseError {
-    /// The number of the fault, 1.
+    /// The number of the fault, 1. It takes no memory.
     pub fn number(&self) -> u8
         ensures { result ≡ 1 }
     {

@@ -9,12 +9,14 @@ use icu_locale_core_subtags::Region;
 use icu_locale_core_subtags::unicode::SubdivisionSuffix;
 use std::marker::Model;
 
-/// A subdivision: `ustx` is the region `US` and the suffix `tx`.
+/// A subdivision: `ustx` is the region `US` and the suffix `tx`. Whether CLDR has it is not asked.
+///
+/// Source: UTS 35, section 3.6, `unicode_subdivision_id`.
 #[derive(Clone, Copy, PartialEq, Eq, PartialOrd, Ord, Hash)]
 pub struct SubdivisionId {
-    /// The region that the subdivision is part of.
+    /// The region that the subdivision is part of: `US` of `ustx`.
     pub region: Region,
-    /// 1 to 4 letters and digits.
+    /// 1 to 4 letters and digits, in lower case: `tx` of `ustx`.
     pub suffix: SubdivisionSuffix,
 }
 
@@ -43,7 +45,7 @@ fn read_at(code_units: &[u8], n: usize) -> Option<SubdivisionId>
 }
 
 impl SubdivisionId {
-    /// The subdivision of this region and this suffix.
+    /// The subdivision of this region and this suffix: of `US` and `tx` it is `ustx`. It takes no memory.
     pub const fn new(region: Region, suffix: SubdivisionSuffix) -> Self
         ensures { result ≡ record { region = region; suffix = suffix } }
     {
@@ -66,7 +68,7 @@ impl SubdivisionId {
         }
     }
 
-    /// The subdivision that the text spells, as `try_from_utf8`.
+    /// The subdivision that the text spells, as `try_from_utf8`: `USTX` is region `US` and suffix `tx`.
     pub fn try_from_str(s: &str) -> Result<Self, ParseError>
         ensures { MatchResult result (λ d. subdivision_of s.now ≡ Some d) (λ e. (subdivision_of s.now ≡ None) × (e ≡ ParseError.InvalidExtension)) }
     {

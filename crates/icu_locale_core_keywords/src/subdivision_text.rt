@@ -23,7 +23,7 @@ impl SubdivisionId {
             .concat(self.suffix.to_tinystr())
     }
 
-    /// The text as one piece of a value: `ustx`. It takes no memory.
+    /// The text as one piece of a value, 3 to 7 letters and digits in lower case: `ustx`. It takes no memory.
     pub fn into_subtag(self) -> Subtag
         ensures { result ≡ subdivision_text self }
     {
@@ -37,6 +37,7 @@ impl SubdivisionId {
     }
 }
 
+/// The text, the region in lower case and then the suffix: `ustx`. The hint is its length.
 impl Writeable for SubdivisionId {
     ghost use Rattle.std.specs.Prelude.{◌≡◌, Some, length};
     ghost use Rattle.writeable.specs.AnnotatedText.{bytes, text_of};
@@ -59,6 +60,7 @@ impl Writeable for SubdivisionId {
     }
 }
 
+/// The same text.
 impl fmt::Display for SubdivisionId {
     ghost use Rattle.std.specs.Prelude.{Some};
     ghost use Rattle.icu_locale_core_grammar.specs.TagPreferences.{subdivision_text};
@@ -71,6 +73,7 @@ impl fmt::Display for SubdivisionId {
     }
 }
 
+/// The text in quotes: `"ustx"`.
 impl fmt::Debug for SubdivisionId {
     fn fmt<W: fmt::Write>(&self, f: &mut fmt::Formatter<W>) -> fmt::Result {
         fmt::Debug::fmt(&self.text().as_str(), f)

@@ -12,7 +12,9 @@ use icu_locale_core_subtags::Subtag;
 use icu_locale_core_subtags::unicode::Key;
 use std::alloc::{AllocError, Global};
 
-/// A keyword whose values are words, one a case.
+/// A keyword whose values are words, one a case: those of `FirstDay` are `sun` to `sat`.
+///
+/// A type that has this is a `PreferenceKey`. Source: UTS 35, section 3.6.1.
 pub trait WordKeyword: Copy {
     ghost use Rattle.std.specs.Prelude.{◌≡◌, ℕ, List};
     ghost use Rattle.icu_locale_core_keywords.specs.WordLaws.{IsOwnKey, IsOwnWord};
@@ -26,17 +28,17 @@ pub trait WordKeyword: Copy {
     // the word of a case
     ghost word: { Self → List ℕ };
 
-    /// The key.
+    /// The key: `fw` of `FirstDay`. It takes no memory.
     fn key() -> &'static str
         ensures { result.now ≡ key };
 
-    /// The cases, in their order.
+    /// The cases, in their order: `Sun` to `Sat` of `FirstDay`. It takes no memory.
     fn cases() -> &'static [Self]
     where
         Self: 'static,
         ensures { result.now ≡ cases };
 
-    /// The word of the case.
+    /// The word of the case: `sun` of `FirstDay::Sun`. It takes no memory.
     fn word(&self) -> &'static str
         ensures { result.now ≡ word self.now };
 
@@ -83,6 +85,7 @@ fn value_of(alloc: Global, word: &str) -> Result<Value, AllocError>
     }
 }
 
+/// The keyword of a type of words: a value states the case whose word it is, and the empty value is the word `true`.
 impl<W: WordKeyword + 'static> PreferenceKey for W {
     ghost use Rattle.icu_locale_core_keywords.specs.TypedKeywords.{stated_case, word_value};
 

@@ -81,6 +81,47 @@ fn try_from_value(rt: HostRuntime) -> Result<(), Fail> {
     Ok(())
 }
 
+// The preference that the value of a text states.
+fn read<P: PreferenceKey>(alloc: Global, text: &str) -> Result<P, Fail> {
+    let value = Value::try_from_str(alloc, text)?;
+    Ok(P::try_from_value(&value)?)
+}
+
+#[test]
+fn try_from_of_each_word_type(rt: HostRuntime) -> Result<(), Fail> {
+    let alloc = rt.alloc();
+    assert_eq!(rt; read::<FirstDay>(alloc, "mon")?, FirstDay::Mon);
+    assert_eq!(rt;
+        read::<MeasurementSystem>(alloc, "metric")?,
+        MeasurementSystem::Metric
+    );
+    assert_eq!(rt;
+        read::<CurrencyFormatStyle>(alloc, "account")?,
+        CurrencyFormatStyle::Account
+    );
+    assert_eq!(rt;
+        read::<EmojiPresentationStyle>(alloc, "text")?,
+        EmojiPresentationStyle::Text
+    );
+    assert_eq!(rt;
+        read::<LineBreakStyle>(alloc, "loose")?,
+        LineBreakStyle::Loose
+    );
+    assert_eq!(rt;
+        read::<LineBreakWordHandling>(alloc, "keepall")?,
+        LineBreakWordHandling::KeepAll
+    );
+    assert_eq!(rt;
+        read::<CollationCaseFirst>(alloc, "upper")?,
+        CollationCaseFirst::Upper
+    );
+    assert_eq!(rt;
+        read::<CollationNumericOrdering>(alloc, "")?,
+        CollationNumericOrdering::True
+    );
+    Ok(())
+}
+
 #[test]
 fn as_str(rt: HostRuntime) -> Result<(), Fail> {
     assert_eq!(rt; FirstDay::Sun.as_str(), "sun");
@@ -130,6 +171,9 @@ fn subdivision_id(rt: HostRuntime) -> Result<(), Fail> {
         SubdivisionSuffix::try_from_str("TX")?,
     );
     assert_eq!(rt; same, texas);
+    let latin = SubdivisionId::try_from_str("419abc")?;
+    assert_eq!(rt; latin.region.as_str(), "419");
+    assert_eq!(rt; latin.suffix.as_str(), "abc");
     for text in ["", "us", "419", "u", "ustexas", "us-tx"] {
         assert_eq!(rt;
             SubdivisionId::try_from_str(text).err().map(|e| e.number()),

@@ -12,6 +12,8 @@ use icu_locale_core_subtags::{Language, Region, Script, Variant};
 use std::marker::Model;
 
 /// The locale that data is asked for: `en-US-u-sd-ustx` is the language `en`, the region `US` and the subdivision `ustx`.
+///
+/// After ICU4X's type of this name; docs/preferences.md has the rules.
 #[derive(Clone, Copy, PartialEq, Eq, Hash)]
 pub struct DataLocale {
     /// The language; `und` where it is not known.
@@ -48,7 +50,7 @@ impl Model for DataLocale {
     } };
 }
 
-/// The language `und`, and nothing else.
+/// The language `und`, and nothing else. It takes no memory.
 impl Default for DataLocale {
     ghost is_default = { λ d. d ≡ unknown_data };
 
@@ -58,7 +60,7 @@ impl Default for DataLocale {
 }
 
 impl DataLocale {
-    /// Whether this is the language `und`, and nothing else.
+    /// Whether this is the language `und`, and nothing else: `und` is, `en-US` is not. It takes no memory.
     pub fn is_unknown(&self) -> bool
         ensures { IsTrue result ↔ (self.now ≡ unknown_data) }
     {
@@ -97,7 +99,7 @@ impl From<&Locale> for DataLocale {
     }
 }
 
-/// As of a borrowed locale.
+/// As of a borrowed locale. It takes no memory.
 impl From<Locale> for DataLocale {
     ghost from_gives = { λ locale d. d ≡ language_priority (locale_preferences_of locale) };
 
@@ -115,7 +117,7 @@ impl From<&LanguageIdentifier> for DataLocale {
     }
 }
 
-/// As of a borrowed identifier.
+/// As of a borrowed identifier. It takes no memory.
 impl From<LanguageIdentifier> for DataLocale {
     ghost from_gives = { λ id d. d ≡ language_data id };
 

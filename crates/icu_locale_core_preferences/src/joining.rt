@@ -8,7 +8,7 @@ use crate::locale_preferences::LocalePreferences;
 impl LocalePreferences {
     /// Puts each part of the other that is there in place of this one's; the language `und` is not there. It takes no memory.
     ///
-    /// `de-AT` extended by `und-CH-u-sd-chzh` is `de-CH-u-sd-chzh`.
+    /// `de-AT` extended by `und-CH-u-sd-chzh` is `de-CH-u-sd-chzh`. This rule is the project's own, and is associative.
     pub fn extend(&mut self, other: LocalePreferences)
         ensures { self.new ≡ joined_preferences self.old other }
     {

@@ -2,7 +2,7 @@
 //!
 //! `en-US-u-rg-gbeng-sd-ustx` prefers the language `en`, the region `US`, the subdivision `ustx` and the region override `gbeng`.
 //! Its data locale is `en-US-u-sd-ustx` with the language first, and `en-GB-u-sd-gbeng` with the region first. The rules are in
-//! docs/tags.md, "Preferences" and "Data locales".
+//! docs/preferences.md.
 //!
 //! ```rust
 //! use icu_locale_core_locale::Locale;

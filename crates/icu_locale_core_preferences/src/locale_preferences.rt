@@ -52,7 +52,7 @@ impl Model for LocalePreferences {
     } };
 }
 
-/// The language `und`, and nothing else.
+/// The language `und`, and nothing else. It takes no memory.
 impl Default for LocalePreferences {
     ghost is_default = { λ p. p ≡ no_preferences };
 
@@ -84,7 +84,8 @@ impl From<&Locale> for LocalePreferences {
     }
 }
 
-/// The language, script, region and first variant of the identifier. It takes no memory.
+/// The language, script, region and first variant of the identifier: of `de-fonipa-1996` they are `de` and `1996`. It takes no
+/// memory.
 impl From<&LanguageIdentifier> for LocalePreferences {
     ghost from_gives = { λ id p. p ≡ language_preferences id.now };
 
@@ -115,14 +116,16 @@ impl LocalePreferences {
         Ok(Self::from(locale))
     }
 
-    /// The language; `und` where it is not known.
+    /// The language, `und` where it is not known: of `de-fonipa-1996` it is `de`. It takes no memory.
     pub fn language(&self) -> Language
         ensures { result ≡ self.now.language }
     {
         self.language
     }
 
-    /// The region of the language part, where there is one; neither `sd` nor `rg` changes it.
+    /// The region of the language part, where there is one; neither `sd` nor `rg` changes it. It takes no memory.
+    ///
+    /// Of `en-US-u-rg-gbeng-sd-ustx` it is `US`, and of `de-fonipa-1996-u-rg-atzzzz-sd-ch` there is none.
     pub fn region(&self) -> Option<Region>
         ensures { result ≡ self.now.region }
     {

@@ -126,7 +126,7 @@ fn text_length(data_locale: &DataLocale) -> usize
     language + script + region + variant + subdivision_length(data_locale.subdivision)
 }
 
-/// The text of the tag that it is: `en-US-u-sd-ustx`. Source: UTS 35, section 3.2.1.
+/// The text of the tag that it is: `en-US-u-sd-ustx`. The hint is its length. Source: UTS 35, section 3.2.1.
 impl Writeable for DataLocale {
     ghost use Rattle.std.specs.Prelude.{◌≡◌, Some, length};
     ghost use Rattle.writeable.specs.AnnotatedText.{bytes, text_of};
@@ -150,6 +150,7 @@ impl Writeable for DataLocale {
     }
 }
 
+/// The same text.
 impl fmt::Display for DataLocale {
     ghost use Rattle.std.specs.Prelude.{Some};
     ghost use Rattle.icu_locale_core_preferences.specs.DataText.{data_text};
@@ -162,7 +163,7 @@ impl fmt::Display for DataLocale {
     }
 }
 
-/// The text between braces: `DataLocale{en-US}`.
+/// The text between braces: `DataLocale{en-US-u-sd-ustx}`.
 impl fmt::Debug for DataLocale {
     fn fmt<W: fmt::Write>(&self, f: &mut fmt::Formatter<W>) -> fmt::Result {
         write!(f, "DataLocale{{{self}}}")

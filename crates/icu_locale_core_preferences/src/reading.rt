@@ -95,7 +95,7 @@ impl DataLocale {
         Self::try_from_utf8(alloc, s.as_bytes())
     }
 
-    /// The data locale that the bytes are, as `try_from_str`.
+    /// The data locale that the bytes are, as `try_from_str`: `DE-1996` reads as `de-1996`.
     pub fn try_from_utf8(alloc: Global, code_units: &[u8]) -> Result<Self, ParseError>
         ensures value { IfOk result (MeansDataLocale (pieces code_units.now)) }
         ensures fault { IfErr result (λ e. (e ≡ ParseError.Memory) ⊎ HasDataFault (pieces code_units.now) e) }

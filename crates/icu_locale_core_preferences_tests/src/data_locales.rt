@@ -58,31 +58,52 @@ fn a_locale_converts_to_what_its_text_reads_as(rt: HostRuntime) -> Result<(), Fa
 }
 
 #[test]
-fn refused_texts_have_their_faults(rt: HostRuntime) -> Result<(), Fail> {
+fn the_faults_of_a_tag_come_first(rt: HostRuntime) -> Result<(), Fail> {
     for (text, fault) in [
         ("abcd", ParseError::InvalidLanguage),
         ("en-", ParseError::InvalidSubtag),
         ("en-u", ParseError::InvalidExtension),
         ("en-a-foo-a-bar", ParseError::DuplicatedExtension),
-        // the faults of a tag come first
         ("de-1996-fonipa-u", ParseError::InvalidExtension),
         ("de-1996-fonipa", ParseError::InvalidSubtag),
         // a second variant comes before an extension
         ("de-1996-fonipa-u-nu-latn", ParseError::InvalidSubtag),
-        ("en-US-u-nu-latn", ParseError::InvalidExtension),
-        ("en-u-sd-ustx-nu-latn", ParseError::InvalidExtension),
-        ("en-u-foo", ParseError::InvalidExtension),
-        ("en-u-rg-gbeng", ParseError::InvalidExtension),
-        ("en-u-sd-12a", ParseError::InvalidExtension),
-        ("en-u-sd-true", ParseError::InvalidExtension),
-        ("en-u-sd-ustx-gbeng", ParseError::InvalidExtension),
-        ("en-t-de", ParseError::InvalidExtension),
-        ("en-a-foo", ParseError::InvalidExtension),
-        ("en-x-foo", ParseError::InvalidExtension),
     ] {
         assert_eq!(rt;
             DataLocale::try_from_str(rt.alloc(), text).err(),
             Some(fault),
+            "{text}"
+        );
+    }
+    Ok(())
+}
+
+#[test]
+fn no_keyword_but_a_subdivision_is_held(rt: HostRuntime) -> Result<(), Fail> {
+    for text in [
+        "en-US-u-nu-latn",
+        "en-u-sd-ustx-nu-latn",
+        "en-u-foo",
+        "en-u-rg-gbeng",
+        "en-u-sd-12a",
+        "en-u-sd-true",
+        "en-u-sd-ustx-gbeng",
+    ] {
+        assert_eq!(rt;
+            DataLocale::try_from_str(rt.alloc(), text).err(),
+            Some(ParseError::InvalidExtension),
+            "{text}"
+        );
+    }
+    Ok(())
+}
+
+#[test]
+fn no_other_extension_is_held(rt: HostRuntime) -> Result<(), Fail> {
+    for text in ["en-t-de", "en-a-foo", "en-x-foo"] {
+        assert_eq!(rt;
+            DataLocale::try_from_str(rt.alloc(), text).err(),
+            Some(ParseError::InvalidExtension),
             "{text}"
         );
     }

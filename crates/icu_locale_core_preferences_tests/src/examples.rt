@@ -54,19 +54,47 @@ fn readers_of_data_locales(rt: HostRuntime) -> Result<(), Fail> {
     Ok(())
 }
 
+// Whether a text's locale converts to this data locale, borrowed and owned.
+fn converts(alloc: Global, text: &str, want: &DataLocale) -> Result<bool, ParseError> {
+    let locale = Locale::try_from_str(alloc, text)?;
+    let borrowed = DataLocale::from(&locale);
+    let owned = DataLocale::from(locale);
+    Ok(borrowed == *want && owned == *want)
+}
+
 #[test]
-fn data_locales_from_others(rt: HostRuntime) -> Result<(), Fail> {
-    let locale = Locale::try_from_str(rt.alloc(), "en-US-u-nu-thai-rg-gbeng-sd-ustx")?;
-    let id = LanguageIdentifier::try_from_str(rt.alloc(), "de-fonipa-1996")?;
+fn data_locales_from_locales(rt: HostRuntime) -> Result<(), Fail> {
+    for (text, want) in [
+        ("en-US-u-nu-thai-rg-gbeng-sd-ustx", "en-US-u-sd-ustx"),
+        ("de-fonipa-1996", "de-1996"),
+    ] {
+        let want = DataLocale::try_from_str(rt.alloc(), want)?;
+        assert!(rt; converts(rt.alloc(), text, &want)?, "{text}");
+    }
+    Ok(())
+}
+
+// Whether a text's language identifier converts to this data locale, borrowed and owned.
+fn converts_alone(alloc: Global, text: &str, want: &DataLocale) -> Result<bool, ParseError> {
+    let id = LanguageIdentifier::try_from_str(alloc, text)?;
+    let borrowed = DataLocale::from(&id);
+    let owned = DataLocale::from(id);
+    Ok(borrowed == *want && owned == *want)
+}
+
+#[test]
+fn data_locales_from_identifiers(rt: HostRuntime) -> Result<(), Fail> {
+    let want = DataLocale::try_from_str(rt.alloc(), "de-1996")?;
+    assert!(rt; converts_alone(rt.alloc(), "de-1996-fonipa", &want)?);
+    assert!(rt; converts_alone(rt.alloc(), "de-fonipa-1996", &want)?);
+    Ok(())
+}
+
+#[test]
+fn data_locales_of_parts(rt: HostRuntime) -> Result<(), Fail> {
     let english = Language::try_from_str("en")?;
     let america = Region::try_from_str("us")?;
-    let of_locale = DataLocale::from(&locale);
-    let of_id = DataLocale::from(&id);
     for (data_locale, want) in [
-        (of_locale, "en-US-u-sd-ustx"),
-        (DataLocale::from(locale), "en-US-u-sd-ustx"),
-        (of_id, "de-1996"),
-        (DataLocale::from(id), "de-1996"),
         (DataLocale::from((english, None, Some(america))), "en-US"),
         (DataLocale::default(), "und"),
     ] {
@@ -89,6 +117,8 @@ fn orders_of_data_locales(rt: HostRuntime) -> Result<(), Fail> {
     let data_locale = DataLocale::try_from_str(rt.alloc(), "en-US")?;
     let latin = DataLocale::try_from_str(rt.alloc(), "en-Latn")?;
     assert_eq!(rt; data_locale.total_cmp(&latin), Ordering::Less);
+    let english = DataLocale::try_from_str(rt.alloc(), "en")?;
+    assert_eq!(rt; english.total_cmp(&latin), Ordering::Less);
     assert_eq!(rt; data_locale.strict_cmp(b"en+"), Ordering::Greater);
     assert_eq!(rt; data_locale.strict_cmp(b"en-US-u"), Ordering::Less);
     assert!(rt; same_data_locales(&data_locale, &data_locale));
@@ -108,6 +138,11 @@ fn locale_preferences(rt: HostRuntime) -> Result<(), Fail> {
     assert_eq!(rt; preferences.language().as_str(), "de");
     assert_eq!(rt; preferences.region(), None);
     assert!(rt; !same_preferences(&preferences, &LocalePreferences::default()));
+    let locale = preferences.to_locale(rt.alloc())?;
+    assert_eq!(rt;
+        locale.write_to_string(rt.alloc())?.as_str(),
+        "de-1996-u-rg-atzzzz"
+    );
     Ok(())
 }
 

@@ -13,43 +13,57 @@ fn preferences_of(alloc: Global, text: &str) -> Result<LocalePreferences, Fail> 
 }
 
 #[test]
-fn both_priorities(rt: HostRuntime) -> Result<(), Fail> {
-    for (text, language_first, region_first) in [
-        (
-            "en-US-u-rg-gbeng-sd-ustx",
-            "en-US-u-sd-ustx",
-            "en-GB-u-sd-gbeng",
-        ),
+fn the_language_first(rt: HostRuntime) -> Result<(), Fail> {
+    for (text, want) in [
+        ("en-US-u-rg-gbeng-sd-ustx", "en-US-u-sd-ustx"),
         // the region of `sd` is not the locale's
-        ("en-US-u-sd-gbeng", "en-US-u-sd-gbeng", "en-US-u-sd-gbeng"),
-        ("en-US-u-rg-gbr", "en-US", "en-GB-u-sd-gbr"),
-        ("es-u-rg-419abc", "es", "es-419-u-sd-419abc"),
-        // two pieces, a region alone, and no region do not read
-        ("en-u-sd-ustx-gbeng", "en", "en"),
-        (
-            "en-US-u-rg-gb-sd-ustx",
-            "en-US-u-sd-ustx",
-            "en-US-u-sd-ustx",
-        ),
-        ("en-u-sd-12a", "en", "en"),
+        ("en-US-u-sd-gbeng", "en-US-u-sd-gbeng"),
+        ("en-US-u-rg-gbr", "en-US"),
+        ("es-u-rg-419abc", "es"),
+        // two pieces and no region do not read
+        ("en-u-sd-ustx-gbeng", "en"),
+        ("en-u-sd-12a", "en"),
         // the first variant in byte order
-        ("de-fonipa-1996", "de-1996", "de-1996"),
-        ("en-Latn-US-x-foo", "en-Latn-US", "en-Latn-US"),
+        ("de-fonipa-1996", "de-1996"),
+        ("en-Latn-US-x-foo", "en-Latn-US"),
     ] {
-        let preferences = preferences_of(rt.alloc(), text)?;
-        let language = preferences.to_data_locale_language_priority();
-        let region = preferences.to_data_locale_region_priority();
-        assert_eq!(rt;
-            language.to_string(rt.alloc())?.as_str(),
-            language_first,
-            "{text}"
-        );
-        assert_eq!(rt;
-            region.to_string(rt.alloc())?.as_str(),
-            region_first,
-            "{text}"
-        );
+        let data_locale = preferences_of(rt.alloc(), text)?.to_data_locale_language_priority();
+        assert_eq!(rt; data_locale.to_string(rt.alloc())?.as_str(), want, "{text}");
     }
+    Ok(())
+}
+
+#[test]
+fn the_region_first(rt: HostRuntime) -> Result<(), Fail> {
+    for (text, want) in [
+        ("en-US-u-rg-gbeng-sd-ustx", "en-GB-u-sd-gbeng"),
+        ("en-US-u-sd-gbeng", "en-US-u-sd-gbeng"),
+        ("en-US-u-rg-gbr", "en-GB-u-sd-gbr"),
+        ("es-u-rg-419abc", "es-419-u-sd-419abc"),
+        // a region alone does not read
+        ("en-US-u-rg-gb-sd-ustx", "en-US-u-sd-ustx"),
+        ("en-u-sd-12a", "en"),
+        ("de-fonipa-1996", "de-1996"),
+        ("en-Latn-US-x-foo", "en-Latn-US"),
+    ] {
+        let data_locale = preferences_of(rt.alloc(), text)?.to_data_locale_region_priority();
+        assert_eq!(rt; data_locale.to_string(rt.alloc())?.as_str(), want, "{text}");
+    }
+    Ok(())
+}
+
+#[test]
+fn what_does_not_read_is_not_there(rt: HostRuntime) -> Result<(), Fail> {
+    let preferences = preferences_of(rt.alloc(), "en-US-u-rg-gb-sd-ustx")?;
+    assert_eq!(rt;
+        preferences.to_data_locale_language_priority(),
+        preferences.to_data_locale_region_priority()
+    );
+    let preferences = preferences_of(rt.alloc(), "en-u-sd-ustx-gbeng")?;
+    assert!(rt;
+        preferences.to_data_locale_region_priority()
+            == preferences_of(rt.alloc(), "en")?.to_data_locale_language_priority()
+    );
     Ok(())
 }
 

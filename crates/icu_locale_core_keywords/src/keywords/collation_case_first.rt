@@ -22,7 +22,7 @@ pub enum CollationCaseFirst {
 }
 
 impl CollationCaseFirst {
-    /// The word of the order: `upper` of `Upper`.
+    /// The word of the order: `upper` of `Upper`. It takes no memory.
     pub const fn as_str(&self) -> &'static str
         ensures { result.now ≡ case_first_word self.now }
     {
@@ -65,7 +65,7 @@ impl WordKeyword for CollationCaseFirst {
     }
 }
 
-/// The order whose word the value is; other values are `InvalidKeywordValue`. It takes no memory.
+/// The order whose word the value is: `upper` is `Upper`. Other values are `InvalidKeywordValue`. It takes no memory.
 impl TryFrom<&Value> for CollationCaseFirst {
     type Error = PreferencesParseError;
 

@@ -20,7 +20,7 @@ pub enum CollationNumericOrdering {
 }
 
 impl CollationNumericOrdering {
-    /// The word of the order: `true` of `True`.
+    /// The word of the order: `true` of `True`. It takes no memory.
     pub const fn as_str(&self) -> &'static str
         ensures { result.now ≡ numeric_ordering_word self.now }
     {
@@ -61,7 +61,7 @@ impl WordKeyword for CollationNumericOrdering {
     }
 }
 
-/// The order whose word the value is; other values are `InvalidKeywordValue`. It takes no memory.
+/// The order whose word the value is: the empty value is `True`. Other values are `InvalidKeywordValue`. It takes no memory.
 impl TryFrom<&Value> for CollationNumericOrdering {
     type Error = PreferencesParseError;
 

@@ -46,6 +46,7 @@ impl CurrencyType {
     }
 }
 
+/// The keyword `cu`: a value of one subtag, three letters, states a currency.
 impl PreferenceKey for CurrencyType {
     ghost use Rattle.std.specs.Prelude.{[], ◌∷◌};
     ghost use Rattle.icu_locale_core_keywords.specs.TypedKeywords.{currency_key, stated_currency};
@@ -84,7 +85,8 @@ impl PreferenceKey for CurrencyType {
     }
 }
 
-/// The currency of a value of three letters; other values are `InvalidKeywordValue`. It takes no memory.
+/// The currency of a value of three letters: of `usd` it is `usd`. Other values, as `us1` and `usd-eur`, are
+/// `InvalidKeywordValue`. It takes no memory.
 impl TryFrom<&Value> for CurrencyType {
     type Error = PreferencesParseError;
 
@@ -97,7 +99,7 @@ impl TryFrom<&Value> for CurrencyType {
     }
 }
 
-/// The code in lower case.
+/// The code in lower case: `usd`. It takes no memory.
 impl Deref for CurrencyType {
     type Target = TinyAsciiStr<3>;
 

@@ -20,7 +20,7 @@ pub enum CurrencyFormatStyle {
 }
 
 impl CurrencyFormatStyle {
-    /// The word of the style: `standard` of `Standard`.
+    /// The word of the style: `standard` of `Standard`. It takes no memory.
     pub const fn as_str(&self) -> &'static str
         ensures { result.now ≡ currency_format_word self.now }
     {
@@ -58,7 +58,7 @@ impl WordKeyword for CurrencyFormatStyle {
     }
 }
 
-/// The style whose word the value is; other values are `InvalidKeywordValue`. It takes no memory.
+/// The style whose word the value is: `account` is `Account`. Other values are `InvalidKeywordValue`. It takes no memory.
 impl TryFrom<&Value> for CurrencyFormatStyle {
     type Error = PreferencesParseError;
 

@@ -22,7 +22,7 @@ pub enum EmojiPresentationStyle {
 }
 
 impl EmojiPresentationStyle {
-    /// The word of the style: `emoji` of `Emoji`.
+    /// The word of the style: `emoji` of `Emoji`. It takes no memory.
     pub const fn as_str(&self) -> &'static str
         ensures { result.now ≡ emoji_word self.now }
     {
@@ -65,7 +65,7 @@ impl WordKeyword for EmojiPresentationStyle {
     }
 }
 
-/// The style whose word the value is; other values are `InvalidKeywordValue`. It takes no memory.
+/// The style whose word the value is: `text` is `Text`. Other values are `InvalidKeywordValue`. It takes no memory.
 impl TryFrom<&Value> for EmojiPresentationStyle {
     type Error = PreferencesParseError;
 

@@ -30,7 +30,7 @@ pub enum FirstDay {
 }
 
 impl FirstDay {
-    /// The word of the day: `sun` of `Sun`.
+    /// The word of the day: `sun` of `Sun`. It takes no memory.
     pub const fn as_str(&self) -> &'static str
         ensures { result.now ≡ first_day_word self.now }
     {
@@ -81,7 +81,7 @@ impl WordKeyword for FirstDay {
     }
 }
 
-/// The day whose word the value is; other values are `InvalidKeywordValue`. It takes no memory.
+/// The day whose word the value is: `mon` is `Mon`. Other values are `InvalidKeywordValue`. It takes no memory.
 impl TryFrom<&Value> for FirstDay {
     type Error = PreferencesParseError;
 

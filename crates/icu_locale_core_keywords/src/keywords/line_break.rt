@@ -22,7 +22,7 @@ pub enum LineBreakStyle {
 }
 
 impl LineBreakStyle {
-    /// The word of the style: `strict` of `Strict`.
+    /// The word of the style: `strict` of `Strict`. It takes no memory.
     pub const fn as_str(&self) -> &'static str
         ensures { result.now ≡ line_break_word self.now }
     {
@@ -65,7 +65,7 @@ impl WordKeyword for LineBreakStyle {
     }
 }
 
-/// The style whose word the value is; other values are `InvalidKeywordValue`. It takes no memory.
+/// The style whose word the value is: `loose` is `Loose`. Other values are `InvalidKeywordValue`. It takes no memory.
 impl TryFrom<&Value> for LineBreakStyle {
     type Error = PreferencesParseError;
 

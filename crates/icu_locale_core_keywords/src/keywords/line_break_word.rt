@@ -24,7 +24,7 @@ pub enum LineBreakWordHandling {
 }
 
 impl LineBreakWordHandling {
-    /// The word of the handling: `normal` of `Normal`.
+    /// The word of the handling: `normal` of `Normal`. It takes no memory.
     pub const fn as_str(&self) -> &'static str
         ensures { result.now ≡ word_handling_word self.now }
     {
@@ -69,7 +69,7 @@ impl WordKeyword for LineBreakWordHandling {
     }
 }
 
-/// The handling whose word the value is; other values are `InvalidKeywordValue`. It takes no memory.
+/// The handling whose word the value is: `keepall` is `KeepAll`. Other values are `InvalidKeywordValue`. It takes no memory.
 impl TryFrom<&Value> for LineBreakWordHandling {
     type Error = PreferencesParseError;
 

@@ -22,7 +22,7 @@ pub enum MeasurementSystem {
 }
 
 impl MeasurementSystem {
-    /// The word of the system: `metric` of `Metric`.
+    /// The word of the system: `metric` of `Metric`. It takes no memory.
     pub const fn as_str(&self) -> &'static str
         ensures { result.now ≡ measurement_word self.now }
     {
@@ -65,7 +65,7 @@ impl WordKeyword for MeasurementSystem {
     }
 }
 
-/// The system whose word the value is; other values are `InvalidKeywordValue`. It takes no memory.
+/// The system whose word the value is: `metric` is `Metric`. Other values are `InvalidKeywordValue`. It takes no memory.
 impl TryFrom<&Value> for MeasurementSystem {
     type Error = PreferencesParseError;
 

@@ -10,7 +10,9 @@ use std::alloc::{AllocError, Global};
 use std::marker::Model;
 use std::ops::Deref;
 
-/// The numbering system, key `nu`: the one subtag of the value, as `thai`. Source: UTS 35, section 3.6.1, `nu`.
+/// The numbering system, key `nu`: the one subtag of the value, as `thai`. Whether CLDR has it is not asked.
+///
+/// Source: UTS 35, section 3.6.1.
 #[derive(Clone, Copy, Debug, PartialEq, Eq, Hash)]
 pub struct NumberingSystem {
     subtag: Subtag,
@@ -29,6 +31,7 @@ impl Model for NumberingSystem {
     ghost inverse = { λ text. record { subtag = text } };
 }
 
+/// The keyword `nu`: a value of one subtag states a numbering system.
 impl PreferenceKey for NumberingSystem {
     ghost use Rattle.std.specs.Prelude.{[], ◌∷◌};
     ghost use Rattle.icu_locale_core_grammar.specs.TagPreferences.{numbering_key, one_piece};
@@ -55,7 +58,8 @@ impl PreferenceKey for NumberingSystem {
     }
 }
 
-/// The system of a value of one subtag; other values are `InvalidKeywordValue`. It takes no memory.
+/// The system of a value of one subtag: of `thai` it is `thai`. Other values, as `thai-latn` and the empty one, are
+/// `InvalidKeywordValue`. It takes no memory.
 impl TryFrom<&Value> for NumberingSystem {
     type Error = PreferencesParseError;
 
@@ -69,7 +73,7 @@ impl TryFrom<&Value> for NumberingSystem {
     }
 }
 
-/// The subtag.
+/// The subtag: `thai`. It takes no memory.
 impl Deref for NumberingSystem {
     type Target = Subtag;
 

@@ -33,6 +33,7 @@ impl Model for RegionOverride {
     ghost inverse = { λ v. record { id = v } };
 }
 
+/// The keyword `rg`: a value of one subtag that is a subdivision states it.
 impl PreferenceKey for RegionOverride {
     ghost use Rattle.std.specs.Prelude.{[], ◌∷◌};
     ghost use Rattle.icu_locale_core_grammar.specs.TagPreferences.{override_key, subdivision_text};
@@ -61,7 +62,8 @@ impl PreferenceKey for RegionOverride {
     }
 }
 
-/// The subdivision that the one subtag of the value spells; other values are `InvalidKeywordValue`. It takes no memory.
+/// The subdivision that the one subtag of the value spells: `gbeng` is region `GB` and suffix `eng`. Other values, as `419` and
+/// `ustx-gbeng`, are `InvalidKeywordValue`. It takes no memory.
 impl TryFrom<&Value> for RegionOverride {
     type Error = PreferencesParseError;
 
@@ -74,7 +76,7 @@ impl TryFrom<&Value> for RegionOverride {
     }
 }
 
-/// The subdivision.
+/// The subdivision: of `gbeng` region `GB` and suffix `eng`. It takes no memory.
 impl Deref for RegionOverride {
     type Target = SubdivisionId;
 

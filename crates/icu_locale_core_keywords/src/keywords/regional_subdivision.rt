@@ -33,6 +33,7 @@ impl Model for RegionalSubdivision {
     ghost inverse = { λ v. record { id = v } };
 }
 
+/// The keyword `sd`: a value of one subtag that is a subdivision states it.
 impl PreferenceKey for RegionalSubdivision {
     ghost use Rattle.std.specs.Prelude.{[], ◌∷◌};
     ghost use Rattle.icu_locale_core_grammar.specs.TagPreferences.{subdivision_key, subdivision_text};
@@ -61,7 +62,8 @@ impl PreferenceKey for RegionalSubdivision {
     }
 }
 
-/// The subdivision that the one subtag of the value spells; other values are `InvalidKeywordValue`. It takes no memory.
+/// The subdivision that the one subtag of the value spells: `gbeng` is region `GB` and suffix `eng`. Other values, as `419` and
+/// `ustx-gbeng`, are `InvalidKeywordValue`. It takes no memory.
 impl TryFrom<&Value> for RegionalSubdivision {
     type Error = PreferencesParseError;
 
@@ -74,7 +76,7 @@ impl TryFrom<&Value> for RegionalSubdivision {
     }
 }
 
-/// The subdivision.
+/// The subdivision: of `gbeng` region `GB` and suffix `eng`. It takes no memory.
 impl Deref for RegionalSubdivision {
     type Target = SubdivisionId;
 

@@ -1,0 +1,75 @@
+//! Laws: what holds of tags and of what they prefer, beside the clauses of the calls.
+//!
+//! Each is the contract of a function, which a proof has by calling it; it takes no memory. docs/tags.md, "Laws", lists them.
+
+/// Of the grammar: meanings, faults, normal text.
+pub mod grammar {
+    pub use icu_locale_core_grammar::laws::{
+        answers_are_right, case_is_ignored, meaning_or_fault, meanings_are_normal, never_both,
+        normal_pieces_mean, one_fault, one_meaning, pieces_are_plain, pieces_make_the_text,
+        sets_and_maps, singletons_rise, stages_name_faults, tags_are_read, text_reads_back,
+        text_tells_meanings,
+    };
+    pub use icu_locale_core_grammar::order_laws::{part_orders_are_total, tag_orders_are_total};
+    pub use icu_locale_core_grammar::part_laws::{
+        data_locales_are_answered, entries_stand_alone, fronts_are_one, languages_are_answered,
+        parts_are_plain, parts_are_read, parts_have_one_meaning, parts_read_back,
+        single_tags_are_answered, subdivisions_are_spelled,
+    };
+    pub use icu_locale_core_grammar::preference_laws::{
+        alike_tags_prefer_alike, preferences_join, preferences_read_back,
+    };
+}
+
+/// Of subtags, one or many.
+pub mod subtags {
+    pub use icu_locale_core_subtags::laws::{
+        order_is_of_texts, rising_subtags_are_a_set, subtags_are_words,
+    };
+}
+
+/// Of variants, attributes and private pieces.
+pub mod sets {
+    pub use icu_locale_core_sets::laws::{
+        attributes_read_back, joining, private_reads_back, removal,
+    };
+}
+
+/// Of keywords, fields and their values.
+pub mod entries {
+    pub use icu_locale_core_entries::laws::{
+        equality, fields_read_back, joining, keys_rise, keywords_read_back, removal, setting,
+        values_read_back,
+    };
+}
+
+/// Of language identifiers.
+pub mod language_identifiers {
+    pub use icu_locale_core_langid::laws::{identifiers_read_back, same_is_equal};
+}
+
+/// Of the readers of one variant and one keyword.
+pub mod single {
+    pub use icu_locale_core_single::laws::{modes_agree, modes_are_answered};
+}
+
+/// Of whole locales.
+pub mod locales {
+    pub use icu_locale_core_locale::laws::{locales_read_back, orders_are_total, same_is_equal};
+}
+
+/// Of keywords with a type of their own.
+pub mod keywords {
+    pub use icu_locale_core_keywords::laws::{
+        currencies_read_back, numbering_systems_read_back, region_overrides_read_back,
+        regional_subdivisions_read_back, subdivisions_read_back, words_state_cases,
+    };
+}
+
+/// Of preferences and data locales.
+pub mod preferences {
+    pub use icu_locale_core_preferences::laws::{
+        accepted_texts_prefer_alike, data_locales_are_normal, data_locales_read_back,
+        locales_hold_preferences, preferences_are_normal, same_data_locales, same_preferences,
+    };
+}
