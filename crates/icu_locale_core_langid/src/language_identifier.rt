@@ -118,3 +118,12 @@ impl LanguageIdentifier {
         })
     }
 }
+
+impl AsRef<LanguageIdentifier> for LanguageIdentifier {
+    /// The identifier itself: of `en-US` it is `en-US`.
+    fn as_ref(&self) -> &LanguageIdentifier
+        ensures { result.now ≡ self.now }
+    {
+        self
+    }
+}

@@ -3,7 +3,7 @@
 ghost use Rattle.std.specs.Prelude.{◌≡◌, Some, None, Option, IfOk, if◌then◌else◌};
 ghost use Rattle.icu_locale_core_grammar.specs.Subtags.{title, upper, lower, is_variant};
 ghost use Rattle.icu_locale_core_grammar.specs.TagStages.{fits_script, fits_region, fits_variant, with_piece, language_after as stage_after};
-ghost use Rattle.icu_locale_core_langid.specs.LanguageStep.{IsStep};
+ghost use Rattle.icu_locale_core_subtags.specs.Steps.{IsStep};
 
 use crate::language_identifier::LanguageIdentifier;
 use icu_locale_core_subtags::{Language, Region, Script, Step, Variant};
@@ -54,7 +54,7 @@ fn fitting_variant(id: &LanguageIdentifier, piece: &[u8]) -> Option<Variant>
 // The identifier with one more piece.
 #[tactic(auto, unfolding(icu_locale_core_grammar::specs::TagStages::with_piece))]
 fn piece_after(id: LanguageIdentifier, piece: &[u8]) -> Result<Step<LanguageIdentifier>, AllocError>
-    ensures { IfOk result (λ s. IsStep with_piece id piece.now s) }
+    ensures { IfOk result (IsStep with_piece (λ i. i) id piece.now) }
 {
     let mut id = id;
     match fitting_script(&id, piece) {
@@ -86,7 +86,7 @@ pub fn language_after(
     language: Option<LanguageIdentifier>,
     piece: &[u8],
 ) -> Result<Step<Option<LanguageIdentifier>>, AllocError>
-    ensures { IfOk result (λ s. IsStep stage_after language piece.now s) }
+    ensures { IfOk result (IsStep stage_after (λ l. l) language piece.now) }
 {
     match language {
         None => match Language::try_from_utf8(piece) {

@@ -1,13 +1,16 @@
 //! The private pieces of a tag.
 
-ghost use Rattle.std.specs.Prelude.{◌≡◌, ◌==◌, ℕ, List, [], ◌∷◌, ◌++◌, length, IfOk, IfErr, OnOk, OnErr, slice_get};
+ghost use Rattle.std.specs.Prelude.{◌≡◌, ◌==◌, ℕ, false, List, [], ◌∷◌, ◌++◌, length, IfOk, IfErr, OnOk, OnErr, slice_get};
 ghost use Rattle.std.specs.Option.{option_copied};
 ghost use Rattle.std.specs.Iterator.Adapters.{IterYieldsInOrder};
 ghost use Rattle.std.specs.Slice.Iter.{iter_rest};
+ghost use Rattle.std.specs.Result.{IsErrOf};
+ghost use Rattle.icu_locale_core_grammar.specs.declared.error.ParseError.{ParseError};
 ghost use Rattle.icu_locale_core_grammar.specs.Subtags.{is_private, is_private_piece};
+ghost use Rattle.icu_locale_core_grammar.specs.Pieces.{pieces};
 ghost use Rattle.icu_locale_core_grammar.specs.PartReaders.{MeansOwn, ReadsPrivate};
 ghost use Rattle.icu_locale_core_grammar.specs.WellFormed.{AreLower};
-ghost use Rattle.icu_locale_core_sets.specs.Reading.{IsRefused};
+ghost use Rattle.icu_locale_core_sets.specs.Reading.{IsRefused, begins};
 
 mod comparing;
 mod printing;
@@ -68,10 +71,11 @@ impl Private {
     /// between them.
     ///
     /// `X-Foo-a` has `foo`, `a`. `InvalidExtension` where the text has another form, as `foo`, `x` and `x-toolongpiece`;
-    /// `Memory` where a growth was refused. Source: UTS 35, section 3.2.
+    /// `Memory` where a growth was refused, and no memory is taken where the first piece is not `x`. Source: UTS 35, section 3.2.
     pub fn try_from_str(alloc: Global, s: &str) -> Result<Self, ParseError>
         ensures value { IfOk result (ReadsPrivate s.now) }
         ensures fault { IfErr result (IsRefused (ReadsPrivate s.now)) }
+        ensures room { begins is_private (pieces s.now) ≡ false → ¬ (IsErrOf result ParseError.Memory) }
     {
         Private::try_from_utf8(alloc, s.as_bytes())
     }
@@ -80,6 +84,7 @@ impl Private {
     pub fn try_from_utf8(alloc: Global, code_units: &[u8]) -> Result<Self, ParseError>
         ensures value { IfOk result (ReadsPrivate code_units.now) }
         ensures fault { IfErr result (IsRefused (ReadsPrivate code_units.now)) }
+        ensures room { begins is_private (pieces code_units.now) ≡ false → ¬ (IsErrOf result ParseError.Memory) }
     {
         let (rest, first) = SubtagIterator::new(code_units).next_const();
         let Some(singleton) = first else {
@@ -97,10 +102,12 @@ impl Private {
 
     /// The private pieces that these pieces are, without a singleton: no piece is the empty list.
     ///
-    /// `InvalidExtension` where one is no private piece; `Memory` where a growth was refused.
+    /// `InvalidExtension` where one is no private piece; `Memory` where a growth was refused. No memory is taken where there is no
+    /// piece, or the first is no private one.
     pub fn try_from_iter(alloc: Global, iter: SubtagIterator<'_>) -> Result<Self, ParseError>
         ensures value { IfOk result (MeansOwn iter.entry) }
         ensures fault { IfErr result (IsRefused (MeansOwn iter.entry)) }
+        ensures room { begins is_private_piece iter.entry ≡ false → ¬ (IsErrOf result ParseError.Memory) }
     {
         let mut private = Private::new(alloc);
         for piece in iter {
