@@ -5,7 +5,8 @@ ghost use Rattle.std.specs.Option.{option_copied};
 ghost use Rattle.std.specs.Iterator.Adapters.{IterYieldsInOrder};
 ghost use Rattle.std.specs.Slice.Iter.{iter_rest};
 ghost use Rattle.icu_locale_core_grammar.specs.Subtags.{is_true};
-ghost use Rattle.icu_locale_core_entries.specs.Values.{without_true, IsWithoutTrue, with_subtag, single_of};
+ghost use Rattle.icu_locale_core_grammar.specs.TagPreferences.{one_piece};
+ghost use Rattle.icu_locale_core_entries.specs.Values.{without_true, IsWithoutTrue, with_subtag};
 
 use crate::kind::EntryKind;
 use icu_locale_core_subtags::Subtag;
@@ -86,7 +87,7 @@ impl<K: EntryKind> ValueOf<K> {
 
     /// The subtag of a value that has one alone: `abc` of `abc`, none of `abc-def`.
     pub fn as_single_subtag(&self) -> Option<&Subtag>
-        ensures { option_copied result ≡ single_of self.now }
+        ensures { option_copied result ≡ one_piece self.now }
     {
         match self.subtags.as_slice() {
             [subtag] => Some(subtag),
@@ -96,7 +97,7 @@ impl<K: EntryKind> ValueOf<K> {
 
     /// The subtag of a value that has one alone, as `as_single_subtag`.
     pub fn into_single_subtag(self) -> Option<Subtag>
-        ensures { result ≡ single_of self }
+        ensures { result ≡ one_piece self }
     {
         self.as_single_subtag().copied()
     }
