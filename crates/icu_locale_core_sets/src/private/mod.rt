@@ -49,7 +49,7 @@ fn is_singleton(piece: &[u8]) -> bool
 }
 
 impl Private {
-    /// No private pieces. It takes no memory.
+    /// No private pieces: `is_empty` is true of them. It takes no memory.
     pub fn new(alloc: Global) -> Self
         ensures { result ≡ [] }
     {
@@ -58,7 +58,7 @@ impl Private {
         }
     }
 
-    /// This private piece alone. `AllocError` is answered for memory alone.
+    /// This private piece alone: `foo` gives `x-foo`. `AllocError` is answered for memory alone.
     pub fn new_single(alloc: Global, subtag: Subtag) -> Result<Self, AllocError>
         ensures { IfOk result (λ private. private ≡ subtag ∷ []) }
     {
@@ -121,7 +121,7 @@ impl Private {
         Ok(private)
     }
 
-    /// Puts one more private piece behind the others.
+    /// Puts one more private piece behind the others: behind `foo` the piece `a` gives `foo`, `a`.
     ///
     /// `AllocError` is answered for memory alone, and the pieces are then as before.
     pub fn push(&mut self, subtag: Subtag) -> Result<(), AllocError>
@@ -133,7 +133,7 @@ impl Private {
         Ok(())
     }
 
-    /// The private pieces, in the order written.
+    /// The private pieces, in the order written: of `x-b-a` they are `b`, `a`.
     pub fn as_slice(&self) -> &[Subtag]
         ensures value { result.now ≡ self.now }
         ensures lower { AreLower is_private_piece self.now }
@@ -141,7 +141,7 @@ impl Private {
         self.items.as_slice()
     }
 
-    /// The private pieces one after another, in the order written.
+    /// The private pieces one after another, in the order written: of `x-foo-a` `foo`, and then `a`.
     pub fn iter(&self) -> slice::Iter<'_, Subtag>
         ensures rest { iter_rest result ≡ self.now }
         ensures len { length (iter_rest result) ≡ length self.now }
@@ -150,42 +150,42 @@ impl Private {
         self.items.as_slice().iter()
     }
 
-    /// How many private pieces there are.
+    /// How many private pieces there are: 2 of `x-foo-a`.
     pub fn len(&self) -> usize
         ensures { result ≡ length self.now }
     {
         self.items.len()
     }
 
-    /// Whether there is no private piece.
+    /// Whether there is no private piece, as `new` gives them.
     pub fn is_empty(&self) -> bool
         ensures { result ≡ (length self.now == 0) }
     {
         self.items.is_empty()
     }
 
-    /// The private piece at this place, counted from 0; `None` past the last.
+    /// The private piece at this place, counted from 0: of `x-foo-a` at 1 it is `a`; `None` past the last.
     pub fn get(&self, index: usize) -> Option<&Subtag>
         ensures { option_copied result ≡ slice_get self.now index }
     {
         self.items.as_slice().get(index)
     }
 
-    /// The first private piece; `None` where there is none.
+    /// The first private piece, `foo` of `x-foo-a`; `None` where there is none.
     pub fn first(&self) -> Option<&Subtag>
         ensures { option_copied result ≡ slice_get self.now 0 }
     {
         self.items.as_slice().first()
     }
 
-    /// Takes every private piece away. It takes no memory.
+    /// Takes every private piece away: `x-foo-a` then prints as the empty text. It takes no memory.
     pub fn clear(&mut self)
         ensures { self.new ≡ [] }
     {
         self.items.clear();
     }
 
-    /// The same private pieces. `AllocError` is answered for memory alone.
+    /// The same private pieces: of `x-a-b` they are `a`, `b`. `AllocError` is answered for memory alone.
     pub fn try_clone(&self) -> Result<Self, AllocError>
         ensures { IfOk result (λ private. private ≡ self.now) }
     {
