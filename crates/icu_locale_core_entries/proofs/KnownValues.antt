@@ -5,7 +5,8 @@ use Rattle.icu_locale_core_grammar.specs.Collections.{Entry}
 use Rattle.icu_locale_core_entries.specs.EntryChanges.{set_entry, without_key, joined_maps}
 use Rattle.icu_locale_core_entries.specs.EntryText.{value_text, entries_text, hyphened_entries}
 use Rattle.icu_locale_core_entries.specs.Orders.{value_cmp, entries_cmp}
-use Rattle.icu_locale_core_entries.specs.Values.{without_true, with_subtag, single_of}
+use Rattle.icu_locale_core_entries.specs.Values.{without_true, with_subtag}
+use Rattle.icu_locale_core_grammar.specs.TagPreferences.{one_piece}
 
 abbrev buddhist : Entry
 buddhist = (codes "ca", codes "buddhist" ∷ [])
@@ -50,10 +51,10 @@ true_left_out = refl
 pub true_pushed : with_subtag (codes "abc" ∷ []) (codes "true") ≡ codes "abc" ∷ []
 true_pushed = refl
 
-pub one_alone : single_of (codes "thai" ∷ []) ≡ Some (codes "thai")
+pub one_alone : one_piece (codes "thai" ∷ []) ≡ Some (codes "thai")
 one_alone = refl
 
-pub not_alone : single_of (codes "islamic" ∷ codes "civil" ∷ []) ≡ None
+pub not_alone : one_piece (codes "islamic" ∷ codes "civil" ∷ []) ≡ None
 not_alone = refl
 
 -- ---- texts

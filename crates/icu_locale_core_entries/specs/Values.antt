@@ -1,7 +1,7 @@
 -- The value of an entry: its subtags, without `true`.
 -- UTS 35, section 3.6.3; docs/tags.md, "Keywords and fields as values".
 -- Cited by the calls of a value, and by the readers of entries.
-use Rattle.std.specs.Prelude.{◌≡◌, Bool, false, not, List, [], ◌∷◌, ◌++◌, Option, None, Some, filter, if◌then◌else◌}
+use Rattle.std.specs.Prelude.{◌≡◌, Bool, false, not, List, [], ◌∷◌, ◌++◌, filter, if◌then◌else◌}
 use Rattle.std.specs.List.{AllByRecursion}
 use Rattle.icu_locale_core_grammar.specs.Subtags.{Text, is_true, true_text}
 use Rattle.icu_locale_core_grammar.specs.Extensions.{has_enough}
@@ -17,12 +17,6 @@ IsWithoutTrue vs = AllByRecursion (λ v. is_true v ≡ false) vs
 -- the value with one more subtag
 abbrev pub with_subtag : List Text → Text → List Text
 with_subtag vs v = if is_true v then vs else vs ++ v ∷ []
-
--- the one subtag of a value that has no other
-abbrev pub single_of : List Text → Option Text
-single_of [] = None
-single_of (v ∷ []) = Some v
-single_of (v ∷ w ∷ vs) = None
 
 -- what is written of a value: `true` where the entry needs a value and has none
 abbrev pub shown_value : Bool → List Text → List Text

@@ -35,7 +35,7 @@ impl<K: EntryKind> Model for EntriesOf<K> {
 }
 
 impl<K: EntryKind> EntriesOf<K> {
-    /// The empty map. It takes no memory.
+    /// The empty map, of which `is_empty` is true. It takes no memory.
     #[tactic(auto, using(icu_locale_core_grammar::proofs::MapLemmas::rises_none))]
     pub fn new(alloc: Global) -> Self
         ensures { result ≡ [] }
@@ -161,7 +161,7 @@ impl<K: EntryKind> EntriesOf<K> {
         }
     }
 
-    /// Takes every entry out, and answers the map as it was. It takes no memory.
+    /// Takes every entry out, and answers the map as it was: of `nu-thai` it is `nu-thai`. It takes no memory.
     pub fn clear(&mut self) -> Self
         ensures value { result ≡ self.old }
         ensures empty { self.new ≡ [] }
@@ -170,14 +170,14 @@ impl<K: EntryKind> EntriesOf<K> {
         mem::replace(self, Self::new(alloc))
     }
 
-    /// Whether the map has no entry.
+    /// Whether the map has no entry: true of what `new` gives, and of the empty text.
     pub fn is_empty(&self) -> bool
         ensures { result ≡ (length self.now == 0) }
     {
         self.entries.is_empty()
     }
 
-    /// The entries one after another, in byte order of their keys, each a key and its value.
+    /// The entries one after another, in byte order of their keys, each a key and its value: two of `ca-coptic-nu-thai`.
     pub fn iter(&self) -> slice::Iter<'_, (SubtagOf<K, 2>, ValueOf<K>)>
         ensures rest { iter_rest result ≡ self.now }
         ensures len { length (iter_rest result) ≡ length self.now }

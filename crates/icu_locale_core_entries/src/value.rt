@@ -5,7 +5,8 @@ ghost use Rattle.std.specs.Option.{option_copied};
 ghost use Rattle.std.specs.Iterator.Adapters.{IterYieldsInOrder};
 ghost use Rattle.std.specs.Slice.Iter.{iter_rest};
 ghost use Rattle.icu_locale_core_grammar.specs.Subtags.{is_true};
-ghost use Rattle.icu_locale_core_entries.specs.Values.{without_true, IsWithoutTrue, with_subtag, single_of};
+ghost use Rattle.icu_locale_core_grammar.specs.TagPreferences.{one_piece};
+ghost use Rattle.icu_locale_core_entries.specs.Values.{without_true, IsWithoutTrue, with_subtag};
 
 use crate::kind::EntryKind;
 use icu_locale_core_subtags::Subtag;
@@ -43,7 +44,7 @@ fn is_true_word(subtag: &Subtag) -> bool
 }
 
 impl<K: EntryKind> ValueOf<K> {
-    /// The empty value. It takes no memory.
+    /// The empty value: a keyword's prints as the empty text, a field's as `true`. It takes no memory.
     pub fn new_empty(alloc: Global) -> Self
         ensures { result ≡ [] }
     {
@@ -86,7 +87,7 @@ impl<K: EntryKind> ValueOf<K> {
 
     /// The subtag of a value that has one alone: `abc` of `abc`, none of `abc-def`.
     pub fn as_single_subtag(&self) -> Option<&Subtag>
-        ensures { option_copied result ≡ single_of self.now }
+        ensures { option_copied result ≡ one_piece self.now }
     {
         match self.subtags.as_slice() {
             [subtag] => Some(subtag),
@@ -96,12 +97,12 @@ impl<K: EntryKind> ValueOf<K> {
 
     /// The subtag of a value that has one alone, as `as_single_subtag`.
     pub fn into_single_subtag(self) -> Option<Subtag>
-        ensures { result ≡ single_of self }
+        ensures { result ≡ one_piece self }
     {
         self.as_single_subtag().copied()
     }
 
-    /// The subtags, none of which is `true`.
+    /// The subtags, none of which is `true`: of `abc-true-de` they are `abc`, `de`.
     pub fn as_subtags_slice(&self) -> &[Subtag]
         ensures value { result.now ≡ self.now }
         ensures never_true { IsWithoutTrue result.now }
@@ -109,7 +110,7 @@ impl<K: EntryKind> ValueOf<K> {
         self.subtags.as_slice()
     }
 
-    /// Leaves the empty value. It takes no memory.
+    /// Leaves the empty value: of `abc-de` no subtag is left. It takes no memory.
     pub fn clear(&mut self)
         ensures { self.new ≡ [] }
     {
@@ -142,14 +143,14 @@ impl<K: EntryKind> ValueOf<K> {
         self.subtags.len()
     }
 
-    /// Whether the value has no subtag.
+    /// Whether the value has no subtag: true of `true`, which is left out, and false of `abc`.
     pub fn is_empty(&self) -> bool
         ensures { result ≡ (length self.now == 0) }
     {
         self.subtags.is_empty()
     }
 
-    /// The subtags one after another.
+    /// The subtags one after another: of `abc-de` `abc`, and then `de`.
     pub fn iter(&self) -> slice::Iter<'_, Subtag>
         ensures rest { iter_rest result ≡ self.now }
         ensures len { length (iter_rest result) ≡ length self.now }

@@ -2,6 +2,7 @@ pub mod LanguageTextLemmas
 pub mod NormalizingLemmas
 pub mod OneVariantReader
 pub mod OneVariantSteps
+pub mod RoomLemmas
 pub mod SpelledSetLemmas
 pub mod SpellingLemmas
 pub mod SteppingLemmas

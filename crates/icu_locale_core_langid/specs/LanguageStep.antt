@@ -1,4 +1,4 @@
--- One step of a reader in code, and what a reader of language parts has taken when it stops.
+-- What a reader of language parts has taken when it stops.
 -- Defined in docs/tags.md, "Stages".
 -- Cited by the functions that read language identifiers piece by piece.
 use Rattle.std.specs.Prelude.{◌≡◌, List, [], ◌∷◌, ◌++◌, Option, None, Some}
@@ -6,13 +6,6 @@ use Rattle.icu_locale_core_grammar.specs.Subtags.{Text}
 use Rattle.icu_locale_core_grammar.specs.LanguagePart.{LanguageId}
 use Rattle.icu_locale_core_grammar.specs.Stepping.{run}
 use Rattle.icu_locale_core_grammar.specs.TagStages.{language_after}
-use Rattle.icu_locale_core_subtags.specs.declared.step.Step.{Step}
-use Rattle.icu_locale_core_subtags.specs.declared.step.Step.TheVariants.{Taken, Refused}
-
--- the answer to the piece p at the stage s: a refused piece leaves the stage as it was
-abbrev pub IsStep : {S : Type 0} → (S → Text → Option S) → S → Text → Step S → Type 0
-IsStep after s p (Taken t) = after s p ≡ Some t
-IsStep after s p (Refused t) = (after s p ≡ None) × (t ≡ s)
 
 -- no piece is left, or the stage does not go on with the first
 abbrev pub IsStuck : Option LanguageId → List Text → Type 0

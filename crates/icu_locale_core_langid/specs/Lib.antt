@@ -4,6 +4,7 @@ pub mod Modes
 pub mod LanguageText
 pub mod SameLanguage
 pub mod NormalizedText
+pub mod Room
 -- What the readers follow, piece by piece.
 pub mod LanguageStep
 pub mod OneVariant

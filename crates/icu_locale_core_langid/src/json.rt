@@ -1,6 +1,7 @@
 //! The JSON form of a language identifier: its text.
 
-ghost use Rattle.std.specs.Prelude.{◌≡◌, ◌⊎◌, IfOk, IfErr};
+ghost use Rattle.std.specs.Prelude.{◌≡◌, ◌⊎◌, false, IfOk, IfErr};
+ghost use Rattle.std.specs.Result.{IsErrOf};
 ghost use Rattle.serde_json.specs.Data.{string};
 ghost use Rattle.serde_json.specs.View.{view};
 ghost use Rattle.icu_locale_core_grammar.specs.declared.error.ParseError.{ParseError};
@@ -9,6 +10,7 @@ ghost use Rattle.icu_locale_core_grammar.specs.LanguagePart.{MeansLanguage};
 ghost use Rattle.icu_locale_core_grammar.specs.FaultyPiece.{HasFault};
 ghost use Rattle.icu_locale_core_subtags.specs.JsonText.{json_text};
 ghost use Rattle.icu_locale_core_langid.specs.LanguageText.{language_text};
+ghost use Rattle.icu_locale_core_langid.specs.Room.{may_grow};
 
 use crate::language_identifier::LanguageIdentifier;
 use crate::writing::built_text;
@@ -31,6 +33,7 @@ impl LanguageIdentifier {
     pub fn from_json(alloc: Global, value: &Value) -> Result<Self, ParseError>
         ensures value { IfOk result (λ id. MeansLanguage (pieces (json_text (view value.now))) id) }
         ensures fault { IfErr result (λ e. (e ≡ ParseError.Memory) ⊎ HasFault MeansLanguage (pieces (json_text (view value.now))) e) }
+        ensures room { may_grow (pieces (json_text (view value.now))) ≡ false → ¬ (IsErrOf result ParseError.Memory) }
     {
         Self::try_from_str(alloc, text_of_json(value))
     }

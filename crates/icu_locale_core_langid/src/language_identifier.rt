@@ -58,7 +58,7 @@ impl LanguageIdentifier {
         }
     }
 
-    /// The identifier of this language alone. It takes no memory.
+    /// The identifier of this language alone: of `en` it is `en`. It takes no memory.
     pub fn from_language(alloc: Global, language: Language) -> Self
         ensures { result ≡ with_parts language None None [] }
     {
@@ -79,14 +79,14 @@ impl LanguageIdentifier {
         Self::from_triple(alloc, (Language::default(), None, region))
     }
 
-    /// The language `und`, and nothing else. It takes no memory.
+    /// The language `und`, and nothing else: it prints as `und`. It takes no memory.
     pub fn unknown(alloc: Global) -> Self
         ensures { result ≡ with_parts und_text None None [] }
     {
         Self::from_language(alloc, Language::default())
     }
 
-    /// Whether this is the language `und`, and nothing else.
+    /// Whether this is the language `und`, and nothing else: `und` is, and `und-Latn` is not.
     pub fn is_unknown(&self) -> bool
         ensures { IsTrue result ↔ (self.now ≡ with_parts und_text None None []) }
     {
@@ -105,7 +105,7 @@ impl LanguageIdentifier {
         (self.language, self.script, self.region)
     }
 
-    /// An equal identifier. `AllocError` is answered for memory alone.
+    /// An equal identifier: of `en-US-1996` it is `en-US-1996`. `AllocError` is answered for memory alone.
     pub fn try_clone(&self) -> Result<Self, AllocError>
         ensures { IfOk result (λ id. id ≡ self.now) }
     {
@@ -116,5 +116,14 @@ impl LanguageIdentifier {
             region: self.region,
             variants,
         })
+    }
+}
+
+impl AsRef<LanguageIdentifier> for LanguageIdentifier {
+    /// The identifier itself: of `en-US` it is `en-US`.
+    fn as_ref(&self) -> &LanguageIdentifier
+        ensures { result.now ≡ self.now }
+    {
+        self
     }
 }

@@ -1,12 +1,14 @@
 //! The normal text of a text that is a language identifier.
 
-ghost use Rattle.std.specs.Prelude.{◌≡◌, ◌↔◌, ◌⊎◌, IsTrue, IfOk, IfErr};
+ghost use Rattle.std.specs.Prelude.{◌≡◌, ◌≢◌, ◌↔◌, ◌⊎◌, false, IsTrue, IfOk, IfErr, IsOk};
+ghost use Rattle.std.specs.Result.{IsErrOf};
 ghost use Rattle.icu_locale_core_grammar.specs.declared.error.ParseError.{ParseError};
 ghost use Rattle.icu_locale_core_grammar.specs.Pieces.{pieces};
 ghost use Rattle.icu_locale_core_grammar.specs.LanguagePart.{LanguageId, MeansLanguage};
 ghost use Rattle.icu_locale_core_grammar.specs.FaultyPiece.{HasFault};
 ghost use Rattle.icu_locale_core_langid.specs.LanguageText.{language_text};
 ghost use Rattle.icu_locale_core_langid.specs.NormalizedText.{IsNormalized};
+ghost use Rattle.icu_locale_core_langid.specs.Room.{may_grow};
 
 use crate::language_identifier::LanguageIdentifier;
 use crate::writing::built_text;
@@ -28,7 +30,8 @@ fn text_or_input<'a>(
     id: &LanguageIdentifier,
     input: &'a str,
 ) -> Result<CowStr<'a, Global>, AllocError>
-    ensures { IfOk result (IsNormalized input.now (language_text id.now)) }
+    ensures text { IfOk result (IsNormalized input.now (language_text id.now)) }
+    ensures room { input.now ≡ language_text id.now → IsOk result }
 {
     if is_text_of(id, input.as_bytes()) {
         Ok(CowStr::Borrowed(input))
@@ -40,10 +43,12 @@ fn text_or_input<'a>(
 impl LanguageIdentifier {
     /// The normal text of a text, borrowed where the text is normal.
     ///
-    /// `EN-us` gives a new `en-US`, and `en-US` gives itself. It refuses as `try_from_str` does.
+    /// `EN-us` gives a new `en-US`, and `en-US` gives itself. It refuses as `try_from_str` does; beside variants, memory is taken
+    /// for a new text alone.
     pub fn normalize(alloc: Global, input: &str) -> Result<CowStr<'_, Global>, ParseError>
         ensures value { IfOk result (λ text. (id : LanguageId) × MeansLanguage (pieces input.now) id × IsNormalized input.now (language_text id) text) }
         ensures fault { IfErr result (λ e. (e ≡ ParseError.Memory) ⊎ HasFault MeansLanguage (pieces input.now) e) }
+        ensures room { may_grow (pieces input.now) ≡ false → IsErrOf result ParseError.Memory → (id : LanguageId) × MeansLanguage (pieces input.now) id × (input.now ≢ language_text id) }
     {
         match Self::try_from_str(alloc, input) {
             Ok(id) => match text_or_input(alloc, &id, input) {
@@ -58,6 +63,7 @@ impl LanguageIdentifier {
     pub fn normalize_utf8(alloc: Global, input: &[u8]) -> Result<CowStr<'_, Global>, ParseError>
         ensures value { IfOk result (λ text. (id : LanguageId) × MeansLanguage (pieces input.now) id × IsNormalized input.now (language_text id) text) }
         ensures fault { IfErr result (λ e. (e ≡ ParseError.Memory) ⊎ HasFault MeansLanguage (pieces input.now) e) }
+        ensures room { may_grow (pieces input.now) ≡ false → IsErrOf result ParseError.Memory → (id : LanguageId) × MeansLanguage (pieces input.now) id }
     {
         match str::from_utf8(input) {
             Ok(text) => Self::normalize(alloc, text),

@@ -1,10 +1,12 @@
 //! Reading language identifiers from pieces.
 
-ghost use Rattle.std.specs.Prelude.{◌≡◌, ◌⊎◌, ℕ, List, IfOk, IfErr, OnErr};
+ghost use Rattle.std.specs.Prelude.{◌≡◌, ◌⊎◌, ℕ, false, List, IfOk, IfErr, IsOk, OnErr};
+ghost use Rattle.std.specs.Result.{IsErrOf};
 ghost use Rattle.icu_locale_core_grammar.specs.declared.error.ParseError.{ParseError};
 ghost use Rattle.icu_locale_core_grammar.specs.Pieces.{pieces};
 ghost use Rattle.icu_locale_core_langid.specs.LanguageStep.{StopsWith};
 ghost use Rattle.icu_locale_core_langid.specs.Modes.{ReadsInMode, HasFaultInMode, may_leave};
+ghost use Rattle.icu_locale_core_langid.specs.Room.{may_grow};
 
 use crate::language_identifier::LanguageIdentifier;
 use crate::modes::ParserMode;
@@ -18,7 +20,8 @@ fn read_front<'a>(
     alloc: Global,
     from: SubtagIterator<'a>,
 ) -> Result<(Option<LanguageIdentifier>, SubtagIterator<'a>), AllocError>
-    ensures { IfOk result (λ r. StopsWith from.entry r.0 r.1) }
+    ensures stops { IfOk result (λ r. StopsWith from.entry r.0 r.1) }
+    ensures room { may_grow from.entry ≡ false → IsOk result }
 {
     let mut stage = None;
     let mut rest = from.again();
@@ -52,7 +55,7 @@ fn leaves(mode: ParserMode, rest: &SubtagIterator<'_>) -> bool
 ///
 /// Of the pieces `en`, `US`, `u`, `nu`, mode `Locale` reads `en-US` and leaves `u`, `nu`. `InvalidLanguage`: the first piece
 /// is no language, or there is none. `InvalidSubtag`: a later piece does not fit and the mode does not leave it. `Memory`:
-/// a growth was refused. After a refusal all pieces are left.
+/// a growth was refused; memory is taken for variants alone. After a refusal all pieces are left.
 pub fn parse_language_identifier_from_iter(
     alloc: Global,
     iter: &mut SubtagIterator<'_>,
@@ -61,6 +64,7 @@ pub fn parse_language_identifier_from_iter(
     ensures value { IfOk result (λ id. ReadsInMode mode iter.old id iter.new) }
     ensures fault { IfErr result (λ e. (e ≡ ParseError.Memory) ⊎ HasFaultInMode mode iter.old e) }
     ensures err { OnErr result (iter.new ≡ iter.old) }
+    ensures room { may_grow iter.old ≡ false → ¬ (IsErrOf result ParseError.Memory) }
 {
     match read_front(alloc, iter.again()) {
         Err(_) => Err(ParseError::Memory),
@@ -87,6 +91,7 @@ pub fn parse_language_identifier(
 ) -> Result<LanguageIdentifier, ParseError>
     ensures value { IfOk result (λ id. (rest : List (List ℕ)) × ReadsInMode mode (pieces code_units.now) id rest) }
     ensures fault { IfErr result (λ e. (e ≡ ParseError.Memory) ⊎ HasFaultInMode mode (pieces code_units.now) e) }
+    ensures room { may_grow (pieces code_units.now) ≡ false → ¬ (IsErrOf result ParseError.Memory) }
 {
     let mut iter = SubtagIterator::new(code_units);
     parse_language_identifier_from_iter(alloc, &mut iter, mode)

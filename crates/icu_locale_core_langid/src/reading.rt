@@ -1,10 +1,12 @@
 //! Reading a whole text as a language identifier.
 
-ghost use Rattle.std.specs.Prelude.{◌≡◌, ◌⊎◌, IfOk, IfErr};
+ghost use Rattle.std.specs.Prelude.{◌≡◌, ◌⊎◌, false, IfOk, IfErr};
+ghost use Rattle.std.specs.Result.{IsErrOf};
 ghost use Rattle.icu_locale_core_grammar.specs.declared.error.ParseError.{ParseError};
 ghost use Rattle.icu_locale_core_grammar.specs.Pieces.{pieces};
 ghost use Rattle.icu_locale_core_grammar.specs.LanguagePart.{MeansLanguage};
 ghost use Rattle.icu_locale_core_grammar.specs.FaultyPiece.{HasFault};
+ghost use Rattle.icu_locale_core_langid.specs.Room.{may_grow};
 
 use crate::language_identifier::LanguageIdentifier;
 use crate::modes::ParserMode;
@@ -17,10 +19,11 @@ impl LanguageIdentifier {
     ///
     /// `en-latn-us-fonipa-1996` reads as `en-Latn-US-1996-fonipa`. `InvalidLanguage`: the first piece is no language, as in
     /// the empty text and in `abcd`. `InvalidSubtag`: a later piece does not fit, as in `en-`, `de-1996-1996` and `en-u`.
-    /// `Memory`: a growth was refused. Source: UTS 35, section 3.1.
+    /// `Memory`: a growth was refused; memory is taken for variants alone. Source: UTS 35, section 3.1.
     pub fn try_from_str(alloc: Global, s: &str) -> Result<Self, ParseError>
         ensures value { IfOk result (λ id. MeansLanguage (pieces s.now) id) }
         ensures fault { IfErr result (λ e. (e ≡ ParseError.Memory) ⊎ HasFault MeansLanguage (pieces s.now) e) }
+        ensures room { may_grow (pieces s.now) ≡ false → ¬ (IsErrOf result ParseError.Memory) }
     {
         Self::try_from_utf8(alloc, s.as_bytes())
     }
@@ -29,6 +32,7 @@ impl LanguageIdentifier {
     pub fn try_from_utf8(alloc: Global, code_units: &[u8]) -> Result<Self, ParseError>
         ensures value { IfOk result (λ id. MeansLanguage (pieces code_units.now) id) }
         ensures fault { IfErr result (λ e. (e ≡ ParseError.Memory) ⊎ HasFault MeansLanguage (pieces code_units.now) e) }
+        ensures room { may_grow (pieces code_units.now) ≡ false → ¬ (IsErrOf result ParseError.Memory) }
     {
         parse_language_identifier(alloc, code_units, ParserMode::LanguageIdentifier)
     }

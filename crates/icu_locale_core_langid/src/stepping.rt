@@ -1,9 +1,10 @@
 //! A language part that is read piece by piece.
 
-ghost use Rattle.std.specs.Prelude.{◌≡◌, Some, None, Option, IfOk, if◌then◌else◌};
+ghost use Rattle.std.specs.Prelude.{◌≡◌, false, Some, None, Option, IfOk, IsOk, if◌then◌else◌};
 ghost use Rattle.icu_locale_core_grammar.specs.Subtags.{title, upper, lower, is_variant};
 ghost use Rattle.icu_locale_core_grammar.specs.TagStages.{fits_script, fits_region, fits_variant, with_piece, language_after as stage_after};
-ghost use Rattle.icu_locale_core_langid.specs.LanguageStep.{IsStep};
+ghost use Rattle.icu_locale_core_langid.specs.Room.{grows_at};
+ghost use Rattle.icu_locale_core_subtags.specs.Steps.{IsStep};
 
 use crate::language_identifier::LanguageIdentifier;
 use icu_locale_core_subtags::{Language, Region, Script, Step, Variant};
@@ -54,7 +55,8 @@ fn fitting_variant(id: &LanguageIdentifier, piece: &[u8]) -> Option<Variant>
 // The identifier with one more piece.
 #[tactic(auto, unfolding(icu_locale_core_grammar::specs::TagStages::with_piece))]
 fn piece_after(id: LanguageIdentifier, piece: &[u8]) -> Result<Step<LanguageIdentifier>, AllocError>
-    ensures { IfOk result (λ s. IsStep with_piece id piece.now s) }
+    ensures step { IfOk result (IsStep with_piece (λ i. i) id piece.now) }
+    ensures room { fits_variant id piece.now ≡ false → IsOk result }
 {
     let mut id = id;
     match fitting_script(&id, piece) {
@@ -80,13 +82,15 @@ fn piece_after(id: LanguageIdentifier, piece: &[u8]) -> Result<Step<LanguageIden
 
 /// The language part with one more piece, `None` before its first piece; a piece that does not fit leaves it as it was.
 ///
-/// Behind `en` the piece `us` gives `en-US`, and the piece `u` is refused. `AllocError` is answered for memory alone.
+/// Behind `en` the piece `us` gives `en-US`, and the piece `u` is refused. `AllocError` is answered for memory alone, which
+/// is taken for one more variant alone.
 pub fn language_after(
     alloc: Global,
     language: Option<LanguageIdentifier>,
     piece: &[u8],
 ) -> Result<Step<Option<LanguageIdentifier>>, AllocError>
-    ensures { IfOk result (λ s. IsStep stage_after language piece.now s) }
+    ensures step { IfOk result (IsStep stage_after (λ l. l) language piece.now) }
+    ensures room { grows_at language piece.now ≡ false → IsOk result }
 {
     match language {
         None => match Language::try_from_utf8(piece) {

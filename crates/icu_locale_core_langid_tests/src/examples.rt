@@ -65,6 +65,14 @@ fn triple_and_try_clone(rt: HostRuntime) -> Result<(), Fail> {
 }
 
 #[test]
+fn as_ref(rt: HostRuntime) -> Result<(), Fail> {
+    let id = LanguageIdentifier::try_from_str(rt.alloc(), "en-US")?;
+    let same: &LanguageIdentifier = id.as_ref();
+    assert!(rt; *same == id);
+    Ok(())
+}
+
+#[test]
 fn readers(rt: HostRuntime) -> Result<(), Fail> {
     let id = LanguageIdentifier::try_from_utf8(rt.alloc(), b"EN-us")?;
     assert_eq!(rt; id.write_to_string(rt.alloc())?.as_str(), "en-US");

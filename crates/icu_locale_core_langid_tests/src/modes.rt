@@ -5,9 +5,21 @@ use icu_locale_core_langid::{
     ParserMode, parse_language_identifier, parse_language_identifier_from_iter,
 };
 use icu_locale_core_subtags::SubtagIterator;
+use std::alloc::Global;
 use std::str;
 use std::test::Fail;
 use writeable::Writeable;
+
+/// The normal text of what the mode reads of the text, and the first piece that it leaves, or the empty text.
+fn front_of<'t>(alloc: Global, text: &'t str, mode: ParserMode) -> Result<(String, &'t str), Fail> {
+    let mut iter = SubtagIterator::new(text.as_bytes());
+    let id = parse_language_identifier_from_iter(alloc, &mut iter, mode)?;
+    let first = match iter.peek() {
+        Some(piece) => str::from_utf8(piece)?,
+        None => "",
+    };
+    Ok((id.write_to_string(alloc)?, first))
+}
 
 #[test]
 fn a_mode_leaves_its_rest(rt: HostRuntime) -> Result<(), Fail> {
@@ -34,13 +46,8 @@ fn a_mode_leaves_its_rest(rt: HostRuntime) -> Result<(), Fail> {
             "1996",
         ),
     ] {
-        let mut iter = SubtagIterator::new(text.as_bytes());
-        let id = parse_language_identifier_from_iter(rt.alloc(), &mut iter, mode)?;
-        assert_eq!(rt; id.write_to_string(rt.alloc())?.as_str(), want, "{text}");
-        let first = match iter.peek() {
-            Some(piece) => str::from_utf8(piece)?,
-            None => "",
-        };
+        let (read, first) = front_of(rt.alloc(), text, mode)?;
+        assert_eq!(rt; read.as_str(), want, "{text}");
         assert_eq!(rt; first, left, "{text}");
     }
     Ok(())

@@ -3,19 +3,11 @@ use Rattle.std.proofs.Common.{◌≡◌, true, false, eqb, ℕ, ◌+◌, ◌<◌
 use Rattle.std.specs.Prelude.{flat_map}
 use Rattle.std.proofs.lemmas.Bool.{eqb-true}
 use Rattle.std.proofs.lemmas.List.{drop_more, drop_all}
-use Rattle.writeable.specs.AnnotatedText.{byte, bytes}
+use Rattle.writeable.specs.AnnotatedText.{bytes}
 use Rattle.icu_locale_core_grammar.specs.Subtags.{Text, private_text}
 use Rattle.icu_locale_core_grammar.specs.Pieces.{hyphen, hyphened, joined_text}
 use Rattle.icu_locale_core_grammar.specs.NormalText.{private_pieces}
-
-pub bytes_joined : (xs ys : List ℕ) → bytes (xs ++ ys) ≡ bytes xs ++ bytes ys
-unfolding bytes
-bytes_joined [] ys = refl
-bytes_joined (x ∷ xs) ys = ap (λ es. byte x ∷ es) (bytes_joined xs ys)
-
-pub no_bytes : bytes [] ≡ []
-unfolding bytes
-no_bytes = refl
+pub use Rattle.writeable.proofs.AnnotatedTextLemmas.{bytes_joined, no_bytes}
 
 hyphened_bytes : (p rest : Text) → bytes (hyphened p ++ rest) ≡ (bytes (hyphen ∷ []) ++ bytes p) ++ bytes rest
 hyphened_bytes p rest = bytes_joined (hyphened p) rest ∙ ap (λ es. es ++ bytes rest) (bytes_joined (hyphen ∷ []) p)

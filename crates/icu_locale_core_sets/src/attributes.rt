@@ -1,9 +1,13 @@
 //! The attributes of a `u` extension.
 
-ghost use Rattle.std.specs.Prelude.{◌≡◌, [], ◌++◌, IsOk, IfOk, IfErr, OnOk, OnErr};
+ghost use Rattle.std.specs.Prelude.{◌≡◌, false, [], ◌++◌, IsOk, IfOk, IfErr, OnOk, OnErr};
+ghost use Rattle.std.specs.Result.{IsErrOf};
+ghost use Rattle.icu_locale_core_grammar.specs.declared.error.ParseError.{ParseError};
+ghost use Rattle.icu_locale_core_grammar.specs.Subtags.{is_attribute};
 ghost use Rattle.icu_locale_core_grammar.specs.Collections.{set_of};
+ghost use Rattle.icu_locale_core_grammar.specs.Pieces.{pieces};
 ghost use Rattle.icu_locale_core_grammar.specs.PartReaders.{ReadsAttributes};
-ghost use Rattle.icu_locale_core_sets.specs.Reading.{IsRefused};
+ghost use Rattle.icu_locale_core_sets.specs.Reading.{IsRefused, begins};
 
 use crate::subtag_set::SubtagSet;
 use icu_locale_core_grammar::ParseError;
@@ -18,11 +22,12 @@ impl SubtagSet<AttributeRule> {
     /// The set of the attributes of this text, pieces of 3 to 8 letters and digits in either case between hyphens.
     ///
     /// `foo-Bar-FOO` has `bar`, `foo`; the empty text has none. `InvalidExtension` where a piece is no attribute; `Memory`
-    /// where a growth was refused. Source: UTS 35, section 3.6.
+    /// where a growth was refused, and no memory is taken where the first piece is no attribute. Source: UTS 35, section 3.6.
     pub fn try_from_str(alloc: Global, s: &str) -> Result<Attributes, ParseError>
         ensures succeeds { s.now ≡ [] → IsOk result }
         ensures value { IfOk result (ReadsAttributes s.now) }
         ensures fault { IfErr result (IsRefused (ReadsAttributes s.now)) }
+        ensures room { begins is_attribute (pieces s.now) ≡ false → ¬ (IsErrOf result ParseError.Memory) }
     {
         Attributes::try_from_utf8(alloc, s.as_bytes())
     }
@@ -32,6 +37,7 @@ impl SubtagSet<AttributeRule> {
         ensures succeeds { code_units.now ≡ [] → IsOk result }
         ensures value { IfOk result (ReadsAttributes code_units.now) }
         ensures fault { IfErr result (IsRefused (ReadsAttributes code_units.now)) }
+        ensures room { begins is_attribute (pieces code_units.now) ≡ false → ¬ (IsErrOf result ParseError.Memory) }
     {
         let mut attributes = Attributes::new(alloc);
         if code_units.is_empty() {

@@ -39,14 +39,14 @@ fn split_piece(text: &[u8]) -> (&[u8], Option<&[u8]>)
 }
 
 impl<'a> SubtagIterator<'a> {
-    /// The pieces of this text. It takes no memory.
+    /// The pieces of this text: of `en-US` they are `en`, `US`. It takes no memory.
     pub fn new(text: &'a [u8]) -> SubtagIterator<'a>
         ensures { result ≡ pieces text.now }
     {
         SubtagIterator { rest: Some(text) }
     }
 
-    /// The same pieces, from the same place on.
+    /// The same pieces, from the same place on: behind `en` of `en-US` they are `US`.
     pub fn again(&self) -> SubtagIterator<'a>
         ensures { result ≡ self.now }
     {

@@ -53,14 +53,14 @@ impl<R: SubtagRule<N>, const N: usize> SubtagOf<R, N> {
         }
     }
 
-    /// The text in normal case.
+    /// The text in normal case: of the language that `EN` reads as it is `en`.
     pub fn as_str(&self) -> &str
         ensures { result.now ≡ self.now }
     {
         self.text.as_str()
     }
 
-    /// The text in normal case, in a value of its own.
+    /// The text in normal case, in a value of its own: of the language `en` it is `en`.
     pub fn to_tinystr(&self) -> TinyAsciiStr<N>
         ensures { result ≡ self.now }
     {

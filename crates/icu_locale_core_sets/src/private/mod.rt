@@ -1,13 +1,16 @@
 //! The private pieces of a tag.
 
-ghost use Rattle.std.specs.Prelude.{◌≡◌, ◌==◌, ℕ, List, [], ◌∷◌, ◌++◌, length, IfOk, IfErr, OnOk, OnErr, slice_get};
+ghost use Rattle.std.specs.Prelude.{◌≡◌, ◌==◌, ℕ, false, List, [], ◌∷◌, ◌++◌, length, IfOk, IfErr, OnOk, OnErr, slice_get};
 ghost use Rattle.std.specs.Option.{option_copied};
 ghost use Rattle.std.specs.Iterator.Adapters.{IterYieldsInOrder};
 ghost use Rattle.std.specs.Slice.Iter.{iter_rest};
+ghost use Rattle.std.specs.Result.{IsErrOf};
+ghost use Rattle.icu_locale_core_grammar.specs.declared.error.ParseError.{ParseError};
 ghost use Rattle.icu_locale_core_grammar.specs.Subtags.{is_private, is_private_piece};
+ghost use Rattle.icu_locale_core_grammar.specs.Pieces.{pieces};
 ghost use Rattle.icu_locale_core_grammar.specs.PartReaders.{MeansOwn, ReadsPrivate};
 ghost use Rattle.icu_locale_core_grammar.specs.WellFormed.{AreLower};
-ghost use Rattle.icu_locale_core_sets.specs.Reading.{IsRefused};
+ghost use Rattle.icu_locale_core_sets.specs.Reading.{IsRefused, begins};
 
 mod comparing;
 mod printing;
@@ -46,7 +49,7 @@ fn is_singleton(piece: &[u8]) -> bool
 }
 
 impl Private {
-    /// No private pieces. It takes no memory.
+    /// No private pieces: `is_empty` is true of them. It takes no memory.
     pub fn new(alloc: Global) -> Self
         ensures { result ≡ [] }
     {
@@ -55,7 +58,7 @@ impl Private {
         }
     }
 
-    /// This private piece alone. `AllocError` is answered for memory alone.
+    /// This private piece alone: `foo` gives `x-foo`. `AllocError` is answered for memory alone.
     pub fn new_single(alloc: Global, subtag: Subtag) -> Result<Self, AllocError>
         ensures { IfOk result (λ private. private ≡ subtag ∷ []) }
     {
@@ -68,10 +71,11 @@ impl Private {
     /// between them.
     ///
     /// `X-Foo-a` has `foo`, `a`. `InvalidExtension` where the text has another form, as `foo`, `x` and `x-toolongpiece`;
-    /// `Memory` where a growth was refused. Source: UTS 35, section 3.2.
+    /// `Memory` where a growth was refused, and no memory is taken where the first piece is not `x`. Source: UTS 35, section 3.2.
     pub fn try_from_str(alloc: Global, s: &str) -> Result<Self, ParseError>
         ensures value { IfOk result (ReadsPrivate s.now) }
         ensures fault { IfErr result (IsRefused (ReadsPrivate s.now)) }
+        ensures room { begins is_private (pieces s.now) ≡ false → ¬ (IsErrOf result ParseError.Memory) }
     {
         Private::try_from_utf8(alloc, s.as_bytes())
     }
@@ -80,6 +84,7 @@ impl Private {
     pub fn try_from_utf8(alloc: Global, code_units: &[u8]) -> Result<Self, ParseError>
         ensures value { IfOk result (ReadsPrivate code_units.now) }
         ensures fault { IfErr result (IsRefused (ReadsPrivate code_units.now)) }
+        ensures room { begins is_private (pieces code_units.now) ≡ false → ¬ (IsErrOf result ParseError.Memory) }
     {
         let (rest, first) = SubtagIterator::new(code_units).next_const();
         let Some(singleton) = first else {
@@ -97,10 +102,12 @@ impl Private {
 
     /// The private pieces that these pieces are, without a singleton: no piece is the empty list.
     ///
-    /// `InvalidExtension` where one is no private piece; `Memory` where a growth was refused.
+    /// `InvalidExtension` where one is no private piece; `Memory` where a growth was refused. No memory is taken where there is no
+    /// piece, or the first is no private one.
     pub fn try_from_iter(alloc: Global, iter: SubtagIterator<'_>) -> Result<Self, ParseError>
         ensures value { IfOk result (MeansOwn iter.entry) }
         ensures fault { IfErr result (IsRefused (MeansOwn iter.entry)) }
+        ensures room { begins is_private_piece iter.entry ≡ false → ¬ (IsErrOf result ParseError.Memory) }
     {
         let mut private = Private::new(alloc);
         for piece in iter {
@@ -114,7 +121,7 @@ impl Private {
         Ok(private)
     }
 
-    /// Puts one more private piece behind the others.
+    /// Puts one more private piece behind the others: behind `foo` the piece `a` gives `foo`, `a`.
     ///
     /// `AllocError` is answered for memory alone, and the pieces are then as before.
     pub fn push(&mut self, subtag: Subtag) -> Result<(), AllocError>
@@ -126,7 +133,7 @@ impl Private {
         Ok(())
     }
 
-    /// The private pieces, in the order written.
+    /// The private pieces, in the order written: of `x-b-a` they are `b`, `a`.
     pub fn as_slice(&self) -> &[Subtag]
         ensures value { result.now ≡ self.now }
         ensures lower { AreLower is_private_piece self.now }
@@ -134,7 +141,7 @@ impl Private {
         self.items.as_slice()
     }
 
-    /// The private pieces one after another, in the order written.
+    /// The private pieces one after another, in the order written: of `x-foo-a` `foo`, and then `a`.
     pub fn iter(&self) -> slice::Iter<'_, Subtag>
         ensures rest { iter_rest result ≡ self.now }
         ensures len { length (iter_rest result) ≡ length self.now }
@@ -143,42 +150,42 @@ impl Private {
         self.items.as_slice().iter()
     }
 
-    /// How many private pieces there are.
+    /// How many private pieces there are: 2 of `x-foo-a`.
     pub fn len(&self) -> usize
         ensures { result ≡ length self.now }
     {
         self.items.len()
     }
 
-    /// Whether there is no private piece.
+    /// Whether there is no private piece, as `new` gives them.
     pub fn is_empty(&self) -> bool
         ensures { result ≡ (length self.now == 0) }
     {
         self.items.is_empty()
     }
 
-    /// The private piece at this place, counted from 0; `None` past the last.
+    /// The private piece at this place, counted from 0: of `x-foo-a` at 1 it is `a`; `None` past the last.
     pub fn get(&self, index: usize) -> Option<&Subtag>
         ensures { option_copied result ≡ slice_get self.now index }
     {
         self.items.as_slice().get(index)
     }
 
-    /// The first private piece; `None` where there is none.
+    /// The first private piece, `foo` of `x-foo-a`; `None` where there is none.
     pub fn first(&self) -> Option<&Subtag>
         ensures { option_copied result ≡ slice_get self.now 0 }
     {
         self.items.as_slice().first()
     }
 
-    /// Takes every private piece away. It takes no memory.
+    /// Takes every private piece away: `x-foo-a` then prints as the empty text. It takes no memory.
     pub fn clear(&mut self)
         ensures { self.new ≡ [] }
     {
         self.items.clear();
     }
 
-    /// The same private pieces. `AllocError` is answered for memory alone.
+    /// The same private pieces: of `x-a-b` they are `a`, `b`. `AllocError` is answered for memory alone.
     pub fn try_clone(&self) -> Result<Self, AllocError>
         ensures { IfOk result (λ private. private ≡ self.now) }
     {

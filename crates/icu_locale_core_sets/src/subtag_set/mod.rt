@@ -35,7 +35,7 @@ impl<R: SubtagRule<8>> Model for SubtagSet<R> {
 }
 
 impl<R: SubtagRule<8>> SubtagSet<R> {
-    /// The empty set. It takes no memory.
+    /// The empty set, of which `is_empty` is true. It takes no memory.
     pub fn new(alloc: Global) -> Self
         ensures { result ≡ [] }
     {
@@ -81,14 +81,14 @@ impl<R: SubtagRule<8>> SubtagSet<R> {
         }
     }
 
-    /// Whether the subtag is in the set.
+    /// Whether the subtag is in the set: the set of `fonipa` has `fonipa`, and has no `1996`.
     pub fn contains(&self, subtag: &SubtagOf<R, 8>) -> bool
         ensures { result ≡ contains_text subtag.now self.now }
     {
         place_of(self.items.as_slice(), subtag).is_ok()
     }
 
-    /// The subtags, in byte order.
+    /// The subtags, in byte order: of the set of `fonipa` and `1996` they are `1996`, `fonipa`.
     pub fn as_slice(&self) -> &[SubtagOf<R, 8>]
         ensures value { result.now ≡ self.now }
         ensures set { IsSubtagSet R.accepts R.normal self.now }
@@ -96,35 +96,35 @@ impl<R: SubtagRule<8>> SubtagSet<R> {
         self.items.as_slice()
     }
 
-    /// How many subtags there are.
+    /// How many subtags there are: 1 in the set of `fonipa`.
     pub fn len(&self) -> usize
         ensures { result ≡ length self.now }
     {
         self.items.len()
     }
 
-    /// Whether there is no subtag.
+    /// Whether there is no subtag, as in the set that `new` gives.
     pub fn is_empty(&self) -> bool
         ensures { result ≡ (length self.now == 0) }
     {
         self.items.is_empty()
     }
 
-    /// The subtag at this place, counted from 0; `None` past the last.
+    /// The subtag at this place, counted from 0: of `1996`, `fonipa` at 1 it is `fonipa`, and at 2 there is none.
     pub fn get(&self, index: usize) -> Option<&SubtagOf<R, 8>>
         ensures { option_copied result ≡ slice_get self.now index }
     {
         self.items.as_slice().get(index)
     }
 
-    /// The least subtag; `None` where there is none.
+    /// The least subtag, `1996` of `fonipa` and `1996`; `None` where there is none.
     pub fn first(&self) -> Option<&SubtagOf<R, 8>>
         ensures { option_copied result ≡ slice_get self.now 0 }
     {
         self.items.as_slice().first()
     }
 
-    /// The subtags one after another, in byte order.
+    /// The subtags one after another, in byte order: two of `fonipa` and `1996`.
     pub fn iter(&self) -> slice::Iter<'_, SubtagOf<R, 8>>
         ensures rest { iter_rest result ≡ self.now }
         ensures len { length (iter_rest result) ≡ length self.now }
@@ -133,7 +133,7 @@ impl<R: SubtagRule<8>> SubtagSet<R> {
         self.items.as_slice().iter()
     }
 
-    /// Takes every subtag out; answers the set as it was. It takes no memory.
+    /// Takes every subtag out; answers the set as it was: of `1996`, `fonipa` these two. It takes no memory.
     pub fn clear(&mut self) -> Self
         ensures value { result ≡ self.old }
         ensures empty { self.new ≡ [] }
@@ -142,7 +142,7 @@ impl<R: SubtagRule<8>> SubtagSet<R> {
         mem::replace(self, SubtagSet::new(alloc))
     }
 
-    /// An equal set. `AllocError` is answered for memory alone.
+    /// An equal set: of `1996`, `fonipa` another with these two. `AllocError` is answered for memory alone.
     pub fn try_clone(&self) -> Result<Self, AllocError>
         ensures value { IfOk result (λ set. set ≡ self.now) }
         ensures set { IsSubtagSet R.accepts R.normal self.now }

@@ -50,7 +50,7 @@ impl SubtagRule<8> for WordRule {
 }
 
 impl Subtag {
-    /// The number of characters: 2 to 8.
+    /// The number of characters, 2 to 8: of `foobar` it is 6.
     pub fn len(&self) -> usize
         ensures value { result ≡ length self.now }
         ensures low { 2 ≤ result }
@@ -59,7 +59,7 @@ impl Subtag {
         self.text.len()
     }
 
-    /// The text in lower case, in a value of its own.
+    /// The text in lower case, in a value of its own: of `FooBar` it is `foobar`.
     pub fn as_tinystr(&self) -> TinyAsciiStr<8>
         ensures { result ≡ self.now }
     {
