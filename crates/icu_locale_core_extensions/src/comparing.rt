@@ -41,6 +41,8 @@ impl Hash for Unicode {
 
 impl Unicode {
     /// The order of two extensions: the attributes, then the keywords; `Equal` exactly where they are equal.
+    ///
+    /// `u-nu-thai` before `u-foo-nu-latn`, since no attribute comes before one. It takes no memory.
     pub fn total_cmp(&self, other: &Self) -> Ordering
         ensures { result ≡ unicode_cmp self.now other.now }
     {
@@ -89,6 +91,8 @@ impl Hash for Transform {
 
 impl Transform {
     /// The order of two extensions: the language part, then the fields; `Equal` exactly where they are equal.
+    ///
+    /// `t-m0-und` before `t-de`, since no language part comes before one. It takes no memory.
     pub fn total_cmp(&self, other: &Self) -> Ordering
         ensures { result ≡ transform_cmp self.now other.now }
     {
@@ -123,6 +127,8 @@ impl Hash for Other {
 
 impl Other {
     /// The order of two extensions: the singleton, then the pieces; `Equal` exactly where they are equal.
+    ///
+    /// `a-foo` before `a-foo-bar`, and both before `b-bar`. It takes no memory.
     pub fn total_cmp(&self, other: &Self) -> Ordering
         ensures { result ≡ entry_cmp self.now other.now }
     {

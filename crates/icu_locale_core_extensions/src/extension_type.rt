@@ -1,7 +1,9 @@
 //! The types of extensions, by their singletons.
 
-/// The type of an extension: the one that its singleton stands for. Source: UTS 35, section 3.2, and RFC 5646, section 2.2.6.
-#[derive(Clone, Copy)]
+/// The type of an extension: the one that its singleton stands for, so of `a-foo` it is `Other(b'a')`.
+///
+/// Source: UTS 35, section 3.2, and RFC 5646, section 2.2.6.
+#[derive(Clone, Copy, Debug, PartialEq, Eq, Hash)]
 pub enum ExtensionType {
     /// The singleton `t`.
     Transform,

@@ -16,6 +16,7 @@ mod body;
 mod comparing;
 mod extension_type;
 mod head;
+pub mod laws;
 mod opening;
 mod other;
 mod other_writing;
@@ -26,7 +27,7 @@ mod unicode;
 mod unicode_writing;
 
 pub use crate::blocks::Blocks;
-pub use crate::blocks_writing::{extensions_length, write_extensions};
+pub use crate::blocks_writing::{before_transform, extensions_length, write_extensions};
 pub use crate::body::{BodyStage, Part, body_after, body_finish, opened_body};
 pub use crate::extension_type::ExtensionType;
 pub use crate::other::Other;

@@ -29,16 +29,20 @@ use std::slice;
 /// Source: RFC 5646 (BCP 47), section 2.2.6.
 #[derive(Drop)]
 pub struct Other {
-    singleton: OtherSingleton,
-    subtags: Vec<Subtag>,
+    pub(crate) singleton: OtherSingleton,
+    pub(crate) subtags: Vec<Subtag>,
 }
 
 impl Model for Other {
     ghost use Rattle.icu_locale_core_grammar.specs.Collections.{Entry};
+    ghost use Rattle.icu_locale_core_grammar.specs.Subtags.{is_other_piece};
+    ghost use Rattle.icu_locale_core_grammar.specs.WellFormed.{AreLower};
 
     ghost Value = { Entry };
 
     ghost view = { λ o. (o.singleton, o.subtags.items) };
+
+    ghost invariant = { λ o. AreLower is_other_piece o.subtags.items };
 }
 
 impl Other {
@@ -57,41 +61,42 @@ impl Other {
         ensures ok { OnOk result (self.new ≡ (self.old.0, self.old.1 ++ subtag ∷ [])) }
         ensures err { OnErr result (self.new ≡ self.old) }
     {
+        subtags_are_words(&subtag);
         let Ok(()) = self.subtags.push(subtag) else {
             return Err(AllocError);
         };
         Ok(())
     }
 
-    /// The singleton as text, in lower case: `a`.
+    /// The singleton as text, in lower case: of `A-Foo-bar` it is `a`.
     pub fn get_ext_str(&self) -> &str
         ensures { result.now ≡ self.now.0 }
     {
         self.singleton.as_str()
     }
 
-    /// The singleton as a byte, in lower case: `b'a'`.
+    /// The singleton as a byte, in lower case: of `A-Foo-bar` it is `b'a'`.
     pub fn get_ext_byte(&self) -> u8
         ensures { self.now.0 ≡ result ∷ [] }
     {
         subtags_are_words(&self.singleton);
-        self.singleton.as_str().as_bytes()[0]
+        self.get_ext_str().as_bytes()[0]
     }
 
-    /// The type of the extension: `Other` of its singleton.
+    /// The type of the extension: of `A-Foo-bar` it is `Other(b'a')`.
     pub fn get_ext(&self) -> ExtensionType
         ensures { (singleton : ℕ) → self.now.0 ≡ singleton ∷ [] → result ≡ ExtensionType.Other singleton }
     {
         ExtensionType::Other(self.get_ext_byte())
     }
 
-    /// The pieces one after another.
+    /// The pieces one after another: `foo` and then `bar` of `a-foo-bar`.
     pub fn iter(&self) -> slice::Iter<'_, Subtag>
         ensures rest { iter_rest result ≡ self.now.1 }
         ensures len { length (iter_rest result) ≡ length self.now.1 }
         ensures runs { IterYieldsInOrder (List ℕ) }
     {
-        self.subtags.as_slice().iter()
+        self.as_slice().iter()
     }
 
     /// An equal extension. `AllocError` is answered for memory alone.
@@ -112,14 +117,14 @@ impl Other {
         self.subtags.as_slice()
     }
 
-    /// Whether it has no piece; then it prints nothing.
+    /// Whether it has no piece; then it prints nothing. False of each that was read.
     pub fn is_empty(&self) -> bool
         ensures { result ≡ (length self.now.1 == 0) }
     {
         self.subtags.is_empty()
     }
 
-    /// Takes all pieces away.
+    /// Takes all pieces away, and leaves the singleton. It takes no memory.
     pub fn clear(&mut self)
         ensures { self.new ≡ (self.old.0, []) }
     {
@@ -150,8 +155,8 @@ fn read_body(
 impl Other {
     /// The extension in this text, with its singleton: `A-Foo-bar` has the singleton `a` and the pieces `foo`, `bar`.
     ///
-    /// `InvalidExtension`: the text is no such extension; `a` alone is none, nor is one of `u`, `t` or `x`. `Memory`: there is
-    /// no memory.
+    /// `InvalidExtension`: the text is no such extension, as `a` alone, `a-b`, and one of `u`, `t` or `x`. `Memory`: a growth
+    /// was refused. Source: RFC 5646 (BCP 47), section 2.2.6.
     pub fn try_from_str(alloc: Global, s: &str) -> Result<Self, ParseError>
         ensures value { IfOk result (ReadsOther s.now) }
         ensures fault { IfErr result (IsRefused (ReadsOther s.now)) }

@@ -77,14 +77,14 @@ impl Transform {
         }
     }
 
-    /// Whether it has neither a language part nor a field; then it prints nothing.
+    /// Whether it has neither a language part nor a field; then it prints nothing. False of `t-de`.
     pub fn is_empty(&self) -> bool
         ensures { result ≡ is_empty_transform self.now }
     {
         self.lang.is_none() && self.fields.is_empty()
     }
 
-    /// Takes the language part and all fields away.
+    /// Takes the language part and all fields away: of `t-de-m0-und` nothing is left. It takes no memory.
     pub fn clear(&mut self)
         ensures { self.new ≡ no_transform }
     {
@@ -103,7 +103,8 @@ impl Transform {
 
     /// The extension in this text, with its singleton: `t-DE-m0-true` has the language part `de` and the field `m0` without a value.
     ///
-    /// `InvalidExtension`: the text is no such extension; `t` alone is none. `Memory`: there is no memory.
+    /// `InvalidExtension`: the text is no such extension, as `t` alone, `t-h0` and `u-foo`. `Memory`: a growth was refused.
+    /// Source: UTS 35, sections 3.2 and 3.7.
     pub fn try_from_str(alloc: Global, s: &str) -> Result<Self, ParseError>
         ensures value { IfOk result (ReadsTransform s.now) }
         ensures fault { IfErr result (IsRefused (ReadsTransform s.now)) }

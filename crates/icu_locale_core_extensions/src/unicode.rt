@@ -70,14 +70,14 @@ impl Unicode {
         }
     }
 
-    /// Whether it has neither attribute nor keyword; then it prints nothing.
+    /// Whether it has neither attribute nor keyword; then it prints nothing. False of `u-foo`.
     pub fn is_empty(&self) -> bool
         ensures { result ≡ is_empty_unicode self.now }
     {
         self.attributes.is_empty() && self.keywords.is_empty()
     }
 
-    /// Takes all attributes and keywords away.
+    /// Takes all attributes and keywords away: of `u-foo-nu-thai` nothing is left. It takes no memory.
     pub fn clear(&mut self)
         ensures { self.new ≡ no_unicode }
     {
@@ -115,7 +115,8 @@ impl Unicode {
 
     /// The extension in this text, with its singleton: `u-FOO-nu-thai` has the attribute `foo` and `nu` with `thai`.
     ///
-    /// `InvalidExtension`: the text is no such extension; `u` alone is none. `Memory`: there is no memory.
+    /// `InvalidExtension`: the text is no such extension, as `u` alone, `u-nu-` and `t-de`. `Memory`: a growth was refused.
+    /// Source: UTS 35, sections 3.2 and 3.6.
     pub fn try_from_str(alloc: Global, s: &str) -> Result<Self, ParseError>
         ensures value { IfOk result (ReadsUnicode s.now) }
         ensures fault { IfErr result (IsRefused (ReadsUnicode s.now)) }

@@ -1,12 +1,9 @@
 -- The text of extensions that stand alone, part by part.
-use Rattle.std.proofs.Common.{◌≡◌, ℕ, ◌+◌, ◌<◌, ◌≤◌, Bool, true, false, eqb, ltb, ◌&&◌, List, [], ◌∷◌, ◌++◌, Option, None, Some, length, take, drop, get_or, cond, refl, sym, ap, ◌∙◌, append_assoc, arith}
+use Rattle.std.proofs.Common.{◌≡◌, ℕ, ◌+◌, ◌<◌, ◌≤◌, Bool, true, false, eqb, ◌&&◌, List, [], ◌∷◌, ◌++◌, Option, None, Some, length, take, drop, get_or, refl, sym, ap, ◌∙◌, append_assoc, arith}
 use Rattle.std.specs.Prelude.{flat_map}
-use Rattle.std.specs.Option.{unwrap_or}
-use Rattle.std.specs.List.{position, position_or_len}
-use Rattle.std.proofs.lemmas.Bool.{eqb-true, ltb-false}
+use Rattle.std.proofs.lemmas.Bool.{eqb-true}
 use Rattle.std.proofs.lemmas.List.{drop_more, drop_all}
 use Rattle.std.proofs.lemmas.List.Concat.{flat_map-append}
-use Rattle.std.proofs.lemmas.List.Sums.{prefix_len-le-length}
 use Rattle.writeable.specs.AnnotatedText.{bytes}
 use Rattle.icu_locale_core_sets.proofs.PrintingLemmas.{bytes_joined, no_bytes}
 use Rattle.icu_locale_core_grammar.specs.Subtags.{Text}
@@ -19,18 +16,6 @@ use Rattle.icu_locale_core_grammar.specs.Pieces.{hyphened, joined_text}
 use Rattle.icu_locale_core_extensions.specs.ExtensionText.{is_empty_unicode, is_empty_transform}
 use Rattle.icu_locale_core_locale.specs.ExtensionsValue.{ExtensionsValue}
 use Rattle.icu_locale_core_locale.specs.ExtensionsText.{extensions_alone, placed, are_empty, placed_events}
-
--- ---- where others go
-
-pub first_or_all : {X : Type 0} (p : X → Bool) (xs : List X) → unwrap_or (position p xs) (length xs) ≡ position_or_len p xs
-first_or_all p xs = by_test (ltb (position_or_len p xs) (length xs)) refl
-  where
-    by_test : (b : Bool) → ltb (position_or_len p xs) (length xs) ≡ b → unwrap_or (cond b (Some (position_or_len p xs)) None) (length xs) ≡ position_or_len p xs
-    by_test true e = refl
-    by_test false e =
-        let above = ltb-false (position_or_len p xs) (length xs) e in
-        let below : position_or_len p xs ≤ length xs = prefix_len-le-length _ xs in
-        omega (arith, above, below)
 
 -- ---- pieces behind pieces
 

@@ -79,7 +79,7 @@ impl Locale {
         Self::from_id(alloc, LanguageIdentifier::from_triple(alloc, triple))
     }
 
-    /// Whether this is the language `und`, and nothing else.
+    /// Whether this is the language `und`, and nothing else: false of `und-x-a`. It takes no memory.
     pub fn is_unknown(&self) -> bool
         ensures { IsTrue result ↔ (self.now ≡ unknown_locale) }
     {

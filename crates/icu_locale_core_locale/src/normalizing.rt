@@ -62,7 +62,7 @@ impl Locale {
         }
     }
 
-    /// The normal text of the bytes of a text, as `normalize`.
+    /// The normal text of the bytes of a text, as `normalize`: `EN-u-NU-Thai` gives a new `en-u-nu-thai`.
     pub fn normalize_utf8(alloc: Global, input: &[u8]) -> Result<CowStr<'_, Global>, ParseError>
         ensures value { IfOk result (λ text. (m : TagMeaning) × MeansTag (pieces input.now) m × IsNormalized input.now (normal_text m) text) }
         ensures fault { IfErr result (λ e. (e ≡ ParseError.Memory) ⊎ HasFault MeansTag (pieces input.now) e) }

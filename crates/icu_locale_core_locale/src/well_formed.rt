@@ -1,20 +1,18 @@
 //! Whether a locale reads back from its text.
 
-ghost use Rattle.std.specs.Prelude.{◌↔◌, [], ◌∷◌, IsTrue, IfSome};
+ghost use Rattle.std.specs.Prelude.{◌↔◌, IsTrue, IfSome};
 ghost use Rattle.std.specs.List.{AllByRecursion};
-ghost use Rattle.icu_locale_core_grammar.specs.Subtags.{is_other, is_other_piece, lower};
 ghost use Rattle.icu_locale_core_grammar.specs.Collections.{Rises, keys_of};
 ghost use Rattle.icu_locale_core_grammar.specs.Meaning.{MeansTag};
 ghost use Rattle.icu_locale_core_grammar.specs.NormalText.{normal_text};
 ghost use Rattle.icu_locale_core_grammar.specs.Pieces.{pieces};
-ghost use Rattle.icu_locale_core_grammar.specs.WellFormed.{IsNormalPiece, AreLower, IsNormalLanguage, IsNormalUnicode, IsNormalTransform, IsNormalOther, AreNormalOthers, IsNormalTag};
+ghost use Rattle.icu_locale_core_grammar.specs.WellFormed.{IsNormalLanguage, IsNormalUnicode, IsNormalTransform, IsNormalOther, AreNormalOthers, IsNormalTag};
 
 use crate::locale::Locale;
+use icu_locale_core_extensions::laws::others_are_normal;
 use icu_locale_core_extensions::{Other, Transform, Unicode};
 use icu_locale_core_langid::LanguageIdentifier;
 use icu_locale_core_langid::laws::identifiers_read_back;
-use icu_locale_core_subtags::Subtag;
-use icu_locale_core_subtags::laws::subtags_are_words;
 
 // Whether each keyword is well-formed.
 fn is_normal_unicode(unicode: &Unicode) -> bool
@@ -41,32 +39,15 @@ fn is_normal_transform(transform: &Transform) -> bool
     transform.fields.is_well_formed()
 }
 
-// Whether this is a lower-case letter or a digit, and neither `t`, `u` nor `x`.
-fn is_free(singleton: u8) -> bool
-    ensures { IsTrue result ↔ IsNormalPiece is_other lower (singleton ∷ []) }
-{
-    let in_case = singleton.is_ascii_lowercase() || singleton.is_ascii_digit();
-    in_case && singleton != b't' && singleton != b'u' && singleton != b'x'
-}
-
-// The pieces of an extension are in normal form.
-fn pieces_are_normal(pieces: &[Subtag])
-    ensures { AreLower is_other_piece pieces.now }
-{
-    for piece in pieces {
-        subtags_are_words(piece);
-    }
-}
-
-// Whether the singleton is free, and there is a piece.
+// Whether there is a piece: that is all that an extension may lack.
 fn is_normal_other(other: &Other) -> bool
     ensures { IsTrue result ↔ IsNormalOther other.now }
 {
-    pieces_are_normal(other.as_slice());
-    !other.is_empty() && is_free(other.get_ext_byte())
+    others_are_normal(other);
+    !other.is_empty()
 }
 
-// Whether each extension is well-formed.
+// Whether each extension has a piece.
 fn each_is_normal(others: &[Other]) -> bool
     ensures { IsTrue result ↔ AllByRecursion IsNormalOther others.now }
 {
@@ -85,7 +66,7 @@ fn singletons_rise(others: &[Other]) -> bool
     others.is_sorted_by(|one, other| one.get_ext_str() < other.get_ext_str())
 }
 
-// Whether each extension is well-formed, and the singletons rise.
+// Whether each extension has a piece, and the singletons rise.
 fn are_normal_others(others: &[Other]) -> bool
     ensures { IsTrue result ↔ AreNormalOthers others.now }
 {

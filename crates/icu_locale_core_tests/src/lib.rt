@@ -5,6 +5,8 @@
 #[cfg(test)]
 mod comparing;
 #[cfg(test)]
+mod examples;
+#[cfg(test)]
 mod locales;
 #[cfg(test)]
 mod long;

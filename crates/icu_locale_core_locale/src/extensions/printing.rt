@@ -1,36 +1,17 @@
 //! Printing the extensions of a locale that stand alone.
 
-ghost use Rattle.std.specs.Prelude.{◌≡◌, ◌<◌, ◌≤◌, ◌^◌, Bool, false, is_err, length, OnOk, OnErr, SomeIff};
-ghost use Rattle.std.specs.List.{position};
-ghost use Rattle.std.specs.Ordering.{is_lt};
+ghost use Rattle.std.specs.Prelude.{◌≡◌, ◌<◌, ◌^◌, false, is_err, length, OnOk, OnErr, SomeIff};
 ghost use Rattle.writeable.specs.AnnotatedText.{bytes};
 ghost use Rattle.writeable.specs.Taking.{HasBegun};
-ghost use Rattle.icu_locale_core_grammar.specs.Subtags.{transform_text};
-ghost use Rattle.icu_locale_core_grammar.specs.Collections.{text_cmp};
-ghost use Rattle.icu_locale_core_grammar.specs.NormalText.{before_transform as number_before, block_pieces, other_block, other_blocks, transform_block, unicode_block, private_pieces};
+ghost use Rattle.icu_locale_core_grammar.specs.NormalText.{block_pieces, other_block, other_blocks, transform_block, unicode_block, private_pieces};
 ghost use Rattle.icu_locale_core_locale.specs.ExtensionsText.{extensions_alone, placed, are_empty as have_none, placed_events};
 
 use crate::extensions::whole::Extensions;
 use crate::printing::write_private;
-use icu_locale_core_extensions::{Other, Transform, Unicode};
+use icu_locale_core_extensions::{Other, Transform, Unicode, before_transform};
 use icu_locale_core_sets::Private;
 use std::fmt;
 use writeable::{CountSink, Error, LengthHint, Sink, Writeable, display};
-
-// Where the first extension stands that comes behind `t`, if there is one.
-fn first_above(others: &[Other]) -> Option<usize>
-    ensures { result ≡ position (λ o. is_lt (text_cmp transform_text o.0)) others.now }
-{
-    others.iter().position(|other| "t" < other.get_ext_str())
-}
-
-// How many of the other extensions stand before `t`.
-fn before_transform(others: &[Other]) -> usize
-    ensures value { result ≡ number_before others.now }
-    ensures bound { result ≤ length others.now }
-{
-    first_above(others).unwrap_or(others.len())
-}
 
 // Whether none of them has a piece.
 fn are_empty(others: &[Other]) -> bool

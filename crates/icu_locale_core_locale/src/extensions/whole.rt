@@ -59,7 +59,7 @@ impl Extensions {
         }
     }
 
-    /// The extension `u` alone. It takes no memory.
+    /// The extension `u` alone: of `u-nu-thai` they print `u-nu-thai`. It takes no memory.
     pub fn from_unicode(alloc: Global, unicode: Unicode) -> Self
         ensures { result ≡ only_unicode unicode }
     {
@@ -68,7 +68,7 @@ impl Extensions {
         extensions
     }
 
-    /// Takes all extensions away. It takes no memory.
+    /// Takes all extensions away, so that they print nothing. It takes no memory.
     pub fn clear(&mut self)
         ensures { self.new ≡ nothing }
     {
@@ -88,7 +88,9 @@ impl Extensions {
             && self.other.is_empty()
     }
 
-    /// Whether there is no extension.
+    /// Whether there is no extension: true of those of `en`, and false of those of `en-x-a`.
+    ///
+    /// False also where another extension stands without a piece. It takes no memory.
     pub fn is_empty(&self) -> bool
         ensures { IsTrue result ↔ (self.now ≡ nothing) }
     {
