@@ -5,7 +5,9 @@ use Rattle.icu_locale_core.specs.Subtags.{Text}
 use Rattle.icu_locale_core.specs.Pieces.{pieces}
 use Rattle.icu_locale_core.specs.Meaning.{TagMeaning, MeansTag}
 use Rattle.icu_locale_core.specs.FaultyPiece.{HasFault}
+use Rattle.icu_locale_core.specs.SingleVariant.{SingleMeaning, MeansSingle, single_tag}
 use Rattle.icu_locale_core.specs.TagPreferences.{preferences_of}
+use Rattle.locale_numbers.proofs.SingleTags.{single_is_tag}
 use Rattle.locale_numbers_book.proofs.TagLemmas.{tag_read, tag_faulty}
 use Rattle.locale_numbers.specs.Wanted.{wanted_by, wanted_of}
 
@@ -14,3 +16,6 @@ asks_of text tag means = ap (option_map (λ m. wanted_by (preferences_of m))) (t
 
 pub asks_nothing : (text : Text) (e : ParseError) → HasFault MeansTag (pieces text) e → wanted_of text ≡ None
 asks_nothing text e fault = ap (option_map (λ m. wanted_by (preferences_of m))) (tag_faulty (pieces text) e fault)
+
+pub asks_in : (text : Text) (m : SingleMeaning) → MeansSingle (pieces text) m → wanted_of text ≡ Some (wanted_by (preferences_of (single_tag m)))
+asks_in text m means = asks_of text (single_tag m) (single_is_tag (pieces text) m means)

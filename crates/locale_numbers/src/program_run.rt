@@ -67,8 +67,10 @@ fn read_book<F: Files>(rt: &F, alloc: Global, path: Option<&str>) -> Result<Book
 /// Reads the book that `words` name, and answers the lines that `reader` gives onto `writer`.
 ///
 /// The book is the file at `words.book`, or the sample book where that is `None`; the lines are
-/// answered as by [`run`](crate::run). Takes memory. Faults come in this order, and up to Book
-/// nothing is read or written:
+/// answered as by [`run`](crate::run), and what that asks of its capacity, reader and writer is asked
+/// here too. Without words the line of `ar-EG`, `plain`, `auto`, `keep`, `-`, `1234.5` is answered by
+/// `ok`, a tab, `١٬٢٣٤٫٥`. Takes memory. Faults come in this order, and up to Book nothing is read or
+/// written:
 ///
 /// - File: the file can't be opened, or not be read to its end.
 /// - Book: its text is refused, or memory was wanting while it was read.
@@ -115,6 +117,8 @@ pub fn program<F: Files, R: ByteReader, W: ByteWriter>(
         OfBook SAMPLE_BOOK.now words.now.book (λ book.
         WritesFirst (answer_of book) (R.remaining reader.old)
         (W.contents writer.old) (W.contents writer.new)) }
+    ensures memory_only { IsErrOf result (ProgramFault.Run RunError.Memory) →
+        (R.failed reader.new ≡ false) × (W.failed writer.new ≡ false) }
 {
     match read_book(rt, alloc, words.book) {
         Ok(book) => match run(alloc, &book, words.capacity, reader, writer) {

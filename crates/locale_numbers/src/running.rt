@@ -36,8 +36,9 @@ impl<'b> Answerer for BookAnswerer<'b> {
 /// A line ends at a line feed; what stands after the last one is a line too, where it is not empty.
 /// Under the sample book the bytes `xx`, line feed give `err`, a tab, `shape`, line feed, and a
 /// report of 1 line. The answer to a line is that of [`answer`](crate::answer), however the bytes
-/// are cut into reads. `capacity` is how many formatters may be kept; none is, so far, and `made`
-/// is 0. Takes memory.
+/// are cut into reads. `capacity` is how many formatters may be kept, 1 at least; none is, so far,
+/// and `made` is 0. Of neither `reader` nor `writer` a call may have failed before. Takes memory, but
+/// no more for more lines.
 ///
 /// - Read: a read failed, or the reader still gave bytes after 18,446,744,073,709,551,615 reads. The
 ///   whole lines that it gave have been answered.
@@ -76,6 +77,10 @@ pub fn run<R: ByteReader, W: ByteWriter>(
     ensures memory { IsErrOf result RunError.Memory →
         WritesFirst (answer_of tables.now) (R.remaining reader.old)
         (W.contents writer.old) (W.contents writer.new) }
+
+    // Memory is answered only where no call of either has failed.
+    ensures memory_only { IsErrOf result RunError.Memory →
+        (R.failed reader.new ≡ false) × (W.failed writer.new ≡ false) }
 {
     let mut answerer = BookAnswerer {
         alloc,

@@ -59,8 +59,12 @@ impl Book {
     /// The book that a JSON text is.
     ///
     /// An array of five arrays: of symbols, each under a data locale and a system or none, of digits, and three more of which
-    /// only that they are arrays is looked at. `SAMPLE_BOOK` is one. Refused with `Json` where the bytes have no reading as JSON, with `Shape` where the value that
-    /// they say is no book, with `Memory` where memory is refused; no other error comes today. Takes memory.
+    /// only that they are arrays is looked at. `SAMPLE_BOOK` is one, `[[],[],[],[],[]]` the shortest. Takes memory. The form is
+    /// defined in docs/books.md.
+    ///
+    /// - Json: the bytes have no reading as JSON, as `[1`.
+    /// - Shape: the value that they say is no book, as `[]`.
+    /// - Memory: memory is refused. No other error comes today.
     pub fn from_json(alloc: Global, bytes: &[u8]) -> Result<Book, BookError>
         ensures value { IfOk result (λ book. (value : Data) × Reads bytes.now value × IsBook value book) }
         ensures json { IsErrOf result BookError.Json → IsNoJson bytes.now }
@@ -73,9 +77,10 @@ impl Book {
         }
     }
 
-    /// The symbols of the entry with this locale and this numbering system, or none.
+    /// The symbols of the entry with this locale and this numbering system, or with none.
     ///
-    /// `None` where the book has no such entry. Takes no memory.
+    /// In `SAMPLE_BOOK`, `en` and no system have `.` and `,`; `en` and `thai` have no entry, nor has `en-US`. `None` where the
+    /// book has no such entry. Takes no memory.
     pub fn symbols(
         &self,
         locale: DataLocale,
@@ -88,9 +93,10 @@ impl Book {
         self.symbols.get(&key)
     }
 
-    /// The ten digits of the entry with this numbering system, as `thai`, from zero up.
+    /// The ten digits of the entry with this numbering system, from zero up.
     ///
-    /// `None` where the book has no such entry. Takes no memory.
+    /// In `SAMPLE_BOOK` those of `thai` are `๐` to `๙`; `deva` has no entry, nor has `THAI`. `None` where the book has no such
+    /// entry. Takes no memory.
     pub fn digits(&self, numbering_system: &str) -> Option<&[char; 10]>
         ensures { option_copied result ≡ table_at bytes_eq numbering_system.now self.now.digits }
     {

@@ -84,6 +84,8 @@ fn stream<A: Answerer, R: ByteReader, W: ByteWriter>(
     ensures reader_failed { IsErrOf result RunError.Read →
         (R.failed reader.new ≡ true) ⊎ GivesTooLong (R.remaining reader.old) (R.remaining reader.new) }
     ensures fault { W.failed writer.new ≡ ends_in_write result }
+    ensures memory_only { IsErrOf result RunError.Memory →
+        (R.failed reader.new ≡ false) × (W.failed writer.new ≡ false) }
     ensures same { A.answer_of answerer.new ≡ A.answer_of answerer.old }
     ensures can_answer { A.is_ready answerer.new }
 {
@@ -160,6 +162,10 @@ pub fn run_with<A: Answerer, R: ByteReader, W: ByteWriter>(
     ensures memory { IsErrOf result RunError.Memory →
         WritesFirst (A.answer_of answerer.old) (R.remaining reader.old)
         (W.contents writer.old) (W.contents writer.new) }
+
+    // Memory is answered only where no call of either has failed.
+    ensures memory_only { IsErrOf result RunError.Memory →
+        (R.failed reader.new ≡ false) × (W.failed writer.new ≡ false) }
     ensures same { A.answer_of answerer.new ≡ A.answer_of answerer.old }
     ensures can_answer { A.is_ready answerer.new }
 {

@@ -106,6 +106,23 @@ fn all_else_in_a_tag_changes_no_answer(rt: HostRuntime) -> Result<(), Fail> {
 }
 
 #[test]
+fn extensions_stand_in_any_order(rt: HostRuntime) -> Result<(), Fail> {
+    are_answered(
+        &rt,
+        rt.alloc(),
+        SAMPLE_BOOK,
+        &[
+            ("en-a-foo-u-nu-latn\tplain\tmin2\tkeep\t-\t1000", "ok\t1000"),
+            ("en-u-nu-latn-a-foo\tplain\tmin2\tkeep\t-\t1000", "ok\t1000"),
+            (
+                "en-u-nu-thai-a-foo\tplain\tauto\tkeep\t-\t1234",
+                "ok\t๑,๒๓๔",
+            ),
+        ],
+    )
+}
+
+#[test]
 fn a_subdivision_is_a_part_of_the_locale(rt: HostRuntime) -> Result<(), Fail> {
     are_answered(
         &rt,

@@ -1,10 +1,10 @@
 use Rattle.std.proofs.Common.{sym, ap, ◌∙◌, Some}
-use Rattle.locale_numbers_book.proofs.TagLemmas.{other_one}
-use Rattle.locale_numbers.proofs.WantedLemmas.{asks_of, asks_nothing}
+use Rattle.icu_locale_core.proofs.FaultyPieceLemmas.{stops_unaccepted}
+use Rattle.locale_numbers.proofs.WantedLemmas.{asks_in}
 use Rattle.locale_numbers.proofs.wanted.read_wanted.Goals as goal
 
-pub returns-in-Ok : goal.returns-in-Ok
-returns-in-Ok c = ap Some c.wanted_by.ensures ∙ sym (asks_of c.args.text.now c.in-Ok.locale c.in-Ok.ensures.value)
+pub returns-in-Ok-clause-value : goal.returns-in-Ok-clause-value
+returns-in-Ok-clause-value c = ap Some c.wanted_in.ensures ∙ sym (asks_in c.args.text.now _ c.in-Ok.ensures)
 
-pub returns-in_default : goal.returns-in_default
-returns-in_default c = sym (asks_nothing c.args.text.now c.in-Err.fault (other_one c.in-Err.ensures.fault c.in_default.not-Memory))
+pub returns-in-Err-clause-room : goal.returns-in-Err-clause-room
+returns-in-Err-clause-room c = λ m means. absurd (stops_unaccepted _ _ _ m c.in-Err.ensures.stops means)
