@@ -77,8 +77,8 @@ fn counted_roundings_by_one(rt: HostRuntime) -> Result<(), Fail> {
     let to_even = SignedRoundingMode::Unsigned(UnsignedRoundingMode::HalfEven);
     for (text, position, mode, want) in [
         ("99.999", 4, away, "10000"),
-        // each nine carries
         ("999999999", 0, away, "999999999"),
+        // each nine carries
         ("9999.9999", -3, away, "10000.000"),
         ("2.5", 0, to_even, "2"),
         ("3.5", 0, to_even, "4"),
