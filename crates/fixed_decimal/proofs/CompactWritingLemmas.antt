@@ -8,7 +8,7 @@ use Rattle.std.proofs.lemmas.List.{map-append, length-map}
 use Rattle.std.proofs.lemmas.Str.{encode_ascii}
 use Rattle.writeable.specs.AnnotatedText.{bytes}
 use Rattle.fixed_decimal_unsigned.specs.NumberText.{character}
-use Rattle.fixed_decimal_unsigned.proofs.WritingLemmas.{bytes_joined}
+use Rattle.writeable.proofs.AnnotatedTextLemmas.{bytes_joined}
 use Rattle.fixed_decimal.specs.CompactText.{behind_compact_mark, compact_text_of, CompactValue}
 use Rattle.fixed_decimal.specs.PlainText.{compact_mark}
 use Rattle.fixed_decimal.specs.SignedText.{signed_text_of}

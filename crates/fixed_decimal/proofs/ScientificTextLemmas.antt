@@ -6,7 +6,7 @@ use Rattle.fixed_decimal_unsigned.specs.NumberText.{small_mark}
 use Rattle.fixed_decimal_unsigned.specs.declared.ParseError.{ParseError}
 use Rattle.fixed_decimal_unsigned.specs.declared.ParseError.TheVariants.{Limit, Syntax, Memory}
 use Rattle.fixed_decimal_unsigned.proofs.TextPartsLemmas.{cons_head, cons_tail}
-use Rattle.fixed_decimal_unsigned.proofs.WritingLemmas.{bytes_joined}
+use Rattle.writeable.proofs.AnnotatedTextLemmas.{bytes_joined}
 use Rattle.fixed_decimal.specs.IntegerText.{ReadsInteger, IsBeyondInteger}
 use Rattle.fixed_decimal.specs.PlainParts.{StartsWithMark, IsNotScientific, without_limit}
 use Rattle.fixed_decimal.specs.PlainText.{MarksExponent, HasNoMark}

@@ -3,7 +3,7 @@ use Rattle.std.proofs.Common.{◌≡◌, ◌≤◌, inl, inr, ◌++◌, length, 
 use Rattle.writeable.specs.AnnotatedText.{bytes}
 use Rattle.fixed_decimal_unsigned.specs.Number.{Number, IsNumber, whole_digits, fraction_digits}
 use Rattle.fixed_decimal_unsigned.specs.NumberText.{character, behind_point, text_of as printed}
-use Rattle.fixed_decimal_unsigned.proofs.WritingLemmas.{bytes_joined}
+use Rattle.writeable.proofs.AnnotatedTextLemmas.{bytes_joined}
 use Rattle.fixed_decimal_unsigned.proofs.PrintedLemmas.{text_with_fraction, text_without_fraction}
 use Rattle.std.proofs.lemmas.Bool.{cases_lt}
 use Rattle.fixed_decimal.specs.SignedText.{sign_text, signed_text_of}

@@ -11,6 +11,6 @@ limit_error_number = 1
 
 -- the number of each case of `CallsError`
 abbrev pub calls_error_number : CallsError → ℕ
-calls_error_number (Parse refused) = 1
+calls_error_number Parse = 1
 calls_error_number Write = 2
 calls_error_number Memory = 3

@@ -1,6 +1,6 @@
 -- Which text spells which number with its sign: an unsigned number's text, with a plus or a minus before it or none.
 -- Defined in docs/numbers.md, "The text".
--- Cited by `try_from_str` and `try_from_utf8` of `Decimal`, and by the printed text.
+-- Cited by `try_from_str` and `try_from_utf8` of `Decimal`, by `run_calls`, and by the printed text.
 use Rattle.std.specs.Prelude.{◌≡◌, ℕ, List, [], ◌∷◌, ◌++◌}
 use Rattle.fixed_decimal_unsigned.specs.Number.{Number}
 use Rattle.fixed_decimal_unsigned.specs.NumberText.{minus, Reads, IsBeyond, IsNoText, text_of}
@@ -41,6 +41,10 @@ pub record ReadsLongSigned (text : List ℕ) : Type 0 where
 -- what stands behind a sign, or behind none, is no number's text
 abbrev pub IsNoSignedText : List ℕ → Type 0
 IsNoSignedText text = (sign : Sign) (rest : List ℕ) → text ≡ sign_text sign ++ rest → IsNoText rest
+
+-- the text spells no decimal, be it that it spells one beyond the limits
+abbrev pub ReadsNothing : List ℕ → Type 0
+ReadsNothing text = (number : SignedValue Number) → ¬ (ReadsSigned text number)
 
 -- the printed text: the sign, then the text of the number
 abbrev pub signed_text_of : SignedValue Number → List ℕ

@@ -12,6 +12,7 @@ impl Signed<UnsignedDecimal> {
     /// The number times ten to the power `delta`, the digits shown with it: `-12` and 2 give `-1200`.
     ///
     /// It is zero, shown `0` behind the sign, where an end of the range would pass magnitudes -32768 to 32767.
+    /// It takes no memory.
     pub fn multiplied_pow10(mut self, delta: i16) -> Decimal
         ensures { OnAbsolute (Shifts delta) self result }
     {
@@ -19,7 +20,7 @@ impl Signed<UnsignedDecimal> {
         self
     }
 
-    /// The number without the zeros that it begins with: `-012` gives `-12`.
+    /// The number without the zeros that it begins with: `-012` gives `-12`. It takes no memory.
     pub fn trimmed_start(mut self) -> Decimal
         ensures { OnAbsolute TrimsStart self result }
     {
@@ -27,7 +28,7 @@ impl Signed<UnsignedDecimal> {
         self
     }
 
-    /// The number without the zeros that it ends in behind the point: `-1.20` gives `-1.2`.
+    /// The number without the zeros that it ends in behind the point: `-1.20` gives `-1.2`. It takes no memory.
     pub fn trimmed_end(mut self) -> Decimal
         ensures { OnAbsolute TrimsEnd self result }
     {
@@ -36,6 +37,8 @@ impl Signed<UnsignedDecimal> {
     }
 
     /// The number without the zeros behind the point where there is no other digit behind it: `-1.00` gives `-1`, `-1.20` itself.
+    ///
+    /// It takes no memory.
     pub fn trimmed_end_if_integer(mut self) -> Decimal
         ensures { OnAbsolute TrimsWhole self result }
     {
@@ -44,6 +47,8 @@ impl Signed<UnsignedDecimal> {
     }
 
     /// The number with zeros before it up to a position, or no more than it needs: `-12` and 4 give `-0012`.
+    ///
+    /// A position of 0 or below changes nothing. It takes no memory.
     pub fn padded_start(mut self, position: i16) -> Decimal
         ensures { OnAbsolute (PadsStart (place position)) self result }
     {
@@ -52,6 +57,8 @@ impl Signed<UnsignedDecimal> {
     }
 
     /// The number with zeros behind it down to a position, or no more than it needs: `-12` and -2 give `-12.00`.
+    ///
+    /// A position above 0 changes nothing. It takes no memory.
     pub fn padded_end(mut self, position: i16) -> Decimal
         ensures { OnAbsolute (PadsEnd (place position)) self result }
     {
@@ -59,7 +66,7 @@ impl Signed<UnsignedDecimal> {
         self
     }
 
-    /// The number without the digits from a magnitude up: `-1234.5` and 2 give `-34.5`.
+    /// The number without the digits from a magnitude up: `-1234.5` and 2 give `-34.5`. It takes no memory.
     pub fn with_max_position(mut self, position: i16) -> Decimal
         ensures { OnAbsolute (Cuts (place position)) self result }
     {
@@ -71,7 +78,7 @@ impl Signed<UnsignedDecimal> {
     ///
     /// `Overlap`, with both numbers, where neither is zero and the last digit of this number that is
     /// not zero does not stand above the first one of `other`. `Memory`, with both, where memory was
-    /// refused; it is taken where the number becomes longer than eight digits.
+    /// refused; it is taken where the sum has more than eight digits, and neither number is zero.
     pub fn concatenated_end(
         mut self,
         other: UnsignedDecimal,

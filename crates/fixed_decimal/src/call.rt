@@ -2,7 +2,7 @@ ghost use Rattle.std.specs.Prelude.{◌≡◌};
 
 use crate::modes::SignedRoundingMode;
 use crate::sign::{Sign, SignDisplay};
-use fixed_decimal_unsigned::{ParseError, RoundingIncrement};
+use fixed_decimal_unsigned::RoundingIncrement;
 use thiserror::Error;
 
 /// A call on a `Decimal` that changes it, with what is passed to it.
@@ -35,7 +35,7 @@ pub enum Call {
 pub enum CallsError {
     /// The first text spells no decimal, or one beyond the limits; nothing was written. It is never for memory.
     #[error("The text was not read as a decimal")]
-    Parse(ParseError),
+    Parse,
     /// The sink refused; it has taken a beginning of the text.
     #[error("The sink refused")]
     Write,
@@ -52,7 +52,7 @@ impl CallsError {
         ensures { result ≡ calls_error_number self.now }
     {
         match self {
-            CallsError::Parse(_) => 1,
+            CallsError::Parse => 1,
             CallsError::Write => 2,
             CallsError::Memory => 3,
         }

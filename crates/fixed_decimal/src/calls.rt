@@ -3,7 +3,7 @@ ghost use Rattle.writeable.specs.AnnotatedText.{bytes};
 ghost use Rattle.writeable.specs.Taking.{HasBegun};
 ghost use Rattle.fixed_decimal_unsigned.specs.Number.{Number};
 ghost use Rattle.fixed_decimal.specs.Calls.{Makes, Run, RunsFrom, RunsLong, MayGrowBy, MayGrowIn};
-ghost use Rattle.fixed_decimal.specs.SignedText.{ReadsSigned, ReadsLongSigned, IsBeyondSigned, IsNoSignedText, signed_text_of};
+ghost use Rattle.fixed_decimal.specs.SignedText.{ReadsSigned, ReadsLongSigned, ReadsNothing, signed_text_of};
 ghost use Rattle.fixed_decimal.specs.SignedValue.{SignedValue};
 
 use crate::call::{Call, CallsError};
@@ -47,17 +47,15 @@ fn make_calls(decimal: &mut Decimal, calls: &[Call]) -> Result<(), AllocError>
 
 // The decimal that the first text spells.
 fn read_start(alloc: Global, start: &[u8]) -> Result<Decimal, CallsError>
-    ensures syntax { IsErrOf result (CallsError.Parse ParseError.Syntax) → IsNoSignedText start.now }
-    ensures limit { IsErrOf result (CallsError.Parse ParseError.Limit) → IsBeyondSigned start.now }
-    ensures parse { ¬ (IsErrOf result (CallsError.Parse ParseError.Memory)) }
+    ensures parse { IsErrOf result CallsError.Parse → ReadsNothing start.now }
     ensures write { ¬ (IsErrOf result CallsError.Write) }
     ensures memory { IsErrOf result CallsError.Memory → ReadsLongSigned start.now }
     ensures value { IfOk result (λ v. ReadsSigned start.now v) }
 {
     match Decimal::try_from_utf8(alloc, start) {
         Ok(decimal) => Ok(decimal),
-        Err(ParseError::Limit) => Err(CallsError::Parse(ParseError::Limit)),
-        Err(ParseError::Syntax) => Err(CallsError::Parse(ParseError::Syntax)),
+        Err(ParseError::Limit) => Err(CallsError::Parse),
+        Err(ParseError::Syntax) => Err(CallsError::Parse),
         Err(ParseError::Memory) => Err(CallsError::Memory),
     }
 }
@@ -65,10 +63,10 @@ fn read_start(alloc: Global, start: &[u8]) -> Result<Decimal, CallsError>
 /// Reads a decimal, makes the calls on it one after the other, and writes its text into `sink`.
 ///
 /// `12.345` with `Round(-2, .., ..)` and `ApplySignDisplay(Always)` writes `+12.34`. The sink has not
-/// refused yet. `Parse` where the text is not read, for another cause than memory; `Write` exactly
-/// where the sink refused, which has then taken a beginning of the text; `Memory` where memory was
-/// refused, for reading more than eight digits or for a rounding that wants it. After `Parse` and
-/// `Memory` the sink is as it was.
+/// refused yet. `Parse` exactly where the text spells no decimal within the limits (`5.`, `1e32768`);
+/// `Write` exactly where the sink refused, which has then taken a beginning of the text; `Memory`
+/// where memory was refused, for reading more than eight digits or for a rounding that wants it.
+/// After `Parse` and `Memory` the sink is as it was.
 pub fn run_calls<S: Sink>(
     alloc: Global,
     start: &[u8],
@@ -76,9 +74,7 @@ pub fn run_calls<S: Sink>(
     sink: &mut S,
 ) -> Result<(), CallsError>
     requires { S.refused sink.old ≡ false }
-    ensures syntax { IsErrOf result (CallsError.Parse ParseError.Syntax) → IsNoSignedText start.now }
-    ensures limit { IsErrOf result (CallsError.Parse ParseError.Limit) → IsBeyondSigned start.now }
-    ensures parse { ¬ (IsErrOf result (CallsError.Parse ParseError.Memory)) }
+    ensures parse { IsErrOf result CallsError.Parse ↔ ReadsNothing start.now }
     ensures write { IsTrue (S.refused sink.new) ↔ IsErrOf result CallsError.Write }
     ensures memory { IsErrOf result CallsError.Memory → ReadsLongSigned start.now ⊎ RunsLong start.now calls.now }
     ensures text { OnOk result ((v : SignedValue Number) × (RunsFrom start.now calls.now v × S.takes sink.old (bytes (signed_text_of v)) sink.new)) }

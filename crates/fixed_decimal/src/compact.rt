@@ -107,7 +107,7 @@ fn exponent_of(digits: &[u8]) -> Option<u8>
 }
 
 impl CompactDecimal {
-    /// The decimal with this exponent shown beside it. It takes no memory.
+    /// The decimal with this exponent shown beside it: 1.2 and 6 give `1.2c6`. It takes no memory.
     pub fn from_significand_and_exponent(significand: Decimal, exponent: u8) -> CompactDecimal
         ensures { result ≡ record { significand = significand; exponent = exponent } }
     {
@@ -117,7 +117,7 @@ impl CompactDecimal {
         }
     }
 
-    /// The number before the exponent: 1.2 of `1.2c6`.
+    /// The number before the exponent: 1.2 of `1.2c6`. It takes no memory.
     pub fn significand(&self) -> &Decimal
         ensures { result.now ≡ self.now.significand }
     {
@@ -131,14 +131,17 @@ impl CompactDecimal {
         self.significand
     }
 
-    /// The exponent: 6 of `1.2c6`, and 0 of `1.2`.
+    /// The exponent, from 0 to 255: 6 of `1.2c6`, and 0 of `1.2`. It takes no memory.
     pub fn exponent(&self) -> u8
         ensures { result ≡ self.now.exponent }
     {
         self.exponent
     }
 
-    /// The same number in a value of its own. Memory is taken where the significand has more than eight digits.
+    /// The same number in a value of its own: of `1.2c6` another `1.2c6`.
+    ///
+    /// Memory is taken where the significand has more than eight digits, from the first to the last one that
+    /// is not zero; it is refused (`AllocError`) only there.
     pub fn try_clone(&self) -> Result<CompactDecimal, AllocError>
         ensures value { IfOk result (λ v. v ≡ self.now) }
         ensures room { OnErr result (IsLong self.now.significand.absolute.count) }
@@ -154,7 +157,8 @@ impl CompactDecimal {
     ///
     /// `Syntax` where the text is not of this form (`1c`, `1c0`, `1c06`, `1e3`), `Limit` where the number
     /// is beyond the limits of a decimal or the exponent above 255 (`1c256`), `Memory` where memory for
-    /// digits was refused; it is taken where there are more than eight.
+    /// digits was refused; it is taken where there are more than eight, from the first to the last one that is
+    /// not zero.
     pub fn try_from_str(alloc: Global, text: &str) -> Result<CompactDecimal, ParseError>
         ensures syntax { IsErrOf result ParseError.Syntax → IsNoCompactText text.now }
         ensures limit { IsErrOf result ParseError.Limit → IsBeyondCompact text.now }
@@ -169,10 +173,10 @@ impl CompactDecimal {
             Err(refused) => return Err(refused),
         };
         match exponent_of(digits) {
-            Some(exponent) => Ok(CompactDecimal {
+            Some(exponent) => Ok(CompactDecimal::from_significand_and_exponent(
                 significand,
                 exponent,
-            }),
+            )),
             None => Err(ParseError::Limit),
         }
     }

@@ -50,7 +50,10 @@ impl Signed<UnsignedDecimal> {
         }
     }
 
-    /// The same number in a value of its own. Memory is taken where the number has more than eight digits.
+    /// The same number in a value of its own: of `-012.30` another `-012.30`.
+    ///
+    /// Memory is taken where the number has more than eight digits, from the first to the last one that is
+    /// not zero; it is refused (`AllocError`) only there.
     pub fn try_clone(&self) -> Result<Decimal, AllocError>
         ensures value { IfOk result (λ v. v ≡ self.now) }
         ensures room { OnErr result (IsLong self.now.absolute.count) }

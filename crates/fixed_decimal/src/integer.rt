@@ -52,15 +52,6 @@ impl TryFrom<Decimal> for FixedInteger {
     }
 }
 
-// The whole number as an integer.
-fn from_signed(alloc: Global, integer: i128) -> Result<FixedInteger, AllocError>
-    ensures value { IfOk result (λ v. IsSignedWhole integer v) }
-    ensures room { OnErr result (IsLong (size_of integer)) }
-{
-    let decimal = Decimal::from_i128(alloc, integer)?;
-    Ok(FixedInteger { decimal })
-}
-
 impl FixedInteger {
     /// The whole number that a text spells: `1e1` is `10`.
     ///
@@ -93,12 +84,13 @@ impl FixedInteger {
         FixedInteger::try_from_utf8(alloc, text.as_bytes())
     }
 
-    /// The whole number as a decimal. It takes no memory.
+    /// The whole number as a decimal: `-012` stays `-012`. It takes no memory.
     pub fn into_decimal(self) -> Decimal
         ensures value { result ≡ self }
         ensures whole { ShowsNoFraction result }
     {
-        self.decimal
+        let FixedInteger { decimal } = self;
+        decimal
     }
 
     // The number of bytes of the text.
@@ -109,7 +101,10 @@ impl FixedInteger {
         text_length(&self.decimal)
     }
 
-    /// The same number in a value of its own. Memory is taken where the number has more than eight digits.
+    /// The same number in a value of its own: of `-012` another `-012`.
+    ///
+    /// Memory is taken where the number has more than eight digits, from the first to the last one that is
+    /// not zero; it is refused (`AllocError`) only there.
     pub fn try_clone(&self) -> Result<FixedInteger, AllocError>
         ensures value { IfOk result (λ v. v ≡ self.now) }
         ensures room { OnErr result (IsLong self.now.absolute.count) }
@@ -136,7 +131,10 @@ impl FixedInteger {
         Ok(FixedInteger { decimal })
     }
 
-    /// The whole number `integer`, without a sign: 250 is shown as `250`. Memory is taken where it has more than eight digits without the zeros at its end.
+    /// The whole number `integer`, without a sign: 250 is shown as `250`.
+    ///
+    /// Memory is taken where it has more than eight digits without the zeros at its end; it is refused
+    /// (`AllocError`) only there.
     pub fn from_u32(alloc: Global, integer: u32) -> Result<FixedInteger, AllocError>
         ensures value { IfOk result (λ v. IsWhole integer v) }
         ensures room { OnErr result (IsLong integer) }
@@ -145,7 +143,10 @@ impl FixedInteger {
         Ok(FixedInteger { decimal })
     }
 
-    /// The whole number `integer`, without a sign: 250 is shown as `250`. Memory is taken where it has more than eight digits without the zeros at its end.
+    /// The whole number `integer`, without a sign: 250 is shown as `250`.
+    ///
+    /// Memory is taken where it has more than eight digits without the zeros at its end; it is refused
+    /// (`AllocError`) only there.
     pub fn from_u64(alloc: Global, integer: u64) -> Result<FixedInteger, AllocError>
         ensures value { IfOk result (λ v. IsWhole integer v) }
         ensures room { OnErr result (IsLong integer) }
@@ -154,7 +155,10 @@ impl FixedInteger {
         Ok(FixedInteger { decimal })
     }
 
-    /// The whole number `integer`, without a sign: 250 is shown as `250`. Memory is taken where it has more than eight digits without the zeros at its end.
+    /// The whole number `integer`, without a sign: 250 is shown as `250`.
+    ///
+    /// Memory is taken where it has more than eight digits without the zeros at its end; it is refused
+    /// (`AllocError`) only there.
     pub fn from_usize(alloc: Global, integer: usize) -> Result<FixedInteger, AllocError>
         ensures value { IfOk result (λ v. IsWhole integer v) }
         ensures room { OnErr result (IsLong integer) }
@@ -163,7 +167,10 @@ impl FixedInteger {
         Ok(FixedInteger { decimal })
     }
 
-    /// The whole number `integer`, without a sign: 250 is shown as `250`. Memory is taken where it has more than eight digits without the zeros at its end.
+    /// The whole number `integer`, without a sign: 250 is shown as `250`.
+    ///
+    /// Memory is taken where it has more than eight digits without the zeros at its end; it is refused
+    /// (`AllocError`) only there.
     pub fn from_u128(alloc: Global, integer: u128) -> Result<FixedInteger, AllocError>
         ensures value { IfOk result (λ v. IsWhole integer v) }
         ensures room { OnErr result (IsLong integer) }
@@ -177,7 +184,8 @@ impl FixedInteger {
         ensures value { IfOk result (λ v. IsSignedWhole integer v) }
         ensures succeeds { IsOk result }
     {
-        from_signed(alloc, integer as i128)
+        let decimal = Decimal::from_i8(alloc, integer)?;
+        Ok(FixedInteger { decimal })
     }
 
     /// The whole number `integer`, with a minus below zero: -25 is shown as `-25`. It takes no memory.
@@ -185,39 +193,56 @@ impl FixedInteger {
         ensures value { IfOk result (λ v. IsSignedWhole integer v) }
         ensures succeeds { IsOk result }
     {
-        from_signed(alloc, integer as i128)
+        let decimal = Decimal::from_i16(alloc, integer)?;
+        Ok(FixedInteger { decimal })
     }
 
-    /// The whole number `integer`, with a minus below zero: -25 is shown as `-25`. Memory is taken where it has more than eight digits without the zeros at its end.
+    /// The whole number `integer`, with a minus below zero: -25 is shown as `-25`.
+    ///
+    /// Memory is taken where it has more than eight digits without the zeros at its end; it is refused
+    /// (`AllocError`) only there.
     pub fn from_i32(alloc: Global, integer: i32) -> Result<FixedInteger, AllocError>
         ensures value { IfOk result (λ v. IsSignedWhole integer v) }
         ensures room { OnErr result (IsLong (size_of integer)) }
     {
-        from_signed(alloc, integer as i128)
+        let decimal = Decimal::from_i32(alloc, integer)?;
+        Ok(FixedInteger { decimal })
     }
 
-    /// The whole number `integer`, with a minus below zero: -25 is shown as `-25`. Memory is taken where it has more than eight digits without the zeros at its end.
+    /// The whole number `integer`, with a minus below zero: -25 is shown as `-25`.
+    ///
+    /// Memory is taken where it has more than eight digits without the zeros at its end; it is refused
+    /// (`AllocError`) only there.
     pub fn from_i64(alloc: Global, integer: i64) -> Result<FixedInteger, AllocError>
         ensures value { IfOk result (λ v. IsSignedWhole integer v) }
         ensures room { OnErr result (IsLong (size_of integer)) }
     {
-        from_signed(alloc, integer as i128)
+        let decimal = Decimal::from_i64(alloc, integer)?;
+        Ok(FixedInteger { decimal })
     }
 
-    /// The whole number `integer`, with a minus below zero: -25 is shown as `-25`. Memory is taken where it has more than eight digits without the zeros at its end.
+    /// The whole number `integer`, with a minus below zero: -25 is shown as `-25`.
+    ///
+    /// Memory is taken where it has more than eight digits without the zeros at its end; it is refused
+    /// (`AllocError`) only there.
     pub fn from_isize(alloc: Global, integer: isize) -> Result<FixedInteger, AllocError>
         ensures value { IfOk result (λ v. IsSignedWhole integer v) }
         ensures room { OnErr result (IsLong (size_of integer)) }
     {
-        from_signed(alloc, integer as i128)
+        let decimal = Decimal::from_isize(alloc, integer)?;
+        Ok(FixedInteger { decimal })
     }
 
-    /// The whole number `integer`, with a minus below zero: -25 is shown as `-25`. Memory is taken where it has more than eight digits without the zeros at its end.
+    /// The whole number `integer`, with a minus below zero: -25 is shown as `-25`.
+    ///
+    /// Memory is taken where it has more than eight digits without the zeros at its end; it is refused
+    /// (`AllocError`) only there.
     pub fn from_i128(alloc: Global, integer: i128) -> Result<FixedInteger, AllocError>
         ensures value { IfOk result (λ v. IsSignedWhole integer v) }
         ensures room { OnErr result (IsLong (size_of integer)) }
     {
-        from_signed(alloc, integer)
+        let decimal = Decimal::from_i128(alloc, integer)?;
+        Ok(FixedInteger { decimal })
     }
 }
 

@@ -61,7 +61,10 @@ impl Signed<UnsignedDecimal> {
         })
     }
 
-    /// The whole number `integer`, without a sign: 250 is shown as `250`. Memory is taken where it has more than eight digits without the zeros at its end.
+    /// The whole number `integer`, without a sign: 250 is shown as `250`.
+    ///
+    /// Memory is taken where it has more than eight digits without the zeros at its end; it is refused
+    /// (`AllocError`) only there.
     pub fn from_u32(alloc: Global, integer: u32) -> Result<Decimal, AllocError>
         ensures value { IfOk result (λ v. IsWhole integer v) }
         ensures room { OnErr result (IsLong integer) }
@@ -73,7 +76,10 @@ impl Signed<UnsignedDecimal> {
         })
     }
 
-    /// The whole number `integer`, without a sign: 250 is shown as `250`. Memory is taken where it has more than eight digits without the zeros at its end.
+    /// The whole number `integer`, without a sign: 250 is shown as `250`.
+    ///
+    /// Memory is taken where it has more than eight digits without the zeros at its end; it is refused
+    /// (`AllocError`) only there.
     pub fn from_u64(alloc: Global, integer: u64) -> Result<Decimal, AllocError>
         ensures value { IfOk result (λ v. IsWhole integer v) }
         ensures room { OnErr result (IsLong integer) }
@@ -85,7 +91,10 @@ impl Signed<UnsignedDecimal> {
         })
     }
 
-    /// The whole number `integer`, without a sign: 250 is shown as `250`. Memory is taken where it has more than eight digits without the zeros at its end.
+    /// The whole number `integer`, without a sign: 250 is shown as `250`.
+    ///
+    /// Memory is taken where it has more than eight digits without the zeros at its end; it is refused
+    /// (`AllocError`) only there.
     pub fn from_usize(alloc: Global, integer: usize) -> Result<Decimal, AllocError>
         ensures value { IfOk result (λ v. IsWhole integer v) }
         ensures room { OnErr result (IsLong integer) }
@@ -97,7 +106,10 @@ impl Signed<UnsignedDecimal> {
         })
     }
 
-    /// The whole number `integer`, without a sign: 250 is shown as `250`. Memory is taken where it has more than eight digits without the zeros at its end.
+    /// The whole number `integer`, without a sign: 250 is shown as `250`.
+    ///
+    /// Memory is taken where it has more than eight digits without the zeros at its end; it is refused
+    /// (`AllocError`) only there.
     pub fn from_u128(alloc: Global, integer: u128) -> Result<Decimal, AllocError>
         ensures value { IfOk result (λ v. IsWhole integer v) }
         ensures room { OnErr result (IsLong integer) }
@@ -114,7 +126,7 @@ impl Signed<UnsignedDecimal> {
         ensures value { IfOk result (λ v. IsSignedWhole integer v) }
         ensures succeeds { IsOk result }
     {
-        from_signed(alloc, integer as i128)
+        Decimal::from_i16(alloc, integer as i16)
     }
 
     /// The whole number `integer`, with a minus below zero: -25 is shown as `-25`. It takes no memory.
@@ -122,18 +134,24 @@ impl Signed<UnsignedDecimal> {
         ensures value { IfOk result (λ v. IsSignedWhole integer v) }
         ensures succeeds { IsOk result }
     {
-        from_signed(alloc, integer as i128)
+        Decimal::from_i32(alloc, integer as i32)
     }
 
-    /// The whole number `integer`, with a minus below zero: -25 is shown as `-25`. Memory is taken where it has more than eight digits without the zeros at its end.
+    /// The whole number `integer`, with a minus below zero: -25 is shown as `-25`.
+    ///
+    /// Memory is taken where it has more than eight digits without the zeros at its end; it is refused
+    /// (`AllocError`) only there.
     pub fn from_i32(alloc: Global, integer: i32) -> Result<Decimal, AllocError>
         ensures value { IfOk result (λ v. IsSignedWhole integer v) }
         ensures room { OnErr result (IsLong (size_of integer)) }
     {
-        from_signed(alloc, integer as i128)
+        Decimal::from_i64(alloc, integer as i64)
     }
 
-    /// The whole number `integer`, with a minus below zero: -25 is shown as `-25`. Memory is taken where it has more than eight digits without the zeros at its end.
+    /// The whole number `integer`, with a minus below zero: -25 is shown as `-25`.
+    ///
+    /// Memory is taken where it has more than eight digits without the zeros at its end; it is refused
+    /// (`AllocError`) only there.
     pub fn from_i64(alloc: Global, integer: i64) -> Result<Decimal, AllocError>
         ensures value { IfOk result (λ v. IsSignedWhole integer v) }
         ensures room { OnErr result (IsLong (size_of integer)) }
@@ -141,15 +159,21 @@ impl Signed<UnsignedDecimal> {
         from_signed(alloc, integer as i128)
     }
 
-    /// The whole number `integer`, with a minus below zero: -25 is shown as `-25`. Memory is taken where it has more than eight digits without the zeros at its end.
+    /// The whole number `integer`, with a minus below zero: -25 is shown as `-25`.
+    ///
+    /// Memory is taken where it has more than eight digits without the zeros at its end; it is refused
+    /// (`AllocError`) only there.
     pub fn from_isize(alloc: Global, integer: isize) -> Result<Decimal, AllocError>
         ensures value { IfOk result (λ v. IsSignedWhole integer v) }
         ensures room { OnErr result (IsLong (size_of integer)) }
     {
-        from_signed(alloc, integer as i128)
+        Decimal::from_i128(alloc, integer as i128)
     }
 
-    /// The whole number `integer`, with a minus below zero: -25 is shown as `-25`. Memory is taken where it has more than eight digits without the zeros at its end.
+    /// The whole number `integer`, with a minus below zero: -25 is shown as `-25`.
+    ///
+    /// Memory is taken where it has more than eight digits without the zeros at its end; it is refused
+    /// (`AllocError`) only there.
     pub fn from_i128(alloc: Global, integer: i128) -> Result<Decimal, AllocError>
         ensures value { IfOk result (λ v. IsSignedWhole integer v) }
         ensures room { OnErr result (IsLong (size_of integer)) }

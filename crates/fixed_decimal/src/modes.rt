@@ -4,7 +4,8 @@ ghost use Rattle.fixed_decimal.specs.SignedRounding.{size_mode};
 use crate::sign::Sign;
 use fixed_decimal_unsigned::UnsignedRoundingMode;
 
-/// Which multiple a rounding takes, by size or by order.
+/// Which multiple a rounding takes, by size or by order: the modes of these names in ECMA-402's
+/// `roundingMode`.
 #[derive(Clone, Copy, Debug, Drop, PartialEq, Eq)]
 pub enum SignedRoundingMode {
     /// By size alone, whatever the sign.

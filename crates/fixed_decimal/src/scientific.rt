@@ -68,7 +68,7 @@ fn refused_by(side: ParseError) -> ParseError
 }
 
 impl ScientificDecimal {
-    /// The decimal with this exponent shown beside it. It takes no memory.
+    /// The decimal with this exponent shown beside it: 1.2 and -6 give `1.2e-6`. It takes no memory.
     pub fn from(significand: Decimal, exponent: FixedInteger) -> ScientificDecimal
         ensures { result ≡ record { significand = significand; exponent = exponent } }
     {
@@ -82,7 +82,7 @@ impl ScientificDecimal {
     ///
     /// `Syntax` where the text has no `e`, another mark beside it, or a side that does not read, be it
     /// beyond its limits (`1.2`, `1E3`, `1e2e3`, `1e0.5`); never `Limit`. `Memory` where memory for digits
-    /// was refused; it is taken where a side has more than eight.
+    /// was refused; it is taken where a side has more than eight, from the first to the last one that is not zero.
     pub fn try_from_utf8(alloc: Global, code_units: &[u8]) -> Result<ScientificDecimal, ParseError>
         ensures syntax { IsErrOf result ParseError.Syntax → IsNoScientificText code_units.now }
         ensures limit { ¬ (IsErrOf result ParseError.Limit) }
@@ -97,10 +97,7 @@ impl ScientificDecimal {
             Err(refused) => return Err(refused_by(refused)),
         };
         match FixedInteger::try_from_utf8(alloc, right) {
-            Ok(exponent) => Ok(ScientificDecimal {
-                significand,
-                exponent,
-            }),
+            Ok(exponent) => Ok(ScientificDecimal::from(significand, exponent)),
             Err(refused) => Err(refused_by(refused)),
         }
     }
@@ -115,17 +112,17 @@ impl ScientificDecimal {
         ScientificDecimal::try_from_utf8(alloc, text.as_bytes())
     }
 
-    /// The same number in a value of its own. Memory is taken where a part of it has more than eight digits.
+    /// The same number in a value of its own: of `1.2e-6` another `1.2e-6`.
+    ///
+    /// Memory is taken where a part of it has more than eight digits, from the first to the last one that is
+    /// not zero; it is refused (`AllocError`) only there.
     pub fn try_clone(&self) -> Result<ScientificDecimal, AllocError>
         ensures value { IfOk result (λ v. v ≡ self.now) }
         ensures room { OnErr result (IsLong self.now.significand.absolute.count ⊎ IsLong self.now.exponent.absolute.count) }
     {
         let significand = self.significand.try_clone()?;
         let exponent = self.exponent.try_clone()?;
-        Ok(ScientificDecimal {
-            significand,
-            exponent,
-        })
+        Ok(ScientificDecimal::from(significand, exponent))
     }
 }
 

@@ -9,7 +9,7 @@ pub enum Sign {
     Positive,
 }
 
-/// Which sign a number is shown with.
+/// Which sign a number is shown with: the choices of these names in ECMA-402's `signDisplay`.
 #[derive(Clone, Copy, Debug, Drop, PartialEq, Eq)]
 pub enum SignDisplay {
     /// A minus where the number has one; a plus is left out.

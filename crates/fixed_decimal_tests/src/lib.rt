@@ -7,13 +7,21 @@ mod compact_and_scientific;
 #[cfg(test)]
 mod concatenation;
 #[cfg(test)]
+mod counted;
+#[cfg(test)]
 mod ends;
 #[cfg(test)]
 mod examples;
 #[cfg(test)]
+mod fakes;
+#[cfg(test)]
 mod increments;
 #[cfg(test)]
 mod integers;
+#[cfg(test)]
+mod refusals;
+#[cfg(test)]
+mod refused_bytes;
 #[cfg(test)]
 mod rounding;
 #[cfg(test)]

@@ -1,6 +1,7 @@
 // Runs of calls.
 use fixed_decimal::{
-    Call, RoundingIncrement, Sign, SignDisplay, SignedRoundingMode, UnsignedRoundingMode, run_calls,
+    Call, CallsError, RoundingIncrement, Sign, SignDisplay, SignedRoundingMode,
+    UnsignedRoundingMode, run_calls,
 };
 use std::alloc::Global;
 use std::test::Fail;
@@ -120,21 +121,12 @@ fn the_sign_is_chosen_of_what_the_rounding_left(rt: HostRuntime) -> Result<(), F
 
 #[test]
 fn a_text_that_is_not_read_writes_nothing(rt: HostRuntime) -> Result<(), Fail> {
-    for (start, want) in [
-        ("5.", "Parse(Syntax)"),
-        ("", "Parse(Syntax)"),
-        ("1e32768", "Parse(Limit)"),
-        ("1e99999999999999999999", "Parse(Limit)"),
-    ] {
+    for start in ["5.", "", "1e32768", "1e99999999999999999999"] {
         let mut sink = TextSink::new(rt.alloc());
         let refused = run_calls(rt.alloc(), start.as_bytes(), &[Call::TrimStart], &mut sink)
             .err()
             .ok_or("it is accepted")?;
-        assert_eq!(rt;
-            format!(in rt.alloc(); "{refused:?}")?.as_str(),
-            want,
-            "{start}"
-        );
+        assert_eq!(rt; refused, CallsError::Parse, "{start}");
         assert_eq!(rt; refused.number(), 1, "{start}");
         assert_eq!(rt; sink.text(), "", "{start}");
         assert!(rt; !sink.has_refused(), "{start}");

@@ -2,8 +2,8 @@
 use Rattle.std.proofs.Common.{◌≡◌, ℕ, zero, suc, ◌+◌, ◌-◌, ◌<◌, ◌≤◌, List, [], ◌∷◌, ◌++◌, length, map, refl, sym, ap, ◌∙◌, arith}
 use Rattle.std.specs.Char.{encode_utf8}
 use Rattle.std.proofs.lemmas.Str.{encode_ascii}
-use Rattle.writeable.specs.AnnotatedText.{byte, bytes, text_of as written}
-use Rattle.writeable.proofs.AnnotatedTextLemmas.{text_of_bytes}
+use Rattle.writeable.specs.AnnotatedText.{bytes, text_of as written}
+use Rattle.writeable.proofs.AnnotatedTextLemmas.{text_of_bytes, bytes_joined}
 use Rattle.fixed_decimal_unsigned.specs.Number.{Number, digit, digits_down, whole_digits, fraction_digits}
 use Rattle.fixed_decimal_unsigned.specs.NumberText.{character, behind_point, point, text_of as printed}
 use Rattle.fixed_decimal_unsigned.proofs.PrintedLemmas.{digit_below_ten}
@@ -41,11 +41,6 @@ pub no_fraction_events : (count low left : ℕ) → left ≡ 0 → bytes (behind
 unfolding bytes
 no_fraction_events count low zero p = refl
 no_fraction_events count low (suc k) p = absurd (omega arith)
-
-pub bytes_joined : (xs ys : List ℕ) → bytes (xs ++ ys) ≡ bytes xs ++ bytes ys
-unfolding bytes
-bytes_joined [] ys = refl
-bytes_joined (x ∷ xs) ys = ap (λ es. byte x ∷ es) (bytes_joined xs ys)
 
 -- the events of a number are its printed text
 pub events_text : (v : Number) → written (bytes (map character (whole_digits v)) ++ bytes (behind_point (map character (fraction_digits v)))) ≡ printed v

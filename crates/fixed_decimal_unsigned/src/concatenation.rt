@@ -64,7 +64,8 @@ impl UnsignedDecimal {
     /// The number becomes the sum, shown with every magnitude that one of the two shows.
     /// `Overlap`, with `other`, where neither is zero and the last digit of this number that is not
     /// zero does not stand above the first one of `other`: `12.3` and `0.3`. `Memory`, with `other`,
-    /// where memory was refused; it is taken where the sum has more than eight digits.
+    /// where memory was refused; it is taken where the sum has more than eight digits, and neither number
+    /// is zero.
     pub fn concatenate_end(
         &mut self,
         other: UnsignedDecimal,
@@ -102,7 +103,8 @@ impl UnsignedDecimal {
 
     /// The number with another one behind it: `12` and `0.3` give `12.3`.
     ///
-    /// The refusals are those of `concatenate_end`, each with both numbers.
+    /// The refusals are those of `concatenate_end`, each with both numbers. Memory is taken where the sum
+    /// has more than eight digits, and neither number is zero.
     pub fn concatenated_end(
         mut self,
         other: UnsignedDecimal,

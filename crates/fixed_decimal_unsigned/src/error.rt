@@ -41,7 +41,7 @@ impl From<AllocError> for ParseError {
 }
 
 /// Why a number was not put behind another. The case holds what was handed in: `T` is one number, or both.
-#[derive(Debug, Drop, Error)]
+#[derive(Debug, Drop, PartialEq, Eq, Error)]
 pub enum ConcatenateError<T> {
     /// The second number has a digit other than zero at a magnitude that the first one reaches.
     #[error("The digits of the two numbers overlap")]

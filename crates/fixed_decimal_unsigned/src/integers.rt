@@ -79,7 +79,10 @@ impl UnsignedDecimal {
         from_whole(alloc, integer as u128)
     }
 
-    /// The whole number `integer`: 100000 is shown as `100000`. Memory is taken where it has more than eight digits without the zeros at its end.
+    /// The whole number `integer`: 100000 is shown as `100000`.
+    ///
+    /// Memory is taken where it has more than eight digits without the zeros at its end; it is refused
+    /// (`AllocError`) only there.
     pub fn from_u32(alloc: Global, integer: u32) -> Result<UnsignedDecimal, AllocError>
         ensures value { IfOk result (λ v. IsInteger integer v) }
         ensures room { OnErr result (IsLong integer) }
@@ -87,7 +90,10 @@ impl UnsignedDecimal {
         from_whole(alloc, integer as u128)
     }
 
-    /// The whole number `integer`: 1729 is shown as `1729`. Memory is taken where it has more than eight digits without the zeros at its end.
+    /// The whole number `integer`: 1729 is shown as `1729`.
+    ///
+    /// Memory is taken where it has more than eight digits without the zeros at its end; it is refused
+    /// (`AllocError`) only there.
     pub fn from_u64(alloc: Global, integer: u64) -> Result<UnsignedDecimal, AllocError>
         ensures value { IfOk result (λ v. IsInteger integer v) }
         ensures room { OnErr result (IsLong integer) }
@@ -95,7 +101,10 @@ impl UnsignedDecimal {
         from_whole(alloc, integer as u128)
     }
 
-    /// The whole number `integer`: 1729 is shown as `1729`. Memory is taken where it has more than eight digits without the zeros at its end.
+    /// The whole number `integer`: 1729 is shown as `1729`.
+    ///
+    /// Memory is taken where it has more than eight digits without the zeros at its end; it is refused
+    /// (`AllocError`) only there.
     pub fn from_usize(alloc: Global, integer: usize) -> Result<UnsignedDecimal, AllocError>
         ensures value { IfOk result (λ v. IsInteger integer v) }
         ensures room { OnErr result (IsLong integer) }
@@ -103,7 +112,10 @@ impl UnsignedDecimal {
         from_whole(alloc, integer as u128)
     }
 
-    /// The whole number `integer`: 1729 is shown as `1729`. Memory is taken where it has more than eight digits without the zeros at its end.
+    /// The whole number `integer`: 1729 is shown as `1729`.
+    ///
+    /// Memory is taken where it has more than eight digits without the zeros at its end; it is refused
+    /// (`AllocError`) only there.
     pub fn from_u128(alloc: Global, integer: u128) -> Result<UnsignedDecimal, AllocError>
         ensures value { IfOk result (λ v. IsInteger integer v) }
         ensures room { OnErr result (IsLong integer) }

@@ -1,7 +1,7 @@
 ghost use Rattle.std.specs.Prelude.{◌≡◌};
 ghost use Rattle.fixed_decimal_unsigned.specs.Rounding.{increment_number};
 
-/// Which multiple a rounding takes, by size alone.
+/// Which multiple a rounding takes, by size alone: the modes of these names in ECMA-402's `roundingMode`.
 #[derive(Clone, Copy, Debug, Drop, PartialEq, Eq)]
 pub enum UnsignedRoundingMode {
     /// The next multiple away from zero.
@@ -16,7 +16,8 @@ pub enum UnsignedRoundingMode {
     HalfEven,
 }
 
-/// The multiples that a rounding looks at, counted in the last place that it keeps.
+/// The multiples that a rounding looks at, counted in the last place that it keeps, as in ECMA-402's
+/// `roundingIncrement`.
 #[derive(Clone, Copy, Debug, Drop, PartialEq, Eq)]
 pub enum RoundingIncrement {
     /// Every count: 1.1, 1.2, 1.3.
@@ -29,7 +30,7 @@ pub enum RoundingIncrement {
     MultiplesOf25,
 }
 
-/// The increment that looks at every count.
+/// The increment that looks at every count, `MultiplesOf1`.
 impl Default for RoundingIncrement {
     ghost use Rattle.fixed_decimal_unsigned.specs.declared.modes.RoundingIncrement.TheVariants.{MultiplesOf1};
 

@@ -70,6 +70,8 @@ impl UnsignedDecimal {
     }
 
     /// The number times ten to the power `delta`, the digits shown with it, as `multiply_pow10` has it: `12` and 2 give `1200`.
+    ///
+    /// It takes no memory.
     pub fn multiplied_pow10(mut self, delta: i16) -> UnsignedDecimal
         ensures { Shifts delta self result }
     {

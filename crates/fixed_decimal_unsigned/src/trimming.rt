@@ -63,7 +63,7 @@ impl UnsignedDecimal {
         }
     }
 
-    /// The number without the zeros that it begins with: `012` gives `12`.
+    /// The number without the zeros that it begins with: `012` gives `12`. It takes no memory.
     pub fn trimmed_start(mut self) -> UnsignedDecimal
         ensures { TrimsStart self result }
     {
@@ -71,7 +71,7 @@ impl UnsignedDecimal {
         self
     }
 
-    /// The number without the zeros that it ends in behind the point: `1.20` gives `1.2`.
+    /// The number without the zeros that it ends in behind the point: `1.20` gives `1.2`. It takes no memory.
     pub fn trimmed_end(mut self) -> UnsignedDecimal
         ensures { TrimsEnd self result }
     {
@@ -80,6 +80,8 @@ impl UnsignedDecimal {
     }
 
     /// The number without the zeros behind the point where there is no other digit behind it: `1.00` gives `1`, `1.20` itself.
+    ///
+    /// It takes no memory.
     pub fn trimmed_end_if_integer(mut self) -> UnsignedDecimal
         ensures { TrimsWhole self result }
     {
@@ -88,6 +90,8 @@ impl UnsignedDecimal {
     }
 
     /// The number with zeros before it up to a position, or no more than it needs: `12` and 4 give `0012`.
+    ///
+    /// A position of 0 or below changes nothing. It takes no memory.
     pub fn padded_start(mut self, position: i16) -> UnsignedDecimal
         ensures { PadsStart (place position) self result }
     {
@@ -96,6 +100,8 @@ impl UnsignedDecimal {
     }
 
     /// The number with zeros behind it down to a position, or no more than it needs: `12` and -2 give `12.00`.
+    ///
+    /// A position above 0 changes nothing. It takes no memory.
     pub fn padded_end(mut self, position: i16) -> UnsignedDecimal
         ensures { PadsEnd (place position) self result }
     {

@@ -23,7 +23,7 @@ impl<L: Ledger> Model for Turns<L> {
 }
 
 impl<L: Ledger> Turns<L> {
-    /// No turns yet, counted in the ledger of a blank.
+    /// No turns yet, counted in the ledger of a blank. It takes no memory.
     pub fn new(blank: Blank) -> Turns<L>
         requires name { blank.name ≡ L.name }
         requires parts { blank.parts ≡ L.parts }

@@ -61,14 +61,16 @@ impl UnsignedDecimal {
         }
     }
 
-    /// Whether the number is zero, whatever its range: true of `0` and of `0.00`.
+    /// Whether the number is zero, whatever its range: true of `0` and of `0.00`. It takes no memory.
     pub fn is_zero(&self) -> bool
         ensures { result ≡ (self.now.count == 0) }
     {
         self.digits.is_empty()
     }
 
-    /// The digit at a magnitude, 0 outside of the range: of `12.3` it is 2 at 0 and 3 at -1.
+    /// The digit at a magnitude, from 0 to 9, and 0 outside of the range: of `12.3` it is 2 at 0 and 3 at -1.
+    ///
+    /// It takes no memory.
     pub fn digit_at(&self, magnitude: i16) -> u8
         ensures value { result ≡ digit self.now.count (place magnitude) }
         ensures ten { result < 10 }
@@ -85,7 +87,7 @@ impl UnsignedDecimal {
         }
     }
 
-    /// The magnitudes that are shown, from the lowest to the highest: -1 to 2 of `012.3`.
+    /// The magnitudes that are shown, from the lowest to the highest: -1 to 2 of `012.3`. It takes no memory.
     pub fn magnitude_range(&self) -> RangeInclusive<i16>
         ensures low { place (range_inclusive_start result) ≡ self.now.low }
         ensures high { place (range_inclusive_end result) ≡ self.now.high }
@@ -95,7 +97,10 @@ impl UnsignedDecimal {
         magnitude_of(self.low)..=magnitude_of(self.high)
     }
 
-    /// The same number in a value of its own. Memory is taken where the number has more than eight digits.
+    /// The same number in a value of its own: of `012.30` another `012.30`.
+    ///
+    /// Memory is taken where the number has more than eight digits, from the first to the last one that is
+    /// not zero; it is refused (`AllocError`) only there.
     pub fn try_clone(&self) -> Result<UnsignedDecimal, AllocError>
         ensures value { IfOk result (λ v. v ≡ self.now) }
         ensures room { OnErr result (IsLong self.now.count) }

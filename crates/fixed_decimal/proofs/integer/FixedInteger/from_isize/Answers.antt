@@ -1,0 +1,8 @@
+use Rattle.std.proofs.Common.{subst}
+use Rattle.std.specs.Int.{w64}
+use Rattle.std.proofs.lemmas.Int.{to_z-of_z}
+use Rattle.fixed_decimal.specs.WholeNumbers.{IsSignedWhole}
+use Rattle.fixed_decimal.proofs.integer.FixedInteger.from_isize.Goals as goal
+
+pub returns-clause-value : goal.returns-clause-value
+returns-clause-value c = subst (λ z. IsSignedWhole z c.in_ok-decimal.decimal) (to_z-of_z w64 c.args.integer c.ranges.integer) c.in_ok-decimal.ensures.value

@@ -1,0 +1,77 @@
+//! A sink that the rows use.
+ghost use Rattle.std.specs.Prelude.{◌≡◌, false};
+
+use std::alloc::Global;
+use writeable::{Error, Part, Sink};
+
+/// A sink with room for so many bytes. It refuses a call that brings more, and takes nothing of that one.
+#[derive(Drop)]
+pub struct Bounded {
+    text: String,
+    room: usize,
+    refused: bool,
+}
+
+impl Bounded {
+    /// An empty sink with room for so many bytes.
+    pub fn new(alloc: Global, room: usize) -> Bounded
+        ensures { result.refused ≡ false }
+    {
+        Bounded {
+            text: String::new(alloc),
+            room,
+            refused: false,
+        }
+    }
+
+    /// What it has taken.
+    pub fn text(&self) -> &str {
+        self.text.as_str()
+    }
+}
+
+impl Sink for Bounded {
+    ghost use Rattle.std.specs.Prelude.{⊤};
+
+    // which events were taken is left open
+    ghost takes = { λ _ _ _. ⊤ };
+
+    ghost lacks_room = { λ _ _. ⊤ };
+
+    ghost refused = { λ s. s.refused };
+
+    ghost lacks_more = { λ _ _ _ lacking. lacking };
+
+    ghost nothing = { λ _. tt };
+
+    ghost joins = { λ _ _ _ _ _ _ _ _. tt };
+
+    fn has_refused(&self) -> bool {
+        self.refused
+    }
+
+    fn write_str(&mut self, text: &str) -> Result<(), Error> {
+        let Some(left) = self.room.checked_sub(text.len()) else {
+            self.refused = true;
+            return Err(Error);
+        };
+        match self.text.push_str(text) {
+            Ok(()) => {
+                self.room = left;
+                Ok(())
+            }
+            Err(_) => {
+                self.refused = true;
+                Err(Error)
+            }
+        }
+    }
+
+    fn open_part(&mut self, _part: Part) -> Result<(), Error> {
+        Ok(())
+    }
+
+    fn close_part(&mut self) -> Result<(), Error> {
+        Ok(())
+    }
+}
