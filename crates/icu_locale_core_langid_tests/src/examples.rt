@@ -6,6 +6,7 @@ use icu_locale_core_langid::{
 };
 use icu_locale_core_subtags::{Language, Region, Script, Variant};
 use serde_json::Value;
+use std::alloc::Global;
 use std::borrow::CowStr;
 use std::cmp::Ordering;
 use std::test::Fail;
@@ -26,30 +27,27 @@ fn language_identifier(rt: HostRuntime) -> Result<(), Fail> {
     Ok(())
 }
 
+/// Whether the identifier prints as this text, and is unknown exactly where the text is `und`.
+fn prints(alloc: Global, id: LanguageIdentifier, want: &str) -> Result<bool, Fail> {
+    let text = id.write_to_string(alloc)?;
+    Ok(text.as_str() == want && id.is_unknown() == (want == "und"))
+}
+
 #[test]
 fn makers(rt: HostRuntime) -> Result<(), Fail> {
     let english = Language::try_from_str("en")?;
     let latin = Script::try_from_str("latn")?;
     let america = Region::try_from_str("us")?;
-    for (id, want) in [
-        (LanguageIdentifier::unknown(rt.alloc()), "und"),
-        (LanguageIdentifier::from_language(rt.alloc(), english), "en"),
-        (
-            LanguageIdentifier::from_script(rt.alloc(), Some(latin)),
-            "und-Latn",
-        ),
-        (
-            LanguageIdentifier::from_region(rt.alloc(), Some(america)),
-            "und-US",
-        ),
-        (
-            LanguageIdentifier::from_triple(rt.alloc(), (english, None, Some(america))),
-            "en-US",
-        ),
-    ] {
-        assert_eq!(rt; id.write_to_string(rt.alloc())?.as_str(), want);
-        assert_eq!(rt; id.is_unknown(), want == "und");
-    }
+    let id = LanguageIdentifier::unknown(rt.alloc());
+    assert!(rt; prints(rt.alloc(), id, "und")?);
+    let id = LanguageIdentifier::from_language(rt.alloc(), english);
+    assert!(rt; prints(rt.alloc(), id, "en")?);
+    let id = LanguageIdentifier::from_script(rt.alloc(), Some(latin));
+    assert!(rt; prints(rt.alloc(), id, "und-Latn")?);
+    let id = LanguageIdentifier::from_region(rt.alloc(), Some(america));
+    assert!(rt; prints(rt.alloc(), id, "und-US")?);
+    let id = LanguageIdentifier::from_triple(rt.alloc(), (english, None, Some(america)));
+    assert!(rt; prints(rt.alloc(), id, "en-US")?);
     Ok(())
 }
 
