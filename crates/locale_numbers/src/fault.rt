@@ -27,6 +27,8 @@ impl ProgramFault {
 
     /// The status with which the program ends: 2 for usage, 3 for the file, 4 for the book, 5 for
     /// a failed read or write, 6 for want of memory, wherever it arose.
+    ///
+    /// Of `Book(BookError::Json)` it is 4, of `Book(BookError::Memory)` 6. Takes no memory.
     pub fn status(&self) -> u8
         ensures value { result ≡ status_of self.now }
     {
@@ -39,7 +41,7 @@ impl ProgramFault {
         }
     }
 
-    /// Its number, which is its status.
+    /// Its number, which is its status: 3 for File.
     pub fn number(&self) -> u8
         ensures value { result ≡ status_of self.now }
     {

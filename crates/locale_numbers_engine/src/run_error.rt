@@ -21,7 +21,7 @@ pub enum RunError {
 impl RunError {
     ghost use Rattle.locale_numbers_engine.specs.Outcomes.{run_error_number};
 
-    /// Its number: 1 for Read, 2 for Write, 3 for Memory.
+    /// Its number: 1 for Read, 2 for Write, 3 for Memory. Takes no memory.
     pub fn number(&self) -> u8
         ensures value { result ≡ run_error_number self.now }
     {

@@ -37,7 +37,7 @@ impl<T> Tracked<T> {
         }
     }
 
-    /// Gives back what it tracked.
+    /// Gives back what it tracked: of `Tracked::new(list)` the list, with all that was written to it.
     pub fn into_inner(self) -> T
         ensures value { result ≡ self.inner }
     {
