@@ -82,7 +82,7 @@ fn try_from_value(rt: HostRuntime) -> Result<(), Fail> {
 }
 
 // The preference that the value of a text states.
-fn read<P: PreferenceKey>(alloc: Global, text: &str) -> Result<P, Fail> {
+fn read<P: PreferenceKey + Copy>(alloc: Global, text: &str) -> Result<P, Fail> {
     let value = Value::try_from_str(alloc, text)?;
     Ok(P::try_from_value(&value)?)
 }
