@@ -29,7 +29,10 @@ fn the_parts_of_an_extension(rt: HostRuntime) -> Result<(), Fail> {
     let mut other = Other::try_from_str(rt.alloc(), "A-Foo-bar")?;
     assert_eq!(rt; other.get_ext_str(), "a");
     assert_eq!(rt; other.get_ext_byte(), b'a');
-    assert_eq!(rt; other.get_ext(), ExtensionType::Other(b'a'));
+    let ExtensionType::Other(singleton) = other.get_ext() else {
+        return Err(Fail::new("not of the other extensions"));
+    };
+    assert_eq!(rt; singleton, b'a');
     assert_eq!(rt; other.as_slice().len(), 2);
     let copy = other.try_clone()?;
     assert!(rt; copy == other);
