@@ -41,7 +41,6 @@ fn rounded(
 }
 
 // Rounds the number of a byte up to tens: it has at most three digits, so this makes at most five turns.
-#[tactic(auto, using(crate::proofs::ByteLemmas::few_turns))]
 fn round_byte<L: Ledger>(
     alloc: Global,
     byte: u8,
