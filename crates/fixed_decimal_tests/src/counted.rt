@@ -13,7 +13,7 @@ use writeable::Writeable;
 // The text of a number rounded with its turns counted in the ledger of a blank.
 fn counted<L: Ledger>(
     alloc: Global,
-    text: &str,
+    number: Decimal,
     position: i16,
     mode: SignedRoundingMode,
     increment: RoundingIncrement,
@@ -23,7 +23,7 @@ fn counted<L: Ledger>(
     requires parts { blank.parts ≡ L.parts }
     requires some { 0 < L.parts }
 {
-    let mut number = Decimal::try_from_str(alloc, text)?;
+    let mut number = number;
     let mut turns: Turns<L> = Turns::new(blank);
     number.round_counted(position, mode, increment, &mut turns)?;
     Ok(number.write_to_string(alloc)?)
@@ -37,7 +37,8 @@ fn rounded(
     mode: SignedRoundingMode,
     increment: RoundingIncrement,
 ) -> Result<String, Fail> {
-    counted::<Brand>(alloc, text, position, mode, increment, Blank::new(1))
+    let number = Decimal::try_from_str(alloc, text)?;
+    counted::<Brand>(alloc, number, position, mode, increment, Blank::new(1))
 }
 
 // Rounds the number of a byte up to tens: it has at most three digits, so this makes at most five turns.
