@@ -1,5 +1,5 @@
 -- The value of an entry: its subtags, without `true`.
--- UTS 35, section 3.6.3; docs/tags.md, "Keywords and fields as values".
+-- UTS 35, sections 3.2.1 and 3.6; docs/tags.md, "Keywords and fields as values".
 -- Cited by the calls of a value, and by the readers of entries.
 use Rattle.std.specs.Prelude.{◌≡◌, Bool, false, not, List, [], ◌∷◌, ◌++◌, filter, if◌then◌else◌}
 use Rattle.std.specs.List.{AllByRecursion}

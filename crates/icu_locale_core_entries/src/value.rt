@@ -17,7 +17,7 @@ use std::slice;
 
 /// The value of a keyword or a field: a list of subtags, none of which is `true`.
 ///
-/// After ICU4X's `Value`. Source: UTS 35, section 3.6.3.
+/// After ICU4X's `Value`. Source: UTS 35, sections 3.2.1 and 3.6.
 #[derive(Drop)]
 pub struct ValueOf<K: EntryKind> {
     pub(crate) subtags: Vec<Subtag>,
