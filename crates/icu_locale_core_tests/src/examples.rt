@@ -166,24 +166,6 @@ fn a_json_text_is_read(rt: HostRuntime) -> Result<(), Fail> {
     Ok(())
 }
 
-#[test]
-fn an_extension_without_a_piece_does_not_read_back(rt: HostRuntime) -> Result<(), Fail> {
-    let mut locale = Locale::try_from_str(rt.alloc(), "en-a-foo")?;
-    locale.extensions.other[0].clear();
-    assert!(rt; !locale.is_well_formed());
-    assert!(rt; locale.strict_cmp(b"en").is_eq());
-    Ok(())
-}
-
-#[test]
-fn extensions_out_of_order_do_not_read_back(rt: HostRuntime) -> Result<(), Fail> {
-    let mut locale = Locale::try_from_str(rt.alloc(), "en-a-bar-b-foo")?;
-    locale.extensions.other.swap(0, 1);
-    assert!(rt; !locale.is_well_formed());
-    assert!(rt; locale.strict_cmp(b"en-b-foo-a-bar").is_eq());
-    Ok(())
-}
-
 // The hash of the locale of a text.
 fn hash_of(alloc: Global, text: &str) -> Result<u64, ParseError> {
     let locale = Locale::try_from_str(alloc, text)?;
