@@ -4,4 +4,5 @@ pub use Rattle.icu_locale_core_grammar.proofs.DataFaults
 pub use Rattle.icu_locale_core_grammar.proofs.FaultyPieceLemmas
 pub use Rattle.icu_locale_core_grammar.proofs.NormalTags
 pub use Rattle.icu_locale_core_grammar.proofs.PlainPieces
+pub use Rattle.icu_locale_core_grammar.proofs.SingleTags
 pub use Rattle.icu_locale_core_grammar.proofs.TagReader

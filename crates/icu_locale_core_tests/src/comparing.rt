@@ -1,7 +1,10 @@
 //! Equality and the byte order of locales.
 
-use icu_locale_core::Locale;
+use icu_locale_core::{Locale, ParseError};
+use std::alloc::Global;
 use std::cmp::Ordering;
+use std::collections::hash_map::DefaultHasher;
+use std::hash::{Hash, Hasher};
 use std::test::Fail;
 
 #[test]
@@ -30,6 +33,29 @@ fn strict_cmp_is_the_byte_order_of_the_text(rt: HostRuntime) -> Result<(), Fail>
     ] {
         let locale = Locale::try_from_str(rt.alloc(), text)?;
         assert_eq!(rt; locale.strict_cmp(bytes.as_bytes()), want, "{text} {bytes}");
+    }
+    Ok(())
+}
+
+// The hash of the locale of a tag.
+fn hash_of(alloc: Global, text: &str) -> Result<u64, ParseError> {
+    let locale = Locale::try_from_str(alloc, text)?;
+    let mut hasher = DefaultHasher::new();
+    locale.hash(&mut hasher);
+    Ok(hasher.finish())
+}
+
+#[test]
+fn equal_locales_hash_alike(rt: HostRuntime) -> Result<(), Fail> {
+    for (first, second) in [
+        ("EN-us-U-nu-THAI", "en-US-u-nu-thai"),
+        ("de-fonipa-1996", "de-1996-fonipa"),
+    ] {
+        assert_eq!(rt;
+            hash_of(rt.alloc(), first)?,
+            hash_of(rt.alloc(), second)?,
+            "{first}"
+        );
     }
     Ok(())
 }

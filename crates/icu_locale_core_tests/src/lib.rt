@@ -11,6 +11,8 @@ mod locales;
 #[cfg(test)]
 mod long;
 #[cfg(test)]
+mod makers;
+#[cfg(test)]
 mod other;
 #[cfg(test)]
 mod paths;
@@ -26,3 +28,5 @@ mod transform;
 mod unicode;
 #[cfg(test)]
 mod values;
+#[cfg(test)]
+mod well_formed;

@@ -5,5 +5,4 @@ pub mod NumberReadingLemmas
 pub mod PartsLemmas
 pub mod ReadingLemmas
 pub mod RequestLemmas
-pub mod SingleTags
 pub mod WantedLemmas

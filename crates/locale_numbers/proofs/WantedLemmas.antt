@@ -7,7 +7,7 @@ use Rattle.icu_locale_core.specs.Meaning.{TagMeaning, MeansTag}
 use Rattle.icu_locale_core.specs.FaultyPiece.{HasFault}
 use Rattle.icu_locale_core.specs.SingleVariant.{SingleMeaning, MeansSingle, single_tag}
 use Rattle.icu_locale_core.specs.TagPreferences.{preferences_of}
-use Rattle.locale_numbers.proofs.SingleTags.{single_is_tag}
+use Rattle.icu_locale_core.proofs.SingleTags.{single_is_tag}
 use Rattle.locale_numbers_book.proofs.TagLemmas.{tag_read, tag_faulty}
 use Rattle.locale_numbers.specs.Wanted.{wanted_by, wanted_of}
 
