@@ -5,6 +5,7 @@ pub mod NormalizingLemmas
 pub mod OrderLemmas
 pub mod PlacedLemmas
 pub mod RetainingLemmas
+pub mod RoomLemmas
 pub mod SingletonLemmas
 pub mod StageLemmas
 pub mod WellFormedLemmas

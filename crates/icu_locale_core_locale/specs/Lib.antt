@@ -5,4 +5,5 @@ pub mod LocaleText
 pub mod LocaleValue
 pub mod ReadsBack
 pub mod RetainedByType
+pub mod Room
 pub mod StageView

@@ -1,6 +1,7 @@
 //! The JSON form of a locale: its text.
 
-ghost use Rattle.std.specs.Prelude.{◌≡◌, ◌⊎◌, IfOk, IfErr};
+ghost use Rattle.std.specs.Prelude.{◌≡◌, ◌⊎◌, false, IfOk, IfErr};
+ghost use Rattle.std.specs.Result.{IsErrOf};
 ghost use Rattle.serde_json.specs.Data.{string};
 ghost use Rattle.serde_json.specs.View.{view};
 ghost use Rattle.icu_locale_core_grammar.specs.declared.error.ParseError.{ParseError};
@@ -9,6 +10,7 @@ ghost use Rattle.icu_locale_core_grammar.specs.Meaning.{MeansTag};
 ghost use Rattle.icu_locale_core_grammar.specs.FaultyPiece.{HasFault};
 ghost use Rattle.icu_locale_core_grammar.specs.NormalText.{normal_text};
 ghost use Rattle.icu_locale_core_subtags.specs.JsonText.{json_text};
+ghost use Rattle.icu_locale_core_locale.specs.Room.{tag_may_grow};
 
 use crate::locale::Locale;
 use crate::normalizing::built_text;
@@ -27,10 +29,12 @@ impl Locale {
 
     /// The locale of the text in a JSON value, as `try_from_str`: `"EN-u-NU-Thai"` gives `en-u-nu-thai`.
     ///
-    /// A value that is no text is refused as the empty text is: `InvalidLanguage`.
+    /// A value that is no text is refused as the empty text is: `InvalidLanguage`. Memory is taken for variants and extensions
+    /// alone.
     pub fn from_json(alloc: Global, value: &Value) -> Result<Self, ParseError>
         ensures value { IfOk result (MeansTag (pieces (json_text (view value.now)))) }
         ensures fault { IfErr result (λ e. (e ≡ ParseError.Memory) ⊎ HasFault MeansTag (pieces (json_text (view value.now))) e) }
+        ensures room { tag_may_grow (pieces (json_text (view value.now))) ≡ false → ¬ (IsErrOf result ParseError.Memory) }
     {
         Self::try_from_str(alloc, text_of_json(value))
     }

@@ -1,12 +1,14 @@
 //! The locale: its parts, and how it is read.
 
-ghost use Rattle.std.specs.Prelude.{◌≡◌, ◌↔◌, ◌⊎◌, [], None, IfOk, IfErr, IsTrue};
+ghost use Rattle.std.specs.Prelude.{◌≡◌, ◌↔◌, ◌⊎◌, false, [], None, IfOk, IfErr, IsTrue};
+ghost use Rattle.std.specs.Result.{IsErrOf};
 ghost use Rattle.icu_locale_core_grammar.specs.declared.error.ParseError.{ParseError};
 ghost use Rattle.icu_locale_core_grammar.specs.Pieces.{pieces};
 ghost use Rattle.icu_locale_core_grammar.specs.Meaning.{MeansTag};
 ghost use Rattle.icu_locale_core_grammar.specs.FaultyPiece.{HasFault};
 ghost use Rattle.icu_locale_core_langid.specs.Parts.{with_parts, und_text};
 ghost use Rattle.icu_locale_core_locale.specs.LocaleValue.{language_alone, unknown_locale};
+ghost use Rattle.icu_locale_core_locale.specs.Room.{tag_may_grow};
 
 use crate::extensions::Extensions;
 use crate::parser::parse_locale;
@@ -98,10 +100,12 @@ impl Locale {
     /// The locale that the tag means, in any case: `EN-u-NU-Thai` is `en-u-nu-thai`.
     ///
     /// `InvalidLanguage`, `InvalidSubtag`, `InvalidExtension` and `DuplicatedExtension` name the place of the first piece that
-    /// no tag has there, or of the end; `Memory` is answered where a growth was refused. Source: UTS 35, section 3.2.
+    /// no tag has there, or of the end. `Memory`: a growth was refused; memory is taken for variants and extensions alone.
+    /// Source: UTS 35, section 3.2.
     pub fn try_from_str(alloc: Global, s: &str) -> Result<Self, ParseError>
         ensures value { IfOk result (MeansTag (pieces s.now)) }
         ensures fault { IfErr result (λ e. (e ≡ ParseError.Memory) ⊎ HasFault MeansTag (pieces s.now) e) }
+        ensures room { tag_may_grow (pieces s.now) ≡ false → ¬ (IsErrOf result ParseError.Memory) }
     {
         Self::try_from_utf8(alloc, s.as_bytes())
     }
@@ -110,6 +114,7 @@ impl Locale {
     pub fn try_from_utf8(alloc: Global, code_units: &[u8]) -> Result<Self, ParseError>
         ensures value { IfOk result (MeansTag (pieces code_units.now)) }
         ensures fault { IfErr result (λ e. (e ≡ ParseError.Memory) ⊎ HasFault MeansTag (pieces code_units.now) e) }
+        ensures room { tag_may_grow (pieces code_units.now) ≡ false → ¬ (IsErrOf result ParseError.Memory) }
     {
         parse_locale(alloc, code_units)
     }

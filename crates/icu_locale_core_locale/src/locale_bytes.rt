@@ -1,10 +1,12 @@
 //! The language part of a whole tag.
 
-ghost use Rattle.std.specs.Prelude.{◌≡◌, ◌⊎◌, IfOk, IfErr};
+ghost use Rattle.std.specs.Prelude.{◌≡◌, ◌⊎◌, false, IfOk, IfErr};
+ghost use Rattle.std.specs.Result.{IsErrOf};
 ghost use Rattle.icu_locale_core_grammar.specs.declared.error.ParseError.{ParseError};
 ghost use Rattle.icu_locale_core_grammar.specs.Pieces.{pieces};
 ghost use Rattle.icu_locale_core_grammar.specs.Meaning.{TagMeaning, MeansTag};
 ghost use Rattle.icu_locale_core_grammar.specs.FaultyPiece.{HasFault};
+ghost use Rattle.icu_locale_core_locale.specs.Room.{tag_may_grow};
 
 use crate::locale::Locale;
 use crate::parser::parse_locale;
@@ -23,10 +25,12 @@ pub trait TryFromLocaleBytes {
 impl TryFromLocaleBytes for LanguageIdentifier {
     /// The language part of the tag that these bytes are: of `en-US-u-nu-thai` it is `en-US`.
     ///
-    /// The extensions are read too: `en-u` is `InvalidExtension`. It refuses as `Locale::try_from_utf8` does.
+    /// The extensions are read too: `en-u` is `InvalidExtension`. It refuses as `Locale::try_from_utf8` does, and takes memory
+    /// for variants and extensions alone.
     fn try_from_locale_bytes(alloc: Global, v: &[u8]) -> Result<Self, ParseError>
         ensures value { IfOk result (λ id. (m : TagMeaning) × MeansTag (pieces v.now) m × (id ≡ m.front)) }
         ensures fault { IfErr result (λ e. (e ≡ ParseError.Memory) ⊎ HasFault MeansTag (pieces v.now) e) }
+        ensures room { tag_may_grow (pieces v.now) ≡ false → ¬ (IsErrOf result ParseError.Memory) }
     {
         match parse_locale(alloc, v) {
             Ok(Locale { id, extensions: _ }) => Ok(id),

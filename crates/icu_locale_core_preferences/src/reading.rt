@@ -1,10 +1,12 @@
 //! Reading a data locale: a tag that says nothing else.
 
-ghost use Rattle.std.specs.Prelude.{◌≡◌, ◌↔◌, ◌⊎◌, [], IfOk, IfErr, IsTrue, ◌∷◌};
+ghost use Rattle.std.specs.Prelude.{◌≡◌, ◌↔◌, ◌⊎◌, false, [], IfOk, IfErr, IsTrue, ◌∷◌};
+ghost use Rattle.std.specs.Result.{IsErrOf};
 ghost use Rattle.icu_locale_core_grammar.specs.declared.error.ParseError.{ParseError};
 ghost use Rattle.icu_locale_core_grammar.specs.Pieces.{pieces};
 ghost use Rattle.icu_locale_core_grammar.specs.TagPreferences.{subdivision_key, subdivision_text, subdivision_entries, locale_preferences_of, language_priority};
 ghost use Rattle.icu_locale_core_grammar.specs.DataTags.{IsDataTag, IsRefusedTag, MeansDataLocale, HasDataFault};
+ghost use Rattle.icu_locale_core_locale.specs.Room.{tag_may_grow};
 ghost use Rattle.icu_locale_core_preferences.specs.DataExtensions.{data_extensions, data_unicode};
 
 use crate::data_locale::DataLocale;
@@ -87,10 +89,12 @@ impl DataLocale {
     ///
     /// `en-us-u-sd-ustx` reads as `en-US-u-sd-ustx`. The faults of a tag come first, as `Locale::try_from_str` names them.
     /// `InvalidSubtag`: a second variant, as in `de-1996-fonipa`. `InvalidExtension`: anything else that a data locale does not
-    /// hold, as in `en-u-nu-latn`, `en-x-foo` and `en-u-sd-12a`. `Memory`: a growth was refused. Source: UTS 35, section 3.
+    /// hold, as in `en-u-nu-latn`, `en-x-foo` and `en-u-sd-12a`. `Memory`: a growth was refused; memory is taken for variants and
+    /// extensions alone. Source: UTS 35, section 3.
     pub fn try_from_str(alloc: Global, s: &str) -> Result<Self, ParseError>
         ensures value { IfOk result (MeansDataLocale (pieces s.now)) }
         ensures fault { IfErr result (λ e. (e ≡ ParseError.Memory) ⊎ HasDataFault (pieces s.now) e) }
+        ensures room { tag_may_grow (pieces s.now) ≡ false → ¬ (IsErrOf result ParseError.Memory) }
     {
         Self::try_from_utf8(alloc, s.as_bytes())
     }
@@ -99,6 +103,7 @@ impl DataLocale {
     pub fn try_from_utf8(alloc: Global, code_units: &[u8]) -> Result<Self, ParseError>
         ensures value { IfOk result (MeansDataLocale (pieces code_units.now)) }
         ensures fault { IfErr result (λ e. (e ≡ ParseError.Memory) ⊎ HasDataFault (pieces code_units.now) e) }
+        ensures room { tag_may_grow (pieces code_units.now) ≡ false → ¬ (IsErrOf result ParseError.Memory) }
     {
         let locale = Locale::try_from_utf8(alloc, code_units)?;
         data_locale_of(&locale)

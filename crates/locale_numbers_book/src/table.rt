@@ -16,6 +16,9 @@ pub fn add<K: Eq + Hash + Drop, V: Drop>(
     ensures added { OnOk result (table.new.entries ≡ table.old.entries ++ (key, value) ∷ []) }
     ensures fresh { OnOk result (get K.eq table.old key ≡ None) }
     ensures shape { IsErrOf result BookError.Shape → IsSome (get K.eq table.old key) }
+
+    // A key that stands already is never told as want of memory.
+    ensures twice { IsSome (get K.eq table.old key) → IsErrOf result BookError.Shape }
     ensures only { IfErr result IsShapeOrMemory }
 {
     if table.contains_key(&key) {

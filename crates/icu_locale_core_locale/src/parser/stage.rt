@@ -1,9 +1,11 @@
 //! The stages of a tag that is being read.
 
-ghost use Rattle.std.specs.Prelude.{◌≡◌, None, Some, IfOk, MatchOption};
+ghost use Rattle.std.specs.Prelude.{◌≡◌, false, None, Some, IfOk, IsOk, MatchOption};
 ghost use Rattle.icu_locale_core_grammar.specs.Stepping.{InFront, InBlock};
 ghost use Rattle.icu_locale_core_grammar.specs.TagStages.{body_after as body_stage_after, language_after as language_stage_after};
 ghost use Rattle.icu_locale_core_extensions.specs.BodyView.{body_key, body_view};
+ghost use Rattle.icu_locale_core_langid.specs.Room.{grows_at};
+ghost use Rattle.icu_locale_core_locale.specs.Room.{tag_grows_at};
 ghost use Rattle.icu_locale_core_locale.specs.StageView.{singletons, stage_view, block_view, stage_behind, GoesOn, Ends};
 
 use crate::extensions::Extensions;
@@ -90,7 +92,8 @@ fn after_language(
     language: Option<LanguageIdentifier>,
     piece: &[u8],
 ) -> Result<Attempt<LocaleStage>, AllocError>
-    ensures { IfOk result (GoesOn (InFront language) piece.now) }
+    ensures step { IfOk result (GoesOn (InFront language) piece.now) }
+    ensures room { grows_at language piece.now ≡ false → IsOk result }
 {
     match language_after(alloc, language, piece)? {
         LanguageStep::Taken(next) => Ok(Attempt::Goes(LocaleStage::InLanguage(next))),
@@ -180,13 +183,15 @@ fn after_private(
     }
 }
 
-/// The stage after one more piece, or the fault there. `AllocError` is answered for memory alone.
+/// The stage after one more piece, or the fault there. `AllocError` is answered for memory alone, which is taken for one more
+/// variant and behind a singleton alone.
 pub fn next_stage(
     alloc: Global,
     stage: LocaleStage,
     piece: &[u8],
 ) -> Result<Attempt<LocaleStage>, AllocError>
-    ensures { IfOk result (GoesOn (stage_view stage) piece.now) }
+    ensures step { IfOk result (GoesOn (stage_view stage) piece.now) }
+    ensures room { tag_grows_at (stage_view stage) (Some piece.now) ≡ false → IsOk result }
 {
     match stage {
         LocaleStage::InLanguage(language) => after_language(alloc, language, piece),
@@ -219,9 +224,11 @@ fn ended_extension(alloc: Global, stage: ExtensionStage) -> Result<Attempt<Local
     }))
 }
 
-/// The locale that was read, or the fault at the end. `AllocError` is answered for memory alone.
+/// The locale that was read, or the fault at the end. `AllocError` is answered for memory alone, which is taken for an extension
+/// alone.
 pub fn finished(alloc: Global, stage: LocaleStage) -> Result<Attempt<Locale>, AllocError>
-    ensures { IfOk result (Ends (stage_view stage)) }
+    ensures ends { IfOk result (Ends (stage_view stage)) }
+    ensures room { tag_grows_at (stage_view stage) None ≡ false → IsOk result }
 {
     match stage {
         LocaleStage::InLanguage(None) => Ok(Attempt::Stops(ParseError::InvalidLanguage)),

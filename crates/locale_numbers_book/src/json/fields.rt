@@ -45,11 +45,12 @@ fn plain_text(entry: &Value, place: usize) -> Option<&str>
 pub fn symbol(alloc: Global, entry: &Value, place: usize) -> Result<String, BookError>
     ensures value { IfOk result (λ text. field_at plain_text_in place (view entry.now) ≡ Some (chars (string_bytes text))) }
     ensures shape { IsErrOf result BookError.Shape → field_at plain_text_in place (view entry.now) ≡ None }
+
+    // A field that is not there, or is no such text, is never told as want of memory.
+    ensures none { field_at plain_text_in place (view entry.now) ≡ None → IsErrOf result BookError.Shape }
     ensures only { IfErr result IsShapeOrMemory }
 {
-    let Some(text) = plain_text(entry, place) else {
-        return Err(BookError::Shape);
-    };
+    let text = plain_text(entry, place).ok_or(BookError::Shape)?;
     match String::from_str(alloc, text) {
         Ok(symbol) => Ok(symbol),
         Err(_) => Err(BookError::Memory),

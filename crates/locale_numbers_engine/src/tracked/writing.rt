@@ -1,0 +1,37 @@
+use super::Tracked;
+use crate::byte_writer::{ByteWriter, WriteFault};
+use std::io;
+
+impl<W: io::Write> ByteWriter for Tracked<W> {
+    ghost contents = { λ t. W.contents t.inner };
+
+    ghost failed = { λ t. t.failed };
+
+    fn write(&mut self, piece: &[u8]) -> Result<usize, WriteFault> {
+        match self.inner.write(piece) {
+            Ok(count) => {
+                if count == 0 && !piece.is_empty() {
+                    self.failed = true;
+                }
+                Ok(count)
+            }
+            Err(_) => {
+                self.failed = true;
+                Err(WriteFault)
+            }
+        }
+    }
+
+    fn flush(&mut self) -> Result<(), WriteFault> {
+        let flushed = self.inner.flush();
+        self.failed = self.failed || flushed.is_err();
+        match flushed {
+            Ok(()) => Ok(()),
+            Err(_) => Err(WriteFault),
+        }
+    }
+
+    fn has_failed(&self) -> bool {
+        self.failed
+    }
+}
