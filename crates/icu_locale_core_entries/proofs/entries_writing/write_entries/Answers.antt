@@ -5,7 +5,7 @@ use Rattle.writeable.proofs.WritingLemmas.{writing_goes_on, writing_stops, writi
 use Rattle.icu_locale_core_grammar.specs.Pieces.{hyphen}
 use Rattle.icu_locale_core_entries.specs.EntryText.{hyphened_value}
 use Rattle.icu_locale_core_entries.proofs.TextLemmas.{next_entry_events, no_entry_events}
-use Rattle.icu_locale_core_entries.proofs.writing.write_entries.Goals as goal
+use Rattle.icu_locale_core_entries.proofs.entries_writing.write_entries.Goals as goal
 
 pub loop-key-preserved : goal.loop-key-preserved
 loop-key-preserved g c =

@@ -1,6 +1,6 @@
 use Rattle.std.proofs.Common.{◌≡◌, ◌+◌, ◌<◌, ◌^◌, drop, length}
 use Rattle.icu_locale_core_entries.specs.EntryText.{hyphened_entries}
-use Rattle.icu_locale_core_entries.proofs.writing.entries_length.Given as goal
+use Rattle.icu_locale_core_entries.proofs.entries_writing.entries_length.Given as goal
 
 abbrev pub invariant-loop-key : goal.invariant-loop-key
 invariant-loop-key g l = record {

@@ -1,6 +1,6 @@
 use Rattle.std.proofs.Common.{sym, ◌∙◌}
 use Rattle.icu_locale_core_entries.proofs.TextLemmas.{value_written, value_unwritten}
-use Rattle.icu_locale_core_entries.proofs.writing.ValueOfWriteable.write_to.Goals as goal
+use Rattle.icu_locale_core_entries.proofs.value_writing.ValueOfWriteable.write_to.Goals as goal
 
 pub returns-in-Some-clause-ok : goal.returns-in-Some-clause-ok
 returns-in-Some-clause-ok g c =

@@ -2,7 +2,7 @@ use Rattle.std.proofs.Common.{drop}
 use Rattle.writeable.specs.AnnotatedText.{bytes}
 use Rattle.writeable.specs.Taking.{IsWriting}
 use Rattle.icu_locale_core_entries.specs.EntryText.{hyphened_entries}
-use Rattle.icu_locale_core_entries.proofs.writing.write_entries.Given as goal
+use Rattle.icu_locale_core_entries.proofs.entries_writing.write_entries.Given as goal
 
 abbrev pub invariant-loop-key : goal.invariant-loop-key
 invariant-loop-key g l = record {

@@ -1,5 +1,5 @@
 use Rattle.icu_locale_core_entries.proofs.TextLemmas.{map_written, map_unwritten}
-use Rattle.icu_locale_core_entries.proofs.writing.EntriesOfWriteable.write_to.Goals as goal
+use Rattle.icu_locale_core_entries.proofs.entries_writing.EntriesOfWriteable.write_to.Goals as goal
 
 pub returns-in-Some-clause-ok : goal.returns-in-Some-clause-ok
 returns-in-Some-clause-ok g c =
