@@ -3,6 +3,7 @@ pub mod RisingLemmas
 pub mod SearchLemmas
 pub mod StepLemmas
 pub mod ReadingLemmas
+pub mod RoomLemmas
 pub mod TextLemmas
 pub mod RetainLemmas
 pub mod CopyLemmas

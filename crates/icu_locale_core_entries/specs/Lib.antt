@@ -8,6 +8,7 @@ pub mod Retained
 pub mod Orders
 pub mod Steps
 pub mod HeadedView
+pub mod Room
 -- Where a key stands in a map, for the proofs.
 pub mod Places
 -- What the comparisons of this crate prove.

@@ -183,6 +183,6 @@ impl<K: EntryKind> EntriesOf<K> {
         ensures len { length (iter_rest result) ≡ length self.now }
         ensures runs { IterYieldsInOrder Entry }
     {
-        self.entries.as_slice().iter()
+        self.as_slice().iter()
     }
 }

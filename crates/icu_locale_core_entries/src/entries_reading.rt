@@ -1,8 +1,12 @@
 //! Reading keywords or fields that stand alone.
 
-ghost use Rattle.std.specs.Prelude.{◌≡◌, [], IfOk, IfErr, IsOk};
+ghost use Rattle.std.specs.Prelude.{◌≡◌, false, [], IfOk, IfErr, IsOk};
+ghost use Rattle.std.specs.Result.{IsErrOf};
+ghost use Rattle.icu_locale_core_grammar.specs.declared.error.ParseError.{ParseError};
+ghost use Rattle.icu_locale_core_grammar.specs.Pieces.{pieces};
 ghost use Rattle.icu_locale_core_grammar.specs.PartReaders.{MeansEntries, listed};
 ghost use Rattle.icu_locale_core_sets.specs.Reading.{IsRefused};
+ghost use Rattle.icu_locale_core_entries.specs.Room.{begins_entry};
 
 use crate::entries::EntriesOf;
 use crate::headed::{HeadedStage, NoHead, headed_after, headed_finish};
@@ -16,11 +20,12 @@ impl<K: EntryKind> EntriesOf<K> {
     ///
     /// `NU-thai-ca-buddhist-nu-latn` has `ca` with `buddhist` and `nu` with `thai`; the empty text is the empty map.
     /// `ParseError::InvalidExtension`: the text is no such list, or a field has no value. `ParseError::Memory`: there is no
-    /// memory.
+    /// memory; none is taken where the first piece is no key, or a field has no piece of a value behind it.
     pub fn try_from_str(alloc: Global, s: &str) -> Result<Self, ParseError>
         ensures value { IfOk result (MeansEntries K.accepts K.needs (listed s.now)) }
         ensures fault { IfErr result (IsRefused (MeansEntries K.accepts K.needs (listed s.now))) }
         ensures succeeds { s.now ≡ [] → IsOk result }
+        ensures room { begins_entry K.accepts K.needs (pieces s.now) ≡ false → ¬ (IsErrOf result ParseError.Memory) }
     {
         Self::try_from_utf8(alloc, s.as_bytes())
     }
@@ -30,6 +35,7 @@ impl<K: EntryKind> EntriesOf<K> {
         ensures value { IfOk result (MeansEntries K.accepts K.needs (listed code_units.now)) }
         ensures fault { IfErr result (IsRefused (MeansEntries K.accepts K.needs (listed code_units.now))) }
         ensures succeeds { code_units.now ≡ [] → IsOk result }
+        ensures room { begins_entry K.accepts K.needs (pieces code_units.now) ≡ false → ¬ (IsErrOf result ParseError.Memory) }
     {
         if code_units.is_empty() {
             return Ok(Self::new(alloc));

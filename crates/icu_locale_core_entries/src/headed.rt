@@ -1,10 +1,11 @@
 //! Reading a head and entries behind it, piece by piece.
 
-ghost use Rattle.std.specs.Prelude.{◌≡◌, true, false, Some, None, IfOk, OnOk, MatchOption, List, ℕ, Option};
+ghost use Rattle.std.specs.Prelude.{◌≡◌, true, false, Some, None, IfOk, IsOk, OnOk, MatchOption, Bool, List, ℕ, Option};
 ghost use Rattle.icu_locale_core_grammar.specs.Subtags.{lower};
 ghost use Rattle.icu_locale_core_grammar.specs.PartReaders.{nothing_after};
 ghost use Rattle.icu_locale_core_grammar.specs.Stepping.{headed_after, headed_ends, InHead, InEntry};
 ghost use Rattle.icu_locale_core_entries.specs.HeadedView.{headed_view, finished, ends_anywhere};
+ghost use Rattle.icu_locale_core_entries.specs.Room.{grows_at, keeps_last};
 ghost use Rattle.icu_locale_core_entries.specs.Steps.{IsStep};
 
 use crate::entries::EntriesOf;
@@ -17,7 +18,7 @@ use std::alloc::{AllocError, Global};
 ///
 /// The head of `u` are attributes, that of `t` a language. A type that holds nothing stands for the way of reading.
 pub trait HeadReader {
-    ghost use Rattle.std.specs.Prelude.{List, ℕ, Option};
+    ghost use Rattle.std.specs.Prelude.{true, Bool, List, ℕ, Option};
 
     /// What was read of the head.
     type Stage;
@@ -25,13 +26,17 @@ pub trait HeadReader {
     // the stage after a piece
     ghost step: { Self.Stage → List ℕ → Option Self.Stage };
 
-    /// The stage after a piece. `AllocError` is answered for memory alone.
+    // whether a piece may make the stage grow, as any may where a head does not say
+    ghost grows: { Self.Stage → List ℕ → Bool } = { λ s p. true };
+
+    /// The stage after a piece. `AllocError` is answered for memory alone, and only of a piece that may make the stage grow.
     fn after(
         alloc: Global,
         stage: Self::Stage,
         piece: &[u8],
     ) -> Result<Step<Self::Stage>, AllocError>
-        ensures { IfOk result (λ s. IsStep step (λ t. t) stage piece.now s) };
+        ensures step { IfOk result (λ s. IsStep step (λ t. t) stage piece.now s) }
+        ensures room { grows stage piece.now ≡ false → IsOk result };
 }
 
 /// No head: keywords or fields that stand alone.
@@ -41,6 +46,8 @@ impl HeadReader for NoHead {
     type Stage = ();
 
     ghost step = { nothing_after };
+
+    ghost grows = { λ s p. false };
 
     fn after(_alloc: Global, stage: (), _piece: &[u8]) -> Result<Step<()>, AllocError> {
         Ok(Step::Refused(stage))
@@ -95,7 +102,8 @@ fn after_entry<H: Drop, K: EntryKind>(
     full: bool,
     piece: &[u8],
 ) -> Result<Step<HeadedStage<H, K>>, AllocError>
-    ensures { (step : H → List ℕ → Option H) → IfOk result (IsStep (headed_after step ends_anywhere K.accepts K.needs) headed_view (InEntry head entries (key, value) full) piece.now) }
+    ensures step { (step : H → List ℕ → Option H) → IfOk result (IsStep (headed_after step ends_anywhere K.accepts K.needs) headed_view (InEntry head entries (key, value) full) piece.now) }
+    ensures room { (grows : H → List ℕ → Bool) → grows_at grows K.accepts (InEntry head entries (key, value) full) piece.now ≡ false → IsOk result }
 {
     if value.take_piece(piece)? {
         return Ok(Step::Taken(HeadedStage::InEntry(head, entries, key, value, true)));
@@ -118,7 +126,7 @@ fn after_entry<H: Drop, K: EntryKind>(
 /// The stage of a head and entries after a piece, or the stage as it was where the piece does not fit.
 ///
 /// Behind `nu-thai` the piece `latn` goes into the value, `ca` opens the next keyword, and `a` is refused. `AllocError` is
-/// answered for memory alone.
+/// answered for memory alone; none is taken for a first key, nor behind a key for a piece that is refused.
 #[tactic(auto, unfolding(icu_locale_core_grammar::specs::Stepping::headed_after))]
 pub fn headed_after<R: HeadReader, K: EntryKind>(
     alloc: Global,
@@ -127,7 +135,8 @@ pub fn headed_after<R: HeadReader, K: EntryKind>(
 ) -> Result<Step<HeadedStage<R::Stage, K>>, AllocError>
 where
     R::Stage: Drop,
-    ensures { IfOk result (IsStep (headed_after R.step ends_anywhere K.accepts K.needs) headed_view (headed_view stage) piece.now) }
+    ensures step { IfOk result (IsStep (headed_after R.step ends_anywhere K.accepts K.needs) headed_view (headed_view stage) piece.now) }
+    ensures room { grows_at R.grows K.accepts (headed_view stage) piece.now ≡ false → IsOk result }
 {
     match stage {
         HeadedStage::InHead(head) => match R::after(alloc, head, piece)? {
@@ -142,12 +151,13 @@ where
 
 /// The head and the entries that were read; `None` where the last entry needs a value and has none.
 ///
-/// `AllocError` is answered for memory alone.
+/// `AllocError` is answered for memory alone; none is taken where no entry is read, or the last may not end.
 pub fn headed_finish<H: Drop, K: EntryKind>(
     alloc: Global,
     stage: HeadedStage<H, K>,
 ) -> Result<Option<(H, EntriesOf<K>)>, AllocError>
-    ensures { IfOk result (λ m. finished m ≡ headed_ends ends_anywhere (headed_view stage)) }
+    ensures value { IfOk result (λ m. finished m ≡ headed_ends ends_anywhere (headed_view stage)) }
+    ensures room { keeps_last (headed_view stage) ≡ false → IsOk result }
 {
     match stage {
         HeadedStage::InHead(head) => Ok(Some((head, EntriesOf::new(alloc)))),

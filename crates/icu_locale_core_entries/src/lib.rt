@@ -12,18 +12,20 @@
 #![tactic(auto)]
 
 mod collecting;
-mod comparing;
 mod entries;
+mod entries_comparing;
 mod entries_reading;
+mod entries_writing;
 mod headed;
 mod kind;
 pub mod laws;
 mod lending;
 mod retaining;
 mod value;
+mod value_comparing;
 mod value_reading;
+mod value_writing;
 mod well_formed;
-mod writing;
 
 pub use crate::entries::EntriesOf;
 pub use crate::headed::{HeadReader, HeadedStage, NoHead, headed_after, headed_finish};

@@ -156,6 +156,6 @@ impl<K: EntryKind> ValueOf<K> {
         ensures len { length (iter_rest result) ≡ length self.now }
         ensures runs { IterYieldsInOrder (List ℕ) }
     {
-        self.subtags.as_slice().iter()
+        self.as_subtags_slice().iter()
     }
 }

@@ -147,7 +147,7 @@ impl Private {
         ensures len { length (iter_rest result) ≡ length self.now }
         ensures runs { IterYieldsInOrder (List ℕ) }
     {
-        self.items.as_slice().iter()
+        self.as_slice().iter()
     }
 
     /// How many private pieces there are: 2 of `x-foo-a`.
@@ -168,14 +168,14 @@ impl Private {
     pub fn get(&self, index: usize) -> Option<&Subtag>
         ensures { option_copied result ≡ slice_get self.now index }
     {
-        self.items.as_slice().get(index)
+        self.as_slice().get(index)
     }
 
     /// The first private piece, `foo` of `x-foo-a`; `None` where there is none.
     pub fn first(&self) -> Option<&Subtag>
         ensures { option_copied result ≡ slice_get self.now 0 }
     {
-        self.items.as_slice().first()
+        self.as_slice().first()
     }
 
     /// Takes every private piece away: `x-foo-a` then prints as the empty text. It takes no memory.

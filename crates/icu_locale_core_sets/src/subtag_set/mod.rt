@@ -114,14 +114,14 @@ impl<R: SubtagRule<8>> SubtagSet<R> {
     pub fn get(&self, index: usize) -> Option<&SubtagOf<R, 8>>
         ensures { option_copied result ≡ slice_get self.now index }
     {
-        self.items.as_slice().get(index)
+        self.as_slice().get(index)
     }
 
     /// The least subtag, `1996` of `fonipa` and `1996`; `None` where there is none.
     pub fn first(&self) -> Option<&SubtagOf<R, 8>>
         ensures { option_copied result ≡ slice_get self.now 0 }
     {
-        self.items.as_slice().first()
+        self.as_slice().first()
     }
 
     /// The subtags one after another, in byte order: two of `fonipa` and `1996`.
@@ -130,7 +130,7 @@ impl<R: SubtagRule<8>> SubtagSet<R> {
         ensures len { length (iter_rest result) ≡ length self.now }
         ensures runs { IterYieldsInOrder (List ℕ) }
     {
-        self.items.as_slice().iter()
+        self.as_slice().iter()
     }
 
     /// Takes every subtag out; answers the set as it was: of `1996`, `fonipa` these two. It takes no memory.
