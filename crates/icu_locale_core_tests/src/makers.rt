@@ -30,10 +30,10 @@ fn a_tag_of_one_keyword_is_read_without_memory(rt: HostRuntime) -> Result<(), Fa
             b"EN-u-NU-Thai",
         )?;
     assert_eq!(rt; language.as_str(), "en");
-    let Some((key, Some(value))) = keyword else {
+    let Some((key, value)) = keyword else {
         return Err(Fail::new("no keyword"));
     };
     assert_eq!(rt; key.as_str(), "nu");
-    assert_eq!(rt; value.as_str(), "thai");
+    assert!(rt; value.is_some_and(|piece| piece.as_str() == "thai"));
     Ok(())
 }

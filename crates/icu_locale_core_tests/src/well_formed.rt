@@ -1,5 +1,6 @@
 //! Locales put together by hand: whether their text reads back.
 
+use icu_locale_core::extensions::Extensions;
 use icu_locale_core::extensions::other::Other;
 use icu_locale_core::{Locale, ParseError};
 use std::alloc::Global;
@@ -7,11 +8,23 @@ use std::test::Fail;
 
 // The locale of a tag, with one more extension behind its own.
 fn with_other(alloc: Global, text: &str, other: Other) -> Result<Locale, ParseError> {
-    let mut locale = Locale::try_from_str(alloc, text)?;
-    match locale.extensions.other.push(other) {
-        Ok(()) => Ok(locale),
-        Err(_) => Err(ParseError::Memory),
+    let Locale { id, extensions } = Locale::try_from_str(alloc, text)?;
+    let Extensions {
+        unicode,
+        transform,
+        private,
+        other: mut others,
+    } = extensions;
+    if others.push(other).is_err() {
+        return Err(ParseError::Memory);
     }
+    let extensions = Extensions {
+        unicode,
+        transform,
+        private,
+        other: others,
+    };
+    Ok(Locale { id, extensions })
 }
 
 // Whether the locale of a tag with one more extension is well-formed.
