@@ -1,6 +1,8 @@
 //! The heads of both extensions: attributes of `u`, a language part of `t`.
 
+ghost use Rattle.icu_locale_core_grammar.specs.Subtags.{is_attribute};
 ghost use Rattle.icu_locale_core_grammar.specs.TagStages.{attributes_after, language_after as language_stage_after};
+ghost use Rattle.icu_locale_core_langid.specs.Room.{grows_at};
 
 use icu_locale_core_entries::{HeadReader, Step};
 use icu_locale_core_langid::{LanguageIdentifier, language_after};
@@ -15,6 +17,8 @@ impl HeadReader for AttributesHead {
     type Stage = Attributes;
 
     ghost step = { attributes_after };
+
+    ghost grows = { λ s p. is_attribute p };
 
     fn after(
         _alloc: Global,
@@ -38,6 +42,8 @@ impl HeadReader for LanguageHead {
     type Stage = Option<LanguageIdentifier>;
 
     ghost step = { language_stage_after };
+
+    ghost grows = { grows_at };
 
     fn after(
         alloc: Global,

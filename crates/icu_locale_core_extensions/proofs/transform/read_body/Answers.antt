@@ -5,19 +5,19 @@ use Rattle.icu_locale_core_extensions.proofs.transform.read_body.Goals as goal
 
 pub loop-piece-preserved : goal.loop-piece-preserved
 loop-piece-preserved c =
-    reading_goes_on _ _ _ _ _ _ _ _ c.in-Some.ensures.steps c.loop-piece.invariant (rw c.in-Ok-Taken.field-0-is at c.in-Ok-Taken.ensures)
+    reading_goes_on _ _ _ _ _ _ _ _ c.in-Some.ensures.steps c.loop-piece.invariant (rw c.in-Ok-Taken.field-0-is at c.in-Ok-Taken.ensures.step)
 
 pub returns-in-Ok-Refused-clause-fault : goal.returns-in-Ok-Refused-clause-fault
 returns-in-Ok-Refused-clause-fault c =
-    let refused = rw c.in-Ok-Refused.field-0-is at c.in-Ok-Refused.ensures in
+    let refused = rw c.in-Ok-Refused.field-0-is at c.in-Ok-Refused.ensures.step in
     inr (refl, reading_refused transform_reader _ _ _ _ _ c.in-Some.ensures.steps c.loop-piece.invariant refused.0)
 
 pub returns-in-Ok-Some-clause-value : goal.returns-in-Ok-Some-clause-value
 returns-in-Ok-Some-clause-value c =
-    let ended = rw c.in-Ok-Some.field-0-is at c.in-Ok-Some.ensures in
+    let ended = rw c.in-Ok-Some.field-0-is at c.in-Ok-Some.ensures.value in
     reading_meant transform_reader _ _ _ _ c.in-None.ensures.steps.0 c.loop-piece.invariant (sym ended)
 
 pub returns-in-Ok-None-clause-fault : goal.returns-in-Ok-None-clause-fault
 returns-in-Ok-None-clause-fault c =
-    let ended = rw c.in-Ok-None.field-0-is at c.in-Ok-None.ensures in
+    let ended = rw c.in-Ok-None.field-0-is at c.in-Ok-None.ensures.value in
     inr (refl, reading_cut transform_reader _ _ _ c.in-None.ensures.steps.0 c.loop-piece.invariant (sym ended))
