@@ -68,7 +68,7 @@ impl UnsignedDecimal {
         ensures value { IfOk result (λ v. IsInteger integer v) }
         ensures succeeds { IsOk result }
     {
-        from_whole(alloc, integer as u128)
+        Self::from_u16(alloc, integer as u16)
     }
 
     /// The whole number `integer`: 1729 is shown as `1729`. It takes no memory.
@@ -76,7 +76,7 @@ impl UnsignedDecimal {
         ensures value { IfOk result (λ v. IsInteger integer v) }
         ensures succeeds { IsOk result }
     {
-        from_whole(alloc, integer as u128)
+        Self::from_u32(alloc, integer as u32)
     }
 
     /// The whole number `integer`: 100000 is shown as `100000`.
@@ -98,7 +98,7 @@ impl UnsignedDecimal {
         ensures value { IfOk result (λ v. IsInteger integer v) }
         ensures room { OnErr result (IsLong integer) }
     {
-        from_whole(alloc, integer as u128)
+        Self::from_u128(alloc, integer as u128)
     }
 
     /// The whole number `integer`: 1729 is shown as `1729`.
@@ -109,7 +109,7 @@ impl UnsignedDecimal {
         ensures value { IfOk result (λ v. IsInteger integer v) }
         ensures room { OnErr result (IsLong integer) }
     {
-        from_whole(alloc, integer as u128)
+        Self::from_u64(alloc, integer as u64)
     }
 
     /// The whole number `integer`: 1729 is shown as `1729`.
