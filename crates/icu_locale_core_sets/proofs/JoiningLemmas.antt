@@ -1,6 +1,7 @@
 -- Joining a set with more texts: the set so far, and what is left.
-use Rattle.std.proofs.Common.{◌≡◌, ℕ, ◌≤◌, List, [], ◌++◌, length, fold, drop, ap, ◌∙◌}
-use Rattle.std.proofs.lemmas.List.{drop_all}
+use Rattle.std.proofs.Common.{◌≡◌, ℕ, ◌≤◌, true, List, [], ◌++◌, ◌==◌, length, fold, drop, sym, ap, ◌∙◌, append-nil}
+use Rattle.std.proofs.lemmas.Bool.{eqb-true}
+use Rattle.std.proofs.lemmas.List.{drop_all, nil_from_length}
 use Rattle.icu_locale_core_grammar.specs.Subtags.{Text}
 use Rattle.icu_locale_core_grammar.specs.Collections.{Rises, set_of}
 use Rattle.icu_locale_core_grammar.proofs.ListLemmas.{fold-append}
@@ -13,3 +14,9 @@ set_of_joined set ts rises = fold-append put_text [] set ts ∙ ap (λ s. fold p
 -- past the last text
 pub fold_past : (set ts : List Text) (i : ℕ) → length ts ≤ i → fold put_text set (drop i ts) ≡ set
 fold_past set ts i past = ap (fold put_text set) (drop_all i ts past)
+
+-- a set and no more texts
+pub none_joined : (set ts : List Text) → (length ts == 0) ≡ true → Rises set → set ≡ set_of (set ++ ts)
+none_joined set ts none rises =
+    let empty : ts ≡ [] = nil_from_length ts (eqb-true (length ts) 0 none) in
+    sym (ap (λ l. set_of (set ++ l)) empty ∙ ap set_of (append-nil set) ∙ set_of_rising set rises)

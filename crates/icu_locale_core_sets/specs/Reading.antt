@@ -1,7 +1,7 @@
 -- Why a list of pieces is not read, and what is still to be read of one.
 -- UTS 35, sections 3.6 and 3.7; docs/tags.md, "Parts read alone".
 -- Cited by the readers of attributes and of private pieces.
-use Rattle.std.specs.Prelude.{◌≡◌, ◌↔◌, ◌⊎◌, Bool, true, false, List, [], ◌∷◌, ◌++◌, map, fold}
+use Rattle.std.specs.Prelude.{◌≡◌, ◌↔◌, ◌⊎◌, Bool, true, false, ◌&&◌, List, [], ◌∷◌, ◌++◌, map, fold}
 use Rattle.icu_locale_core_grammar.specs.declared.error.ParseError.{ParseError}
 use Rattle.icu_locale_core_grammar.specs.declared.error.ParseError.TheVariants.{InvalidExtension, Memory}
 use Rattle.icu_locale_core_grammar.specs.Subtags.{Text, is_attribute, is_private_piece, lower}
@@ -15,6 +15,11 @@ IsRefused {M} Reads e = (e ≡ Memory) ⊎ ((e ≡ InvalidExtension) × ((m : M)
 abbrev pub begins : (Text → Bool) → List Text → Bool
 begins test [] = false
 begins test (p ∷ ps) = test p
+
+-- the first piece passes a test, and the one behind it another; else nothing is kept, and no memory is taken
+abbrev pub begins_behind : (Text → Bool) → (Text → Bool) → List Text → Bool
+begins_behind opens test [] = false
+begins_behind opens test (p ∷ ps) = opens p && begins test ps
 
 -- amid the reading of attributes: what is left decides as all pieces do, and completes the set
 pub record IsReadingSet (ps left set : List Text) : Type 0 where

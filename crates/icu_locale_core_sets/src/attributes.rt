@@ -9,6 +9,7 @@ ghost use Rattle.icu_locale_core_grammar.specs.Pieces.{pieces};
 ghost use Rattle.icu_locale_core_grammar.specs.PartReaders.{ReadsAttributes};
 ghost use Rattle.icu_locale_core_sets.specs.Reading.{IsRefused, begins};
 
+use crate::laws::texts_rise;
 use crate::subtag_set::SubtagSet;
 use icu_locale_core_grammar::ParseError;
 use icu_locale_core_subtags::SubtagIterator;
@@ -57,11 +58,16 @@ impl SubtagSet<AttributeRule> {
     /// Puts the attributes of the other set into this one.
     ///
     /// `bar`, `foo` with `baz`, `foo` becomes `bar`, `baz`, `foo`. `AllocError` is answered for memory alone, and the set is
-    /// then as before.
+    /// then as before; where the other set is empty, none is taken.
     pub fn extend_from_attributes(&mut self, other: Attributes) -> Result<(), AllocError>
+        ensures succeeds { other ≡ [] → IsOk result }
         ensures value { OnOk result (self.new ≡ set_of (self.old ++ other)) }
         ensures err { OnErr result (self.new ≡ self.old) }
     {
+        if other.is_empty() {
+            texts_rise(self);
+            return Ok(());
+        }
         let mut joined = self.try_clone()?;
         for attribute in other.as_slice() {
             joined.push(*attribute)?;

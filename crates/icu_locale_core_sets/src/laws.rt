@@ -1,7 +1,18 @@
-//! Laws of sets and of private pieces. Each is a fact about the definitions, proved as the contract of a function that does
-//! nothing.
+//! Laws of sets and of private pieces: what holds of every set, and facts about the definitions, each proved as the contract of
+//! a function that does nothing.
 
+ghost use Rattle.icu_locale_core_grammar.specs.Collections.{Rises};
 ghost use Rattle.icu_locale_core_sets.specs.Laws.{RemovalTakesOne, JoiningHasBoth, AttributesReadBack, PrivateReadsBack};
+
+use crate::subtag_set::SubtagSet;
+use icu_locale_core_subtags::SubtagRule;
+
+/// The texts of a set rise in byte order: none stands twice.
+pub fn texts_rise<R: SubtagRule<8>>(set: &SubtagSet<R>)
+    ensures { Rises set.now }
+{
+    let _texts = set.as_slice();
+}
 
 /// A set without a text has every other text that it had, and no more, and still rises.
 pub fn removal()

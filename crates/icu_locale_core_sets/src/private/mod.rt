@@ -1,6 +1,6 @@
 //! The private pieces of a tag.
 
-ghost use Rattle.std.specs.Prelude.{◌≡◌, ◌==◌, ℕ, false, List, [], ◌∷◌, ◌++◌, length, IfOk, IfErr, OnOk, OnErr, slice_get};
+ghost use Rattle.std.specs.Prelude.{◌≡◌, ◌==◌, ℕ, false, List, [], ◌∷◌, ◌++◌, length, IfOk, IfErr, IsOk, OnOk, OnErr, slice_get};
 ghost use Rattle.std.specs.Option.{option_copied};
 ghost use Rattle.std.specs.Iterator.Adapters.{IterYieldsInOrder};
 ghost use Rattle.std.specs.Slice.Iter.{iter_rest};
@@ -10,7 +10,7 @@ ghost use Rattle.icu_locale_core_grammar.specs.Subtags.{is_private, is_private_p
 ghost use Rattle.icu_locale_core_grammar.specs.Pieces.{pieces};
 ghost use Rattle.icu_locale_core_grammar.specs.PartReaders.{MeansOwn, ReadsPrivate};
 ghost use Rattle.icu_locale_core_grammar.specs.WellFormed.{AreLower};
-ghost use Rattle.icu_locale_core_sets.specs.Reading.{IsRefused, begins};
+ghost use Rattle.icu_locale_core_sets.specs.Reading.{IsRefused, begins, begins_behind};
 
 mod comparing;
 mod printing;
@@ -71,11 +71,12 @@ impl Private {
     /// between them.
     ///
     /// `X-Foo-a` has `foo`, `a`. `InvalidExtension` where the text has another form, as `foo`, `x` and `x-toolongpiece`;
-    /// `Memory` where a growth was refused, and no memory is taken where the first piece is not `x`. Source: UTS 35, section 3.2.
+    /// `Memory` where a growth was refused, and no memory is taken where the first piece is not `x`, or no private piece is right
+    /// behind it. Source: UTS 35, section 3.2.
     pub fn try_from_str(alloc: Global, s: &str) -> Result<Self, ParseError>
         ensures value { IfOk result (ReadsPrivate s.now) }
         ensures fault { IfErr result (IsRefused (ReadsPrivate s.now)) }
-        ensures room { begins is_private (pieces s.now) ≡ false → ¬ (IsErrOf result ParseError.Memory) }
+        ensures room { begins_behind is_private is_private_piece (pieces s.now) ≡ false → ¬ (IsErrOf result ParseError.Memory) }
     {
         Private::try_from_utf8(alloc, s.as_bytes())
     }
@@ -84,7 +85,7 @@ impl Private {
     pub fn try_from_utf8(alloc: Global, code_units: &[u8]) -> Result<Self, ParseError>
         ensures value { IfOk result (ReadsPrivate code_units.now) }
         ensures fault { IfErr result (IsRefused (ReadsPrivate code_units.now)) }
-        ensures room { begins is_private (pieces code_units.now) ≡ false → ¬ (IsErrOf result ParseError.Memory) }
+        ensures room { begins_behind is_private is_private_piece (pieces code_units.now) ≡ false → ¬ (IsErrOf result ParseError.Memory) }
     {
         let (rest, first) = SubtagIterator::new(code_units).next_const();
         let Some(singleton) = first else {
@@ -185,10 +186,15 @@ impl Private {
         self.items.clear();
     }
 
-    /// The same private pieces: of `x-a-b` they are `a`, `b`. `AllocError` is answered for memory alone.
+    /// The same private pieces: of `x-a-b` they are `a`, `b`. `AllocError` is answered for memory alone, and where there is no
+    /// piece none is taken.
     pub fn try_clone(&self) -> Result<Self, AllocError>
-        ensures { IfOk result (λ private. private ≡ self.now) }
+        ensures succeeds { self.now ≡ [] → IsOk result }
+        ensures value { IfOk result (λ private. private ≡ self.now) }
     {
+        if self.is_empty() {
+            return Ok(Private::new(*self.items.allocator()));
+        }
         let items = self.items.clone()?;
         Ok(Private { items })
     }

@@ -142,11 +142,16 @@ impl<R: SubtagRule<8>> SubtagSet<R> {
         mem::replace(self, SubtagSet::new(alloc))
     }
 
-    /// An equal set: of `1996`, `fonipa` another with these two. `AllocError` is answered for memory alone.
+    /// An equal set: of `1996`, `fonipa` another with these two. `AllocError` is answered for memory alone, and the empty set takes
+    /// none.
     pub fn try_clone(&self) -> Result<Self, AllocError>
+        ensures succeeds { self.now ≡ [] → IsOk result }
         ensures value { IfOk result (λ set. set ≡ self.now) }
         ensures set { IsSubtagSet R.accepts R.normal self.now }
     {
+        if self.is_empty() {
+            return Ok(SubtagSet::new(*self.items.allocator()));
+        }
         let items = self.items.clone()?;
         Ok(SubtagSet { items })
     }

@@ -1,6 +1,9 @@
 use Rattle.std.proofs.Common.{◌∙◌, sym}
-use Rattle.icu_locale_core_sets.proofs.JoiningLemmas.{set_of_joined, fold_past}
+use Rattle.icu_locale_core_sets.proofs.JoiningLemmas.{set_of_joined, fold_past, none_joined}
 use Rattle.icu_locale_core_sets.proofs.attributes.SubtagSet+AttributeRule.extend_from_attributes.Goals as goal
+
+pub returns-then-is_empty-clause-value : goal.returns-then-is_empty-clause-value
+returns-then-is_empty-clause-value c = none_joined c.args.self.now c.args.other (sym c.is_empty.ensures ∙ c.if-is_empty.true) c.texts_rise.ensures
 
 pub returns-clause-value : goal.returns-clause-value
 returns-clause-value c =
