@@ -1,12 +1,20 @@
--- A text compared with a normal text.
-use Rattle.std.proofs.Common.{◌≡◌, Bool, true, false, sym, ap, ◌∙◌, subst}
+-- A text compared with a normal text, and that a text of letters, digits and hyphens is UTF-8.
+use Rattle.std.proofs.Common.{◌≡◌, ℕ, zero, suc, ◌<◌, Bool, true, false, ◌&&◌, List, [], ◌∷◌, flat_map, sym, ap, ◌∙◌, subst, lit<, arith}
 use Rattle.std.specs.Prelude.{IsTrue, ◌↔◌}
 use Rattle.std.specs.Ordering.{is_eq}
 use Rattle.std.specs.declared.cmp.Ordering.{Ordering}
 use Rattle.std.specs.Cmp.Lexicographic.{texts_ties}
 use Rattle.std.proofs.lemmas.Bool.{false≢true}
+use Rattle.std.specs.Char.{is_ascii_alphanumeric}
+use Rattle.std.specs.Str.{IsAscii, IsUtf8}
+use Rattle.std.proofs.lemmas.Bool.{and_parts}
+use Rattle.std.proofs.lemmas.Bool.Decides.{nat_tests}
+use Rattle.std.proofs.lemmas.Str.{IsUtf8-nil, IsUtf8-append, IsUtf8-from_ascii}
 use Rattle.writeable.specs.Order.{byte_order}
-use Rattle.icu_locale_core_grammar.specs.Subtags.{Text, same_text}
+use Rattle.icu_locale_core_grammar.specs.Subtags.{Text, is_plain, same_text}
+use Rattle.icu_locale_core_grammar.specs.Pieces.{pieces, hyphen, hyphened, joined_text}
+use Rattle.icu_locale_core_grammar.specs.Collections.{Each}
+use Rattle.icu_locale_core_grammar.proofs.PlainPieces.{joined-pieces}
 use Rattle.icu_locale_core_grammar.proofs.CollectionLemmas.{same_text_equal, same_text_refl}
 
 -- two texts that tie in byte order are one
@@ -17,3 +25,28 @@ tied_are_same r o normal text order is =
 
 pub not_same : (r : Bool) (normal text : Text) → IsTrue r ↔ (text ≡ normal) → r ≡ false → text ≡ normal → ⊥
 not_same r normal text both denied e = false≢true (sym denied ∙ both.1 e)
+
+-- ---- letters, digits and hyphens are UTF-8
+
+character_below : (c : ℕ) → is_ascii_alphanumeric c ≡ true → c < 128
+character_below c is = grind (arith, nat_tests)
+
+plain_ascii : (p : Text) → is_plain p ≡ true → IsAscii p
+plain_ascii [] is k = lit< tt
+plain_ascii (c ∷ cs) is zero = character_below c (and_parts (is_ascii_alphanumeric c) (is_plain cs) is).0
+plain_ascii (c ∷ cs) is (suc k) = plain_ascii cs (and_parts (is_ascii_alphanumeric c) (is_plain cs) is).1 k
+
+hyphened_ascii : (p : Text) → is_plain p ≡ true → IsAscii (hyphened p)
+hyphened_ascii p is zero = lit< tt
+hyphened_ascii p is (suc k) = plain_ascii p is k
+
+behind_utf8 : (ps : List Text) → Each is_plain ps → IsUtf8 (flat_map hyphened ps)
+behind_utf8 [] each = IsUtf8-nil
+behind_utf8 (p ∷ ps) each = IsUtf8-append (hyphened p) (flat_map hyphened ps) (IsUtf8-from_ascii (hyphened p) (hyphened_ascii p each.0)) (behind_utf8 ps each.1)
+
+joined_utf8 : (ps : List Text) → Each is_plain ps → IsUtf8 (joined_text ps)
+joined_utf8 [] each = IsUtf8-nil
+joined_utf8 (p ∷ ps) each = IsUtf8-append p (flat_map hyphened ps) (IsUtf8-from_ascii p (plain_ascii p each.0)) (behind_utf8 ps each.1)
+
+pub plain_utf8 : (text : Text) → Each is_plain (pieces text) → IsUtf8 text
+plain_utf8 text each = subst IsUtf8 (joined-pieces text) (joined_utf8 (pieces text) each)

@@ -1,6 +1,6 @@
 //! The language identifier: its parts, and how it is made from them.
 
-ghost use Rattle.std.specs.Prelude.{◌≡◌, ◌↔◌, [], None, Some, codes, IsTrue, IfOk};
+ghost use Rattle.std.specs.Prelude.{◌≡◌, ◌↔◌, [], None, Some, codes, IsTrue, IsOk, IfOk};
 ghost use Rattle.icu_locale_core_langid.specs.Parts.{with_parts, und_text};
 
 use icu_locale_core_sets::Variants;
@@ -105,9 +105,11 @@ impl LanguageIdentifier {
         (self.language, self.script, self.region)
     }
 
-    /// An equal identifier: of `en-US-1996` it is `en-US-1996`. `AllocError` is answered for memory alone.
+    /// An equal identifier: of `en-US-1996` it is `en-US-1996`. `AllocError` is answered for memory alone, and without a variant none
+    /// is taken.
     pub fn try_clone(&self) -> Result<Self, AllocError>
-        ensures { IfOk result (λ id. id ≡ self.now) }
+        ensures succeeds { self.now.variants ≡ [] → IsOk result }
+        ensures value { IfOk result (λ id. id ≡ self.now) }
     {
         let variants = self.variants.try_clone()?;
         Ok(LanguageIdentifier {

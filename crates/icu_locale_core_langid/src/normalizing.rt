@@ -63,18 +63,13 @@ impl LanguageIdentifier {
     pub fn normalize_utf8(alloc: Global, input: &[u8]) -> Result<CowStr<'_, Global>, ParseError>
         ensures value { IfOk result (λ text. (id : LanguageId) × MeansLanguage (pieces input.now) id × IsNormalized input.now (language_text id) text) }
         ensures fault { IfErr result (λ e. (e ≡ ParseError.Memory) ⊎ HasFault MeansLanguage (pieces input.now) e) }
-        ensures room { may_grow (pieces input.now) ≡ false → IsErrOf result ParseError.Memory → (id : LanguageId) × MeansLanguage (pieces input.now) id }
+        ensures room { may_grow (pieces input.now) ≡ false → IsErrOf result ParseError.Memory → (id : LanguageId) × MeansLanguage (pieces input.now) id × (input.now ≢ language_text id) }
     {
         match str::from_utf8(input) {
             Ok(text) => Self::normalize(alloc, text),
             Err(_) => match Self::try_from_utf8(alloc, input) {
-                Ok(id) => match built_text(alloc, &id) {
-                    Ok(text) => {
-                        let _shown = text.as_str();
-                        Ok(CowStr::Owned(text))
-                    }
-                    Err(_) => Err(ParseError::Memory),
-                },
+                // letters, digits and hyphens are UTF-8
+                Ok(_) => unreachable!(),
                 Err(error) => Err(error),
             },
         }
