@@ -1,6 +1,7 @@
 -- Entries put into a map one by one: of those at places from i on, what is still to be put.
-use Rattle.std.proofs.Common.{◌≡◌, ℕ, ◌+◌, ◌<◌, ◌≤◌, List, [], length, drop, get_or, fold, sym, ap, ◌∙◌}
-use Rattle.std.proofs.lemmas.List.{drop_more, drop_all}
+use Rattle.std.proofs.Common.{◌≡◌, ℕ, ◌+◌, ◌<◌, ◌≤◌, Bool, true, List, [], ◌++◌, ◌==◌, length, drop, get_or, fold, sym, ap, ◌∙◌}
+use Rattle.std.proofs.lemmas.Bool.{eqb-true}
+use Rattle.std.proofs.lemmas.List.{drop_more, drop_all, nil_from_length}
 use Rattle.icu_locale_core_grammar.specs.Subtags.{Text}
 use Rattle.icu_locale_core_grammar.specs.Collections.{Entry, keys_of, Rises, put_first, map_of}
 use Rattle.icu_locale_core_grammar.proofs.ListLemmas.{fold-append}
@@ -25,6 +26,12 @@ module _ (es : List Entry) (i : ℕ) (whole : List Entry) where
 pub joined_rising : (winners es slice : List Entry) → Rises (keys_of winners) → slice ≡ es → fold put_entry winners slice ≡ joined_maps winners es
 joined_rising winners es slice rises same =
     ap (fold put_entry winners) same ∙ ap (λ l. fold put_entry l es) (sym (map_of_rising winners rises)) ∙ sym (fold-append put_entry [] winners es)
+
+-- a map put over by an empty one
+pub none_joined : (winners es : List Entry) → (length winners == 0) ≡ true → Rises (keys_of es) → es ≡ joined_maps winners es
+none_joined winners es none rises =
+    let empty : winners ≡ [] = nil_from_length winners (eqb-true (length winners) 0 none) in
+    sym (ap (λ l. joined_maps l es) empty ∙ map_of_rising es rises)
 
 pub copied_rising : (es slice : List Entry) → Rises (keys_of slice) → slice ≡ es → map_of slice ≡ es
 copied_rising es slice rises same = map_of_rising slice rises ∙ same

@@ -1,6 +1,7 @@
--- Subtags put into a value one by one.
-use Rattle.std.proofs.Common.{◌≡◌, Bool, true, false, not, List, [], ◌∷◌, ◌++◌, cond, refl, sym, ap, ◌∙◌, append-nil}
+-- Subtags put into a value one by one, and items that never come.
+use Rattle.std.proofs.Common.{◌≡◌, Bool, true, false, not, List, [], ◌∷◌, ◌++◌, Option, Some, cond, refl, sym, ap, ◌∙◌, subst, append-nil}
 use Rattle.std.specs.Prelude.{if◌then◌else◌}
+use Rattle.std.specs.Iterator.{Yields}
 use Rattle.std.proofs.lemmas.List.Elements.{filter-append}
 use Rattle.icu_locale_core_grammar.specs.Subtags.{Text, is_true, true_text, same_text, lower}
 use Rattle.icu_locale_core_grammar.proofs.CollectionLemmas.{same_text_swapped}
@@ -19,3 +20,9 @@ without_true-push value more taken v so_far put =
 pub told_true : (shown v : Text) (told : Bool) → told ≡ same_text shown true_text → shown ≡ v → lower v ≡ v → told ≡ is_true v
 told_true shown v told answer same low =
     answer ∙ ap (λ t. same_text t true_text) same ∙ same_text_swapped v true_text ∙ ap (same_text true_text) (sym low)
+
+-- of an iterator that gives no item none has come, and none comes
+pub none_comes : {S A : Type 0} (gives : S → Option A → S → Type 0) (first now next : S) (came : List A) (x : A)
+    → ((y : A) (j : S) → ¬ (gives first (Some y) j)) → Yields gives first came now → gives now (Some x) next → ⊥
+none_comes gives first now next [] x none so_far comes = none x next (subst (λ s. gives s (Some x) next) (sym so_far) comes)
+none_comes gives first now next (y ∷ ys) x none so_far comes = none y so_far.0 so_far.1

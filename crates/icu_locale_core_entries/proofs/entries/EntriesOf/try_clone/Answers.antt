@@ -4,8 +4,8 @@ use Rattle.icu_locale_core_entries.proofs.entries.EntriesOf.try_clone.Goals as g
 
 pub loop-key-preserved : goal.loop-key-preserved
 loop-key-preserved g c =
-    copying_goes_on _ _ _ _ _ c.loop-key-item.result _ _ c.loop-key.invariant c.loop-key-test.true c.loop-key-item.is c.in_ok-copied.ensures c.in_ok-try_clone.ensures c.in_ok-put_first.ensures.ok
+    copying_goes_on _ _ _ _ _ c.loop-key-item.result _ _ c.loop-key.invariant c.loop-key-test.true c.loop-key-item.is c.in_ok-copied.ensures c.in_ok-try_clone.ensures.value c.in_ok-put_first.ensures.ok
 
-pub returns : goal.returns
-returns g c =
+pub returns-clause-value : goal.returns-clause-value
+returns-clause-value g c =
     copying_ends _ _ _ _ c.loop-key.invariant c.loop-key-test.false ∙ copied_rising _ _ c.as_slice-key-items.ensures.rises c.as_slice-key-items.ensures.value
