@@ -1,14 +1,18 @@
 //! Extensions that have no rule of their own.
 
-ghost use Rattle.std.specs.Prelude.{◌≡◌, ℕ, ◌==◌, List, [], ◌∷◌, ◌++◌, length, take, drop, IfOk, IfErr, OnOk, OnErr, MatchOption};
+ghost use Rattle.std.specs.Prelude.{◌≡◌, ℕ, ◌==◌, false, List, [], ◌∷◌, ◌++◌, length, take, drop, IsOk, IfOk, IfErr, OnOk, OnErr, MatchOption};
+ghost use Rattle.std.specs.Result.{IsErrOf};
 ghost use Rattle.std.specs.Iterator.Adapters.{IterYieldsInOrder};
 ghost use Rattle.std.specs.Slice.Iter.{iter_rest};
+ghost use Rattle.icu_locale_core_grammar.specs.declared.error.ParseError.{ParseError};
+ghost use Rattle.icu_locale_core_grammar.specs.Subtags.{is_other, is_other_piece};
+ghost use Rattle.icu_locale_core_grammar.specs.Pieces.{pieces};
 ghost use Rattle.icu_locale_core_grammar.specs.Collections.{put_first};
 ghost use Rattle.icu_locale_core_grammar.specs.PartReaders.{ReadsOther};
 ghost use Rattle.icu_locale_core_grammar.specs.TagStages.{other_after as pieces_after};
 ghost use Rattle.icu_locale_core_grammar.specs.Meaning.{MeansOther};
 ghost use Rattle.icu_locale_core_entries.specs.Steps.{IsStep};
-ghost use Rattle.icu_locale_core_sets.specs.Reading.{IsRefused};
+ghost use Rattle.icu_locale_core_sets.specs.Reading.{IsRefused, begins, begins_behind};
 ghost use Rattle.icu_locale_core_extensions.specs.declared.extension_type.ExtensionType.{ExtensionType};
 ghost use Rattle.icu_locale_core_extensions.specs.Others.{IsPlaceOf, IsThere, KeepsSingleton};
 
@@ -99,10 +103,14 @@ impl Other {
         self.as_slice().iter()
     }
 
-    /// An equal extension. `AllocError` is answered for memory alone.
+    /// An equal extension. `AllocError` is answered for memory alone, and without a piece none is taken.
     pub fn try_clone(&self) -> Result<Self, AllocError>
-        ensures { IfOk result (λ other. other ≡ self.now) }
+        ensures succeeds { self.now.1 ≡ [] → IsOk result }
+        ensures value { IfOk result (λ other. other ≡ self.now) }
     {
+        if self.is_empty() {
+            return Ok(Other::opened(*self.subtags.allocator(), self.singleton));
+        }
         let subtags = self.subtags.clone()?;
         Ok(Other {
             singleton: self.singleton,
@@ -140,6 +148,7 @@ fn read_body(
 ) -> Result<Other, ParseError>
     ensures value { IfOk result (λ o. (singleton ≡ o.0) × MeansOther body.entry o.1) }
     ensures fault { IfErr result (IsRefused (MeansOther body.entry)) }
+    ensures room { begins is_other_piece body.entry ≡ false → ¬ (IsErrOf result ParseError.Memory) }
 {
     let mut other = Other::opened(alloc, singleton);
     for piece in body {
@@ -156,10 +165,12 @@ impl Other {
     /// The extension in this text, with its singleton: `A-Foo-bar` has the singleton `a` and the pieces `foo`, `bar`.
     ///
     /// `InvalidExtension`: the text is no such extension, as `a` alone, `a-b`, and one of `u`, `t` or `x`. `Memory`: a growth
-    /// was refused. Source: RFC 5646 (BCP 47), section 2.2.6.
+    /// was refused; no memory is taken where the first piece is no such singleton, or no piece of an extension is right behind it.
+    /// Source: RFC 5646 (BCP 47), section 2.2.6.
     pub fn try_from_str(alloc: Global, s: &str) -> Result<Self, ParseError>
         ensures value { IfOk result (ReadsOther s.now) }
         ensures fault { IfErr result (IsRefused (ReadsOther s.now)) }
+        ensures room { begins_behind is_other is_other_piece (pieces s.now) ≡ false → ¬ (IsErrOf result ParseError.Memory) }
     {
         Self::try_from_utf8(alloc, s.as_bytes())
     }
@@ -168,6 +179,7 @@ impl Other {
     pub fn try_from_utf8(alloc: Global, code_units: &[u8]) -> Result<Self, ParseError>
         ensures value { IfOk result (ReadsOther code_units.now) }
         ensures fault { IfErr result (IsRefused (ReadsOther code_units.now)) }
+        ensures room { begins_behind is_other is_other_piece (pieces code_units.now) ≡ false → ¬ (IsErrOf result ParseError.Memory) }
     {
         match other_behind(code_units) {
             Some(opened) => read_body(alloc, opened.0, opened.1),
@@ -180,6 +192,7 @@ impl Other {
 pub(crate) fn other_after(mut other: Other, piece: &[u8]) -> Result<Step<Other>, AllocError>
     ensures step { IfOk result (IsStep pieces_after (λ o. o.1) other.1 piece.now) }
     ensures singleton { IfOk result (KeepsSingleton other.0) }
+    ensures room { is_other_piece piece.now ≡ false → IsOk result }
 {
     match Subtag::try_from_utf8(piece) {
         Ok(subtag) => {

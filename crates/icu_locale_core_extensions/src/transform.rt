@@ -1,10 +1,15 @@
 //! The extension `t`.
 
-ghost use Rattle.std.specs.Prelude.{◌≡◌, [], ◌∷◌, IfOk, IfErr};
+ghost use Rattle.std.specs.Prelude.{◌≡◌, false, [], ◌∷◌, None, IsOk, IfOk, IfErr};
+ghost use Rattle.std.specs.Result.{IsErrOf};
+ghost use Rattle.icu_locale_core_grammar.specs.declared.error.ParseError.{ParseError};
+ghost use Rattle.icu_locale_core_grammar.specs.Subtags.{is_transform};
+ghost use Rattle.icu_locale_core_grammar.specs.Pieces.{pieces};
 ghost use Rattle.icu_locale_core_grammar.specs.Meaning.{MeansTransform, no_transform};
 ghost use Rattle.icu_locale_core_grammar.specs.PartReaders.{ReadsTransform};
-ghost use Rattle.icu_locale_core_sets.specs.Reading.{IsRefused};
+ghost use Rattle.icu_locale_core_sets.specs.Reading.{IsRefused, begins, begins_behind};
 ghost use Rattle.icu_locale_core_extensions.specs.ExtensionText.{is_empty_transform};
+ghost use Rattle.icu_locale_core_extensions.specs.Room.{begins_transform};
 
 use crate::head::LanguageHead;
 use crate::opening::body_behind;
@@ -38,6 +43,7 @@ impl Model for Transform {
 fn read_body(alloc: Global, body: SubtagIterator<'_>) -> Result<Transform, ParseError>
     ensures value { IfOk result (MeansTransform body.entry) }
     ensures fault { IfErr result (IsRefused (MeansTransform body.entry)) }
+    ensures room { begins begins_transform body.entry ≡ false → ¬ (IsErrOf result ParseError.Memory) }
 {
     let mut stage: HeadedStage<Option<LanguageIdentifier>, KeyRule> = HeadedStage::InHead(None);
     for piece in body {
@@ -58,7 +64,8 @@ fn read_body(alloc: Global, body: SubtagIterator<'_>) -> Result<Transform, Parse
 fn cloned_language(
     lang: &Option<LanguageIdentifier>,
 ) -> Result<Option<LanguageIdentifier>, AllocError>
-    ensures { IfOk result (λ cloned. cloned ≡ lang.now) }
+    ensures succeeds { lang.now ≡ None → IsOk result }
+    ensures value { IfOk result (λ cloned. cloned ≡ lang.now) }
 {
     match lang {
         Some(lang) => Ok(Some(lang.try_clone()?)),
@@ -92,9 +99,10 @@ impl Transform {
         self.fields.clear();
     }
 
-    /// An equal extension. `AllocError` is answered for memory alone.
+    /// An equal extension. `AllocError` is answered for memory alone, and an empty one takes none.
     pub fn try_clone(&self) -> Result<Self, AllocError>
-        ensures { IfOk result (λ transform. transform ≡ self.now) }
+        ensures succeeds { self.now ≡ no_transform → IsOk result }
+        ensures value { IfOk result (λ transform. transform ≡ self.now) }
     {
         let lang = cloned_language(&self.lang)?;
         let fields = self.fields.try_clone()?;
@@ -103,11 +111,12 @@ impl Transform {
 
     /// The extension in this text, with its singleton: `t-DE-m0-true` has the language part `de` and the field `m0` without a value.
     ///
-    /// `InvalidExtension`: the text is no such extension, as `t` alone, `t-h0` and `u-foo`. `Memory`: a growth was refused.
-    /// Source: UTS 35, sections 3.2 and 3.7.
+    /// `InvalidExtension`: the text is no such extension, as `t` alone, `t-h0` and `u-foo`. `Memory`: a growth was refused; no
+    /// memory is taken where the first piece is not `t`, or neither a language nor a key is right behind it. Source: UTS 35, sections 3.2 and 3.7.
     pub fn try_from_str(alloc: Global, s: &str) -> Result<Self, ParseError>
         ensures value { IfOk result (ReadsTransform s.now) }
         ensures fault { IfErr result (IsRefused (ReadsTransform s.now)) }
+        ensures room { begins_behind is_transform begins_transform (pieces s.now) ≡ false → ¬ (IsErrOf result ParseError.Memory) }
     {
         Self::try_from_utf8(alloc, s.as_bytes())
     }
@@ -116,6 +125,7 @@ impl Transform {
     pub fn try_from_utf8(alloc: Global, code_units: &[u8]) -> Result<Self, ParseError>
         ensures value { IfOk result (ReadsTransform code_units.now) }
         ensures fault { IfErr result (IsRefused (ReadsTransform code_units.now)) }
+        ensures room { begins_behind is_transform begins_transform (pieces code_units.now) ≡ false → ¬ (IsErrOf result ParseError.Memory) }
     {
         match body_behind(code_units, b't') {
             Some(body) => read_body(alloc, body),

@@ -1,12 +1,17 @@
 //! The extension `u`.
 
-ghost use Rattle.std.specs.Prelude.{◌≡◌, [], ◌∷◌, ◌++◌, IfOk, IfErr, OnOk, OnErr};
+ghost use Rattle.std.specs.Prelude.{◌≡◌, false, [], ◌∷◌, ◌++◌, IsOk, IfOk, IfErr, OnOk, OnErr};
+ghost use Rattle.std.specs.Result.{IsErrOf};
+ghost use Rattle.icu_locale_core_grammar.specs.declared.error.ParseError.{ParseError};
+ghost use Rattle.icu_locale_core_grammar.specs.Subtags.{is_unicode};
+ghost use Rattle.icu_locale_core_grammar.specs.Pieces.{pieces};
 ghost use Rattle.icu_locale_core_grammar.specs.Meaning.{MeansUnicode, no_unicode};
 ghost use Rattle.icu_locale_core_grammar.specs.Collections.{set_of};
 ghost use Rattle.icu_locale_core_entries.specs.EntryChanges.{joined_maps};
 ghost use Rattle.icu_locale_core_grammar.specs.PartReaders.{ReadsUnicode};
-ghost use Rattle.icu_locale_core_sets.specs.Reading.{IsRefused};
+ghost use Rattle.icu_locale_core_sets.specs.Reading.{IsRefused, begins, begins_behind};
 ghost use Rattle.icu_locale_core_extensions.specs.ExtensionText.{is_empty_unicode};
+ghost use Rattle.icu_locale_core_extensions.specs.Room.{begins_unicode};
 
 use crate::head::AttributesHead;
 use crate::opening::body_behind;
@@ -14,6 +19,7 @@ use icu_locale_core_entries::unicode::Keywords;
 use icu_locale_core_entries::{HeadedStage, Step, headed_after, headed_finish};
 use icu_locale_core_grammar::ParseError;
 use icu_locale_core_sets::Attributes;
+use icu_locale_core_sets::laws::texts_rise;
 use icu_locale_core_subtags::SubtagIterator;
 use icu_locale_core_subtags::unicode::KeyRule;
 use std::alloc::{AllocError, Global};
@@ -40,6 +46,7 @@ impl Model for Unicode {
 fn read_body(alloc: Global, body: SubtagIterator<'_>) -> Result<Unicode, ParseError>
     ensures value { IfOk result (MeansUnicode body.entry) }
     ensures fault { IfErr result (IsRefused (MeansUnicode body.entry)) }
+    ensures room { begins begins_unicode body.entry ≡ false → ¬ (IsErrOf result ParseError.Memory) }
 {
     let mut stage: HeadedStage<Attributes, KeyRule> = HeadedStage::InHead(Attributes::new(alloc));
     for piece in body {
@@ -85,9 +92,10 @@ impl Unicode {
         self.attributes.clear();
     }
 
-    /// An equal extension. `AllocError` is answered for memory alone.
+    /// An equal extension. `AllocError` is answered for memory alone, and an empty one takes none.
     pub fn try_clone(&self) -> Result<Self, AllocError>
-        ensures { IfOk result (λ unicode. unicode ≡ self.now) }
+        ensures succeeds { self.now ≡ no_unicode → IsOk result }
+        ensures value { IfOk result (λ unicode. unicode ≡ self.now) }
     {
         let keywords = self.keywords.try_clone()?;
         let attributes = self.attributes.try_clone()?;
@@ -100,12 +108,17 @@ impl Unicode {
     /// Puts the attributes and keywords of the other extension into this one; of equal keys the other's value stands.
     ///
     /// `u-foo-nu-thai` with `u-bar-nu-latn` becomes `u-bar-foo-nu-latn`. `AllocError` is answered for memory alone, and leaves
-    /// the extension.
+    /// the extension; an empty other one takes none.
     pub fn extend(&mut self, other: Unicode) -> Result<(), AllocError>
+        ensures succeeds { other ≡ no_unicode → IsOk result }
         ensures attributes { OnOk result (self.new.head ≡ set_of (self.old.head ++ other.head)) }
         ensures keywords { OnOk result (self.new.entries ≡ joined_maps other.entries self.old.entries) }
         ensures err { OnErr result (self.new ≡ self.old) }
     {
+        if other.attributes.is_empty() {
+            texts_rise(&self.attributes);
+            return self.keywords.extend_from_keywords(other.keywords);
+        }
         let mut attributes = self.attributes.try_clone()?;
         attributes.extend_from_attributes(other.attributes)?;
         self.keywords.extend_from_keywords(other.keywords)?;
@@ -115,11 +128,12 @@ impl Unicode {
 
     /// The extension in this text, with its singleton: `u-FOO-nu-thai` has the attribute `foo` and `nu` with `thai`.
     ///
-    /// `InvalidExtension`: the text is no such extension, as `u` alone, `u-nu-` and `t-de`. `Memory`: a growth was refused.
-    /// Source: UTS 35, sections 3.2 and 3.6.
+    /// `InvalidExtension`: the text is no such extension, as `u` alone, `u-nu-` and `t-de`. `Memory`: a growth was refused; no
+    /// memory is taken where the first piece is not `u`, or neither an attribute nor a key is right behind it. Source: UTS 35, sections 3.2 and 3.6.
     pub fn try_from_str(alloc: Global, s: &str) -> Result<Self, ParseError>
         ensures value { IfOk result (ReadsUnicode s.now) }
         ensures fault { IfErr result (IsRefused (ReadsUnicode s.now)) }
+        ensures room { begins_behind is_unicode begins_unicode (pieces s.now) ≡ false → ¬ (IsErrOf result ParseError.Memory) }
     {
         Self::try_from_utf8(alloc, s.as_bytes())
     }
@@ -128,6 +142,7 @@ impl Unicode {
     pub fn try_from_utf8(alloc: Global, code_units: &[u8]) -> Result<Self, ParseError>
         ensures value { IfOk result (ReadsUnicode code_units.now) }
         ensures fault { IfErr result (IsRefused (ReadsUnicode code_units.now)) }
+        ensures room { begins_behind is_unicode begins_unicode (pieces code_units.now) ≡ false → ¬ (IsErrOf result ParseError.Memory) }
     {
         match body_behind(code_units, b'u') {
             Some(body) => read_body(alloc, body),

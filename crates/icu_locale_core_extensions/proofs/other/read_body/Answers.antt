@@ -1,6 +1,9 @@
-use Rattle.std.proofs.Common.{sym, refl, ◌∙◌, inr}
+use Rattle.std.proofs.Common.{◌≡◌, true, false, [], sym, refl, ◌∙◌, inr}
+use Rattle.icu_locale_core_grammar.specs.Subtags.{is_other_piece}
+use Rattle.icu_locale_core_grammar.specs.TagStages.{other_after}
 use Rattle.icu_locale_core_grammar.proofs.BodyReaders.{other_reader}
 use Rattle.icu_locale_core_entries.proofs.ReadingLemmas.{reading_goes_on, reading_meant, reading_refused}
+use Rattle.icu_locale_core_extensions.proofs.RoomLemmas.{nothing_grows, other_passes}
 use Rattle.icu_locale_core_extensions.proofs.other.read_body.Goals as goal
 
 pub loop-piece-preserved : goal.loop-piece-preserved
@@ -16,3 +19,10 @@ returns-in-Ok-Refused-clause-fault c =
 
 pub returns-clause-value : goal.returns-clause-value
 returns-clause-value c = (c.loop-piece.invariant.1, reading_meant other_reader _ _ _ _ c.in-None.ensures.steps.0 c.loop-piece.invariant.0 refl)
+
+pub returns-in-Err-clause-room : goal.returns-in-Err-clause-room
+returns-in-Err-clause-room c = λ none wanted.
+    let taken : false ≡ true =
+    c.in-Err.ensures.room
+    (nothing_grows other_after [] is_other_piece other_passes (λ own p. is_other_piece p) (λ p e. e) c.args.body _ _ _ _ c.in-Some.ensures.steps c.loop-piece.invariant.0 none) in
+    cc

@@ -1,6 +1,13 @@
-use Rattle.std.proofs.Common.{sym, refl, inr}
+use Rattle.std.proofs.Common.{◌≡◌, true, false, None, sym, refl, inr}
+use Rattle.icu_locale_core_grammar.specs.Subtags.{is_field_key}
+use Rattle.icu_locale_core_grammar.specs.Stepping.{InHead}
+use Rattle.icu_locale_core_grammar.specs.TagStages.{transform_after}
 use Rattle.icu_locale_core_grammar.proofs.BodyReaders.{transform_reader}
 use Rattle.icu_locale_core_entries.proofs.ReadingLemmas.{reading_goes_on, reading_meant, reading_refused, reading_cut}
+use Rattle.icu_locale_core_entries.specs.Room.{grows_at, keeps_last}
+use Rattle.icu_locale_core_langid.specs.Room as language
+use Rattle.icu_locale_core_extensions.specs.Room.{begins_transform}
+use Rattle.icu_locale_core_extensions.proofs.RoomLemmas.{nothing_grows, nothing_kept, transform_passes}
 use Rattle.icu_locale_core_extensions.proofs.transform.read_body.Goals as goal
 
 pub loop-piece-preserved : goal.loop-piece-preserved
@@ -21,3 +28,15 @@ pub returns-in-Ok-None-clause-fault : goal.returns-in-Ok-None-clause-fault
 returns-in-Ok-None-clause-fault c =
     let ended = rw c.in-Ok-None.field-0-is at c.in-Ok-None.ensures.value in
     inr (refl, reading_cut transform_reader _ _ _ c.in-None.ensures.steps.0 c.loop-piece.invariant (sym ended))
+
+pub returns-in-Err-clause-room : goal.returns-in-Err-clause-room
+returns-in-Err-clause-room c = λ none wanted.
+    let taken : false ≡ true =
+    c.in-Err.ensures.room
+    (nothing_grows transform_after (InHead None) begins_transform transform_passes (grows_at language.grows_at is_field_key) (λ p e. refl) c.args.body _ _ _ _ c.in-Some.ensures.steps c.loop-piece.invariant none) in
+    cc
+
+pub returns-in-Err-headed_finish-clause-room : goal.returns-in-Err-headed_finish-clause-room
+returns-in-Err-headed_finish-clause-room c = λ none wanted.
+    let ended : false ≡ true = c.in-Err-headed_finish.ensures.room (nothing_kept transform_after (InHead None) begins_transform transform_passes keeps_last refl c.args.body _ _ c.loop-piece.invariant none) in
+    cc

@@ -1,5 +1,8 @@
 use Rattle.std.proofs.Common.{refl, inr}
 use Rattle.std.proofs.lemmas.Result.{IfOk-weaker}
+use Rattle.icu_locale_core_grammar.specs.Subtags.{is_other, is_other_piece}
+use Rattle.icu_locale_core_grammar.specs.Pieces.{pieces}
+use Rattle.icu_locale_core_extensions.proofs.RoomLemmas.{begins_body}
 use Rattle.icu_locale_core_extensions.proofs.OpeningLemmas.{read_other, opened_other, refused_other, each_error}
 use Rattle.icu_locale_core_extensions.proofs.other.Other.try_from_utf8.Goals as goal
 
@@ -11,3 +14,8 @@ returns-in-Some-clause-fault c = each_error _ _ c.read_body.result (λ e f. refu
 
 pub returns-in-None-clause-fault : goal.returns-in-None-clause-fault
 returns-in-None-clause-fault c = inr (refl, λ o r. let opening = opened_other c.args.code_units.now o r in c.in-None.ensures o.0 opening.0 opening.1)
+
+pub returns-in-Some-clause-room : goal.returns-in-Some-clause-room
+returns-in-Some-clause-room c = λ none.
+    let opens = c.in-Some.ensures in
+    c.read_body.ensures.room (begins_body is_other is_other_piece (pieces c.args.code_units.now) c.in-Some.opened.1 opens.first opens.parts opens.is none)

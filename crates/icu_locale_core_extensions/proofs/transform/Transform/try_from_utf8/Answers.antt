@@ -1,7 +1,9 @@
 use Rattle.std.proofs.Common.{refl, inr}
 use Rattle.icu_locale_core_grammar.specs.Meaning.{MeansTransform}
 use Rattle.icu_locale_core_grammar.specs.Pieces.{pieces}
-use Rattle.icu_locale_core_grammar.specs.Subtags.{transform_text}
+use Rattle.icu_locale_core_grammar.specs.Subtags.{transform_text, is_transform}
+use Rattle.icu_locale_core_extensions.specs.Room.{begins_transform}
+use Rattle.icu_locale_core_extensions.proofs.RoomLemmas.{begins_body}
 use Rattle.icu_locale_core_extensions.proofs.OpeningLemmas.{opened, refused_behind, each_error}
 use Rattle.icu_locale_core_extensions.proofs.transform.Transform.try_from_utf8.Goals as goal
 
@@ -12,3 +14,8 @@ returns-in-Some-clause-fault c =
 pub returns-in-None-clause-fault : goal.returns-in-None-clause-fault
 returns-in-None-clause-fault c =
     inr (refl, λ m r. let o = opened transform_text MeansTransform (pieces c.args.code_units.now) m r in c.in-None.ensures o.0 o.1)
+
+pub returns-in-Some-clause-room : goal.returns-in-Some-clause-room
+returns-in-Some-clause-room c = λ none.
+    let opens = c.in-Some.ensures in
+    c.read_body.ensures.room (begins_body is_transform begins_transform (pieces c.args.code_units.now) c.in-Some.body opens.first opens.parts opens.is none)
