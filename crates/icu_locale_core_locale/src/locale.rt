@@ -1,13 +1,14 @@
 //! The locale: its parts, and how it is read.
 
-ghost use Rattle.std.specs.Prelude.{◌≡◌, ◌↔◌, ◌⊎◌, false, [], None, IfOk, IfErr, IsTrue};
+ghost use Rattle.std.specs.Prelude.{◌≡◌, ◌↔◌, ◌⊎◌, false, [], None, IsOk, IfOk, IfErr, IsTrue};
 ghost use Rattle.std.specs.Result.{IsErrOf};
 ghost use Rattle.icu_locale_core_grammar.specs.declared.error.ParseError.{ParseError};
 ghost use Rattle.icu_locale_core_grammar.specs.Pieces.{pieces};
 ghost use Rattle.icu_locale_core_grammar.specs.Meaning.{MeansTag};
 ghost use Rattle.icu_locale_core_grammar.specs.FaultyPiece.{HasFault};
 ghost use Rattle.icu_locale_core_langid.specs.Parts.{with_parts, und_text};
-ghost use Rattle.icu_locale_core_locale.specs.LocaleValue.{language_alone, unknown_locale};
+ghost use Rattle.icu_locale_core_locale.specs.LocaleValue.{extensions_of, language_alone, unknown_locale};
+ghost use Rattle.icu_locale_core_locale.specs.ExtensionsValue.{nothing};
 ghost use Rattle.icu_locale_core_locale.specs.Room.{tag_may_grow};
 
 use crate::extensions::Extensions;
@@ -88,9 +89,10 @@ impl Locale {
         self.id.is_unknown() && self.extensions.is_empty()
     }
 
-    /// An equal locale. `AllocError` is answered for memory alone.
+    /// An equal locale. `AllocError` is answered for memory alone, and without a variant and an extension none is taken.
     pub fn try_clone(&self) -> Result<Self, AllocError>
-        ensures { IfOk result (λ locale. locale ≡ self.now) }
+        ensures succeeds { self.now.front.variants ≡ [] → extensions_of self.now ≡ nothing → IsOk result }
+        ensures value { IfOk result (λ locale. locale ≡ self.now) }
     {
         let id = self.id.try_clone()?;
         let extensions = self.extensions.try_clone()?;

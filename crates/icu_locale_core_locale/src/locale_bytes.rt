@@ -16,17 +16,28 @@ use std::alloc::Global;
 
 /// What is read from a whole tag, without its extensions: `LanguageIdentifier::try_from_locale_bytes`.
 pub trait TryFromLocaleBytes {
-    /// Reads the whole tag, and leaves its extensions out. It refuses as `Locale::try_from_utf8` does.
+    ghost use Rattle.icu_locale_core_grammar.specs.Meaning.{TagMeaning};
+
+    // what is kept of the meaning of a tag
+    ghost part: { TagMeaning → Self };
+
+    /// Reads the whole tag, and leaves its extensions out. It refuses as `Locale::try_from_utf8` does, and takes memory only for
+    /// variants and extensions.
     fn try_from_locale_bytes(alloc: Global, v: &[u8]) -> Result<Self, ParseError>
     where
-        Self: Sized;
+        Self: Sized,
+        ensures value { IfOk result (λ kept. (m : TagMeaning) × MeansTag (pieces v.now) m × (kept ≡ part m)) }
+        ensures fault { IfErr result (λ e. (e ≡ ParseError.Memory) ⊎ HasFault MeansTag (pieces v.now) e) }
+        ensures room { tag_may_grow (pieces v.now) ≡ false → ¬ (IsErrOf result ParseError.Memory) };
 }
 
 impl TryFromLocaleBytes for LanguageIdentifier {
+    ghost part = { λ m. m.front };
+
     /// The language part of the tag that these bytes are: of `en-US-u-nu-thai` it is `en-US`.
     ///
     /// The extensions are read too: `en-u` is `InvalidExtension`. It refuses as `Locale::try_from_utf8` does, and takes memory
-    /// for variants and extensions alone.
+    /// only for variants and extensions.
     fn try_from_locale_bytes(alloc: Global, v: &[u8]) -> Result<Self, ParseError>
         ensures value { IfOk result (λ id. (m : TagMeaning) × MeansTag (pieces v.now) m × (id ≡ m.front)) }
         ensures fault { IfErr result (λ e. (e ≡ ParseError.Memory) ⊎ HasFault MeansTag (pieces v.now) e) }

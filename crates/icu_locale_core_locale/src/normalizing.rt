@@ -1,6 +1,7 @@
 //! The normal text of a text that is a tag, and whether a text means a given locale.
 
-ghost use Rattle.std.specs.Prelude.{◌≡◌, ◌↔◌, ◌⊎◌, IsTrue, IfOk, IfErr};
+ghost use Rattle.std.specs.Prelude.{◌≡◌, ◌≢◌, ◌↔◌, ◌⊎◌, false, IsTrue, IsOk, IfOk, IfErr};
+ghost use Rattle.std.specs.Result.{IsErrOf};
 ghost use Rattle.std.specs.String.{string_bytes};
 ghost use Rattle.icu_locale_core_grammar.specs.declared.error.ParseError.{ParseError};
 ghost use Rattle.icu_locale_core_grammar.specs.Pieces.{pieces};
@@ -8,6 +9,7 @@ ghost use Rattle.icu_locale_core_grammar.specs.Meaning.{TagMeaning, MeansTag};
 ghost use Rattle.icu_locale_core_grammar.specs.FaultyPiece.{HasFault};
 ghost use Rattle.icu_locale_core_grammar.specs.NormalText.{normal_text};
 ghost use Rattle.icu_locale_core_langid.specs.NormalizedText.{IsNormalized};
+ghost use Rattle.icu_locale_core_locale.specs.Room.{tag_may_grow};
 
 use crate::locale::Locale;
 use icu_locale_core_grammar::ParseError;
@@ -36,7 +38,8 @@ fn text_or_input<'a>(
     locale: &Locale,
     input: &'a str,
 ) -> Result<CowStr<'a, Global>, AllocError>
-    ensures { IfOk result (IsNormalized input.now (normal_text locale.now)) }
+    ensures text { IfOk result (IsNormalized input.now (normal_text locale.now)) }
+    ensures room { input.now ≡ normal_text locale.now → IsOk result }
 {
     if is_text_of(locale, input.as_bytes()) {
         Ok(CowStr::Borrowed(input))
@@ -48,10 +51,12 @@ fn text_or_input<'a>(
 impl Locale {
     /// The normal text of a text, borrowed where the text is normal.
     ///
-    /// `EN-us-u-NU-Thai` gives a new `en-US-u-nu-thai`, which gives itself. It refuses as `try_from_str` does.
+    /// `EN-us-u-NU-Thai` gives a new `en-US-u-nu-thai`, which gives itself. It refuses as `try_from_str` does; beside variants and
+    /// extensions, memory is taken only for a new text.
     pub fn normalize(alloc: Global, input: &str) -> Result<CowStr<'_, Global>, ParseError>
         ensures value { IfOk result (λ text. (m : TagMeaning) × MeansTag (pieces input.now) m × IsNormalized input.now (normal_text m) text) }
         ensures fault { IfErr result (λ e. (e ≡ ParseError.Memory) ⊎ HasFault MeansTag (pieces input.now) e) }
+        ensures room { tag_may_grow (pieces input.now) ≡ false → IsErrOf result ParseError.Memory → (m : TagMeaning) × MeansTag (pieces input.now) m × (input.now ≢ normal_text m) }
     {
         match Self::try_from_str(alloc, input) {
             Ok(locale) => match text_or_input(alloc, &locale, input) {
@@ -66,17 +71,13 @@ impl Locale {
     pub fn normalize_utf8(alloc: Global, input: &[u8]) -> Result<CowStr<'_, Global>, ParseError>
         ensures value { IfOk result (λ text. (m : TagMeaning) × MeansTag (pieces input.now) m × IsNormalized input.now (normal_text m) text) }
         ensures fault { IfErr result (λ e. (e ≡ ParseError.Memory) ⊎ HasFault MeansTag (pieces input.now) e) }
+        ensures room { tag_may_grow (pieces input.now) ≡ false → IsErrOf result ParseError.Memory → (m : TagMeaning) × MeansTag (pieces input.now) m × (input.now ≢ normal_text m) }
     {
         match str::from_utf8(input) {
             Ok(text) => Self::normalize(alloc, text),
             Err(_) => match Self::try_from_utf8(alloc, input) {
-                Ok(locale) => match built_text(alloc, &locale) {
-                    Ok(text) => {
-                        let _shown = text.as_str();
-                        Ok(CowStr::Owned(text))
-                    }
-                    Err(_) => Err(ParseError::Memory),
-                },
+                // letters, digits and hyphens are UTF-8
+                Ok(_) => unreachable!(),
                 Err(error) => Err(error),
             },
         }
@@ -84,19 +85,17 @@ impl Locale {
 
     /// Whether the text reads as this locale: `EN-u-NU-Thai` does as `en-u-nu-thai`, and `en` does not.
     ///
-    /// A text that is no tag does not. `AllocError` is answered for memory alone.
+    /// A text that is no tag does not. `AllocError` is answered for memory alone, which is taken where `try_from_str` takes it.
     pub fn normalizing_eq(&self, alloc: Global, other: &str) -> Result<bool, AllocError>
-        ensures { IfOk result (λ same. IsTrue same ↔ MeansTag (pieces other.now) self.now) }
+        ensures value { IfOk result (λ same. IsTrue same ↔ MeansTag (pieces other.now) self.now) }
+        ensures room { tag_may_grow (pieces other.now) ≡ false → IsOk result }
     {
         match Self::try_from_str(alloc, other) {
             Ok(locale) => Ok(locale == *self),
-            Err(error) => {
-                if error == ParseError::Memory {
-                    Err(AllocError)
-                } else {
-                    Ok(false)
-                }
-            }
+            Err(error) => match error {
+                ParseError::Memory => Err(AllocError),
+                _ => Ok(false),
+            },
         }
     }
 }

@@ -1,6 +1,6 @@
 //! All extensions of a locale.
 
-ghost use Rattle.std.specs.Prelude.{◌≡◌, ◌↔◌, IfOk, IsTrue};
+ghost use Rattle.std.specs.Prelude.{◌≡◌, ◌↔◌, [], IsOk, IfOk, IsTrue};
 ghost use Rattle.icu_locale_core_locale.specs.ExtensionsValue.{nothing, only_unicode};
 ghost use Rattle.icu_locale_core_locale.specs.LocaleValue.{is_empty_extensions};
 
@@ -35,7 +35,8 @@ impl Model for Extensions {
 
 // The same extensions, in the same order.
 fn copied(alloc: Global, others: &[Other]) -> Result<Vec<Other>, AllocError>
-    ensures { IfOk result (λ copy. copy.items ≡ others.now) }
+    ensures succeeds { others.now ≡ [] → IsOk result }
+    ensures items { IfOk result (λ copy. copy.items ≡ others.now) }
 {
     let mut copy = Vec::new(alloc);
     for other in others {
@@ -97,9 +98,10 @@ impl Extensions {
         self.has_none()
     }
 
-    /// Equal extensions. `AllocError` is answered for memory alone.
+    /// Equal extensions. `AllocError` is answered for memory alone, which is taken only where there is an extension.
     pub fn try_clone(&self) -> Result<Self, AllocError>
-        ensures { IfOk result (λ extensions. extensions ≡ self.now) }
+        ensures succeeds { self.now ≡ nothing → IsOk result }
+        ensures value { IfOk result (λ extensions. extensions ≡ self.now) }
     {
         let unicode = self.unicode.try_clone()?;
         let transform = self.transform.try_clone()?;
