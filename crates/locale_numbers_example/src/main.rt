@@ -1,8 +1,16 @@
-//! Writes one number as the readers of one locale write it.
+//! Writes a number as the readers of a locale write it.
 
 #![tactic(auto)]
 
 use locale_numbers::{Book, SAMPLE_BOOK, answer};
+use std::alloc::Global;
+
+/// Prints the answer to a line.
+fn print_answer(rt: &impl Print, alloc: Global, book: &Book, line: &str) -> anyhow::Result<()> {
+    let text = answer(alloc, book, line.as_bytes())?;
+    println!(rt; "{}", str::from_utf8(&text)?)?;
+    Ok(())
+}
 
 fn main(rt: HostRuntime) -> anyhow::Result<()> {
     let alloc = rt.alloc();
@@ -10,7 +18,5 @@ fn main(rt: HostRuntime) -> anyhow::Result<()> {
 
     // Six fields between tabs: tag, form, grouping, sign, rounding, number.
     let line = "ar-EG-u-nu-thai\tplain\tauto\tkeep\t-\t1234.5";
-    let text = answer(alloc, &book, line.as_bytes())?;
-    println!(rt; "{}", str::from_utf8(&text)?)?;
-    Ok(())
+    print_answer(&rt, alloc, &book, line)
 }
