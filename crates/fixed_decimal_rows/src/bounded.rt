@@ -1,8 +1,8 @@
-//! A sink that the rows use.
+//! A sink with little room.
 ghost use Rattle.std.specs.Prelude.{◌≡◌, false};
 
-use std::alloc::Global;
-use writeable::{Error, Part, Sink};
+use std::alloc::{AllocError, Global};
+use writeable::{Error, Part, Sink, Writeable};
 
 /// A sink with room for so many bytes. It refuses a call that brings more, and takes nothing of that one.
 #[derive(Drop)]
@@ -74,4 +74,29 @@ impl Sink for Bounded {
     fn close_part(&mut self) -> Result<(), Error> {
         Ok(())
     }
+}
+
+/// What a sink holds at the end, behind `refused` where it has refused.
+pub fn held(alloc: Global, text: &str, has_refused: bool) -> Result<String, AllocError> {
+    if !has_refused {
+        return String::from_str(alloc, text);
+    }
+    if text.is_empty() {
+        return String::from_str(alloc, "refused");
+    }
+    format!(in alloc; "refused {text}")
+}
+
+/// What a sink with so much room holds of a value.
+pub fn held_in_room<W: Writeable>(
+    alloc: Global,
+    value: &W,
+    room: usize,
+) -> Result<String, AllocError> {
+    let mut sink = Bounded::new(alloc, room);
+    let answer = value.write_to(&mut sink);
+    if answer.is_err() != sink.has_refused() {
+        return String::from_str(alloc, "neither taken nor refused");
+    }
+    held(alloc, sink.text(), sink.has_refused())
 }
