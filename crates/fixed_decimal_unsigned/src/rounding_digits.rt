@@ -18,7 +18,7 @@ pub fn drop_zeros<L: Ledger>(digits: &mut Digits, turns: &mut Turns<L>)
     ensures length { length digits.new.items ≤ length digits.old.items }
     ensures some { 0 < length digits.old.items → 0 < length digits.new.items }
     ensures capacity { digits.new.capacity ≡ digits.old.capacity }
-    ensures turns { turns.new ≤ turns.old + length digits.old.items }
+    ensures turns { turns.new ≡ turns.old + (length digits.old.items - length digits.new.items) }
 {
     let mut count = digits.len();
     while count > 0 && digits.get(count - 1) == 0 {
@@ -34,14 +34,15 @@ fn count_before_nines<L: Ledger>(digits: &Digits, turns: &mut Turns<L>) -> usize
     ensures within { result ≤ length digits.now.items }
     ensures value { number_from_digits 10 digits.now.items + 1 ≡ (number_from_digits 10 (take result digits.now.items) + 1) * 10 ^ (length digits.now.items - result) }
     ensures last { 0 < result → ¬ (slice_index digits.now.items (result - 1) ≡ 9) }
-    ensures turns { turns.new + result ≤ turns.old + length digits.now.items }
+    ensures turns { 0 < result → turns.new + result ≡ turns.old + length digits.now.items + 1 }
+    ensures all { result ≡ 0 → turns.new ≡ turns.old + length digits.now.items }
 {
     let mut count = digits.len();
     while count > 0 {
+        turns.turn();
         if digits.get(count - 1) != 9 {
             return count;
         }
-        turns.turn();
         count -= 1;
     }
     count

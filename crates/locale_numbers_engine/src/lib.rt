@@ -21,8 +21,6 @@ pub mod laws;
 mod report;
 mod run_error;
 mod running;
-#[cfg(test)]
-mod tests;
 mod tracked;
 mod writing;
 

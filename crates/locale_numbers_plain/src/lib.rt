@@ -11,6 +11,3 @@ mod plain_text;
 
 pub use laws::groups_law;
 pub use plain_text::{push_plain, push_unsigned};
-
-#[cfg(test)]
-mod tests;

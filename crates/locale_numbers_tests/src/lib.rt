@@ -1,21 +1,9 @@
-//! Rows of values over the public calls of `locale_numbers`: what a request line is answered, which
-//! book is taken, what the program's faults say. Expected values come from docs/, never from the program.
+//! What lines of `locale_numbers_program` and `locale_numbers_rows` do not show of `locale_numbers`:
+//! what `Tracked` makes of a reader and a writer of std, and inputs longer than a piece.
 
 #![tactic(auto)]
 
 #[cfg(test)]
-mod books;
+mod long_runs;
 #[cfg(test)]
-mod examples;
-#[cfg(test)]
-mod fakes;
-#[cfg(test)]
-mod faulty_io;
-#[cfg(test)]
-mod program;
-#[cfg(test)]
-mod program_words;
-#[cfg(test)]
-mod running;
-#[cfg(test)]
-mod worked_rows;
+mod tracked;

@@ -45,9 +45,5 @@ fn constants_have_their_byte(rt: HostRuntime) {
             assert_eq!(rt; usize::from(constant.value()), 4 * four + one);
         }
     }
-}
-
-#[test]
-fn bytes_below_128_are_ascii_bytes(rt: HostRuntime) {
     assert_eq!(rt; to_ascii_byte_array(b"ab"), [Byte::B97, Byte::B98]);
 }

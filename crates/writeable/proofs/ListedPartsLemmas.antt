@@ -1,11 +1,12 @@
 -- The lists in a `PartsSink`, as intervals.
-use Rattle.std.proofs.Common.{◌≡◌, ℕ, ◌+◌, ◌-◌, ◌<◌, List, [], ◌∷◌, ◌++◌, length, map, take, drop, get_or, insert, cond, Bool, true, false, Some, None, refl, sym, ◌∙◌, ap, arith}
+use Rattle.std.proofs.Common.{◌≡◌, ◌≢◌, IsSomeAnd, ℕ, ◌+◌, ◌-◌, ◌<◌, List, [], ◌∷◌, ◌++◌, length, map, take, drop, get_or, insert, cond, Bool, true, false, Some, None, refl, sym, ◌∙◌, ap, subst, arith}
 use Rattle.std.specs.List.{slice_get}
 use Rattle.std.proofs.lemmas.List.{map-append, take-map, drop-map, take_all, take_more, append-nil, length-map}
 use Rattle.std.proofs.lemmas.Option.{slice_get_within, get_or_from_slice_get, slice_get-get_or}
-use Rattle.writeable.specs.AnnotatedText.{Event, byte, bytes, opening, closing}
+use Rattle.writeable.specs.AnnotatedText.{Event, byte, opened, closed, bytes, opening, closing}
 use Rattle.writeable.specs.PartName.{PartName}
-use Rattle.writeable.specs.HeldParts.{Held, held_after, HasEvents}
+use Rattle.writeable.specs.HeldParts.{Held, HeldParts, OpenInterval, held_after, HoldsThen, NeedsRoom}
+use Rattle.writeable.specs.Taking.{HasBegun}
 
 -- nothing changed
 pub holds_same : (s t : Held) (before : List Event) → s ≡ held_after before
@@ -13,19 +14,29 @@ pub holds_same : (s t : Held) (before : List Event) → s ≡ held_after before
 holds_same s t before is one two three =
     (λ i. record { text = one i; parts = two i; open_parts = three i }) ∙ is ∙ ap held_after (sym (append-nil before))
 
--- a text has as many events as bytes
-pub has_events_bytes : (text : List ℕ) → 0 < length text → HasEvents (bytes text)
+-- nothing was taken, and the first event needs room
+begun_by_nothing : (s t : HeldParts) (es : List Event) → HoldsThen s [] t → NeedsRoom t es → HasBegun HoldsThen NeedsRoom s es t
+begun_by_nothing s t es same needs = record { front = []; rest = es; whole = refl; taken = same; short = needs }
+
+needs_room_bytes : (t : HeldParts) (text : List ℕ) → 0 < length text → NeedsRoom t (bytes text)
 unfolding bytes
-has_events_bytes text some = rw (length-map text byte) some
+needs_room_bytes t [] some = absurd (omega arith)
+needs_room_bytes t (b ∷ text) some = tt
 
--- an opening and a closing are events
-pub has_events_opening : (part : PartName) → HasEvents (opening part)
+pub refused_bytes : (s t : HeldParts) (text : List ℕ) → 0 < length text → HoldsThen s [] t → HasBegun HoldsThen NeedsRoom s (bytes text) t
+refused_bytes s t text some same = begun_by_nothing s t (bytes text) same (needs_room_bytes t text some)
+
+pub refused_opening : (s t : HeldParts) (part : PartName) → HoldsThen s [] t → HasBegun HoldsThen NeedsRoom s (opening part) t
 unfolding opening
-has_events_opening part = omega arith
+refused_opening s t part same = begun_by_nothing s t (opened part ∷ []) same tt
 
-pub has_events_closing : HasEvents closing
+-- the part that was opened last has bytes
+pub refused_closing : (s t : HeldParts) (last : OpenInterval) → HoldsThen s [] t
+    → slice_get t.held.open_parts (length t.held.open_parts - 1) ≡ Some last → last.start ≢ length t.held.text
+    → HasBegun HoldsThen NeedsRoom s closing t
 unfolding closing
-has_events_closing = omega arith
+refused_closing s t last same found differs = begun_by_nothing s t (closed ∷ []) same
+    (subst (λ it. IsSomeAnd it (λ o. o.start ≢ length t.held.text)) (sym found) differs)
 
 module _ {X : Type 0} where
   -- the last of a list, and what is before it

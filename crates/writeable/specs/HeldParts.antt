@@ -1,7 +1,7 @@
 -- What a contract sees of a `PartsSink`: what any events leave there.
 -- Defined in docs/annotated-text.md, "Sinks".
 -- Cited by the calls of `PartsSink`.
-use Rattle.std.specs.Prelude.{◌≡◌, ℕ, ◌+◌, ◌==◌, ◌<◌, List, [], ◌∷◌, ◌++◌, length, Bool, cond, Option, None, Some}
+use Rattle.std.specs.Prelude.{◌≡◌, ◌≢◌, ℕ, ◌+◌, ◌-◌, ◌==◌, List, [], ◌∷◌, ◌++◌, length, Bool, cond, Option, None, Some, IsSomeAnd, slice_get, ⊤}
 use Rattle.writeable.specs.AnnotatedText.{Event, byte, opened, closed, text_of, Interval, end_of, intervals_from}
 use Rattle.writeable.specs.PartName.{PartName}
 
@@ -43,6 +43,13 @@ held_after es = record { text = text_of es; parts = intervals_from 0 es; open_pa
 abbrev pub HoldsThen : HeldParts → List Event → HeldParts → Type 0
 HoldsThen s es t = (before : List Event) → s.held ≡ held_after before → t.held ≡ held_after (before ++ es)
 
--- something is to be taken
-abbrev pub HasEvents : List Event → Type 0
-HasEvents es = 0 < length es
+-- a closing lists a part: one is open, and the one that was opened last has bytes
+abbrev pub ListsAtClose : Held → Type 0
+ListsAtClose h = IsSomeAnd (slice_get h.open_parts (length h.open_parts - 1)) (λ last. last.start ≢ length h.text)
+
+-- the first of these events makes a list longer: a byte, an opening, or a closing that lists a part
+abbrev pub NeedsRoom : HeldParts → List Event → Type 0
+NeedsRoom s [] = ⊥
+NeedsRoom s (byte b ∷ es) = ⊤
+NeedsRoom s (opened p ∷ es) = ⊤
+NeedsRoom s (closed ∷ es) = ListsAtClose s.held

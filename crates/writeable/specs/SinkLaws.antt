@@ -9,7 +9,7 @@ use Rattle.std.specs.List.{FoldsTo, concat}
 use Rattle.std.specs.declared.fmt.Formatter.{Formatter}
 use Rattle.writeable.specs.AnnotatedText.{Event, byte, opened, closed, text_of, HasText}
 use Rattle.writeable.specs.HeldCount.{HeldCount, Counts, PassesLimit}
-use Rattle.writeable.specs.HeldParts.{HeldParts, held_after, HoldsThen, HasEvents}
+use Rattle.writeable.specs.HeldParts.{HeldParts, held_after, HoldsThen, NeedsRoom}
 use Rattle.writeable.specs.HeldText.{HeldText}
 use Rattle.writeable.specs.Order.{order_given, Comparison, Compares}
 use Rattle.writeable.specs.Shown.{ShowsText}
@@ -112,9 +112,12 @@ counts_joined s t u first second begun ended = record {
   fits = λ fitting. ended.fits (begun.fits fitting);
 }
 
--- some events, and more behind them
-pub has_more_events : (first second : List Event) → HasEvents first → HasEvents (first ++ second)
-has_more_events first second some = rw (length-append first second) (omega arith)
+-- events that need room, and more behind them
+pub needs_more_room : (s : HeldParts) (first second : List Event) → NeedsRoom s first → NeedsRoom s (first ++ second)
+needs_more_room s [] second needs = absurd needs
+needs_more_room s (byte b ∷ es) second needs = needs
+needs_more_room s (opened p ∷ es) second needs = needs
+needs_more_room s (closed ∷ es) second needs = needs
 
 -- nothing was taken
 pub held_nothing : (s : HeldParts) → HoldsThen s [] s

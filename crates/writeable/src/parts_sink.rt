@@ -1,4 +1,4 @@
-ghost use Rattle.std.specs.Prelude.{◌≡◌, ◌≤◌, false, [], map, insert, vec_len, cond, is_ok, if◌then◌else◌, ◌==◌, OnOk, OnErr};
+ghost use Rattle.std.specs.Prelude.{◌≡◌, ◌≢◌, ◌≤◌, false, [], map, insert, vec_len, cond, is_ok, if◌then◌else◌, ◌==◌, OnOk, OnErr};
 ghost use Rattle.writeable.specs.HeldParts.{held_after};
 
 use crate::error::Error;
@@ -15,7 +15,8 @@ struct OpenPart {
     part: Part,
 }
 
-/// A sink that holds the text and the intervals of its parts. It refuses only for memory.
+/// A sink that holds the text and the intervals of its parts. It refuses only where it is out of
+/// memory for a byte, an opening, or a closing that lists a part.
 #[derive(Drop)]
 pub struct PartsSink {
     text: String,
@@ -78,7 +79,8 @@ impl PartsSink {
     }
 }
 
-// Lists `last` at its place, where it ends at `end`, unless it has no bytes.
+// Lists `last` at its place, where it ends at `end`, unless it has no bytes. That takes memory only
+// where it is listed.
 fn list_closed(
     parts: &mut Vec<(usize, usize, Part)>,
     last: OpenPart,
@@ -88,6 +90,7 @@ fn list_closed(
     ensures ok { OnOk result (parts.new.items ≡ (if last.start == end then parts.old.items
         else insert parts.old.items last.place (last.start, end, last.part))) }
     ensures err { OnErr result (parts.new.items ≡ parts.old.items) }
+    ensures room { OnErr result (last.start ≢ end) }
 {
     if last.start == end {
         return Ok(());
@@ -100,16 +103,16 @@ fn list_closed(
 
 impl Sink for PartsSink {
     ghost use Rattle.std.specs.Prelude.{Bool};
-    ghost use Rattle.writeable.specs.HeldParts.{HoldsThen, HasEvents};
-    ghost use Rattle.writeable.specs.SinkLaws.{has_more_events, held_nothing, held_joins};
+    ghost use Rattle.writeable.specs.HeldParts.{HoldsThen, NeedsRoom};
+    ghost use Rattle.writeable.specs.SinkLaws.{needs_more_room, held_nothing, held_joins};
 
     ghost takes = { HoldsThen };
 
-    ghost lacks_room = { λ _ es. HasEvents es };
+    ghost lacks_room = { NeedsRoom };
 
     ghost refused = { λ s. s.refused };
 
-    ghost lacks_more = { λ _ first second lacking. has_more_events first second lacking };
+    ghost lacks_more = { needs_more_room };
 
     ghost nothing = { held_nothing };
 

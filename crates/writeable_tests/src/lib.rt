@@ -3,12 +3,10 @@
 #![tactic(auto)]
 
 #[cfg(test)]
-mod count_sink;
-#[cfg(test)]
 mod examples;
 #[cfg(test)]
 mod fakes;
 #[cfg(test)]
 mod parts_sink;
 #[cfg(test)]
-mod refusals;
+mod sinks;

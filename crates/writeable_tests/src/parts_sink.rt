@@ -1,8 +1,8 @@
 //! Which parts a `PartsSink` lists, and where.
-use crate::fakes::{INNER, OUTER};
+use crate::fakes::{INNER, OUTER, Pair};
 use std::alloc::{AllocError, Global};
 use std::test::Fail;
-use writeable::{Error, PartsSink, Sink};
+use writeable::{Error, PartsSink, Sink, Writeable};
 
 // Takes a script: `(` opens A, `[` opens B, `)` and `]` close, all else is text.
 fn written(alloc: Global, script: &str) -> Result<PartsSink, Error> {
@@ -31,11 +31,13 @@ fn listing(alloc: Global, sink: &PartsSink) -> Result<String, AllocError> {
 fn lists_closed_parts_with_bytes(rt: HostRuntime) -> Result<(), Fail> {
     for (script, text, parts) in [
         ("(a[,]b)", "a,b", " 0-3A 1-2B"),
+        ("a[,]", "a,", " 1-2B"),
         // a part without bytes
         ("()a", "a", ""),
         ("(a[])", "a", " 0-1A"),
-        // a part that is still open, and a closed one inside it
+        // a part that is still open, then closed, and a closed one inside an open one
         ("(a", "a", ""),
+        ("(a)", "a", " 0-1A"),
         ("(a[b]", "ab", " 1-2B"),
         // a close alone does nothing
         (")(a))b", "ab", " 0-1A"),
@@ -54,12 +56,12 @@ fn lists_closed_parts_with_bytes(rt: HostRuntime) -> Result<(), Fail> {
 }
 
 #[test]
-fn lists_a_part_once_it_is_closed(rt: HostRuntime) -> Result<(), Fail> {
+fn lists_the_parts_of_a_value(rt: HostRuntime) -> Result<(), Fail> {
     let mut sink = PartsSink::new(rt.alloc());
-    sink.open_part(OUTER)?;
-    sink.write_str("a")?;
-    assert_eq!(rt; sink.parts().len(), 0);
-    sink.close_part()?;
-    assert_eq!(rt; listing(rt.alloc(), &sink)?.as_str(), " 0-1A");
+    Pair.write_to(&mut sink)?;
+    assert_eq!(rt; sink.text(), "a,b");
+    assert_eq!(rt; sink.parts().len(), 2);
+    assert_eq!(rt; sink.parts()[0], (0, 3, OUTER));
+    assert_eq!(rt; sink.parts()[1], (1, 2, INNER));
     Ok(())
 }

@@ -7,7 +7,7 @@ invariant-loop-count g l = record {
   within : l.count ≤ length l.digits.items;
   some : 0 < length l.digits.items → 0 < l.count;
   value : number_from_digits 10 l.digits.items ≡ number_from_digits 10 (take l.count l.digits.items) * 10 ^ (length l.digits.items - l.count);
-  turns : l.turns + l.count ≤ l.initial.turns + length l.digits.items;
+  turns : l.turns + l.count ≡ l.initial.turns + length l.digits.items;
 }
 
 abbrev pub decreases-loop-count : goal.decreases-loop-count

@@ -1,12 +1,12 @@
-use Rattle.std.proofs.Common.{◌≡◌, ◌-◌, length, map, take, [], Some, cond, eqb, insert, ◌∙◌, refl, sym, ap, subst}
-use Rattle.std.proofs.lemmas.List.{map_push}
+use Rattle.std.proofs.Common.{◌≡◌, ◌-◌, length, map, take, Some, cond, eqb, insert, option_map, ◌∙◌, refl, sym, ap, subst}
+use Rattle.std.proofs.lemmas.List.{map_push, length-map}
+use Rattle.std.proofs.lemmas.Option.{slice_get-map}
 use Rattle.std.specs.List.{slice_get}
-use Rattle.writeable.specs.AnnotatedText.{closing}
 use Rattle.writeable.specs.HeldParts.{HeldParts}
 use Rattle.writeable.specs.ListedParts.{interval_of, open_interval}
 use Rattle.writeable.specs.PartName.{name_of}
 use Rattle.writeable.proofs.HeldLemmas.{holds_closing, holds_stray}
-use Rattle.writeable.proofs.ListedPartsLemmas.{holds_same, has_events_closing, split_last, no_last, map_listed}
+use Rattle.writeable.proofs.ListedPartsLemmas.{holds_same, refused_closing, split_last, no_last, map_listed}
 use Rattle.writeable.proofs.parts_sink.PartsSinkSink.close_part.Goals as goal
 
 -- no part is open
@@ -36,11 +36,15 @@ returns-in-Ok-clause-ok c = λ before is.
 
 -- nothing changed
 pub returns-in-Err-clause-begun : goal.returns-in-Err-clause-begun
-returns-in-Err-clause-begun c = record {
-  front = [];
-  rest = closing;
-  whole = refl;
-  taken = λ before is.
-      holds_same _ _ before (ap (λ (s : HeldParts). s.held) c.self.view_is ∙ is) refl (ap (map interval_of) c.in-Err.ensures.err) refl;
-  short = has_events_closing;
-}
+returns-in-Err-clause-begun c =
+    let inside = c.self.inside in
+    let items = inside.open_parts.items in
+    let last = c.in-Some.last in
+    let found = subst (λ xs. slice_get xs (length xs - 1) ≡ Some last) c.deref.ensures.value
+    (sym c.last.ensures.value ∙ sym c.copied.ensures ∙ c.in-Some.is) in
+    let shown = subst (λ n. slice_get (map open_interval items) (n - 1) ≡ Some (open_interval last)) (sym (length-map items open_interval))
+    (slice_get-map open_interval items (length items - 1) ∙ ap (option_map open_interval) found) in
+    let ends = c.len.ensures ∙ inside.text.bytes.ok.0 in
+    refused_closing _ _ (open_interval last) (λ before is.
+    holds_same _ _ before (ap (λ (s : HeldParts). s.held) c.self.view_is ∙ is) refl (ap (map interval_of) c.in-Err.ensures.err) refl)
+    shown (λ same. c.in-Err.ensures.room (same ∙ sym ends))

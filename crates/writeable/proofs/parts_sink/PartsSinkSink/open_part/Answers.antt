@@ -1,12 +1,11 @@
-use Rattle.std.proofs.Common.{map, [], ◌++◌, ◌∙◌, refl, sym, ap}
+use Rattle.std.proofs.Common.{map, ◌++◌, ◌∙◌, refl, sym, ap}
 use Rattle.std.proofs.lemmas.List.{map_push, length-map}
-use Rattle.writeable.specs.AnnotatedText.{opening}
 use Rattle.writeable.specs.HeldParts.{HeldParts}
 use Rattle.writeable.specs.ListedParts.{interval_of, open_interval}
 use Rattle.writeable.specs.PartName.{name_of}
 use Rattle.writeable.proofs.HeldLemmas.{holds_opening}
 use Rattle.writeable.proofs.HeldPartsLemmas.{open_at}
-use Rattle.writeable.proofs.ListedPartsLemmas.{holds_same, has_events_opening}
+use Rattle.writeable.proofs.ListedPartsLemmas.{holds_same, refused_opening}
 use Rattle.writeable.proofs.parts_sink.PartsSinkSink.open_part.Goals as goal
 
 -- one more part is open
@@ -20,11 +19,5 @@ returns-in-Ok-clause-ok c = λ before is.
 
 -- nothing changed
 pub returns-in-Err-clause-begun : goal.returns-in-Err-clause-begun
-returns-in-Err-clause-begun c = record {
-  front = [];
-  rest = opening (name_of c.args.part);
-  whole = refl;
-  taken = λ before is.
-      holds_same _ _ before (ap (λ (s : HeldParts). s.held) c.self.view_is ∙ is) refl refl (ap (map open_interval) c.in-Err.ensures.items);
-  short = has_events_opening (name_of c.args.part);
-}
+returns-in-Err-clause-begun c = refused_opening _ _ (name_of c.args.part) (λ before is.
+    holds_same _ _ before (ap (λ (s : HeldParts). s.held) c.self.view_is ∙ is) refl refl (ap (map open_interval) c.in-Err.ensures.items))

@@ -1,8 +1,7 @@
-use Rattle.std.proofs.Common.{[], ◌∙◌, refl, ap, arith}
-use Rattle.writeable.specs.AnnotatedText.{bytes}
+use Rattle.std.proofs.Common.{◌∙◌, refl, ap, arith}
 use Rattle.writeable.specs.HeldParts.{HeldParts}
 use Rattle.writeable.proofs.HeldLemmas.{holds_bytes}
-use Rattle.writeable.proofs.ListedPartsLemmas.{holds_same, has_events_bytes}
+use Rattle.writeable.proofs.ListedPartsLemmas.{holds_same, refused_bytes}
 use Rattle.writeable.proofs.parts_sink.PartsSinkSink.write_str.Goals as goal
 
 -- the text grew, and nothing else
@@ -12,11 +11,5 @@ returns-in-Ok-clause-ok c = λ before is.
 
 -- nothing changed, and there was something to take
 pub returns-in-Err-clause-begun : goal.returns-in-Err-clause-begun
-returns-in-Err-clause-begun c = record {
-  front = [];
-  rest = bytes c.args.text.now;
-  whole = refl;
-  taken = λ before is.
-      holds_same _ _ before (ap (λ (s : HeldParts). s.held) c.self.view_is ∙ is) c.in-Err.ensures.bytes refl refl;
-  short = has_events_bytes c.args.text.now (omega (arith, c.in-Err.ensures.full, c.self.inside.text.bytes.ok.1));
-}
+returns-in-Err-clause-begun c = refused_bytes _ _ c.args.text.now (omega (arith, c.in-Err.ensures.full, c.self.inside.text.bytes.ok.1)) (λ before is.
+    holds_same _ _ before (ap (λ (s : HeldParts). s.held) c.self.view_is ∙ is) c.in-Err.ensures.bytes refl refl)

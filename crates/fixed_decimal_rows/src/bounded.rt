@@ -1,0 +1,102 @@
+//! A sink with little room.
+ghost use Rattle.std.specs.Prelude.{◌≡◌, false};
+
+use std::alloc::{AllocError, Global};
+use writeable::{Error, Part, Sink, Writeable};
+
+/// A sink with room for so many bytes. It refuses a call that brings more, and takes nothing of that one.
+#[derive(Drop)]
+pub struct Bounded {
+    text: String,
+    room: usize,
+    refused: bool,
+}
+
+impl Bounded {
+    /// An empty sink with room for so many bytes.
+    pub fn new(alloc: Global, room: usize) -> Bounded
+        ensures { result.refused ≡ false }
+    {
+        Bounded {
+            text: String::new(alloc),
+            room,
+            refused: false,
+        }
+    }
+
+    /// What it has taken.
+    pub fn text(&self) -> &str {
+        self.text.as_str()
+    }
+}
+
+impl Sink for Bounded {
+    ghost use Rattle.std.specs.Prelude.{⊤};
+
+    // which events were taken is left open
+    ghost takes = { λ _ _ _. ⊤ };
+
+    ghost lacks_room = { λ _ _. ⊤ };
+
+    ghost refused = { λ s. s.refused };
+
+    ghost lacks_more = { λ _ _ _ lacking. lacking };
+
+    ghost nothing = { λ _. tt };
+
+    ghost joins = { λ _ _ _ _ _ _ _ _. tt };
+
+    fn has_refused(&self) -> bool {
+        self.refused
+    }
+
+    fn write_str(&mut self, text: &str) -> Result<(), Error> {
+        let Some(left) = self.room.checked_sub(text.len()) else {
+            self.refused = true;
+            return Err(Error);
+        };
+        match self.text.push_str(text) {
+            Ok(()) => {
+                self.room = left;
+                Ok(())
+            }
+            Err(_) => {
+                self.refused = true;
+                Err(Error)
+            }
+        }
+    }
+
+    fn open_part(&mut self, _part: Part) -> Result<(), Error> {
+        Ok(())
+    }
+
+    fn close_part(&mut self) -> Result<(), Error> {
+        Ok(())
+    }
+}
+
+/// What a sink holds at the end, behind `refused` where it has refused.
+pub fn held(alloc: Global, text: &str, has_refused: bool) -> Result<String, AllocError> {
+    if !has_refused {
+        return String::from_str(alloc, text);
+    }
+    if text.is_empty() {
+        return String::from_str(alloc, "refused");
+    }
+    format!(in alloc; "refused {text}")
+}
+
+/// What a sink with so much room holds of a value.
+pub fn held_in_room<W: Writeable>(
+    alloc: Global,
+    value: &W,
+    room: usize,
+) -> Result<String, AllocError> {
+    let mut sink = Bounded::new(alloc, room);
+    let answer = value.write_to(&mut sink);
+    if answer.is_err() != sink.has_refused() {
+        return String::from_str(alloc, "neither taken nor refused");
+    }
+    held(alloc, sink.text(), sink.has_refused())
+}

@@ -1,0 +1,30 @@
+//! Answers rows of calls of `fixed_decimal`: each line of standard input is a row, and is written
+//! on standard output with a tab and its answer behind it. The README lists the calls.
+
+#![tactic(auto)]
+
+mod bounded;
+mod compact;
+mod counted;
+mod decimal;
+mod errors;
+mod in_place;
+mod integers;
+mod number;
+mod rows;
+mod runs;
+mod scientific;
+mod step;
+mod stop;
+mod unsigned;
+mod whole;
+mod words;
+
+use std::io;
+
+fn main(rt: HostRuntime) -> io::Result<()> {
+    let alloc = rt.alloc();
+    let input = io::read_to_string(alloc, rt.stdin())?;
+    let output = rows::answered(alloc, input.as_str())?;
+    rt.print(output.as_str())
+}

@@ -1,0 +1,134 @@
+use crate::bounded::held_in_room;
+use crate::step::{Step, number_of, unescaped};
+use crate::stop::Stop;
+use fixed_decimal::ParseError;
+use std::alloc::{AllocError, Global};
+use std::fmt::Display;
+use writeable::Writeable;
+
+/// A type of numbers, with what a row can ask of it.
+pub trait Number: Display + Drop + PartialEq + Sized + Writeable {
+    /// `try_from_str` of the type.
+    fn read(alloc: Global, text: &str) -> Result<Self, ParseError>;
+
+    /// The number that another call makes.
+    fn make(alloc: Global, step: Step<'_>) -> Result<Self, Stop>;
+
+    /// `try_clone` of the type.
+    fn copy(&self) -> Result<Self, AllocError>;
+
+    /// Makes a call that changes the number; false where the type has no such call.
+    fn change(&mut self, _alloc: Global, _step: Step<'_>) -> Result<bool, Stop> {
+        Ok(false)
+    }
+
+    /// The answer of a call that only the type has, and that changes nothing or consumes the number.
+    fn finish(self, _alloc: Global, _step: Step<'_>) -> Result<String, Stop> {
+        Err(Stop::Unknown)
+    }
+}
+
+// The number that the bytes of a text spell, by `try_from_str`.
+fn read_escaped<N: Number>(alloc: Global, text: &str) -> Result<N, Stop> {
+    let bytes = unescaped(alloc, text)?;
+    match str::from_utf8(bytes.as_slice()) {
+        Ok(text) => Ok(N::read(alloc, text)?),
+        Err(_) => Err(Stop::Unknown),
+    }
+}
+
+// The number that a row begins with.
+fn started<N: Number>(alloc: Global, step: Step<'_>) -> Result<N, Stop> {
+    if step.name == "try_from_str" {
+        read_escaped(alloc, step.passed)
+    } else {
+        N::make(alloc, step)
+    }
+}
+
+// Makes a call that changes the number, or puts its copy in its place; false where there is no such call.
+fn changed<N: Number>(alloc: Global, number: &mut N, step: Step<'_>) -> Result<bool, Stop> {
+    if step.name != "try_clone" {
+        return number.change(alloc, step);
+    }
+    let copy = number.copy()?;
+    *number = copy;
+    Ok(true)
+}
+
+// The two ends of a length hint.
+fn hint_of<N: Number>(alloc: Global, number: &N) -> Result<String, Stop> {
+    let hint = number.writeable_length_hint();
+    match hint.high {
+        Some(high) => Ok(format!(in alloc; "{} to {high}", hint.low)?),
+        None => Ok(format!(in alloc; "{} or more", hint.low)?),
+    }
+}
+
+// Whether the number is the one that a text spells.
+fn is_that_of<N: Number>(alloc: Global, number: &N, text: &str) -> Result<String, Stop> {
+    let other = N::read(alloc, text)?;
+    let is_same = *number == other;
+    Ok(format!(in alloc; "{is_same}")?)
+}
+
+// The answer of a call that each type has, or `None` where it is none of these.
+fn common_answer<N: Number>(
+    alloc: Global,
+    number: &N,
+    step: Step<'_>,
+) -> Result<Option<String>, Stop> {
+    let answer = match step.name {
+        "eq" => is_that_of(alloc, number, step.passed)?,
+        "to_string" => format!(in alloc; "{number}")?,
+        "writeable_length_hint" => hint_of(alloc, number)?,
+        "write_to" => held_in_room(alloc, number, number_of(step.passed)?)?,
+        _ => return Ok(None),
+    };
+    Ok(Some(answer))
+}
+
+// The answer of a row's last call: what it answers, or the text of the number that it leaves.
+fn last_answer<N: Number>(alloc: Global, number: N, step: Step<'_>) -> Result<String, Stop> {
+    let mut number = number;
+    if changed(alloc, &mut number, step)? {
+        return Ok(number.write_to_string(alloc)?);
+    }
+    match common_answer(alloc, &number, step)? {
+        Some(answer) => Ok(answer),
+        None => number.finish(alloc, step),
+    }
+}
+
+// The number that is left behind some calls.
+fn left_behind<N: Number>(alloc: Global, start: &str, calls: &[&str]) -> Result<N, Stop> {
+    let mut number: N = started(alloc, Step::of(start))?;
+    for call in calls {
+        if !changed(alloc, &mut number, Step::of(call))? {
+            return Err(Stop::Unknown);
+        }
+    }
+    Ok(number)
+}
+
+/// The answer of a row of calls: the first makes a number, each further one is made on what the one before it left.
+pub fn answer<N: Number>(alloc: Global, fields: &[&str]) -> Result<String, Stop> {
+    let Some((start, calls)) = fields.split_first() else {
+        return Err(Stop::Unknown);
+    };
+    let Some((last, calls)) = calls.split_last() else {
+        let number: N = started(alloc, Step::of(start))?;
+        return Ok(number.write_to_string(alloc)?);
+    };
+    let number: N = left_behind(alloc, start, calls)?;
+    last_answer(alloc, number, Step::of(last))
+}
+
+/// The answer of a concatenation of numbers that overlap: both, handed back.
+pub fn overlap<A: Display, B: Display>(
+    alloc: Global,
+    first: &A,
+    second: &B,
+) -> Result<String, Stop> {
+    Ok(format!(in alloc; "Overlap: {first} and {second}")?)
+}

@@ -1,3 +1,0 @@
-mod fakes;
-mod faults;
-mod running;

@@ -1,0 +1,48 @@
+//! The books that lines name.
+use locale_numbers::SAMPLE_BOOK;
+
+// The English symbols, grouped by three and then by two.
+const THREE_TWO: &str = r#"[[["en","","latn","-","","+","",".",",",3,2,1]],
+ [["latn","0123456789"]],[],[],[]]"#;
+
+// The English symbols, grouped where two digits stand in front.
+const TWO_IN_FRONT: &str = r#"[[["en","","latn","-","","+","",".",",",3,3,2]],
+ [["latn","0123456789"]],[],[],[]]"#;
+
+// The English symbols, not grouped.
+const NOT_GROUPED: &str = r#"[[["en","","latn","-","","+","",".",",",0,3,1]],
+ [["latn","0123456789"]],[],[],[]]"#;
+
+// Symbols for parts of a locale: under a subdivision, a variant, a region, and under a system.
+const PARTS: &str = r#"[[["en-US-u-sd-ustx","","latn","-","","+","",".","t",3,3,1],
+  ["en-US","","latn","-","","+","",".","r",3,3,1],
+  ["de-1996","","latn","-","","+","",".","v",3,3,1],
+  ["de","","latn","-","","+","",".","d",3,3,1],
+  ["de","thai","latn","-","","+","",".","n",3,3,1]],
+ [["latn","0123456789"]],[],[],[]]"#;
+
+// The undetermined language alone, and in a region.
+const UNDETERMINED: &str = r#"[[["und","","latn","-","","+","",".","u",3,3,1],
+  ["und-US","","latn","-","","+","",".","r",3,3,1]],
+ [["latn","0123456789"],["thai","๐๑๒๓๔๕๖๗๘๙"]],[],[],[]]"#;
+
+// Symbols under a system which name the digits of another; of `deva` there are no digits.
+const OTHER_SYSTEM: &str = r#"[[["en","","latn","-","","+","",".",",",3,3,1],
+  ["en","thai","arab","-","","+","",".","t",3,3,1],
+  ["en","deva","arab","-","","+","",".","d",3,3,1],
+  ["en","beng","deva","-","","+","",".","b",3,3,1]],
+ [["latn","0123456789"],["arab","٠١٢٣٤٥٦٧٨٩"],["thai","๐๑๒๓๔๕๖๗๘๙"]],[],[],[]]"#;
+
+/// The text of the book with this name.
+pub fn book_named(name: &str) -> Option<&'static str> {
+    match name {
+        "sample" => Some(SAMPLE_BOOK),
+        "three-two" => Some(THREE_TWO),
+        "two-in-front" => Some(TWO_IN_FRONT),
+        "not-grouped" => Some(NOT_GROUPED),
+        "parts" => Some(PARTS),
+        "undetermined" => Some(UNDETERMINED),
+        "other-system" => Some(OTHER_SYSTEM),
+        _ => None,
+    }
+}

@@ -1,0 +1,44 @@
+//! Which call a line asks for.
+use crate::row_error::RowError;
+use crate::{answers, faults, plain, runs, starts};
+use std::alloc::Global;
+use std::rt::Files;
+
+// What a call on a reader and a writer leaves.
+fn run_result<F: Files>(
+    rt: &F,
+    alloc: Global,
+    call: &str,
+    arguments: &[&str],
+) -> Result<String, RowError> {
+    match call {
+        "run" => runs::run_row(alloc, arguments),
+        "run_tracked" => runs::tracked_row(alloc, arguments),
+        "run_cuts" => runs::cuts_row(alloc, arguments),
+        "run_with" => runs::shouted_row(alloc, arguments),
+        "program" => starts::program_row(rt, alloc, arguments),
+        _ => Err(RowError::NotUnderstood),
+    }
+}
+
+/// What the call of a line answers.
+pub fn result_of<F: Files>(rt: &F, alloc: Global, line: &str) -> Result<String, RowError> {
+    let fields: Vec<&str> = line.split('\t').collect(alloc)?;
+    let Some((call, arguments)) = fields.as_slice().split_first() else {
+        return Err(RowError::NotUnderstood);
+    };
+    match *call {
+        "answer" => answers::answer_row(alloc, arguments),
+        "from_json" => answers::book_row(alloc, arguments),
+        "BookError" => faults::book_row(alloc, arguments),
+        "RunError" => faults::run_row(alloc, arguments),
+        "ProgramFault" => faults::program_row(alloc, arguments),
+        "ReadFault" => faults::read_row(alloc, arguments),
+        "WriteFault" => faults::write_row(alloc, arguments),
+        "read_words" => starts::words_row(alloc, arguments),
+        "push_plain" => plain::plain_row(alloc, arguments),
+        "push_unsigned" => plain::unsigned_row(alloc, arguments),
+        "check" => plain::check_row(alloc, arguments),
+        other => run_result(rt, alloc, other, arguments),
+    }
+}

@@ -1,0 +1,47 @@
+//! Repeats each line of standard input, a call and its arguments, with what the call answers.
+
+#![tactic(auto)]
+
+mod answers;
+mod books;
+mod calls;
+mod escapes;
+mod faults;
+mod giving;
+mod narrow;
+mod numbers;
+mod pieces;
+mod plain;
+mod row_error;
+mod runs;
+mod shelf;
+mod shouter;
+mod starts;
+mod taking;
+
+use row_error::RowError;
+use std::alloc::Global;
+use std::io::{self, BufRead, BufReader};
+use std::rt::Files;
+
+// Prints a line, and behind it what its call answers. An empty line and one that begins with `#` are
+// headings, which ask for nothing.
+fn print_row<R: Files + Print>(rt: &R, alloc: Global, line: &str) -> io::Result<()> {
+    if line.is_empty() || line.starts_with('#') {
+        return println!(rt; "{line}");
+    }
+    match calls::result_of(rt, alloc, line) {
+        Ok(result) => println!(rt; "{line}\t{result}"),
+        Err(RowError::NotUnderstood) => println!(rt; "{line}\t?"),
+        Err(RowError::Memory) => Err(io::Error::from(io::ErrorKind::OutOfMemory)),
+    }
+}
+
+fn main(rt: HostRuntime) -> io::Result<()> {
+    let alloc = rt.alloc();
+    for line in BufReader::new(alloc, rt.reader())?.lines(alloc) {
+        let line = line?;
+        print_row(&rt, alloc, &line)?;
+    }
+    Ok(())
+}

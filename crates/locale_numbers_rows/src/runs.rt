@@ -1,0 +1,215 @@
+//! Runs: what a reader gave, what a writer holds.
+ghost use Rattle.std.specs.Prelude.{◌≡◌, ◌≤◌, false, IfOk};
+
+use crate::answers::book_of;
+use crate::escapes::{escaped, unescaped};
+use crate::giving::Giving;
+use crate::narrow::Narrow;
+use crate::numbers::count;
+use crate::pieces::Pieces;
+use crate::row_error::RowError;
+use crate::shouter::Shouter;
+use crate::taking::Taking;
+use locale_numbers::{Book, ByteReader, ByteWriter, Report, RunError, Tracked, run};
+use locale_numbers_engine::run_with;
+use std::alloc::Global;
+
+/// A reader of bytes.
+pub fn reader_of(input: &[u8], giving: Giving) -> Pieces<'_>
+    ensures { result.failed ≡ false }
+{
+    Pieces {
+        rest: input,
+        at_first: giving.at_first,
+        at_once: giving.at_once,
+        reads_left: giving.reads,
+        ends_badly: giving.ends_badly,
+        failed: false,
+    }
+}
+
+/// A writer that holds nothing yet.
+pub fn writer_of(alloc: Global, taking: Taking) -> Narrow
+    ensures { result.failed ≡ false }
+{
+    Narrow {
+        taken: Vec::new(alloc),
+        at_once: taking.at_once,
+        room: taking.room,
+        full: taking.full,
+        flush_fails: taking.flush_fails,
+        flushes: 0,
+        failed: false,
+    }
+}
+
+// Which sides have failed.
+fn failed_sides(reader: bool, writer: bool) -> &'static str {
+    match (reader, writer) {
+        (false, false) => "none",
+        (true, false) => "reader",
+        (false, true) => "writer",
+        (true, true) => "both",
+    }
+}
+
+/// An outcome, and behind it what it left: how often the writer was flushed, which sides have failed,
+/// and what the writer holds.
+pub fn left_text(
+    alloc: Global,
+    outcome: &str,
+    reader: &Pieces<'_>,
+    writer: &Narrow,
+) -> Result<String, RowError> {
+    let flushes = writer.flushes;
+    let failed = failed_sides(reader.has_failed(), writer.has_failed());
+    let output = escaped(alloc, &writer.taken)?;
+    Ok(format!(in alloc; "{outcome}, flushed {flushes}, failed {failed}, \"{output}\"")?)
+}
+
+// What a run answers.
+fn outcome_text(alloc: Global, outcome: Result<Report, RunError>) -> Result<String, RowError> {
+    match outcome {
+        Ok(report) => {
+            let lines = report.lines;
+            let made = report.made;
+            Ok(format!(in alloc; "ok, lines {lines}, made {made}")?)
+        }
+        Err(refusal) => Ok(format!(in alloc; "{refusal:?}")?),
+    }
+}
+
+/// A capacity of one at least.
+pub fn capacity_of(field: &str) -> Result<usize, RowError>
+    ensures { IfOk result (λ capacity. 1 ≤ capacity) }
+{
+    let capacity = count(field)?;
+    if capacity == 0 {
+        return Err(RowError::NotUnderstood);
+    }
+    Ok(capacity)
+}
+
+// What a run over a book leaves.
+fn run_text(
+    alloc: Global,
+    book: &Book,
+    capacity: usize,
+    giving: Giving,
+    taking: Taking,
+    input: &[u8],
+) -> Result<String, RowError>
+    requires { 1 ≤ capacity }
+{
+    let mut reader = reader_of(input, giving);
+    let mut writer = writer_of(alloc, taking);
+    let outcome = run(alloc, book, capacity, &mut reader, &mut writer);
+    let outcome = outcome_text(alloc, outcome)?;
+    left_text(alloc, &outcome, &reader, &writer)
+}
+
+/// `run BOOK CAPACITY READER WRITER INPUT`: what the run leaves.
+pub fn run_row(alloc: Global, arguments: &[&str]) -> Result<String, RowError> {
+    let [book, capacity, reader, writer, input] = arguments else {
+        return Err(RowError::NotUnderstood);
+    };
+    let capacity = capacity_of(capacity)?;
+    let giving = Giving::from_field(alloc, reader)?;
+    let taking = Taking::from_field(alloc, writer)?;
+    let input = unescaped(alloc, input)?;
+    let book = book_of(alloc, book)?;
+    run_text(alloc, &book, capacity, giving, taking, &input)
+}
+
+// What each run leaves whose first read gives 1 byte, 2 bytes and so on, up to the whole input.
+fn cut_text(alloc: Global, book: &Book, capacity: usize, input: &[u8]) -> Result<String, RowError>
+    requires { 1 ≤ capacity }
+{
+    let wide = Giving::steady(1000);
+    let whole = run_text(alloc, book, capacity, wide, Taking::steady(1000), input)?;
+    for at_first in 1..input.len() {
+        let mut giving = wide;
+        giving.at_first = at_first;
+        let cut = run_text(alloc, book, capacity, giving, Taking::steady(1000), input)?;
+        if cut.as_str() != whole.as_str() {
+            return Ok(format!(in alloc; "cut at {at_first}: {cut}")?);
+        }
+    }
+    Ok(whole)
+}
+
+/// `run_cuts BOOK CAPACITY INPUT`: what each run leaves whose first read ends at another byte of the
+/// input, where it is the same for all.
+pub fn cuts_row(alloc: Global, arguments: &[&str]) -> Result<String, RowError> {
+    let [book, capacity, input] = arguments else {
+        return Err(RowError::NotUnderstood);
+    };
+    let capacity = capacity_of(capacity)?;
+    let input = unescaped(alloc, input)?;
+    let book = book_of(alloc, book)?;
+    cut_text(alloc, &book, capacity, &input)
+}
+
+// What a run leaves whose reader and writer are std's own.
+fn tracked_text(
+    alloc: Global,
+    book: &Book,
+    capacity: usize,
+    input: &[u8],
+) -> Result<String, RowError>
+    requires { 1 ≤ capacity }
+{
+    let mut reader = Tracked::new(input);
+    let mut writer = Tracked::new(Vec::new(alloc));
+    let outcome = run(alloc, book, capacity, &mut reader, &mut writer);
+    let outcome = outcome_text(alloc, outcome)?;
+    let held = writer.into_inner();
+    let output = escaped(alloc, &held)?;
+    Ok(format!(in alloc; "{outcome}, \"{output}\"")?)
+}
+
+/// `run_tracked BOOK CAPACITY INPUT`: what the run leaves between a slice and a `Vec`.
+pub fn tracked_row(alloc: Global, arguments: &[&str]) -> Result<String, RowError> {
+    let [book, capacity, input] = arguments else {
+        return Err(RowError::NotUnderstood);
+    };
+    let capacity = capacity_of(capacity)?;
+    let input = unescaped(alloc, input)?;
+    let book = book_of(alloc, book)?;
+    tracked_text(alloc, &book, capacity, &input)
+}
+
+// What a run leaves whose answerer is refused memory from one of its answers on.
+fn shouted_text(
+    alloc: Global,
+    refused_from: u64,
+    giving: Giving,
+    taking: Taking,
+    input: &[u8],
+) -> Result<String, RowError> {
+    let mut shouter = Shouter {
+        answers: 0,
+        refused_from,
+    };
+    let mut reader = reader_of(input, giving);
+    let mut writer = writer_of(alloc, taking);
+    let outcome = run_with(alloc, &mut shouter, &mut reader, &mut writer);
+    let outcome = outcome_text(alloc, outcome)?;
+    left_text(alloc, &outcome, &reader, &writer)
+}
+
+/// `run_with ANSWERS READER WRITER INPUT`: what a run leaves that answers in upper case, and is refused
+/// memory after so many answers, or never (`all`).
+pub fn shouted_row(alloc: Global, arguments: &[&str]) -> Result<String, RowError> {
+    let [answers, reader, writer, input] = arguments else {
+        return Err(RowError::NotUnderstood);
+    };
+    let refused_from = match *answers {
+        "all" => u64::MAX,
+        answers => count(answers)? as u64,
+    };
+    let giving = Giving::from_field(alloc, reader)?;
+    let taking = Taking::from_field(alloc, writer)?;
+    let input = unescaped(alloc, input)?;
+    shouted_text(alloc, refused_from, giving, taking, &input)
+}

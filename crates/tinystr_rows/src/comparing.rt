@@ -1,0 +1,60 @@
+//! Equality, order, hash and printing, and the empty text.
+
+ghost use Rattle.std.specs.Prelude.{◌≤◌};
+
+use crate::argument::Argument;
+use crate::line::Fault;
+use crate::writing::{put_bytes, put_flag};
+use std::collections::hash_map::DefaultHasher;
+use std::hash::{Hash, Hasher};
+use tinystr::TinyAsciiStr;
+
+pub fn answer<const N: usize>(
+    call: &str,
+    arguments: &[Argument<'_>],
+    out: &mut String,
+) -> Result<(), Fault>
+    requires { N ≤ 16 }
+{
+    match arguments {
+        [] if call == "default" => put_bytes(out, TinyAsciiStr::<N>::default().as_utf8()),
+        [text] => answer_one(call, text.small::<N>()?, out),
+        [one, other] => answer_two(call, one.small::<N>()?, other.small::<N>()?, out),
+        _ => Err(Fault::NotUnderstood),
+    }
+}
+
+fn answer_one<const N: usize>(
+    call: &str,
+    text: TinyAsciiStr<N>,
+    out: &mut String,
+) -> Result<(), Fault> {
+    match call {
+        "hashes_as_its_text" => return put_flag(out, hash_of(&text) == hash_of(&text.as_str())),
+        "{}" => write!(out, "{text}")?,
+        "{:>6}" => write!(out, "{text:>6}")?,
+        "{:?}" => write!(out, "{text:?}")?,
+        _ => return Err(Fault::NotUnderstood),
+    }
+    Ok(())
+}
+
+fn answer_two<const N: usize>(
+    call: &str,
+    one: TinyAsciiStr<N>,
+    other: TinyAsciiStr<N>,
+    out: &mut String,
+) -> Result<(), Fault> {
+    match call {
+        "eq" => write!(out, "{}", one == other)?,
+        "cmp" => write!(out, "{:?}", one.cmp(&other))?,
+        _ => return Err(Fault::NotUnderstood),
+    }
+    Ok(())
+}
+
+fn hash_of<T: Hash>(value: &T) -> u64 {
+    let mut hasher = DefaultHasher::new();
+    value.hash(&mut hasher);
+    hasher.finish()
+}

@@ -1,0 +1,63 @@
+//! The JSON forms of texts and of bytes.
+
+ghost use Rattle.std.specs.Prelude.{◌≤◌};
+
+use crate::argument::Argument;
+use crate::line::Fault;
+use crate::writing::{put_bytes, put_read, put_unvalidated};
+use serde_json::Value;
+use tinystr::{TinyAsciiStr, UnvalidatedTinyAsciiStr};
+
+pub fn answer<const N: usize>(
+    call: &str,
+    arguments: &[Argument<'_>],
+    out: &mut String,
+) -> Result<(), Fault>
+    requires { N ≤ 16 }
+{
+    let [argument] = arguments else {
+        return Err(Fault::NotUnderstood);
+    };
+    match call {
+        "to_json" => put_json(argument.small::<N>()?, out),
+        "from_json" => put_from_json::<N>(argument.word, out),
+        "unvalidated.from_json" => put_unvalidated_from_json::<N>(argument.word, out),
+        _ => Err(Fault::NotUnderstood),
+    }
+}
+
+/// Writes the text that the JSON form of a small text holds.
+fn put_json<const N: usize>(small: TinyAsciiStr<N>, out: &mut String) -> Result<(), Fault> {
+    let value = small.to_json(*out.allocator())?;
+    let Some(text) = value.as_str() else {
+        return Err(Fault::NotUnderstood);
+    };
+    put_bytes(out, text.as_bytes())
+}
+
+fn put_from_json<const N: usize>(json: &str, out: &mut String) -> Result<(), Fault>
+    requires { N ≤ 16 }
+{
+    let value = value_of(json, out)?;
+    put_read(out, TinyAsciiStr::<N>::from_json(&value))
+}
+
+fn put_unvalidated_from_json<const N: usize>(json: &str, out: &mut String) -> Result<(), Fault>
+    requires { N ≤ 16 }
+{
+    let value = value_of(json, out)?;
+    put_unvalidated(out, UnvalidatedTinyAsciiStr::<N>::from_json(&value))
+}
+
+fn value_of(json: &str, out: &String) -> Result<Value, Fault> {
+    match Value::from_str(*out.allocator(), json) {
+        Ok(value) => Ok(value),
+        Err(error) => {
+            if error.is_memory() {
+                Err(Fault::Memory)
+            } else {
+                Err(Fault::NotUnderstood)
+            }
+        }
+    }
+}
