@@ -5,3 +5,4 @@ pub mod Fields
 pub mod Book
 pub mod Laws
 pub mod Choice
+pub mod Room

@@ -1,10 +1,11 @@
 //! One entry of an array.
-ghost use Rattle.std.specs.Prelude.{◌≡◌, IfOk, IsErrOf, IfErr, Some, None, option_map};
+ghost use Rattle.std.specs.Prelude.{◌≡◌, true, IfOk, IsErrOf, IfErr, Some, None, option_map};
 ghost use Rattle.serde_json.specs.View.{view};
 ghost use Rattle.locale_numbers_book.specs.BookError.{IsShapeOrMemory};
-ghost use Rattle.locale_numbers_book.specs.Book.{symbols_key, grouping_sizes_of, symbols_of, has_count, symbols_entry, digits_entry};
+ghost use Rattle.locale_numbers_book.specs.Book.{symbols_key, grouping_sizes_of, symbols_of, has_count, has_texts, symbols_entry, digits_entry};
+ghost use Rattle.locale_numbers_book.specs.Room.{locale_may_grow, symbols_may_grow};
 
-use super::fields::{digits, locale, numsys, size, symbol, system, system_or_none};
+use super::fields::{digits, has_text, locale, numsys, size, symbol, system, system_or_none};
 use crate::BookError;
 use crate::key::SymbolsKey;
 use icu_locale_core::subtags::Subtag;
@@ -15,6 +16,7 @@ use std::alloc::Global;
 fn key(alloc: Global, entry: &Value) -> Result<SymbolsKey, BookError>
     ensures value { IfOk result (λ key. symbols_key (view entry.now) ≡ Some key) }
     ensures shape { IsErrOf result BookError.Shape → symbols_key (view entry.now) ≡ None }
+    ensures room { IsErrOf result BookError.Memory → locale_may_grow 0 (view entry.now) ≡ true }
     ensures only { IfErr result IsShapeOrMemory }
 {
     let locale = locale(alloc, entry, 0)?;
@@ -37,9 +39,23 @@ fn grouping_sizes(entry: &Value) -> Option<GroupingSizes>
     })
 }
 
+fn has_texts(entry: &Value) -> bool
+    ensures { result ≡ has_texts (view entry.now) }
+{
+    has_text(entry, 3)
+        && has_text(entry, 4)
+        && has_text(entry, 5)
+        && has_text(entry, 6)
+        && has_text(entry, 7)
+        && has_text(entry, 8)
+}
+
 fn symbols(alloc: Global, entry: &Value) -> Result<DecimalSymbols, BookError>
     ensures value { IfOk result (λ symbols. symbols_of (view entry.now) ≡ Some symbols) }
     ensures shape { IsErrOf result BookError.Shape → symbols_of (view entry.now) ≡ None }
+
+    // Fields that are no symbols are never told as out of memory.
+    ensures none { symbols_of (view entry.now) ≡ None → IsErrOf result BookError.Shape }
     ensures only { IfErr result IsShapeOrMemory }
 {
     let Some(numsys) = numsys(entry, 2) else {
@@ -48,6 +64,9 @@ fn symbols(alloc: Global, entry: &Value) -> Result<DecimalSymbols, BookError>
     let Some(grouping_sizes) = grouping_sizes(entry) else {
         return Err(BookError::Shape);
     };
+    if !has_texts(entry) {
+        return Err(BookError::Shape);
+    }
     let minus_sign_prefix = symbol(alloc, entry, 3)?;
     let minus_sign_suffix = symbol(alloc, entry, 4)?;
     let plus_sign_prefix = symbol(alloc, entry, 5)?;
@@ -83,6 +102,9 @@ pub fn symbols_entry(
 ) -> Result<(SymbolsKey, DecimalSymbols), BookError>
     ensures value { IfOk result (λ pair. symbols_entry (view entry.now) ≡ Some pair) }
     ensures shape { IsErrOf result BookError.Shape → symbols_entry (view entry.now) ≡ None }
+
+    // A fault is told as out of memory only behind a locale whose reading may take memory.
+    ensures room { IsErrOf result BookError.Memory → symbols_may_grow (view entry.now) ≡ true }
     ensures only { IfErr result IsShapeOrMemory }
 {
     if !has_count(entry, 12) {
@@ -97,6 +119,9 @@ pub fn symbols_entry(
 pub fn digits_entry(alloc: Global, entry: &Value) -> Result<(Subtag, [char; 10]), BookError>
     ensures value { IfOk result (λ pair. digits_entry (view entry.now) ≡ Some pair) }
     ensures shape { IsErrOf result BookError.Shape → digits_entry (view entry.now) ≡ None }
+
+    // No fault of an entry of digits is ever told as out of memory.
+    ensures none { digits_entry (view entry.now) ≡ None → IsErrOf result BookError.Shape }
     ensures only { IfErr result IsShapeOrMemory }
 {
     if !has_count(entry, 2) {

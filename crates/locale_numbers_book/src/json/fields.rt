@@ -1,11 +1,12 @@
 //! One field of an entry.
-ghost use Rattle.std.specs.Prelude.{◌≡◌, IfOk, IsErrOf, IfErr, Some, None, chars, option_map, string_bytes};
+ghost use Rattle.std.specs.Prelude.{◌≡◌, true, IfOk, IsErrOf, IfErr, Some, None, chars, is_some, length, option_map, string_bytes};
 ghost use Rattle.std.specs.List.{list_all};
 ghost use Rattle.serde_json.specs.View.{view};
 ghost use Rattle.serde_json.specs.Find.{as_str};
 ghost use Rattle.icu_locale_core.specs.Pieces.{pieces};
 ghost use Rattle.locale_numbers_book.specs.BookError.{IsShapeOrMemory};
 ghost use Rattle.locale_numbers_book.specs.Book.{field_at};
+ghost use Rattle.locale_numbers_book.specs.Room.{locale_may_grow, tag_may_grow};
 ghost use Rattle.locale_numbers_book.specs.TagReading.{data_locale_of};
 ghost use Rattle.locale_numbers_book.specs.Fields.{is_plain, is_small_letter_or_digit, is_system_name, plain_text_in, system_named, system_in, system_or_none_in, locale_in, size_in, digits_in, ten_characters};
 
@@ -41,12 +42,19 @@ fn plain_text(entry: &Value, place: usize) -> Option<&str>
     }
 }
 
+/// Whether a text without tab and line feed stands at a place of an entry.
+pub fn has_text(entry: &Value, place: usize) -> bool
+    ensures { result ≡ is_some (field_at plain_text_in place (view entry.now)) }
+{
+    plain_text(entry, place).is_some()
+}
+
 /// The text at a place of an entry, as a `String`.
 pub fn symbol(alloc: Global, entry: &Value, place: usize) -> Result<String, BookError>
     ensures value { IfOk result (λ text. field_at plain_text_in place (view entry.now) ≡ Some (chars (string_bytes text))) }
     ensures shape { IsErrOf result BookError.Shape → field_at plain_text_in place (view entry.now) ≡ None }
 
-    // A field that is not there, or is no such text, is never told as want of memory.
+    // A field that is not there, or is no such text, is never told as out of memory.
     ensures none { field_at plain_text_in place (view entry.now) ≡ None → IsErrOf result BookError.Shape }
     ensures only { IfErr result IsShapeOrMemory }
 {
@@ -73,6 +81,9 @@ pub fn size(entry: &Value, place: usize) -> Option<u8>
 fn read_locale(alloc: Global, text: &str) -> Result<DataLocale, BookError>
     ensures value { IfOk result (λ locale. data_locale_of (pieces text.now) ≡ Some locale) }
     ensures shape { IsErrOf result BookError.Shape → data_locale_of (pieces text.now) ≡ None }
+
+    // A text that begins as no tag does, or has no variant and no extension, is never told as out of memory.
+    ensures room { IsErrOf result BookError.Memory → tag_may_grow (pieces text.now) ≡ true }
     ensures only { IfErr result IsShapeOrMemory }
 {
     match DataLocale::try_from_utf8(alloc, text.as_bytes()) {
@@ -88,6 +99,9 @@ fn read_locale(alloc: Global, text: &str) -> Result<DataLocale, BookError>
 pub fn locale(alloc: Global, entry: &Value, place: usize) -> Result<DataLocale, BookError>
     ensures value { IfOk result (λ locale. field_at locale_in place (view entry.now) ≡ Some locale) }
     ensures shape { IsErrOf result BookError.Shape → field_at locale_in place (view entry.now) ≡ None }
+
+    // Nor is a field that is no text.
+    ensures room { IsErrOf result BookError.Memory → locale_may_grow place (view entry.now) ≡ true }
     ensures only { IfErr result IsShapeOrMemory }
 {
     match text_at(entry, place) {
@@ -186,15 +200,28 @@ fn ten_of(characters: &[char]) -> Option<[char; 10]>
     Some(digits)
 }
 
+/// How many characters a text has.
+fn count_of(text: &str) -> usize
+    ensures { result ≡ length (chars text.now) }
+{
+    text.chars().count()
+}
+
 /// The ten characters at a place of an entry.
 pub fn digits(alloc: Global, entry: &Value, place: usize) -> Result<[char; 10], BookError>
     ensures value { IfOk result (λ digits. field_at digits_in place (view entry.now) ≡ Some digits) }
     ensures shape { IsErrOf result BookError.Shape → field_at digits_in place (view entry.now) ≡ None }
+
+    // A field that is not there, or is no such text, is never told as out of memory.
+    ensures none { field_at digits_in place (view entry.now) ≡ None → IsErrOf result BookError.Shape }
     ensures only { IfErr result IsShapeOrMemory }
 {
     let Some(text) = plain_text(entry, place) else {
         return Err(BookError::Shape);
     };
+    if count_of(text) != 10 {
+        return Err(BookError::Shape);
+    }
     let Ok(list) = characters(alloc, text) else {
         return Err(BookError::Memory);
     };

@@ -9,5 +9,6 @@ pub returns-in_default : goal.returns-in_default
 returns-in_default c = record {
   value = tt;
   shape = λ is. rw (← c.as_bytes.ensures.value) (data_faulty (pieces c.as_bytes.result.now) c.in-Err.fault (other_one c.in-Err.ensures.fault c.in_default.not-Memory));
+  room = λ is. cc;
   only = tt;
 }
