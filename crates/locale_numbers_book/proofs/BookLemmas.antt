@@ -1,8 +1,9 @@
 -- Lemmas on the arrays of a book: `specs/Book.antt`.
-use Rattle.std.proofs.Common.{IsErrOf, Err, get_or, drop, drop-cons, add-one, ◌<◌, true≢false, append_assoc, ◌≡◌, if◌then◌else◌, ℕ, ◌+◌, suc, Bool, true, false, ◌&&◌, not, List, [], ◌∷◌, ◌++◌, length, Option, Some, None, is_some, option_map, refl, sym, ap, ◌∙◌, arith}
+use Rattle.std.proofs.Common.{IsErrOf, Err, get_or, drop, drop-cons, add-one, ◌<◌, true≢false, append_assoc, ◌≡◌, if◌then◌else◌, ℕ, ◌+◌, suc, Bool, true, false, ◌&&◌, ◌||◌, ◌==◌, not, List, [], ◌∷◌, ◌++◌, length, Option, Some, None, is_some, option_map, refl, sym, ap, ◌∙◌, arith}
 use Rattle.std.specs.Bool.{Decides}
 use Rattle.std.specs.Option.{option_eq}
 use Rattle.std.specs.Str.{bytes_eq}
+use Rattle.std.proofs.lemmas.Bool.{eqb-true}
 use Rattle.std.proofs.lemmas.Slice.Eq.{bytes_eq-Decides}
 use Rattle.std.proofs.lemmas.Bool.Decides.{Decides-and, Decides-like, same_from_decides}
 use Rattle.icu_locale_core.specs.Subtags.{Text}
@@ -11,6 +12,7 @@ use Rattle.serde_json.specs.Data.{Data, Items}
 use Rattle.serde_json.specs.View.{items_view, view}
 use Rattle.serde_json.specs.declared.value.Value.{Value}
 use Rattle.locale_numbers_book.specs.Book.{count_of_items, all_of, table_at, has_no_key_twice, table_in, SymbolsKey, same_subdivision, same_data_locale, same_key, BookTables, IsBook}
+use Rattle.locale_numbers_book.specs.Room.{begins_with}
 
 pub count-items : (fields : List Value) → count_of_items (items_view fields) ≡ length fields
 count-items [] = refl
@@ -102,6 +104,24 @@ module _ {E : Type 0} (read : Data → Option E) where
   one_more values i value entry done below is reads all =
       let cons : drop i values ≡ value ∷ drop (i + 1) values = next_item values i value below is in
       all ∙ ap (λ xs. option_map (λ (rest : List E). done ++ rest) (all_of read (items_view xs))) cons ∙ rw reads (moved entry done (all_of read (items_view (drop (i + 1) values))))
+
+-- ---- where memory may be wanting
+
+pub either : (a b : Bool) → b ≡ true → (a || b) ≡ true
+either true b h = refl
+either false b h = h
+
+-- an array that has such an entry at its first index begins with one
+pub begins : (may_grow : Data → Bool) (values : List Value) (i : ℕ) (value : Value) → i < length values → value ≡ get_or values i value → may_grow (view value) ≡ true
+    → (i == 0 || begins_with may_grow (items_view values)) ≡ true → begins_with may_grow (items_view values) ≡ true
+begins may_grow values i value below is grows first = by (i == 0) refl first
+  where
+    by : (b : Bool) → (i == 0) ≡ b → (b || begins_with may_grow (items_view values)) ≡ true → begins_with may_grow (items_view values) ≡ true
+    by false e h = h
+    by true e h =
+        let cons : drop i values ≡ value ∷ drop (i + 1) values = next_item values i value below is in
+        let whole : values ≡ value ∷ drop (i + 1) values = sym (ap (λ n. drop n values) (eqb-true i 0 e)) ∙ cons in
+        ap (λ xs. begins_with may_grow (items_view xs)) whole ∙ grows
 
 -- ---- keys are one exactly where they are equal
 

@@ -1,5 +1,5 @@
 //! A book of tables.
-ghost use Rattle.std.specs.Prelude.{◌≡◌, IfOk, IsErrOf, IfErr, Some, None};
+ghost use Rattle.std.specs.Prelude.{◌≡◌, true, IfOk, IsErrOf, IfErr, Some, None};
 ghost use Rattle.std.specs.Option.{option_copied};
 ghost use Rattle.std.specs.Str.{bytes_eq};
 ghost use Rattle.serde_json.specs.View.{view};
@@ -7,6 +7,7 @@ ghost use Rattle.serde_json.specs.Data.{Data};
 ghost use Rattle.locale_numbers_book.specs.Json.{Reads, IsNoJson};
 ghost use Rattle.locale_numbers_book.specs.BookError.{IsShapeOrMemory, IsJsonShapeOrMemory};
 ghost use Rattle.locale_numbers_book.specs.Book.{IsBook, IsNoBook, table_at, same_key};
+ghost use Rattle.locale_numbers_book.specs.Room.{book_may_grow};
 
 use crate::BookError;
 use crate::json::{array_at, digits_table, has_form, symbols_table, value_of};
@@ -39,6 +40,9 @@ impl Model for Book {
 fn book_of(alloc: Global, value: &Value) -> Result<Book, BookError>
     ensures value { IfOk result (IsBook (view value.now)) }
     ensures shape { IsErrOf result BookError.Shape → IsNoBook (view value.now) }
+
+    // A value of another form is never told as out of memory.
+    ensures room { IsErrOf result BookError.Memory → book_may_grow (view value.now) ≡ true }
     ensures only { IfErr result IsShapeOrMemory }
 {
     if !has_form(value) {

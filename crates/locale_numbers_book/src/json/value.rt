@@ -1,5 +1,5 @@
 //! Bytes as a JSON value.
-ghost use Rattle.std.specs.Prelude.{◌≡◌, IfOk, IsErrOf, IfErr};
+ghost use Rattle.std.specs.Prelude.{◌≡◌, ◌<◌, IfOk, IsErrOf, IfErr, length};
 ghost use Rattle.serde_json.specs.View.{view};
 ghost use Rattle.locale_numbers_book.specs.Json.{Reads, IsNoJson};
 ghost use Rattle.locale_numbers_book.specs.BookError.{IsJsonOrMemory};
@@ -12,6 +12,7 @@ use std::alloc::Global;
 pub fn value_of(alloc: Global, bytes: &[u8]) -> Result<Value, BookError>
     ensures value { IfOk result (λ value. Reads bytes.now (view value)) }
     ensures json { IsErrOf result BookError.Json → IsNoJson bytes.now }
+    ensures room { IsErrOf result BookError.Memory → 0 < length bytes.now }
     ensures only { IfErr result IsJsonOrMemory }
 {
     match Value::from_slice(alloc, bytes) {

@@ -1,7 +1,9 @@
+use Rattle.std.proofs.Common.{ap, is_some}
+use Rattle.locale_numbers_book.specs.Room.{digits_may_grow}
 use Rattle.serde_json.specs.View.{items_view}
 use Rattle.locale_numbers_book.specs.Book.{digits_entry}
 use Rattle.std.specs.Str.{bytes_eq}
-use Rattle.locale_numbers_book.proofs.BookLemmas.{err_at, one_more, once_more, no_table, bytes_eq_symmetric}
+use Rattle.locale_numbers_book.proofs.BookLemmas.{err_at, one_more, either, begins, once_more, no_table, bytes_eq_symmetric}
 use Rattle.locale_numbers_book.proofs.json.tables.digits_table.Goals as goal
 
 pub loop-entry-preserved : goal.loop-entry-preserved
@@ -11,6 +13,7 @@ loop-entry-preserved c =
     record {
       all = rw c.in-Ok.ensures.added read;
       once = rw c.in-Ok.ensures.added (once_more bytes_eq bytes_eq_symmetric _ c.in_ok-system.system c.in_ok-system.digits c.in-Ok.ensures.fresh c.loop-entry.invariant.once);
+      first = either _ _ (begins digits_may_grow c.args.entries.now c.loop-entry.entry-index c.entry-item.result c.loop-entry-test.true c.entry-item.is (ap is_some c.in_ok-system.ensures.value) c.loop-entry.invariant.first);
     }
 
 pub returns-in-Err-clause-shape : goal.returns-in-Err-clause-shape
@@ -18,3 +21,6 @@ returns-in-Err-clause-shape c = λ is.
     let read = one_more digits_entry c.args.entries.now c.loop-entry.entry-index c.entry-item.result (c.in_ok-system.system, c.in_ok-system.digits) c.loop-entry.table.entries
     c.loop-entry-test.true c.entry-item.is c.in_ok-system.ensures.value c.loop-entry.invariant.all in
     no_table bytes_eq bytes_eq_symmetric digits_entry (items_view c.args.entries.now) c.loop-entry.table.entries c.in_ok-system.system c.in_ok-system.digits _ read (c.in-Err.ensures.shape (err_at _ _ is))
+
+pub returns-in-Err-clause-room : goal.returns-in-Err-clause-room
+returns-in-Err-clause-room c = λ is. begins digits_may_grow c.args.entries.now c.loop-entry.entry-index c.entry-item.result c.loop-entry-test.true c.entry-item.is (ap is_some c.in_ok-system.ensures.value) c.loop-entry.invariant.first
