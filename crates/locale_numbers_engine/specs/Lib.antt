@@ -5,5 +5,4 @@ pub mod Lines
 pub mod Outcomes
 pub mod Progress
 pub mod Run
-pub mod Toy
 pub mod Tracking
