@@ -1,6 +1,6 @@
 use Rattle.std.proofs.Common.{refl, lit≤}
 use Rattle.tinystr.specs.SmallText.{padded}
-use Rattle.icu_locale_core_subtags_tests.proofs.examples.unknown_is_und.Goals as goal
+use Rattle.icu_locale_core_tests.proofs.subtags.unknown_is_und.Goals as goal
 
 pub invariant_of-as_str : goal.invariant_of-as_str
 unfolding padded
