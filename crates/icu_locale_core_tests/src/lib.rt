@@ -1,32 +1,27 @@
-//! Rows of values over the public calls of `icu_locale_core`, by the paths of its users.
+//! Rows of values over the public calls of `icu_locale_core`, by the paths of its users, that the lines of `icu_locale_core_rows`
+//! cannot say: closures, borrowed values, values made piece by piece, and items that its inner crates alone have.
 
 #![tactic(auto)]
 
 #[cfg(test)]
-mod comparing;
+mod inner_steps;
 #[cfg(test)]
-mod examples;
+mod inner_writing;
 #[cfg(test)]
-mod locales;
+mod iterators;
 #[cfg(test)]
 mod long;
 #[cfg(test)]
-mod makers;
+mod made;
 #[cfg(test)]
-mod other;
+mod parts;
 #[cfg(test)]
-mod paths;
+mod preferences;
 #[cfg(test)]
-mod printed;
+mod retained;
 #[cfg(test)]
-mod refused;
+mod shown;
 #[cfg(test)]
-mod single;
+mod subtags;
 #[cfg(test)]
-mod transform;
-#[cfg(test)]
-mod unicode;
-#[cfg(test)]
-mod values;
-#[cfg(test)]
-mod well_formed;
+mod typed_keywords;

@@ -1,0 +1,80 @@
+//! Answers of values that were read, and of texts.
+
+use crate::unanswered::{Answer, Unanswered};
+use icu_locale_core::ParseError;
+use icu_locale_core::subtags::{SubtagOf, SubtagRule};
+use std::alloc::{AllocError, Global};
+use std::fmt::Debug;
+use writeable::Writeable;
+
+/// The text itself.
+pub fn text(alloc: Global, text: &str) -> Answer {
+    Ok(String::from_str(alloc, text)?)
+}
+
+/// What the value prints.
+pub fn printed<T: Writeable>(alloc: Global, value: &T) -> Answer {
+    Ok(value.write_to_string(alloc)?)
+}
+
+/// What the value prints that was read, or the refusal.
+pub fn shown<T: Writeable + Drop>(alloc: Global, read: Result<T, ParseError>) -> Answer {
+    Ok(read?.write_to_string(alloc)?)
+}
+
+/// What the value prints that was made of others, or why it was not.
+pub fn made<T: Writeable + Drop>(alloc: Global, value: Result<T, Unanswered>) -> Answer {
+    Ok(value?.write_to_string(alloc)?)
+}
+
+/// What the value prints that may be missing; `-` where it is.
+pub fn shown_or_hyphen<T: Writeable>(alloc: Global, value: Option<&T>) -> Answer {
+    match value {
+        Some(value) => printed(alloc, value),
+        None => text(alloc, "-"),
+    }
+}
+
+/// The value as Rust writes it: `Less`, `true`, `Some(Sun)`.
+pub fn debug<T: Debug + Drop>(alloc: Global, value: T) -> Answer {
+    Ok(format!(in alloc; "{value:?}")?)
+}
+
+/// The value that was read as Rust writes it, or the refusal.
+pub fn told<T: Debug + Drop>(alloc: Global, read: Result<T, ParseError>) -> Answer {
+    debug(alloc, read?)
+}
+
+/// What a change answered, with `-` for nothing, and what it left: `thai ca-buddhist-nu-latn`.
+pub fn change<O: Writeable + Drop, N: Writeable + Drop>(
+    alloc: Global,
+    changed: Result<(Option<O>, N), Unanswered>,
+) -> Answer {
+    let (old, new) = changed?;
+    two_texts(shown_or_hyphen(alloc, old.as_ref()), printed(alloc, &new))
+}
+
+/// Two texts with a space between them.
+pub fn two_texts(first: Answer, second: Answer) -> Answer {
+    let mut both = first?;
+    both.push_str(" ")?;
+    both.push_str(second?.as_str())?;
+    Ok(both)
+}
+
+/// The texts of subtags, joined by hyphens: `1996-fonipa`.
+pub fn joined<R: SubtagRule<8>>(alloc: Global, subtags: &[SubtagOf<R, 8>]) -> Answer {
+    let mut text = String::new(alloc);
+    for subtag in subtags {
+        push_behind(&mut text, "-", subtag.as_str())?;
+    }
+    Ok(text)
+}
+
+/// Pushes more behind a text, and the separator between them where there is a text.
+pub fn push_behind(text: &mut String, separator: &str, more: &str) -> Result<(), AllocError> {
+    if !text.is_empty() {
+        text.push_str(separator)?;
+    }
+    text.push_str(more)
+}
