@@ -1,8 +1,7 @@
 //! Keywords with a type: read by `try_from`, written, and as words.
 
 use crate::shown::hash_of;
-use icu_locale_core::extensions::unicode::Value;
-use icu_locale_core::preferences::PreferenceKey;
+use icu_locale_core::extensions::unicode::{SubdivisionId, Value};
 use icu_locale_core::preferences::extensions::unicode::errors::PreferencesParseError;
 use icu_locale_core::preferences::extensions::unicode::keywords::{
     CollationCaseFirst, CollationNumericOrdering, CurrencyFormatStyle, CurrencyType,
@@ -12,16 +11,21 @@ use icu_locale_core::preferences::extensions::unicode::keywords::{
 use std::alloc::Global;
 use std::test::Fail;
 
+// What the types of one subtag read of a value: its text, and the region and the suffix of a subdivision.
+fn texts_of(alloc: Global, value: &Value) -> Result<String, Fail> {
+    let system = NumberingSystem::try_from(value)?;
+    let currency = CurrencyType::try_from(value)?;
+    let subdivision = RegionalSubdivision::try_from(value)?;
+    let (system, currency) = (system.as_str(), currency.as_str());
+    let (region, suffix) = (subdivision.region, subdivision.suffix);
+    Ok(format!(in alloc; "{system} {currency} {region} {suffix}")?)
+}
+
 #[test]
 fn a_value_of_one_subtag_is_read(rt: HostRuntime) -> Result<(), Fail> {
     let value = Value::try_from_str(rt.alloc(), "Usd")?;
-    let system = NumberingSystem::try_from(&value)?;
-    assert_eq!(rt; system.as_str(), "usd");
-    assert_eq!(rt; CurrencyType::try_from(&value)?.as_str(), "usd");
-    let subdivision = RegionalSubdivision::try_from(&value)?;
-    assert_eq!(rt; subdivision.region.as_str(), "US");
-    assert_eq!(rt; subdivision.suffix.as_str(), "d");
-    assert_eq!(rt; *RegionOverride::try_from(&value)?, *subdivision);
+    assert_eq!(rt; texts_of(rt.alloc(), &value)?.as_str(), "usd usd US d");
+    assert!(rt; *RegionOverride::try_from(&value)? == SubdivisionId::try_from_str("USD")?);
     assert_eq!(rt;
         FirstDay::try_from(&value).err(),
         Some(PreferencesParseError::InvalidKeywordValue)
@@ -29,30 +33,30 @@ fn a_value_of_one_subtag_is_read(rt: HostRuntime) -> Result<(), Fail> {
     Ok(())
 }
 
+// The day of a text.
+fn day_of(alloc: Global, text: &str) -> Result<FirstDay, Fail> {
+    let value = Value::try_from_str(alloc, text)?;
+    Ok(FirstDay::try_from(&value)?)
+}
+
+// What `normal` says of lines, and of lines within words.
+fn line_breaks(alloc: Global) -> Result<(LineBreakStyle, LineBreakWordHandling), Fail> {
+    let value = Value::try_from_str(alloc, "normal")?;
+    Ok((
+        LineBreakStyle::try_from(&value)?,
+        LineBreakWordHandling::try_from(&value)?,
+    ))
+}
+
 #[test]
 fn a_word_is_read(rt: HostRuntime) -> Result<(), Fail> {
-    let value = Value::try_from_str(rt.alloc(), "sun")?;
-    assert_eq!(rt; FirstDay::try_from_value(&value), Ok(FirstDay::Sun));
-    assert_eq!(rt; FirstDay::try_from(&value), Ok(FirstDay::Sun));
-    assert!(rt; FirstDay::Sun != FirstDay::Sat);
-    assert_eq!(rt;
-        hash_of(&FirstDay::Sun),
-        hash_of(&FirstDay::try_from(&value)?)
-    );
-    let value = Value::try_from_str(rt.alloc(), "normal")?;
-    assert_eq!(rt;
-        LineBreakStyle::try_from(&value),
-        Ok(LineBreakStyle::Normal)
-    );
-    assert_eq!(rt;
-        LineBreakWordHandling::try_from(&value),
-        Ok(LineBreakWordHandling::Normal)
-    );
-    let value = Value::try_from_str(rt.alloc(), "true")?;
-    assert_eq!(rt;
-        CollationNumericOrdering::try_from(&value),
-        Ok(CollationNumericOrdering::True)
-    );
+    let sunday = day_of(rt.alloc(), "sun")?;
+    assert_eq!(rt; sunday, FirstDay::Sun);
+    assert!(rt; sunday != FirstDay::Sat);
+    assert_eq!(rt; hash_of(&sunday), hash_of(&FirstDay::Sun));
+    let (style, words) = line_breaks(rt.alloc())?;
+    assert_eq!(rt; style, LineBreakStyle::Normal);
+    assert_eq!(rt; words, LineBreakWordHandling::Normal);
     Ok(())
 }
 
