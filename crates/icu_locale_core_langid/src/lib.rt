@@ -1,4 +1,4 @@
-//! Language identifiers.
+//! Language identifiers, and tags of at most one variant and one keyword.
 #![tactic(auto)]
 
 mod comparing;
@@ -11,6 +11,7 @@ mod normalizing;
 mod one_variant;
 mod parser;
 mod reading;
+pub mod single;
 mod spelling;
 mod stepping;
 mod writing;
