@@ -23,7 +23,7 @@ pub use Rattle.icu_locale_core_grammar.specs.PreferenceLaws
 -- One variant and one keyword, in each mode.
 pub use Rattle.icu_locale_core_grammar.specs.SingleVariant
 pub use Rattle.icu_locale_core_langid.specs.OneVariant
-pub use Rattle.icu_locale_core_single.specs.SingleModes
+pub use Rattle.icu_locale_core_langid.specs.SingleModes
 -- Language identifiers: their parts, their text, what each mode reads.
 pub use Rattle.icu_locale_core_langid.specs.Parts
 pub use Rattle.icu_locale_core_langid.specs.Modes
