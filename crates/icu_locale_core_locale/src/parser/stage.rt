@@ -12,9 +12,11 @@ ghost use Rattle.icu_locale_core_locale.specs.StageView.{singletons, stage_view,
 use crate::extensions::Extensions;
 use crate::locale::Locale;
 use crate::parser::attempt::Attempt;
-use crate::parser::singletons::{has_come, key_of, opens_private, stands_alone};
+use crate::parser::singletons::{has_come, key_of, opens_private};
 use icu_locale_core_entries::Step;
-use icu_locale_core_extensions::{Blocks, BodyStage, Part, body_after, body_finish, opened_body};
+use icu_locale_core_extensions::{
+    Blocks, BodyStage, Part, body_after, body_finish, is_one_character, opened_body,
+};
 use icu_locale_core_grammar::ParseError;
 use icu_locale_core_langid::{LanguageIdentifier, Step as LanguageStep, language_after};
 use icu_locale_core_sets::Private;
@@ -123,7 +125,7 @@ fn after_ended(
         return Err(AllocError);
     };
     blocks.put(part)?;
-    let repeated = stands_alone(piece) && has_come(seen.as_slice(), piece);
+    let repeated = is_one_character(piece) && has_come(seen.as_slice(), piece);
     match stage_after_part(alloc, id, seen, blocks, piece) {
         Some(stage) => Ok(Attempt::Goes(stage)),
         None if repeated => Ok(Attempt::Stops(ParseError::DuplicatedExtension)),
@@ -202,11 +204,7 @@ pub fn next_stage(
 }
 
 // The extensions, with the last one.
-fn with_last(
-    alloc: Global,
-    mut blocks: Blocks,
-    last: Part,
-) -> Result<Extensions, AllocError>
+fn with_last(alloc: Global, mut blocks: Blocks, last: Part) -> Result<Extensions, AllocError>
     ensures { IfOk result (λ e. (key : List ℕ) → HasKey key last → e ≡ record { blocks = put_part key (part_view last) blocks; own = [] }) }
 {
     match blocks.put(last) {
