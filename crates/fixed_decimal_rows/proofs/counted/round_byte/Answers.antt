@@ -1,6 +1,6 @@
 use Rattle.std.proofs.Common.{arith}
-use Rattle.fixed_decimal_tests.proofs.ByteLemmas.{few_turns}
-use Rattle.fixed_decimal_tests.proofs.counted.round_byte.Goals as goal
+use Rattle.fixed_decimal_rows.proofs.ByteLemmas.{few_turns}
+use Rattle.fixed_decimal_rows.proofs.counted.round_byte.Goals as goal
 
 pub returns-in_err-round_counted : goal.returns-in_err-round_counted
 returns-in_err-round_counted g c =
