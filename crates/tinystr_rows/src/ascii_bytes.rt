@@ -1,6 +1,9 @@
-//! ASCII bytes: every constant, and arrays of them.
+//! The constants of `AsciiByte`.
 
-use tinystr::{AsciiByte as Byte, to_ascii_byte_array};
+use crate::argument::count_of;
+use crate::line::Fault;
+use crate::writing::put_ascii_bytes;
+use tinystr::AsciiByte as Byte;
 
 /// The constants, by fours.
 const CONSTANTS: [[Byte; 4]; 32] = [
@@ -38,12 +41,15 @@ const CONSTANTS: [[Byte; 4]; 32] = [
     [Byte::B124, Byte::B125, Byte::B126, Byte::B127],
 ];
 
-#[test]
-fn constants_have_their_byte(rt: HostRuntime) {
-    for (four, row) in CONSTANTS.iter().enumerate() {
-        for (one, constant) in row.iter().enumerate() {
-            assert_eq!(rt; usize::from(constant.value()), 4 * four + one);
-        }
+/// Writes four constants, those from a number on that 4 divides.
+pub fn answer(call: &str, first: &str, out: &mut String) -> Result<(), Fault> {
+    let place = count_of(first)? / 4;
+    match constants().get(place) {
+        Some(four) if call == "constants" => put_ascii_bytes(out, four),
+        _ => Err(Fault::NotUnderstood),
     }
-    assert_eq!(rt; to_ascii_byte_array(b"ab"), [Byte::B97, Byte::B98]);
+}
+
+fn constants() -> [[Byte; 4]; 32] {
+    CONSTANTS
 }
