@@ -2,7 +2,7 @@
 use Rattle.std.proofs.Common.{◌≡◌, None, Some, codes, refl}
 use Rattle.icu_locale_core_grammar.specs.SingleVariant.{single_tag}
 use Rattle.icu_locale_core_grammar.specs.TagPreferences.{locale_preferences_of, preferences_of}
-use Rattle.icu_locale_core_single.specs.SingleModes.{single}
+use Rattle.icu_locale_core_langid.specs.SingleModes.{single}
 
 -- en-US-u-rg-gbeng
 pub override_kept : (locale_preferences_of (single_tag (single (codes "en", None, Some (codes "US"), None, Some (codes "rg", Some (codes "gbeng")))))).region_override

@@ -3,14 +3,14 @@
 ghost use Rattle.std.specs.Prelude.{◌≡◌};
 ghost use Rattle.icu_locale_core_grammar.specs.SingleVariant.{keyword_entries, single_tag};
 ghost use Rattle.icu_locale_core_grammar.specs.TagPreferences.{keyword_piece, keyword_subdivision, locale_preferences_of, preferences_of};
-ghost use Rattle.icu_locale_core_single.specs.SingleModes.{single};
+ghost use Rattle.icu_locale_core_langid.specs.SingleModes.{single};
 
 use crate::keywords::key_of;
 use crate::locale_preferences::LocalePreferences;
 use icu_locale_core_keywords::{
     NumberingSystem, PreferenceKey, RegionOverride, RegionalSubdivision, SubdivisionId,
 };
-use icu_locale_core_single::SingleParts;
+use icu_locale_core_langid::single::SingleParts;
 use icu_locale_core_subtags::Subtag;
 use icu_locale_core_subtags::unicode::Key;
 

@@ -1,8 +1,18 @@
 //! Which call a line asks for.
 use crate::row_error::RowError;
-use crate::{answers, faults, plain, runs, starts};
+use crate::{answers, faults, plain, repeated, runs, starts, tracked};
 use std::alloc::Global;
 use std::rt::Files;
+
+// What a call on a tracked reader or writer answers.
+fn tracked_result(alloc: Global, call: &str, arguments: &[&str]) -> Result<String, RowError> {
+    match call {
+        "tracked_read" => tracked::read_row(alloc),
+        "tracked_write" => tracked::write_row(alloc, arguments),
+        "tracked_flush" => tracked::flush_row(alloc, arguments),
+        _ => Err(RowError::NotUnderstood),
+    }
+}
 
 // What a call on a reader and a writer leaves.
 fn run_result<F: Files>(
@@ -14,10 +24,11 @@ fn run_result<F: Files>(
     match call {
         "run" => runs::run_row(alloc, arguments),
         "run_tracked" => runs::tracked_row(alloc, arguments),
+        "run_long" => repeated::long_row(alloc, arguments),
         "run_cuts" => runs::cuts_row(alloc, arguments),
         "run_with" => runs::shouted_row(alloc, arguments),
         "program" => starts::program_row(rt, alloc, arguments),
-        _ => Err(RowError::NotUnderstood),
+        other => tracked_result(alloc, other, arguments),
     }
 }
 

@@ -42,10 +42,10 @@ fn signs_named(name: &str) -> Result<Signs, RowError> {
     }
 }
 
-fn digits_named(name: &str) -> Result<[char; 10], RowError> {
+fn digits_named(name: &str) -> Result<&'static [char; 10], RowError> {
     match name {
-        "latn" => Ok(LATIN),
-        "beng" => Ok(BENGALI),
+        "latn" => Ok(&LATIN),
+        "beng" => Ok(&BENGALI),
         _ => Err(RowError::NotUnderstood),
     }
 }
@@ -115,7 +115,7 @@ pub fn plain_row(alloc: Global, arguments: &[&str]) -> Result<String, RowError> 
     let symbols = symbols_of(alloc, signs, sizes)?;
     let number = number_of(alloc, number)?;
     let mut out = String::from_str(alloc, held)?;
-    push_plain(&mut out, &number, &symbols, &digits, grouping)?;
+    push_plain(&mut out, &number, &symbols, digits, grouping)?;
     Ok(out)
 }
 
@@ -129,7 +129,7 @@ pub fn unsigned_row(alloc: Global, arguments: &[&str]) -> Result<String, RowErro
     let symbols = symbols_of(alloc, signs, sizes)?;
     let number = number_of(alloc, number)?;
     let mut out = String::from_str(alloc, held)?;
-    push_unsigned(&mut out, &number, &symbols, &digits, grouping)?;
+    push_unsigned(&mut out, &number, &symbols, digits, grouping)?;
     Ok(out)
 }
 
