@@ -1,0 +1,2 @@
+pub mod Grouper
+pub mod GroupLaws
