@@ -1,10 +1,15 @@
 -- Values from outside that a wrong definition of groups does not survive: the tables of docs/plain-text.md.
-use Rattle.std.proofs.Common.{◌≡◌, ℕ, List, refl}
+use Rattle.std.proofs.Common.{◌≡◌, ℕ, List, [], ◌∷◌, refl}
 use Rattle.std.specs.Prelude.{codes}
 use Rattle.icu_decimal_provider.specs.declared.provider.GroupingSizes.{GroupingSizes}
 use Rattle.icu_decimal_provider.specs.declared.options.GroupingStrategy.{GroupingStrategy}
 use Rattle.icu_decimal_provider.specs.declared.options.GroupingStrategy.TheVariants.{Auto, Never, Always, Min2}
-use Rattle.icu_decimal_text.specs.Grouper.{groups, joined}
+use Rattle.icu_decimal_text.specs.Grouper.{groups, joined, group_sizes}
+use Rattle.writeable.specs.AnnotatedText.{AnnotatedText, annotated, bytes, opening, closing}
+use Rattle.fixed_decimal.specs.declared.Sign.{Sign}
+use Rattle.fixed_decimal.specs.declared.Sign.TheVariants.{None as NoSign, Negative, Positive}
+use Rattle.icu_decimal_provider.specs.Symbols.{SymbolStrings}
+use Rattle.icu_decimal_text.specs.Affixes.{affixes_of, decimal_part, events_with_sign}
 
 abbrev sizes_of : ℕ → ℕ → ℕ → GroupingSizes
 sizes_of primary secondary least = record { primary = primary; secondary = secondary; min_grouping = least }
@@ -91,3 +96,38 @@ zeros_4 = refl
 -- a separator ends no group of a single one
 single_3 : commas Auto (sizes_of 3 3 1) (codes "123") ≡ codes "123"
 single_3 = refl
+
+-- the first group has what is left
+first_of_ten : group_sizes Auto (sizes_of 3 2 1) 10 ≡ 1 ∷ 2 ∷ 2 ∷ 2 ∷ 3 ∷ []
+first_of_ten = refl
+
+-- The affixes of a sign.
+
+abbrev accounting : SymbolStrings
+accounting = record {
+  minus_sign_prefix = codes "(";
+  minus_sign_suffix = codes ")";
+  plus_sign_prefix = codes "+";
+  plus_sign_suffix = [];
+  decimal_separator = codes ".";
+  grouping_separator = codes ",";
+  numsys = codes "latn";
+}
+
+-- the text and the parts of a five with this sign
+abbrev five_with : Sign → AnnotatedText
+five_with sign = annotated (events_with_sign bytes (record { value = codes "5"; affixes = affixes_of accounting sign }))
+
+no_sign : five_with NoSign ≡ record { text = codes "5"; parts = [] }
+unfolding bytes opening closing
+no_sign = refl
+
+minus_sign : five_with Negative
+    ≡ record { text = codes "(5)"; parts = record { start = 0; end = 1; part = decimal_part (codes "minusSign") } ∷ record { start = 2; end = 3; part = decimal_part (codes "minusSign") } ∷ [] }
+unfolding bytes opening closing
+minus_sign = refl
+
+-- an empty suffix is no part
+plus_sign : five_with Positive ≡ record { text = codes "+5"; parts = record { start = 0; end = 1; part = decimal_part (codes "plusSign") } ∷ [] }
+unfolding bytes opening closing
+plus_sign = refl
