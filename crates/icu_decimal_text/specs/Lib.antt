@@ -1,0 +1,4 @@
+pub mod Affixes
+pub mod Grouper
+pub mod GroupLaws
+pub mod HeldAffixes
