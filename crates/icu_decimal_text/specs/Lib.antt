@@ -2,3 +2,4 @@ pub mod Affixes
 pub mod Grouper
 pub mod GroupLaws
 pub mod HeldAffixes
+pub mod SameAffixes

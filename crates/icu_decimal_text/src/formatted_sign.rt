@@ -1,11 +1,13 @@
 //! A value between the affixes of its sign.
 
 ghost use Rattle.std.specs.Prelude.{◌≡◌, ◌++◌, false, is_err, option_map, OnOk, OnErr};
+ghost use Rattle.std.specs.Option.{option_eq};
 ghost use Rattle.writeable.specs.AnnotatedText.{bytes, opening, closing};
 ghost use Rattle.writeable.specs.PartName.{name_of};
 ghost use Rattle.writeable.specs.Taking.{HasBegun};
 ghost use Rattle.icu_decimal_text.specs.Affixes.{affixes_of, as_part, prefix_events, suffix_events};
 ghost use Rattle.icu_decimal_text.specs.HeldAffixes.{texts_of};
+ghost use Rattle.icu_decimal_text.specs.SameAffixes.{same_affixes};
 
 use fixed_decimal::Sign;
 use icu_decimal_provider::parts;
@@ -142,4 +144,40 @@ impl<'l, T: Writeable> fmt::Display for FormattedSign<'l, T> {
     fn fmt<W: fmt::Write>(&self, f: &mut fmt::Formatter<W>) -> fmt::Result {
         display(self, f)
     }
+}
+
+// Whether the affixes are the same, and their parts.
+fn have_same_texts(a: Option<Affixes<'_>>, b: Option<Affixes<'_>>) -> bool
+    ensures { result ≡ option_eq same_affixes (option_map texts_of a.entry) (option_map texts_of b.entry) }
+{
+    match (a, b) {
+        (None, None) => true,
+        (Some(a), Some(b)) => a.part == b.part && a.prefix == b.prefix && a.suffix == b.suffix,
+        _ => false,
+    }
+}
+
+/// Equal where the values are, and the affixes.
+impl<'l, T: PartialEq> PartialEq for FormattedSign<'l, T> {
+    ghost use Rattle.std.specs.Prelude.{◌&&◌};
+    ghost use Rattle.std.specs.Option.{option_eq};
+    ghost use Rattle.std.specs.Cmp.{and_per, on_per, partial_equiv_from_equiv};
+    ghost use Rattle.std.specs.Cmp.Lexicographic.{options_equiv};
+    ghost use Rattle.icu_decimal_text.specs.SameAffixes.{same_affixes, same_affixes_equiv};
+
+    ghost eq = { λ a b. T.eq a.value b.value && option_eq same_affixes a.affixes b.affixes };
+
+    ghost laws = { and_per (on_per (λ s. s.value) T.laws) (on_per (λ s. s.affixes) (partial_equiv_from_equiv (options_equiv same_affixes_equiv))) };
+
+    fn eq(&self, other: &Self) -> bool {
+        self.value == other.value && have_same_texts(self.affixes, other.affixes)
+    }
+}
+
+impl<'l, T: Eq> Eq for FormattedSign<'l, T> {
+    ghost use Rattle.std.specs.Cmp.{and_equiv, on_equiv};
+    ghost use Rattle.std.specs.Cmp.Lexicographic.{options_equiv};
+    ghost use Rattle.icu_decimal_text.specs.SameAffixes.{same_affixes_equiv};
+
+    ghost laws = { and_equiv (on_equiv (λ s. s.value) T.Eq.laws) (on_equiv (λ s. s.affixes) (options_equiv same_affixes_equiv)) };
 }
