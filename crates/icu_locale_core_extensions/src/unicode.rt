@@ -48,8 +48,9 @@ fn read_body(alloc: Global, body: SubtagIterator<'_>) -> Result<Unicode, ParseEr
     ensures fault { IfErr result (IsRefused (MeansUnicode body.entry)) }
     ensures room { begins begins_unicode body.entry ≡ false → ¬ (IsErrOf result ParseError.Memory) }
 {
-    let mut stage: HeadedStage<GrowingSet<AttributeRule>, KeyRule> =
-        HeadedStage::InHead(GrowingSet::new(alloc));
+    let mut stage: HeadedStage<GrowingSet<AttributeRule>, KeyRule> = HeadedStage::InHead(
+        GrowingSet::new(alloc),
+    );
     for piece in body {
         match headed_after::<AttributesHead, KeyRule>(alloc, stage, piece) {
             Ok(Step::Taken(next)) => stage = next,
