@@ -5,6 +5,7 @@
 set -eu
 top=$(cd "$(dirname "$0")/.." && pwd)
 made=$top/bench/made
+built=$top/crates/locale_numbers_program/out/locale_numbers_program
 command -v python3 >/dev/null || {
     echo "bench: python3 is needed" >&2
     exit 1
@@ -20,7 +21,7 @@ for kind in variants attributes; do
 done
 : | "$top/locale_numbers" >/dev/null
 
-python3 - "$top/locale_numbers" "$made" "$@" <<'PYTHON'
+python3 - "$built" "$made" "$@" <<'PYTHON'
 import os, subprocess, sys
 
 program, made = sys.argv[1:3]

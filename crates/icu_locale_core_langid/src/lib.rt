@@ -5,6 +5,7 @@ mod comparing;
 mod inner;
 mod json;
 mod language_identifier;
+mod language_stage;
 pub mod laws;
 mod modes;
 mod normalizing;
@@ -17,6 +18,7 @@ mod stepping;
 mod writing;
 
 pub use crate::language_identifier::LanguageIdentifier;
+pub use crate::language_stage::LanguageStage;
 pub use crate::modes::ParserMode;
 pub use crate::one_variant::{OneVariantParts, one_variant_step};
 pub use crate::parser::{parse_language_identifier, parse_language_identifier_from_iter};

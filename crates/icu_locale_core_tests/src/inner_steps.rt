@@ -1,21 +1,27 @@
 //! Reading piece by piece, by steps that the inner crates alone have.
 
-use icu_locale_core::LanguageIdentifier;
 use icu_locale_core_entries::{HeadedStage, NoHead, Step, headed_after, headed_finish};
 use icu_locale_core_langid::language_after;
-use icu_locale_core_subtags::{transform, unicode};
+use icu_locale_core_subtags::{SubtagIterator, transform, unicode};
 use std::alloc::Global;
 use std::test::Fail;
 use writeable::Writeable;
 
 // The identifier behind one more piece, and whether the piece was taken.
 fn language_behind(alloc: Global, text: &str, piece: &str) -> Result<(String, bool), Fail> {
-    let id = LanguageIdentifier::try_from_str(alloc, text)?;
-    let (id, taken) = match language_after(alloc, Some(id), piece.as_bytes())? {
-        Step::Taken(id) => (id, true),
-        Step::Refused(id) => (id, false),
+    let mut stage = None;
+    for before in SubtagIterator::new(text.as_bytes()) {
+        stage = match language_after(alloc, stage, before)? {
+            Step::Taken(next) => next,
+            Step::Refused(_) => return Err(Fail::from("a piece that fits")),
+        };
+    }
+    let (stage, taken) = match language_after(alloc, stage, piece.as_bytes())? {
+        Step::Taken(next) => (next, true),
+        Step::Refused(same) => (same, false),
     };
-    Ok((id.ok_or("a language")?.write_to_string(alloc)?, taken))
+    let id = stage.ok_or("a language")?.settled();
+    Ok((id.write_to_string(alloc)?, taken))
 }
 
 #[test]

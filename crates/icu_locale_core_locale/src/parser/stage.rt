@@ -18,7 +18,9 @@ use icu_locale_core_extensions::{
     Blocks, BodyStage, Part, body_after, body_finish, is_one_character, opened_body,
 };
 use icu_locale_core_grammar::ParseError;
-use icu_locale_core_langid::{LanguageIdentifier, Step as LanguageStep, language_after};
+use icu_locale_core_langid::{
+    LanguageIdentifier, LanguageStage, Step as LanguageStep, language_after,
+};
 use icu_locale_core_sets::Private;
 use icu_locale_core_subtags::private::Subtag;
 use std::alloc::{AllocError, Global};
@@ -42,7 +44,7 @@ pub struct ExtensionStage {
 #[derive(Drop)]
 pub enum LocaleStage {
     /// In the language part.
-    InLanguage(Option<LanguageIdentifier>),
+    InLanguage(Option<LanguageStage>),
     /// In an extension.
     InExtension(ExtensionStage),
     /// Behind `x`.
@@ -92,7 +94,7 @@ fn after_identifier(alloc: Global, id: LanguageIdentifier, piece: &[u8]) -> Atte
 #[tactic(auto, unfolding(icu_locale_core_grammar::specs::Stepping::whole_after))]
 fn after_language(
     alloc: Global,
-    language: Option<LanguageIdentifier>,
+    language: Option<LanguageStage>,
     piece: &[u8],
 ) -> Result<Attempt<LocaleStage>, AllocError>
     ensures step { IfOk result (GoesOn (InFront language) piece.now) }
@@ -101,7 +103,7 @@ fn after_language(
     match language_after(alloc, language, piece)? {
         LanguageStep::Taken(next) => Ok(Attempt::Goes(LocaleStage::InLanguage(next))),
         LanguageStep::Refused(None) => Ok(Attempt::Stops(ParseError::InvalidLanguage)),
-        LanguageStep::Refused(Some(id)) => Ok(after_identifier(alloc, id, piece)),
+        LanguageStep::Refused(Some(id)) => Ok(after_identifier(alloc, id.settled(), piece)),
     }
 }
 
@@ -258,7 +260,7 @@ pub fn finished(alloc: Global, stage: LocaleStage) -> Result<Attempt<Locale>, Al
     match stage {
         LocaleStage::InLanguage(None) => Ok(Attempt::Stops(ParseError::InvalidLanguage)),
         LocaleStage::InLanguage(Some(id)) => Ok(Attempt::Goes(Locale {
-            id,
+            id: id.settled(),
             extensions: Extensions::new(alloc),
         })),
         LocaleStage::InExtension(stage) => ended_extension(alloc, stage),
