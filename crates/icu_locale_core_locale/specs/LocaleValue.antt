@@ -7,7 +7,7 @@ use Rattle.icu_locale_core_grammar.specs.Meaning.{TagMeaning, no_extensions}
 use Rattle.icu_locale_core_langid.specs.Parts.{with_parts, und_text}
 use Rattle.icu_locale_core_extensions.specs.ExtensionText.{is_empty_unicode, is_empty_transform}
 use Rattle.icu_locale_core_locale.specs.ExtensionsValue.{ExtensionsValue}
-pub use Rattle.icu_locale_core_locale.specs.SameLocale
+pub use Rattle.icu_locale_core_locale.specs.SameLocale.{same_extensions, extensions_of, same_locale, SameIsEqual}
 pub use Rattle.icu_locale_core_locale.specs.SameLocaleLaws.{locale_decides}
 
 -- a language part without extensions
