@@ -1,5 +1,5 @@
 -- Rows of docs/numbers.md on signs, texts, equality and calls, so that a wrong definition does not pass.
-use Rattle.std.proofs.Common.{◌≡◌, ℕ, ◌+◌, ◌*◌, ◌^◌, ◌≤◌, true, false, inl, inr, List, [], ◌∷◌, codes, refl, sym, arith, lit≤}
+use Rattle.std.proofs.Common.{◌≡◌, ℕ, ◌+◌, ◌*◌, ◌^◌, true, false, inl, inr, List, [], ◌∷◌, codes, refl, sym, arith, lit≤}
 use Rattle.fixed_decimal_unsigned.specs.Number.{Number}
 use Rattle.fixed_decimal_unsigned.specs.NumberText.{Reads, digit_zero}
 use Rattle.fixed_decimal_unsigned.proofs.TextPartsLemmas.{cons_head, cons_tail}

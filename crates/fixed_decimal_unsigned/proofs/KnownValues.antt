@@ -1,5 +1,5 @@
 -- Rows of docs/numbers.md on places, digits, texts and equality, so that a wrong definition does not pass.
-use Rattle.std.proofs.Common.{◌≡◌, ℕ, zero, pos, negsuc, ◌+◌, ◌*◌, ◌^◌, ◌≤◌, false, inl, List, [], ◌∷◌, ◌++◌, length, codes, refl, ap, arith, lit≤, length-append}
+use Rattle.std.proofs.Common.{◌≡◌, ℕ, pos, negsuc, ◌*◌, ◌^◌, ◌≤◌, false, inl, List, [], ◌∷◌, ◌++◌, length, codes, refl, ap, arith, lit≤, length-append}
 use Rattle.fixed_decimal_unsigned.specs.Number.{Number, place, digit}
 use Rattle.fixed_decimal_unsigned.specs.NumberText.{Parts, Spells, Reads, IsBeyond, IsNoText, IsWithin, AreEndsIn, text_of, behind_point}
 use Rattle.fixed_decimal_unsigned.specs.Shifts.{plain_zero}
