@@ -28,7 +28,7 @@ pub use answering::answer;
 pub use fault::ProgramFault;
 pub use locale_numbers_book::{Book, BookError, SAMPLE_BOOK};
 pub use locale_numbers_engine::{
-    ByteReader, ByteWriter, ByteReadFault, Report, RunError, Tracked, ByteWriteFault,
+    ByteReadFault, ByteReader, ByteWriteFault, ByteWriter, Report, RunError, Tracked,
 };
 pub use program_run::program;
 pub use running::run;

@@ -1,6 +1,6 @@
 //! Refusals and faults by their names: number, word or status, and text.
 use crate::row_error::RowError;
-use locale_numbers::{BookError, ProgramFault, ByteReadFault, RunError, ByteWriteFault};
+use locale_numbers::{BookError, ByteReadFault, ByteWriteFault, ProgramFault, RunError};
 use std::alloc::Global;
 
 fn later_error_named(name: &str) -> Result<BookError, RowError> {

@@ -2,7 +2,7 @@
 ghost use Rattle.std.specs.Prelude.{Some};
 
 use crate::taking::Full;
-use locale_numbers::{ByteWriter, ByteWriteFault};
+use locale_numbers::{ByteWriteFault, ByteWriter};
 
 /// Takes at most so many bytes a write and so many in all, and counts its flushes.
 #[derive(Drop)]

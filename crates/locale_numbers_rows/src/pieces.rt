@@ -1,7 +1,7 @@
 //! A reader that gives little at a time, and may fail.
 ghost use Rattle.std.specs.Prelude.{None};
 
-use locale_numbers::{ByteReader, ByteReadFault};
+use locale_numbers::{ByteReadFault, ByteReader};
 
 /// Gives at most so many bytes at its first read, and at the others. It fails once it has been read
 /// so often, and, where it ends badly, behind its last byte.
