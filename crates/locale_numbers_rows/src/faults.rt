@@ -1,6 +1,6 @@
 //! Refusals and faults by their names: number, word or status, and text.
 use crate::row_error::RowError;
-use locale_numbers::{BookError, ProgramFault, ReadFault, RunError, WriteFault};
+use locale_numbers::{BookError, ByteReadFault, ByteWriteFault, ProgramFault, RunError};
 use std::alloc::Global;
 
 fn later_error_named(name: &str) -> Result<BookError, RowError> {
@@ -83,18 +83,18 @@ pub fn program_row(alloc: Global, arguments: &[&str]) -> Result<String, RowError
     Ok(format!(in alloc; "{status}, {number}, {fault}")?)
 }
 
-/// `ReadFault`: its text.
+/// `ByteReadFault`: its text.
 pub fn read_row(alloc: Global, arguments: &[&str]) -> Result<String, RowError> {
     match arguments {
-        [] => Ok(ReadFault.to_string(alloc)?),
+        [] => Ok(ByteReadFault.to_string(alloc)?),
         _ => Err(RowError::NotUnderstood),
     }
 }
 
-/// `WriteFault`: its text.
+/// `ByteWriteFault`: its text.
 pub fn write_row(alloc: Global, arguments: &[&str]) -> Result<String, RowError> {
     match arguments {
-        [] => Ok(WriteFault.to_string(alloc)?),
+        [] => Ok(ByteWriteFault.to_string(alloc)?),
         _ => Err(RowError::NotUnderstood),
     }
 }

@@ -1,11 +1,11 @@
 //! The plain text of a number, and where separators stand.
 use crate::numbers::{magnitude, small};
 use crate::row_error::RowError;
-use arrayvec::ArrayString;
 use fixed_decimal::{Decimal, ParseError};
 use locale_numbers_plain::{grouper, push_plain, push_unsigned};
 use locale_numbers_symbols::{DecimalSymbols, GroupingSizes, GroupingStrategy};
 use std::alloc::{AllocError, Global};
+use tinystr::TinyAsciiStr;
 
 const LATIN: [char; 10] = ['0', '1', '2', '3', '4', '5', '6', '7', '8', '9'];
 
@@ -86,7 +86,7 @@ fn symbols_with(
         plus_sign_suffix: String::from_str(alloc, signs.plus_suffix)?,
         decimal_separator: String::from_str(alloc, ".")?,
         grouping_separator: String::from_str(alloc, ",")?,
-        numsys: ArrayString::new(),
+        numsys: TinyAsciiStr::EMPTY,
         grouping_sizes,
     })
 }
