@@ -77,3 +77,4 @@ pub use Rattle.icu_locale_core_grammar.specs.Stepping
 pub use Rattle.icu_locale_core_grammar.specs.TagStages
 -- When two locales are one.
 pub use Rattle.icu_locale_core_locale.specs.LocaleValue
+pub use Rattle.icu_locale_core_locale.specs.SameLocale
