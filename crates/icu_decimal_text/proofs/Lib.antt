@@ -1,2 +1,4 @@
 pub mod GrouperLemmas
 pub mod KnownValues
+pub mod PlainTextLemmas
+pub mod TextLemmas

@@ -9,6 +9,7 @@ ghost use Rattle.icu_decimal_text.specs.Affixes.{affixes_of, as_part, prefix_eve
 ghost use Rattle.icu_decimal_text.specs.HeldAffixes.{texts_of};
 ghost use Rattle.icu_decimal_text.specs.SameAffixes.{same_affixes};
 
+use crate::writing::write_part;
 use fixed_decimal::Sign;
 use icu_decimal_provider::parts;
 use icu_decimal_provider::provider::DecimalSymbols;
@@ -80,18 +81,6 @@ impl<'l, T> FormattedSign<'l, T> {
     {
         &self.value
     }
-}
-
-// Writes a text as a part.
-fn write_part<S: Sink>(part: Part, text: &str, sink: &mut S) -> Result<(), Error>
-    requires { S.refused sink.old ≡ false }
-    ensures ok { OnOk result (S.takes sink.old (as_part (name_of part) text.now) sink.new) }
-    ensures refused { S.refused sink.new ≡ is_err result }
-    ensures begun { OnErr result (HasBegun S.takes S.lacks_room sink.old (as_part (name_of part) text.now) sink.new) }
-{
-    sink.open_part(part)?;
-    sink.write_str(text)?;
-    sink.close_part()
 }
 
 // Writes the prefix, where there is a sign.

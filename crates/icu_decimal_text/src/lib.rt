@@ -13,7 +13,12 @@
 #![tactic(auto)]
 
 mod formatted_sign;
+mod formatted_unsigned_decimal;
+mod formatter;
 pub mod grouper;
 pub mod laws;
+mod writing;
 
 pub use formatted_sign::FormattedSign;
+pub use formatted_unsigned_decimal::FormattedUnsignedDecimal;
+pub use formatter::{DecimalFormatter, FormattedDecimal};
