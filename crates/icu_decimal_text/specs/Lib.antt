@@ -6,3 +6,5 @@ pub mod HeldAffixes
 pub mod HeldTables
 pub mod PlainText
 pub mod SameAffixes
+pub mod SamePlain
+pub mod TextLaws

@@ -81,6 +81,16 @@ impl<'l, T> FormattedSign<'l, T> {
     {
         &self.value
     }
+
+    // Another value between the same affixes.
+    pub(crate) fn with_value(&self, value: T) -> Self
+        ensures { result ≡ record { value = value; affixes = self.now.affixes } }
+    {
+        FormattedSign {
+            value,
+            affixes: self.affixes,
+        }
+    }
 }
 
 // Writes the prefix, where there is a sign.

@@ -1,11 +1,16 @@
 //! A number without a sign, as a formatter writes it.
 
 ghost use Rattle.std.specs.Prelude.{◌≡◌, IfOk, IsOk};
+ghost use Rattle.std.specs.Prelude.{◌==◌, nat_eq};
+ghost use Rattle.std.specs.Cmp.{partial_equiv_from_equiv};
+ghost use Rattle.std.specs.Cmp.Lexicographic.{pointwise};
 ghost use Rattle.icu_decimal_text.specs.HeldTables.{tables_of};
+ghost use Rattle.icu_decimal_text.specs.SamePlain.{same_plain, same_plain_equiv, same_tables, strategy_number};
 
 use crate::formatter::DecimalFormatter;
 use crate::writing::write_unsigned;
 use fixed_decimal::UnsignedDecimal;
+use icu_decimal_provider::options::GroupingStrategy;
 use std::alloc::AllocError;
 use std::fmt;
 use std::marker::Model;
@@ -72,4 +77,47 @@ impl<'l> fmt::Display for FormattedUnsignedDecimal<'l> {
     fn fmt<W: fmt::Write>(&self, f: &mut fmt::Formatter<W>) -> fmt::Result {
         display(self, f)
     }
+}
+
+// Whether the digits are the same.
+fn have_same_digits(one: &[char; 10], other: &[char; 10]) -> bool
+    ensures { result ≡ pointwise nat_eq one.now other.now }
+{
+    one == other
+}
+
+// Whether two strategies are one.
+fn is_same_strategy(one: GroupingStrategy, other: GroupingStrategy) -> bool
+    ensures { result ≡ (strategy_number one == strategy_number other) }
+{
+    match one {
+        GroupingStrategy::Auto => matches!(other, GroupingStrategy::Auto),
+        GroupingStrategy::Never => matches!(other, GroupingStrategy::Never),
+        GroupingStrategy::Always => matches!(other, GroupingStrategy::Always),
+        GroupingStrategy::Min2 => matches!(other, GroupingStrategy::Min2),
+    }
+}
+
+// Whether the tables are equal.
+fn are_same_tables(one: DecimalFormatter<'_>, other: DecimalFormatter<'_>) -> bool
+    ensures { result ≡ same_tables (tables_of one.entry) (tables_of other.entry) }
+{
+    *one.symbols == *other.symbols
+        && (have_same_digits(one.digits, other.digits)
+            && is_same_strategy(one.strategy, other.strategy))
+}
+
+/// Equal where the numbers are, and the tables: `0.5` and `0.50` are not.
+impl<'l> PartialEq for FormattedUnsignedDecimal<'l> {
+    ghost eq = { same_plain };
+
+    ghost laws = { partial_equiv_from_equiv same_plain_equiv };
+
+    fn eq(&self, other: &Self) -> bool {
+        *self.number == *other.number && are_same_tables(self.tables, other.tables)
+    }
+}
+
+impl<'l> Eq for FormattedUnsignedDecimal<'l> {
+    ghost laws = { same_plain_equiv };
 }
