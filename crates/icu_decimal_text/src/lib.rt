@@ -1,4 +1,4 @@
-//! How a number is written: where grouping separators stand, and the affixes of its sign.
+//! How a number is written: formatters, the text of a number with its parts, where grouping separators stand.
 //!
 //! With the sizes 3, 2, 1 the number 100000 is written `1,00,000`: a separator follows the digits at the magnitudes 5 and 3. With
 //! a minus sign it is `-1,00,000`. The rules are in docs/plain-text.md.
