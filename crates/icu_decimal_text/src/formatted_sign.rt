@@ -15,7 +15,7 @@ use icu_decimal_provider::parts;
 use icu_decimal_provider::provider::DecimalSymbols;
 use std::fmt;
 use std::marker::Model;
-use writeable::{Error, Part, Sink, Writeable, display};
+use writeable::{Error, LengthHint, Part, Sink, Writeable, display};
 
 // The affixes of a sign, and the part that each of them is.
 #[derive(Clone, Copy, Debug)]
@@ -121,6 +121,9 @@ fn write_suffix<S: Sink>(affixes: Option<Affixes<'_>>, sink: &mut S) -> Result<(
 
 /// The prefix, the value and the suffix: `-1,234` in English, of which `-` is the part `MINUS_SIGN`.
 impl<'l, T: Writeable> Writeable for FormattedSign<'l, T> {
+    ghost use Rattle.std.specs.Prelude.{length};
+    ghost use Rattle.writeable.specs.AnnotatedText.{text_of};
+    ghost use Rattle.writeable.specs.LengthHint.{IsWithinHint};
     ghost use Rattle.icu_decimal_text.specs.Affixes.{events_with_sign};
 
     ghost events = { λ s. events_with_sign T.events s };
@@ -129,6 +132,13 @@ impl<'l, T: Writeable> Writeable for FormattedSign<'l, T> {
         write_prefix(self.affixes, sink)?;
         self.value.write_to(sink)?;
         write_suffix(self.affixes, sink)
+    }
+
+    #[tactic(auto, using(crate::proofs::HintLemmas::value_is_shorter))]
+    fn writeable_length_hint(&self) -> LengthHint
+        ensures { IsWithinHint result (length (text_of (events_with_sign T.events self.now))) }
+    {
+        LengthHint::at_least(self.value.writeable_length_hint().low)
     }
 }
 

@@ -8,13 +8,13 @@ ghost use Rattle.icu_decimal_text.specs.HeldTables.{tables_of};
 ghost use Rattle.icu_decimal_text.specs.SamePlain.{same_plain, same_plain_equiv, same_tables, strategy_number};
 
 use crate::formatter::DecimalFormatter;
-use crate::writing::write_unsigned;
+use crate::writing::{digits_shown, write_unsigned};
 use fixed_decimal::UnsignedDecimal;
 use icu_decimal_provider::options::GroupingStrategy;
 use std::alloc::AllocError;
 use std::fmt;
 use std::marker::Model;
-use writeable::{Error, Sink, Writeable, display};
+use writeable::{Error, LengthHint, Sink, Writeable, display};
 
 /// A number without a sign, as a formatter writes it: `1,234.5` in English. It borrows the number and the tables.
 ///
@@ -57,12 +57,22 @@ impl<'l> FormattedUnsignedDecimal<'l> {
 
 /// The digits in groups with their parts: `1,234.5` in English.
 impl<'l> Writeable for FormattedUnsignedDecimal<'l> {
+    ghost use Rattle.std.specs.Prelude.{◌≤◌, length};
+    ghost use Rattle.writeable.specs.AnnotatedText.{text_of};
+    ghost use Rattle.writeable.specs.LengthHint.{IsWithinHint};
     ghost use Rattle.icu_decimal_text.specs.PlainText.{unsigned_events};
 
     ghost events = { unsigned_events };
 
     fn write_to<S: Sink>(&self, sink: &mut S) -> Result<(), Error> {
         write_unsigned(self.tables, self.number, sink)
+    }
+
+    #[tactic(auto, using(crate::proofs::HintLemmas::unsigned_is_long))]
+    fn writeable_length_hint(&self) -> LengthHint
+        ensures { IsWithinHint result (length (text_of (unsigned_events self.now))) }
+    {
+        LengthHint::at_least(digits_shown(self.number))
     }
 }
 

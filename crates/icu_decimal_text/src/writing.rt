@@ -117,6 +117,13 @@ fn fraction_digit(number: &UnsignedDecimal, places: u16, left: u16) -> u8
     number.digit_at((left as i32 - places as i32) as i16)
 }
 
+// How many digits are shown.
+pub(crate) fn digits_shown(number: &UnsignedDecimal) -> usize
+    ensures { result ≡ (number.now.high - 32767) + (32768 - number.now.low) }
+{
+    highest(number) as usize + 1 + fraction_len(number) as usize
+}
+
 // Writes the fraction digits.
 fn write_fraction_digits<S: Sink>(
     digits: &[char; 10],
