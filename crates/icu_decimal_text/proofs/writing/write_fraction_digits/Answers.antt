@@ -15,7 +15,7 @@ loop-left-preserved g c =
     let next = fraction_next c.args.digits.now v.count v.low left (left - 1) (32768 - places + (left - 1)) char (omega arith) (omega arith) (ap (λ d. slice_index c.args.digits.now d) c.fraction_digit.ensures.value) in
     record {
       left = omega arith;
-      writing = writing_goes_on g.S.Sink.takes g.S.Sink.refused g.met.S.Sink.joins _ _ _ _ (bytes (encode_utf8 char)) _
+      writing = writing_goes_on g.S.Sink.takes g.S.Sink.refused g.met.S.Sink.joins _ _ _ _ (bytes (encode_utf8 char)) (fraction_left c.args.digits.now v.count v.low (left - 1))
           (rw next at c.loop-left.invariant.writing) c.in_ok-write_char.ensures.ok c.in_ok-write_char.ensures.refused;
     }
 
@@ -29,5 +29,5 @@ returns-in_err-write_char-clause-begun g c =
     let size : 32768 - v.low ≡ places = omega arith in
     rw (ap (fraction_left c.args.digits.now v.count v.low) size)
     (on_err c.from_residual.result
-    (writing_stops g.S.Sink.takes g.S.Sink.refused g.met.S.Sink.joins g.S.Sink.lacks_room g.met.S.Sink.lacks_more _ _ _ _ (bytes (encode_utf8 char)) _
+    (writing_stops g.S.Sink.takes g.S.Sink.refused g.met.S.Sink.joins g.S.Sink.lacks_room g.met.S.Sink.lacks_more _ _ _ _ (bytes (encode_utf8 char)) (fraction_left c.args.digits.now v.count v.low (left - 1))
     (rw next at c.loop-left.invariant.writing) c.in_err-write_char.ensures.begun))

@@ -6,7 +6,7 @@ use Rattle.writeable.proofs.WritingLemmas.{writing_goes_on, writing_stops, writi
 use Rattle.icu_decimal_text.specs.Affixes.{as_part, decimal_part}
 use Rattle.icu_decimal_text.specs.Grouper.{separates}
 use Rattle.icu_decimal_text.specs.HeldTables.{tables_of}
-use Rattle.icu_decimal_text.proofs.PlainTextLemmas.{whole_next, whole_starts, whole_done}
+use Rattle.icu_decimal_text.proofs.PlainTextLemmas.{whole_left, whole_next, whole_starts, whole_done}
 use Rattle.icu_decimal_text.proofs.writing.write_whole.Goals as goal
 
 pub loop-left-preserved : goal.loop-left-preserved
@@ -22,7 +22,7 @@ loop-left-preserved g c =
     let next = whole_next t c.args.number.now.count n left (left - 1) char separator follows (omega arith) (omega arith) (ap (λ d. slice_index t.digits d) c.whole_digit.ensures.value) written tested in
     record {
       left = omega arith;
-      writing = writing_goes_on g.S.Sink.takes g.S.Sink.refused g.met.S.Sink.joins _ _ _ _ (bytes (encode_utf8 char) ++ cond follows (as_part (decimal_part (codes "group")) separator) []) _
+      writing = writing_goes_on g.S.Sink.takes g.S.Sink.refused g.met.S.Sink.joins _ _ _ _ (bytes (encode_utf8 char) ++ cond follows (as_part (decimal_part (codes "group")) separator) []) (whole_left t c.args.number.now.count n (left - 1))
           (rw next at c.loop-left.invariant.writing) c.in_ok-write_digit.ensures.ok c.in_ok-write_digit.ensures.refused;
     }
 
@@ -40,7 +40,7 @@ returns-in_err-write_digit-clause-begun g c =
     let size : c.args.number.now.high - 32767 ≡ n = omega arith in
     rw (whole_starts t c.args.number.now n size (omega arith))
     (on_err c.from_residual.result
-    (writing_stops g.S.Sink.takes g.S.Sink.refused g.met.S.Sink.joins g.S.Sink.lacks_room g.met.S.Sink.lacks_more _ _ _ _ (bytes (encode_utf8 char) ++ cond follows (as_part (decimal_part (codes "group")) separator) []) _
+    (writing_stops g.S.Sink.takes g.S.Sink.refused g.met.S.Sink.joins g.S.Sink.lacks_room g.met.S.Sink.lacks_more _ _ _ _ (bytes (encode_utf8 char) ++ cond follows (as_part (decimal_part (codes "group")) separator) []) (whole_left t c.args.number.now.count n (left - 1))
     (rw next at c.loop-left.invariant.writing) c.in_err-write_digit.ensures.begun))
 
 pub returns-clause-ok : goal.returns-clause-ok
