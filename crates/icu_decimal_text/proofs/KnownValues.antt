@@ -1,15 +1,16 @@
 -- Values from outside that a wrong definition of groups does not survive: the tables of docs/plain-text.md.
-use Rattle.std.proofs.Common.{◌≡◌, ℕ, List, [], ◌∷◌, refl}
+use Rattle.std.proofs.Common.{◌≡◌, ℕ, List, [], ◌∷◌, ◌++◌, refl}
 use Rattle.std.specs.Prelude.{codes}
 use Rattle.icu_decimal_provider.specs.declared.provider.GroupingSizes.{GroupingSizes}
 use Rattle.icu_decimal_provider.specs.declared.options.GroupingStrategy.{GroupingStrategy}
 use Rattle.icu_decimal_provider.specs.declared.options.GroupingStrategy.TheVariants.{Auto, Never, Always, Min2}
 use Rattle.icu_decimal_text.specs.Grouper.{groups, joined, group_sizes}
-use Rattle.writeable.specs.AnnotatedText.{AnnotatedText, annotated, bytes, opening, closing}
+use Rattle.writeable.specs.AnnotatedText.{AnnotatedText, Interval, annotated, bytes, opening, closing}
 use Rattle.fixed_decimal.specs.declared.Sign.{Sign}
 use Rattle.fixed_decimal.specs.declared.Sign.TheVariants.{None as NoSign, Negative, Positive}
-use Rattle.icu_decimal_provider.specs.Symbols.{SymbolStrings}
-use Rattle.icu_decimal_text.specs.Affixes.{affixes_of, decimal_part, events_with_sign}
+use Rattle.icu_decimal_provider.specs.Symbols.{SymbolStrings, english_strings}
+use Rattle.icu_decimal_text.specs.Affixes.{affixes_of, decimal_part, events_with_sign, prefix_events, suffix_events}
+use Rattle.icu_decimal_text.specs.PlainText.{Tables, fraction_events, fraction_text, integer_events, whole_text}
 
 abbrev sizes_of : ℕ → ℕ → ℕ → GroupingSizes
 sizes_of primary secondary least = record { primary = primary; secondary = secondary; min_grouping = least }
@@ -131,3 +132,49 @@ minus_sign = refl
 plus_sign : five_with Positive ≡ record { text = codes "+5"; parts = record { start = 0; end = 1; part = decimal_part (codes "plusSign") } ∷ [] }
 unfolding bytes opening closing
 plus_sign = refl
+
+-- The text of a number, by its digits before and behind the point.
+
+abbrev latin_digits : List ℕ
+latin_digits = codes "0123456789"
+
+abbrev with_sizes : GroupingSizes → Tables
+with_sizes sizes = record { symbols = record { strings = english_strings; grouping_sizes = sizes }; digits = latin_digits; strategy = Auto }
+
+abbrev english : Tables
+english = with_sizes (sizes_of 3 3 1)
+
+four_digits : whole_text english (1 ∷ 2 ∷ 3 ∷ 4 ∷ []) ≡ codes "1,234"
+unfolding lib.Utf8.encode
+four_digits = refl
+
+indic_seven : whole_text (with_sizes (sizes_of 3 2 1)) (1 ∷ 2 ∷ 3 ∷ 4 ∷ 5 ∷ 6 ∷ 7 ∷ []) ≡ codes "12,34,567"
+unfolding lib.Utf8.encode
+indic_seven = refl
+
+-- zeros in front are digits like others
+padded : whole_text english (0 ∷ 0 ∷ 0 ∷ 7 ∷ []) ≡ codes "0,007"
+unfolding lib.Utf8.encode
+padded = refl
+
+with_fraction : whole_text english (2 ∷ 0 ∷ 0 ∷ 0 ∷ []) ++ fraction_text english (5 ∷ 0 ∷ []) ≡ codes "2,000.50"
+unfolding lib.Utf8.encode
+with_fraction = refl
+
+-- no fraction digits, no separator
+without_fraction : fraction_text english [] ≡ []
+without_fraction = refl
+
+-- the text and the parts of digits with a minus sign
+abbrev negative : List ℕ → List ℕ → AnnotatedText
+negative whole fraction =
+    let affixes = affixes_of english_strings Negative in
+    annotated (prefix_events affixes ++ ((integer_events english whole ++ fraction_events english fraction) ++ suffix_events affixes))
+
+abbrev part_at : ℕ → ℕ → List ℕ → Interval
+part_at start end value = record { start = start; end = end; part = decimal_part value }
+
+all_parts : negative (9 ∷ 8 ∷ 7 ∷ 6 ∷ 5 ∷ 4 ∷ []) (3 ∷ 2 ∷ 1 ∷ [])
+    ≡ record { text = codes "-987,654.321"; parts = part_at 0 1 (codes "minusSign") ∷ part_at 1 8 (codes "integer") ∷ part_at 4 5 (codes "group") ∷ part_at 8 9 (codes "decimal") ∷ part_at 9 12 (codes "fraction") ∷ [] }
+unfolding bytes opening closing lib.Utf8.encode
+all_parts = refl

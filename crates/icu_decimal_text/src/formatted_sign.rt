@@ -9,12 +9,13 @@ ghost use Rattle.icu_decimal_text.specs.Affixes.{affixes_of, as_part, prefix_eve
 ghost use Rattle.icu_decimal_text.specs.HeldAffixes.{texts_of};
 ghost use Rattle.icu_decimal_text.specs.SameAffixes.{same_affixes};
 
+use crate::writing::write_part;
 use fixed_decimal::Sign;
 use icu_decimal_provider::parts;
 use icu_decimal_provider::provider::DecimalSymbols;
 use std::fmt;
 use std::marker::Model;
-use writeable::{Error, Part, Sink, Writeable, display};
+use writeable::{Error, LengthHint, Part, Sink, Writeable, display};
 
 // The affixes of a sign, and the part that each of them is.
 #[derive(Clone, Copy, Debug)]
@@ -80,18 +81,16 @@ impl<'l, T> FormattedSign<'l, T> {
     {
         &self.value
     }
-}
 
-// Writes a text as a part.
-fn write_part<S: Sink>(part: Part, text: &str, sink: &mut S) -> Result<(), Error>
-    requires { S.refused sink.old ≡ false }
-    ensures ok { OnOk result (S.takes sink.old (as_part (name_of part) text.now) sink.new) }
-    ensures refused { S.refused sink.new ≡ is_err result }
-    ensures begun { OnErr result (HasBegun S.takes S.lacks_room sink.old (as_part (name_of part) text.now) sink.new) }
-{
-    sink.open_part(part)?;
-    sink.write_str(text)?;
-    sink.close_part()
+    // Another value between the same affixes.
+    pub(crate) fn with_value(&self, value: T) -> Self
+        ensures { result ≡ record { value = value; affixes = self.now.affixes } }
+    {
+        FormattedSign {
+            value,
+            affixes: self.affixes,
+        }
+    }
 }
 
 // Writes the prefix, where there is a sign.
@@ -122,6 +121,9 @@ fn write_suffix<S: Sink>(affixes: Option<Affixes<'_>>, sink: &mut S) -> Result<(
 
 /// The prefix, the value and the suffix: `-1,234` in English, of which `-` is the part `MINUS_SIGN`.
 impl<'l, T: Writeable> Writeable for FormattedSign<'l, T> {
+    ghost use Rattle.std.specs.Prelude.{length};
+    ghost use Rattle.writeable.specs.AnnotatedText.{text_of};
+    ghost use Rattle.writeable.specs.LengthHint.{IsWithinHint};
     ghost use Rattle.icu_decimal_text.specs.Affixes.{events_with_sign};
 
     ghost events = { λ s. events_with_sign T.events s };
@@ -130,6 +132,13 @@ impl<'l, T: Writeable> Writeable for FormattedSign<'l, T> {
         write_prefix(self.affixes, sink)?;
         self.value.write_to(sink)?;
         write_suffix(self.affixes, sink)
+    }
+
+    #[tactic(auto, using(crate::proofs::HintLemmas::value_is_shorter))]
+    fn writeable_length_hint(&self) -> LengthHint
+        ensures { IsWithinHint result (length (text_of (events_with_sign T.events self.now))) }
+    {
+        LengthHint::at_least(self.value.writeable_length_hint().low)
     }
 }
 

@@ -1,4 +1,9 @@
 ghost use Rattle.icu_decimal_text.specs.GroupLaws.{GroupsAreCut, GroupsAreSeparated};
+ghost use Rattle.std.specs.Prelude.{IsTrue};
+ghost use Rattle.icu_decimal_text.specs.TextLaws.{DecimalIsText, FindTheSameTables, UnsignedIsText};
+
+use icu_decimal_provider::laws::same_preferences;
+use icu_decimal_provider::preferences::DecimalFormatterPreferences;
 
 /// A law: digits in several groups are cut from the right, and the groups joined are the digits
 /// with a separator after each one at which `grouper::check` says so.
@@ -6,3 +11,16 @@ pub fn groups_law()
     ensures sizes { GroupsAreCut }
     ensures separated { GroupsAreSeparated }
 {}
+
+/// A law: the text that the events of a number write is the text of its definition, with a sign and without.
+pub fn text_law()
+    ensures unsigned { UnsignedIsText }
+    ensures decimal { DecimalIsText }
+{}
+
+/// A law: equal preferences find the same tables of every provider, with the same options.
+pub fn same_tables(one: &DecimalFormatterPreferences, other: &DecimalFormatterPreferences) -> bool
+    ensures { IsTrue result → FindTheSameTables one.now other.now }
+{
+    same_preferences(one, other)
+}

@@ -1,4 +1,4 @@
-//! How a number is written: where grouping separators stand, and the affixes of its sign.
+//! How a number is written: formatters, the text of a number with its parts, where grouping separators stand.
 //!
 //! With the sizes 3, 2, 1 the number 100000 is written `1,00,000`: a separator follows the digits at the magnitudes 5 and 3. With
 //! a minus sign it is `-1,00,000`. The rules are in docs/plain-text.md.
@@ -13,7 +13,12 @@
 #![tactic(auto)]
 
 mod formatted_sign;
+mod formatted_unsigned_decimal;
+mod formatter;
 pub mod grouper;
 pub mod laws;
+mod writing;
 
 pub use formatted_sign::FormattedSign;
+pub use formatted_unsigned_decimal::FormattedUnsignedDecimal;
+pub use formatter::{DecimalFormatter, FormattedDecimal};

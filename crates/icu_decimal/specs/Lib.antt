@@ -1,0 +1,23 @@
+-- What a reader must believe: which tables are asked for, and the text of a number with its parts.
+pub use Rattle.icu_decimal_provider.specs.Choice
+pub use Rattle.icu_decimal_provider.specs.Cow
+pub use Rattle.icu_decimal_provider.specs.DataErrors
+pub use Rattle.icu_decimal_provider.specs.Identifiers
+pub use Rattle.icu_decimal_provider.specs.Options
+pub use Rattle.icu_decimal_provider.specs.Preferences
+pub use Rattle.icu_decimal_provider.specs.Symbols
+pub use Rattle.icu_decimal_text.specs.Affixes
+pub use Rattle.icu_decimal_text.specs.FoundTables
+pub use Rattle.icu_decimal_text.specs.Grouper
+pub use Rattle.icu_decimal_text.specs.PlainText
+-- What a formatter holds.
+pub use Rattle.icu_decimal_text.specs.HeldTables
+-- Equality of symbols and of formatted numbers.
+pub use Rattle.icu_decimal_provider.specs.SameSymbols
+pub use Rattle.icu_decimal_text.specs.SameAffixes
+pub use Rattle.icu_decimal_text.specs.SamePlain
+-- Statements of laws.
+pub use Rattle.icu_decimal_provider.specs.Laws
+pub use Rattle.icu_decimal_provider.specs.SameSymbolsLaws
+pub use Rattle.icu_decimal_text.specs.GroupLaws
+pub use Rattle.icu_decimal_text.specs.TextLaws

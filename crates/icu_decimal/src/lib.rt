@@ -1,0 +1,26 @@
+//! Decimal numbers as a locale writes them, after the ICU4X crate of this name.
+//!
+//! A formatter borrows symbols and digits from a provider, and writes any decimal to any sink, with its parts: in English `-1,234.5`.
+//! The rules are in docs/plain-text.md and docs/formatters.md. This crate raises its inner crates under ICU4X's paths and computes
+//! nothing itself.
+//!
+//! ```rust
+//! use icu_decimal::DecimalFormatter;
+//! use icu_decimal::options::DecimalFormatterOptions;
+//! use icu_decimal::preferences::DecimalFormatterPreferences;
+//!
+//! let preferences = DecimalFormatterPreferences::from(&locale);           // of en-u-nu-thai
+//! let options = DecimalFormatterOptions::default();
+//! let formatter = DecimalFormatter::try_new_unstable(&provider, preferences, options)?;
+//! let text = formatter.format_to_string(alloc, &number)?;                 // ๑,๐๐๐,๐๐๗
+//! ```
+#![tactic(auto)]
+
+pub mod input;
+pub mod laws;
+
+pub use icu_decimal_provider::preferences::DecimalFormatterPreferences;
+pub use icu_decimal_provider::{Cow, error, options, parts, preferences, provider};
+pub use icu_decimal_text::{
+    DecimalFormatter, FormattedDecimal, FormattedSign, FormattedUnsignedDecimal, grouper,
+};

@@ -1,0 +1,133 @@
+//! A number without a sign, as a formatter writes it.
+
+ghost use Rattle.std.specs.Prelude.{◌≡◌, IfOk, IsOk};
+ghost use Rattle.std.specs.Prelude.{◌==◌, nat_eq};
+ghost use Rattle.std.specs.Cmp.{partial_equiv_from_equiv};
+ghost use Rattle.std.specs.Cmp.Lexicographic.{pointwise};
+ghost use Rattle.icu_decimal_text.specs.HeldTables.{tables_of};
+ghost use Rattle.icu_decimal_text.specs.SamePlain.{same_plain, same_plain_equiv, same_tables, strategy_number};
+
+use crate::formatter::DecimalFormatter;
+use crate::writing::{digits_shown, write_unsigned};
+use fixed_decimal::UnsignedDecimal;
+use icu_decimal_provider::options::GroupingStrategy;
+use std::alloc::AllocError;
+use std::fmt;
+use std::marker::Model;
+use writeable::{Error, LengthHint, Sink, Writeable, display};
+
+/// A number without a sign, as a formatter writes it: `1,234.5` in English. It borrows the number and the tables.
+///
+/// Its parts are `INTEGER`, `GROUP` inside it, `DECIMAL` and `FRACTION`.
+#[derive(Debug, Drop)]
+pub struct FormattedUnsignedDecimal<'l> {
+    number: &'l UnsignedDecimal,
+    tables: DecimalFormatter<'l>,
+}
+
+impl<'l> Model for FormattedUnsignedDecimal<'l> {
+    ghost use Rattle.icu_decimal_text.specs.PlainText.{PlainNumber};
+
+    ghost Value = { PlainNumber };
+
+    ghost use Rattle.icu_decimal_text.specs.HeldTables.{tables_of};
+
+    ghost view = { λ s. record { number = s.number.now; tables = tables_of s.tables } };
+}
+
+impl<'l> FormattedUnsignedDecimal<'l> {
+    // The number with these tables.
+    pub(crate) fn new(number: &'l UnsignedDecimal, tables: DecimalFormatter<'l>) -> Self
+        ensures { result ≡ record { number = number.now; tables = tables_of tables.entry } }
+    {
+        FormattedUnsignedDecimal { number, tables }
+    }
+
+    /// The same value once more, with the same loans. It takes no memory.
+    pub fn try_clone(&self) -> Result<Self, AllocError>
+        ensures succeeds { IsOk result }
+        ensures value { IfOk result (λ copy. copy ≡ self.now) }
+    {
+        Ok(FormattedUnsignedDecimal {
+            number: self.number,
+            tables: self.tables,
+        })
+    }
+}
+
+/// The digits in groups with their parts: `1,234.5` in English.
+impl<'l> Writeable for FormattedUnsignedDecimal<'l> {
+    ghost use Rattle.std.specs.Prelude.{◌≤◌, length};
+    ghost use Rattle.writeable.specs.AnnotatedText.{text_of};
+    ghost use Rattle.writeable.specs.LengthHint.{IsWithinHint};
+    ghost use Rattle.icu_decimal_text.specs.PlainText.{unsigned_events};
+
+    ghost events = { unsigned_events };
+
+    fn write_to<S: Sink>(&self, sink: &mut S) -> Result<(), Error> {
+        write_unsigned(self.tables, self.number, sink)
+    }
+
+    #[tactic(auto, using(crate::proofs::HintLemmas::unsigned_is_long))]
+    fn writeable_length_hint(&self) -> LengthHint
+        ensures { IsWithinHint result (length (text_of (unsigned_events self.now))) }
+    {
+        LengthHint::at_least(digits_shown(self.number))
+    }
+}
+
+/// The same text, without its parts.
+impl<'l> fmt::Display for FormattedUnsignedDecimal<'l> {
+    ghost use Rattle.std.specs.Prelude.{Some};
+    ghost use Rattle.icu_decimal_text.specs.PlainText.{unsigned_text};
+
+    ghost output = { λ p. Some (unsigned_text p.tables p.number) };
+
+    #[tactic(auto, using(crate::proofs::TextLemmas::unsigned_is_text))]
+    fn fmt<W: fmt::Write>(&self, f: &mut fmt::Formatter<W>) -> fmt::Result {
+        display(self, f)
+    }
+}
+
+// Whether the digits are the same.
+fn have_same_digits(one: &[char; 10], other: &[char; 10]) -> bool
+    ensures { result ≡ pointwise nat_eq one.now other.now }
+{
+    one == other
+}
+
+// Whether two strategies are one.
+fn is_same_strategy(one: GroupingStrategy, other: GroupingStrategy) -> bool
+    ensures { result ≡ (strategy_number one == strategy_number other) }
+{
+    match one {
+        GroupingStrategy::Auto => matches!(other, GroupingStrategy::Auto),
+        GroupingStrategy::Never => matches!(other, GroupingStrategy::Never),
+        GroupingStrategy::Always => matches!(other, GroupingStrategy::Always),
+        GroupingStrategy::Min2 => matches!(other, GroupingStrategy::Min2),
+    }
+}
+
+// Whether the tables are equal.
+fn are_same_tables(one: DecimalFormatter<'_>, other: DecimalFormatter<'_>) -> bool
+    ensures { result ≡ same_tables (tables_of one.entry) (tables_of other.entry) }
+{
+    *one.symbols == *other.symbols
+        && (have_same_digits(one.digits, other.digits)
+            && is_same_strategy(one.strategy, other.strategy))
+}
+
+/// Equal where the numbers are, and the tables: `0.5` and `0.50` are not.
+impl<'l> PartialEq for FormattedUnsignedDecimal<'l> {
+    ghost eq = { same_plain };
+
+    ghost laws = { partial_equiv_from_equiv same_plain_equiv };
+
+    fn eq(&self, other: &Self) -> bool {
+        *self.number == *other.number && are_same_tables(self.tables, other.tables)
+    }
+}
+
+impl<'l> Eq for FormattedUnsignedDecimal<'l> {
+    ghost laws = { same_plain_equiv };
+}

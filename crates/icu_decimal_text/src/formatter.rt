@@ -1,0 +1,94 @@
+//! A formatter of decimals.
+
+ghost use Rattle.std.specs.Prelude.{◌≡◌, IfOk, IsOk, string_bytes};
+ghost use Rattle.std.specs.Result.{result_map_both};
+ghost use Rattle.icu_decimal_text.specs.FoundTables.{found_tables};
+ghost use Rattle.icu_decimal_text.specs.HeldTables.{tables_of};
+ghost use Rattle.icu_decimal_text.specs.PlainText.{decimal_text, formatted};
+
+use crate::formatted_sign::FormattedSign;
+use crate::formatted_unsigned_decimal::FormattedUnsignedDecimal;
+use fixed_decimal::Decimal;
+use icu_decimal_provider::options::{DecimalFormatterOptions, GroupingStrategy, strategy_of};
+use icu_decimal_provider::preferences::DecimalFormatterPreferences;
+use icu_decimal_provider::provider::{
+    DataError, DataProvider, DecimalDigitsV1, DecimalSymbols, DecimalSymbolsV1, load_digits,
+    load_symbols,
+};
+use std::alloc::{AllocError, Global};
+use writeable::Writeable;
+
+/// A decimal as a formatter writes it: `-1,234.5` in English.
+pub type FormattedDecimal<'l> = FormattedSign<'l, FormattedUnsignedDecimal<'l>>;
+
+impl<'l> FormattedSign<'l, FormattedUnsignedDecimal<'l>> {
+    /// The same value once more, with the same loans. It takes no memory.
+    pub fn try_clone(&self) -> Result<Self, AllocError>
+        ensures succeeds { IsOk result }
+        ensures value { IfOk result (λ copy. copy ≡ self.now) }
+    {
+        let value = self.value().try_clone()?;
+        Ok(self.with_value(value))
+    }
+}
+
+/// A formatter of decimals: the symbols and the digits of a locale, which it borrows, and when separators are written.
+#[derive(Clone, Copy, Debug)]
+pub struct DecimalFormatter<'b> {
+    pub(crate) symbols: &'b DecimalSymbols,
+    pub(crate) digits: &'b [char; 10],
+    pub(crate) strategy: GroupingStrategy,
+}
+
+impl<'b> DecimalFormatter<'b> {
+    /// The formatter of these preferences and options, with tables of the provider: the symbols that the preferences ask for,
+    /// then the digits.
+    ///
+    /// With the sample book, preferences of `en-u-nu-thai` and default options it writes `๑,๐๐๐,๐๐๗`. Errors as `load_symbols` and
+    /// `load_digits`. It takes no memory.
+    pub fn try_new_unstable<P>(
+        provider: &'b P,
+        preferences: DecimalFormatterPreferences,
+        options: DecimalFormatterOptions,
+    ) -> Result<Self, DataError>
+    where
+        P: DataProvider<DecimalSymbolsV1> + DataProvider<DecimalDigitsV1>,
+        ensures { result_map_both tables_of (λ error. error) result ≡ found_tables (λ id. ⟦<P as DataProvider<DecimalSymbolsV1>>⟧.table provider.now id) (λ id. ⟦<P as DataProvider<DecimalDigitsV1>>⟧.table provider.now id) preferences options.grouping_strategy }
+    {
+        let symbols = load_symbols(provider, &preferences)?;
+        let digits = load_digits(provider, &preferences, symbols)?;
+        Ok(DecimalFormatter {
+            symbols,
+            digits,
+            strategy: strategy_of(options),
+        })
+    }
+
+    /// The decimal as this formatter writes it: -1234.5 as `-1,234.5` in English. It takes no memory.
+    pub fn format<'l>(&'l self, value: &'l Decimal) -> FormattedDecimal<'l>
+        ensures { result ≡ formatted (tables_of self.now) value.now }
+    {
+        let symbols = self.symbols;
+        let number = FormattedUnsignedDecimal::new(&value.absolute, *self);
+        FormattedSign::new(value.sign, symbols, number)
+    }
+
+    /// The text of the decimal: -1234.5 gives `-1,234.5` in English.
+    ///
+    /// It takes memory; `AllocError` is answered where that is refused.
+    #[tactic(auto, using(crate::proofs::TextLemmas::decimal_is_text))]
+    pub fn format_to_string(&self, alloc: Global, value: &Decimal) -> Result<String, AllocError>
+        ensures { IfOk result (λ text. string_bytes text ≡ decimal_text (tables_of self.now) value.now) }
+    {
+        self.format(value).write_to_string(alloc)
+    }
+}
+
+impl<'b> AsRef<DecimalFormatter<'b>> for DecimalFormatter<'b> {
+    /// The formatter itself.
+    fn as_ref(&self) -> &DecimalFormatter<'b>
+        ensures { result.now ≡ self.now }
+    {
+        self
+    }
+}
