@@ -1,0 +1,30 @@
+// A provider that answers every identifier with the tables of one locale.
+use icu_decimal::provider::{
+    DataError, DataIdentifier, DataProvider, DecimalDigitsV1, DecimalSymbols, DecimalSymbolsV1,
+};
+
+#[derive(Drop)]
+pub struct OneLocale {
+    pub symbols: DecimalSymbols,
+    pub digits: [char; 10],
+}
+
+impl DataProvider<DecimalSymbolsV1> for OneLocale {
+    ghost use Rattle.std.specs.Prelude.{Ok};
+
+    ghost table = { λ one id. Ok one.symbols };
+
+    fn load(&self, id: &DataIdentifier) -> Result<&DecimalSymbols, DataError> {
+        Ok(&self.symbols)
+    }
+}
+
+impl DataProvider<DecimalDigitsV1> for OneLocale {
+    ghost use Rattle.std.specs.Prelude.{Ok};
+
+    ghost table = { λ one id. Ok one.digits };
+
+    fn load(&self, id: &DataIdentifier) -> Result<&[char; 10], DataError> {
+        Ok(&self.digits)
+    }
+}
