@@ -20,6 +20,16 @@ pub use Rattle.icu_locale_core_grammar.specs.TagLaws
 pub use Rattle.icu_locale_core_grammar.specs.PartLaws
 pub use Rattle.icu_locale_core_grammar.specs.OrderLaws
 pub use Rattle.icu_locale_core_grammar.specs.PreferenceLaws
+pub use Rattle.icu_locale_core_sets.specs.Laws as SetLaws
+pub use Rattle.icu_locale_core_entries.specs.Laws as EntryLaws
+pub use Rattle.icu_locale_core_single.specs.SingleLaws
+pub use Rattle.icu_locale_core_locale.specs.ReadsBack
+pub use Rattle.icu_locale_core_preferences.specs.Laws as HeldPreferenceLaws
+-- Subtags: what a rule is, raw forms, JSON texts, what an iterator has left.
+pub use Rattle.icu_locale_core_subtags.specs.SubtagRule
+pub use Rattle.icu_locale_core_subtags.specs.RawSubtag
+pub use Rattle.icu_locale_core_subtags.specs.JsonText
+pub use Rattle.icu_locale_core_subtags.specs.PiecesLeft
 -- One variant and one keyword, in each mode.
 pub use Rattle.icu_locale_core_grammar.specs.SingleVariant
 pub use Rattle.icu_locale_core_langid.specs.OneVariant
@@ -29,15 +39,34 @@ pub use Rattle.icu_locale_core_langid.specs.Parts
 pub use Rattle.icu_locale_core_langid.specs.Modes
 pub use Rattle.icu_locale_core_langid.specs.LanguageText
 pub use Rattle.icu_locale_core_langid.specs.SameLanguage
+pub use Rattle.icu_locale_core_langid.specs.SameLanguageLaws
 pub use Rattle.icu_locale_core_langid.specs.NormalizedText
--- Values and maps after a change.
+-- Sets, values and maps: read, written, ordered, after a change.
 pub use Rattle.icu_locale_core_sets.specs.SubtagSets
+pub use Rattle.icu_locale_core_sets.specs.Reading
 pub use Rattle.icu_locale_core_entries.specs.Values
+pub use Rattle.icu_locale_core_entries.specs.EntryText
+pub use Rattle.icu_locale_core_entries.specs.Orders
+pub use Rattle.icu_locale_core_entries.specs.Lends
 pub use Rattle.icu_locale_core_entries.specs.EntryChanges
 pub use Rattle.icu_locale_core_entries.specs.Retained
 -- Keywords with a type of their own.
 pub use Rattle.icu_locale_core_keywords.specs.KeywordWords
 pub use Rattle.icu_locale_core_keywords.specs.TypedKeywords
+pub use Rattle.icu_locale_core_keywords.specs.WordLaws
+-- Extensions: one alone, all of a tag, when two are one.
+pub use Rattle.icu_locale_core_extensions.specs.ExtensionText
+pub use Rattle.icu_locale_core_extensions.specs.SameExtension
+pub use Rattle.icu_locale_core_extensions.specs.SameExtensionLaws
+pub use Rattle.icu_locale_core_locale.specs.ExtensionsValue
+pub use Rattle.icu_locale_core_locale.specs.ExtensionsOrder
+pub use Rattle.icu_locale_core_locale.specs.ExtensionsText
+pub use Rattle.icu_locale_core_locale.specs.RetainedByType
+-- Which texts ask a reader for memory.
+pub use Rattle.icu_locale_core_langid.specs.Room as LanguageRoom
+pub use Rattle.icu_locale_core_entries.specs.Room as EntryRoom
+pub use Rattle.icu_locale_core_extensions.specs.Room as ExtensionRoom
+pub use Rattle.icu_locale_core_locale.specs.Room as TagRoom
 -- Data locales, their text, and what a locale holds of a tag.
 pub use Rattle.icu_locale_core_preferences.specs.DataLocales
 pub use Rattle.icu_locale_core_preferences.specs.DataText

@@ -21,55 +21,31 @@ pub mod grammar {
     };
 }
 
-/// Of subtags, one or many.
-pub mod subtags {
-    pub use icu_locale_core_subtags::laws::{
-        order_is_of_texts, rising_subtags_are_a_set, subtags_are_words,
-    };
-}
+// Of subtags, one or many.
+pub use icu_locale_core_subtags::laws as subtags;
 
-/// Of variants, attributes and private pieces.
-pub mod sets {
-    pub use icu_locale_core_sets::laws::{
-        attributes_read_back, joining, private_reads_back, removal,
-    };
-}
+// Of variants, attributes and private pieces.
+pub use icu_locale_core_sets::laws as sets;
 
-/// Of keywords, fields and their values.
-pub mod entries {
-    pub use icu_locale_core_entries::laws::{
-        equality, fields_read_back, joining, keys_rise, keywords_read_back, removal, setting,
-        values_read_back,
-    };
-}
+// Of keywords, fields and their values.
+pub use icu_locale_core_entries::laws as entries;
 
-/// Of language identifiers.
-pub mod language_identifiers {
-    pub use icu_locale_core_langid::laws::{identifiers_read_back, same_is_equal};
-}
+// Of extensions.
+pub use icu_locale_core_extensions::laws as extensions;
+
+// Of language identifiers.
+pub use icu_locale_core_langid::laws as language_identifiers;
 
 /// Of the readers of one variant and one keyword.
 pub mod single {
     pub use icu_locale_core_single::laws::{modes_agree, modes_are_answered};
 }
 
-/// Of whole locales.
-pub mod locales {
-    pub use icu_locale_core_locale::laws::{locales_read_back, orders_are_total, same_is_equal};
-}
+// Of whole locales.
+pub use icu_locale_core_locale::laws as locales;
 
-/// Of keywords with a type of their own.
-pub mod keywords {
-    pub use icu_locale_core_keywords::laws::{
-        currencies_read_back, numbering_systems_read_back, region_overrides_read_back,
-        regional_subdivisions_read_back, subdivisions_read_back, words_state_cases,
-    };
-}
+// Of keywords with a type of their own.
+pub use icu_locale_core_keywords::laws as keywords;
 
-/// Of preferences and data locales.
-pub mod preferences {
-    pub use icu_locale_core_preferences::laws::{
-        accepted_texts_prefer_alike, data_locales_are_normal, data_locales_read_back,
-        locales_hold_preferences, preferences_are_normal, same_data_locales, same_preferences,
-    };
-}
+// Of preferences and data locales.
+pub use icu_locale_core_preferences::laws as preferences;
