@@ -94,21 +94,24 @@ impl TagPart for Other {
         self.total_cmp(other)
     }
 
-    fn answer(mut self, alloc: Global, call: Call<'_>) -> Answer {
+    fn answer(self, alloc: Global, call: Call<'_>) -> Answer {
         match call.name {
-            "try_clone" => copied(alloc, &self, self.try_clone()),
-            "get_ext" => debug(alloc, self.get_ext()),
-            "get_ext_byte" => debug(alloc, self.get_ext_byte()),
-            "get_ext_str" => text(alloc, self.get_ext_str()),
-            "as_slice" => joined(alloc, self.as_slice()),
-            "clear_total_cmp" => emptied_order(alloc, &self, self.try_clone()?),
-            "is_empty" => debug(alloc, self.is_empty()),
-            "clear" => {
-                self.clear();
-                printed(alloc, &self)
-            }
-            _ => Err(Unanswered::NotUnderstood),
+            "clear" => printed(alloc, &emptied(self)),
+            _ => of_other(alloc, call.name, &self),
         }
+    }
+}
+
+fn of_other(alloc: Global, name: &str, other: &Other) -> Answer {
+    match name {
+        "try_clone" => copied(alloc, other, other.try_clone()),
+        "get_ext" => debug(alloc, other.get_ext()),
+        "get_ext_byte" => debug(alloc, other.get_ext_byte()),
+        "get_ext_str" => text(alloc, other.get_ext_str()),
+        "as_slice" => joined(alloc, other.as_slice()),
+        "clear_total_cmp" => emptied_order(alloc, other, other.try_clone()?),
+        "is_empty" => debug(alloc, other.is_empty()),
+        _ => Err(Unanswered::NotUnderstood),
     }
 }
 

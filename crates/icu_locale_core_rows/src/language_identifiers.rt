@@ -34,11 +34,7 @@ pub fn language_identifier(alloc: Global, call: Call<'_>) -> Answer {
         "parse_language_identifier_from_iter" => {
             front_and_rest(alloc, call.second, mode_of(call.first)?)
         }
-        "language_after" => language_behind(
-            alloc,
-            LanguageIdentifier::try_from_str(alloc, call.first)?,
-            call.second,
-        ),
+        "language_after" => language_behind(alloc, call.first, call.second),
         "parse_behind_the_end" => behind_the_end(alloc, mode_of(call.first)?),
         "peek_behind_refusal" => behind_refusal(alloc, call.second, mode_of(call.first)?),
         _ => of_parts(alloc, call),

@@ -8,6 +8,7 @@ use crate::part::{TagPart, copied, part};
 use crate::single::single;
 use crate::unanswered::{Answer, Unanswered};
 use crate::whole_tag::{language_and_region, normalized};
+use icu_locale_core::extensions::Extensions;
 use icu_locale_core::extensions::unicode::Key;
 use icu_locale_core::parser::parse_locale;
 use icu_locale_core::subtags::{Language, Region, Script};
@@ -114,22 +115,29 @@ impl TagPart for Locale {
             "is_unknown" => debug(alloc, self.is_unknown()),
             "as_ref" => printed(alloc, self.as_ref()),
             "to_json" => json_text(alloc, self.to_json(alloc)),
-            "parts" => parts_of(alloc, &self),
             "get" => keyword_of(alloc, &self, Key::try_from_str(call.second)?),
             "push" | "is_well_formed" => with_others(alloc, call, self),
-            _ => Err(Unanswered::NotUnderstood),
+            _ => part_of(alloc, call.name, &self),
         }
     }
 }
 
-// The language, and how many variants, fields, other extensions and private pieces there are.
-fn parts_of(alloc: Global, locale: &Locale) -> Answer {
-    let language = locale.id.language;
-    let variants = locale.id.variants.len();
-    let fields = locale.extensions.transform.fields.iter().count();
-    let others = locale.extensions.other.len();
-    let pieces = locale.extensions.private.len();
-    Ok(format!(in alloc; "{language} {variants} {fields} {others} {pieces}")?)
+// The language, or how many variants, fields, other extensions or private pieces there are.
+fn part_of(alloc: Global, name: &str, locale: &Locale) -> Answer {
+    match name {
+        "language" => printed(alloc, &locale.id.language),
+        "variants" => debug(alloc, locale.id.variants.len()),
+        _ => count_of(alloc, name, &locale.extensions),
+    }
+}
+
+fn count_of(alloc: Global, name: &str, extensions: &Extensions) -> Answer {
+    match name {
+        "fields" => debug(alloc, extensions.transform.fields.iter().count()),
+        "other" => debug(alloc, extensions.other.len()),
+        "private" => debug(alloc, extensions.private.len()),
+        _ => Err(Unanswered::NotUnderstood),
+    }
 }
 
 // The value of the keyword at a key.

@@ -35,15 +35,30 @@ fn system_of(alloc: Global, locale: &Locale) -> Answer {
 }
 
 fn of_two(alloc: Global, call: Call<'_>) -> Answer {
-    let mut one = preferences_of(alloc, call.first)?;
+    let one = preferences_of(alloc, call.first)?;
     let other = preferences_of(alloc, call.second)?;
     match call.name {
+        "extend" => joined(alloc, one, other),
+        _ => compared(alloc, call.name, &one, &other),
+    }
+}
+
+fn joined(alloc: Global, one: LocalePreferences, other: LocalePreferences) -> Answer {
+    let mut both = one;
+    both.extend(other);
+    made(alloc, both.to_locale(alloc))
+}
+
+// Whether the preferences are equal, by `==` or by the law's call.
+fn compared(
+    alloc: Global,
+    name: &str,
+    one: &LocalePreferences,
+    other: &LocalePreferences,
+) -> Answer {
+    match name {
         "==" => debug(alloc, one == other),
-        "same_preferences" => debug(alloc, same_preferences(&one, &other)),
-        _ => {
-            one.extend(other);
-            made(alloc, one.to_locale(alloc))
-        }
+        _ => debug(alloc, same_preferences(one, other)),
     }
 }
 

@@ -10,7 +10,8 @@ use icu_locale_core_langid::language_after;
 use std::alloc::{AllocError, Global};
 
 /// The language identifier behind one more piece, and whether the piece was taken.
-pub fn language_behind(alloc: Global, id: LanguageIdentifier, piece: &str) -> Answer {
+pub fn language_behind(alloc: Global, front: &str, piece: &str) -> Answer {
+    let id = LanguageIdentifier::try_from_str(alloc, front)?;
     match language_after(alloc, Some(id), piece.as_bytes())? {
         Step::Taken(id) => two_texts(shown_or_hyphen(alloc, id.as_ref()), debug(alloc, true)),
         Step::Refused(id) => two_texts(shown_or_hyphen(alloc, id.as_ref()), debug(alloc, false)),
