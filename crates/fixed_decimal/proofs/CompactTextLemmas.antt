@@ -1,8 +1,7 @@
--- A compact text has one front and one list of digits, and its digits spell a number that is capped.
-use Rattle.std.proofs.Common.{◌≡◌, ℕ, ◌+◌, ◌*◌, ◌<◌, min, List, [], ◌∷◌, ◌++◌, length, get_or, take, refl, sym, ap, ◌∙◌, subst, arith, inl}
-use Rattle.std.proofs.lemmas.Int.Digits.{digits_value_more}
+-- A compact text has one front and one list of digits.
+use Rattle.std.proofs.Common.{◌≡◌, ℕ, ◌<◌, List, [], ◌∷◌, ◌++◌, length, get_or, refl, sym, ◌∙◌, subst, arith, inl}
 use Rattle.std.specs.Char.{digit_value}
-use Rattle.fixed_decimal_unsigned.specs.NumberText.{AreDigits, spelled}
+use Rattle.fixed_decimal_unsigned.specs.NumberText.{AreDigits}
 use Rattle.fixed_decimal_unsigned.proofs.SpelledLemmas.{digits_at}
 use Rattle.fixed_decimal_unsigned.proofs.TextPartsLemmas.{cons_head, cons_tail}
 use Rattle.fixed_decimal.specs.PlainText.{compact_mark, MarksExponent, HasNoMark}
@@ -13,14 +12,6 @@ use Rattle.fixed_decimal.proofs.PlainTextLemmas.{plain_fronts}
 
 pub digit_at : (text : List ℕ) (i : ℕ) → AreDigits text → i < length text → digit_value (get_or text i 0) < 10
 digit_at text i h l = digits_at text i h l
-
-capped_step : (n d : ℕ) → min (min n 256 * 10 + d) 256 ≡ min (n * 10 + d) 256
-capped_step n d = omega arith
-
-pub capped_more : (text : List ℕ) (i n : ℕ) → i < length text → n ≡ min (spelled (take i text)) 256 → min (n * 10 + digit_value (get_or text i 0)) 256 ≡ min (spelled (take (i + 1) text)) 256
-capped_more text i n l h =
-    ap (λ k. min (k * 10 + digit_value (get_or text i 0)) 256) h ∙ capped_step (spelled (take i text)) (digit_value (get_or text i 0))
-    ∙ ap (λ k. min k 256) (sym (digits_value_more 10 text i l))
 
 pub behind_marked : (digits : List ℕ) → StartsWithMark (behind_compact_mark digits)
 behind_marked [] = tt

@@ -1,7 +1,5 @@
--- Rows of docs/numbers.md, so that a wrong definition does not pass. Roundings are in units of which ten make the unit at the position.
-use Rattle.std.proofs.Common.{◌≡◌, ◌≢◌, ℕ, ◌+◌, ◌*◌, ◌^◌, ◌≤◌, true, false, inl, inr, List, [], ◌∷◌, codes, refl, sym, arith, lit≤}
-use Rattle.std.specs.Prelude.{ℤ, pos, negsuc, ◌-ℤ◌, ◌≤ℤ◌, nat_abs}
-use Rattle.std.proofs.lemmas.Int.{ints}
+-- Rows of docs/numbers.md on signs, texts, equality and calls, so that a wrong definition does not pass.
+use Rattle.std.proofs.Common.{◌≡◌, ℕ, ◌+◌, ◌*◌, ◌^◌, true, false, inl, inr, List, [], ◌∷◌, codes, refl, sym, arith, lit≤}
 use Rattle.fixed_decimal_unsigned.specs.Number.{Number}
 use Rattle.fixed_decimal_unsigned.specs.NumberText.{Reads, digit_zero}
 use Rattle.fixed_decimal_unsigned.proofs.TextPartsLemmas.{cons_head, cons_tail}
@@ -12,10 +10,8 @@ use Rattle.fixed_decimal.specs.PlainText.{MarksExponent, HasNoMark, compact_mark
 use Rattle.fixed_decimal.specs.ScientificText.{ReadsScientific, scientific_text_of}
 use Rattle.fixed_decimal.specs.SignChoice.{chosen_sign}
 use Rattle.fixed_decimal.specs.SignedEquality.{are_equal_decimals, are_equal_compact}
-use Rattle.fixed_decimal.specs.SignedOrder.{IsRoundedByOrder}
 use Rattle.fixed_decimal.specs.SignedText.{ReadsSigned, signed_text_of}
 use Rattle.fixed_decimal.specs.declared.call.Call.TheVariants.{SetSign, ApplySignDisplay}
-use Rattle.fixed_decimal.specs.declared.modes.SignedRoundingMode.TheVariants.{Ceil, Floor, HalfCeil, HalfFloor}
 use Rattle.fixed_decimal.specs.declared.sign.Sign.TheVariants.{None, Negative, Positive}
 use Rattle.fixed_decimal.specs.declared.sign.SignDisplay.TheVariants as choice
 use Rattle.fixed_decimal.proofs.CompactTextLemmas.{found_compact}
@@ -201,44 +197,6 @@ signs_tell = refl
 exponents_tell : are_equal_compact (record { significand = record { sign = None; absolute = one }; exponent = 3 }) (record { significand = record { sign = None; absolute = one }; exponent = 4 }) ≡ false
 unfolding one
 exponents_tell = refl
-
--- roundings by order, of -21 and of the tie -25
-
-floor_goes_down : IsRoundedByOrder Floor 10 (negsuc 20) (negsuc 29)
-floor_goes_down = record { multiple = (3, refl); under = omega (arith, ints); greatest = below_21 }
-  where
-    below_21 : (other : ℤ) → (count : ℕ) × (nat_abs other ≡ count * 10) → other ≤ℤ negsuc 20 → other ≤ℤ negsuc 29
-    below_21 (pos k) d l = omega (arith, ints)
-    below_21 (negsuc k) d l = let is = d.1 in omega (arith, ints)
-
-ceil_goes_up : IsRoundedByOrder Ceil 10 (negsuc 20) (negsuc 19)
-ceil_goes_up = record { multiple = (2, refl); over = omega (arith, ints); least = above_21 }
-  where
-    above_21 : (other : ℤ) → (count : ℕ) × (nat_abs other ≡ count * 10) → negsuc 20 ≤ℤ other → negsuc 19 ≤ℤ other
-    above_21 (pos k) d l = omega (arith, ints)
-    above_21 (negsuc k) d l = let is = d.1 in omega (arith, ints)
-
-tie_goes_up : IsRoundedByOrder HalfCeil 10 (negsuc 24) (negsuc 19)
-tie_goes_up = record { multiple = (2, refl); nearest = near; tied = tie }
-  where
-    near : (other : ℤ) → (count : ℕ) × (nat_abs other ≡ count * 10) → nat_abs (negsuc 24 -ℤ negsuc 19) ≤ nat_abs (negsuc 24 -ℤ other)
-    near (pos k) d = omega (arith, ints)
-    near (negsuc k) d = let is = d.1 in omega (arith, ints)
-
-    tie : (other : ℤ) → (count : ℕ) × (nat_abs other ≡ count * 10) → other ≢ negsuc 19 → nat_abs (negsuc 24 -ℤ other) ≡ nat_abs (negsuc 24 -ℤ negsuc 19) → other ≤ℤ negsuc 19
-    tie (pos k) d ne e = absurd (omega (arith, ints))
-    tie (negsuc k) d ne e = omega (arith, ints)
-
-tie_goes_down : IsRoundedByOrder HalfFloor 10 (negsuc 24) (negsuc 29)
-tie_goes_down = record { multiple = (3, refl); nearest = near; tied = tie }
-  where
-    near : (other : ℤ) → (count : ℕ) × (nat_abs other ≡ count * 10) → nat_abs (negsuc 24 -ℤ negsuc 29) ≤ nat_abs (negsuc 24 -ℤ other)
-    near (pos k) d = omega (arith, ints)
-    near (negsuc k) d = let is = d.1 in omega (arith, ints)
-
-    tie : (other : ℤ) → (count : ℕ) × (nat_abs other ≡ count * 10) → other ≢ negsuc 29 → nat_abs (negsuc 24 -ℤ other) ≡ nat_abs (negsuc 24 -ℤ negsuc 29) → negsuc 29 ≤ℤ other
-    tie (pos k) d ne e = absurd (omega (arith, ints))
-    tie (negsuc k) d ne e = omega (arith, ints)
 
 -- calls
 

@@ -1,6 +1,7 @@
 pub mod CallsLemmas
 pub mod RunOnceLemmas
 pub mod KnownValues
+pub mod KnownRoundings
 pub mod SignedOrderLemmas
 pub mod SignedEqualityLemmas
 pub mod CompactReadOnceLemmas

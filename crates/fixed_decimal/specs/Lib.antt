@@ -13,11 +13,16 @@ pub mod SignedValue
 pub mod SignChoice
 pub mod TextLaws
 pub mod WholeNumbers
+pub use Rattle.fixed_decimal_unsigned.specs.Concatenation
+pub use Rattle.fixed_decimal_unsigned.specs.Equality
 pub use Rattle.fixed_decimal_unsigned.specs.ErrorNumbers
 pub use Rattle.fixed_decimal_unsigned.specs.Integers
+pub use Rattle.fixed_decimal_unsigned.specs.Laws
+pub use Rattle.fixed_decimal_unsigned.specs.NonzeroPlaces
 pub use Rattle.fixed_decimal_unsigned.specs.Number
 pub use Rattle.fixed_decimal_unsigned.specs.NumberText
 pub use Rattle.fixed_decimal_unsigned.specs.TextParts
 pub use Rattle.fixed_decimal_unsigned.specs.Range
 pub use Rattle.fixed_decimal_unsigned.specs.Rounding
 pub use Rattle.fixed_decimal_unsigned.specs.Shifts
+pub use Rattle.fixed_decimal_unsigned.specs.Stored

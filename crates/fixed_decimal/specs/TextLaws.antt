@@ -1,6 +1,6 @@
 -- Laws that join texts and decimals, whole numbers, compact and scientific numbers.
 -- Defined in docs/numbers.md, "Laws".
--- Cited by the functions of the module `laws`.
+-- Cited by the functions of the module `laws`, and by `try_clone` of `FixedInteger`.
 use Rattle.std.specs.Prelude.{◌≡◌, ℕ, Bool, List}
 use Rattle.std.specs.Bool.{Decides}
 use Rattle.fixed_decimal_unsigned.specs.Number.{Number, IsNumber}

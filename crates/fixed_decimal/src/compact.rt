@@ -1,11 +1,10 @@
 ghost use Rattle.std.specs.Prelude.{◌≡◌, ◌<◌, ◌≤◌, ◌++◌, ◌↔◌, codes, false, is_err, length, map, IsTrue, IfOk, IfSome, IfNone, IsErrOf, OnOk, OnErr};
-ghost use Rattle.std.specs.Char.{digit_value};
 ghost use Rattle.std.specs.Int.Digits.{digits_of};
 ghost use Rattle.writeable.specs.AnnotatedText.{bytes};
 ghost use Rattle.writeable.specs.Taking.{HasBegun};
 ghost use Rattle.fixed_decimal_unsigned.specs.NumberText.{AreDigits, spelled, character};
 ghost use Rattle.fixed_decimal_unsigned.specs.Range.{IsLong};
-ghost use Rattle.fixed_decimal.specs.CompactText.{SpellsCompact, ReadsCompact, ReadsLongCompact, IsBeyondCompact, IsNoCompactText, behind_compact_mark, compact_text_of};
+ghost use Rattle.fixed_decimal.specs.CompactText.{SpellsCompact, ReadsCompact, ReadsLongCompact, IsBeyondCompact, IsNoCompactText, IsCompact, behind_compact_mark, compact_text_of};
 ghost use Rattle.fixed_decimal.specs.PlainParts.{IsCompactExponent, IsNotCompact};
 ghost use Rattle.fixed_decimal.specs.SignedText.{signed_text_of};
 ghost use Rattle.std.specs.Cmp.Rules.{comparing};
@@ -15,7 +14,7 @@ ghost use Rattle.fixed_decimal.specs.SignedEquality.{are_equal_compact};
 use crate::decimal::Decimal;
 use crate::plain_text::split_mark;
 use crate::writing::text_length;
-use fixed_decimal_unsigned::ParseError;
+use fixed_decimal_unsigned::{ParseError, capped_number};
 use std::alloc::{AllocError, Global};
 use std::fmt;
 use std::marker::Model;
@@ -80,31 +79,24 @@ fn split_compact(text: &[u8]) -> Option<(&[u8], &[u8])>
     Some((front, exponent))
 }
 
-// The value of a digit's character.
-fn digit_of(c: u8) -> u8
-    requires { digit_value c < 10 }
-    ensures { result ≡ digit_value c }
-{
-    c - b'0'
-}
-
 // The number that digits spell, or `None` where it is above 255.
-#[tactic(auto, using(crate::proofs::CompactTextLemmas::digit_at, crate::proofs::CompactTextLemmas::capped_more))]
 fn exponent_of(digits: &[u8]) -> Option<u8>
     requires { AreDigits digits.now }
     ensures some { IfSome result (λ n. n ≡ spelled digits.now) }
     ensures none { IfNone result (256 ≤ spelled digits.now) }
 {
-    let mut number = 0u16;
-    for c in digits {
-        number = (number * 10 + digit_of(*c) as u16).min(256);
-    }
+    let number = capped_number(digits);
     if number < 256 {
         Some(number as u8)
     } else {
         None
     }
 }
+
+// What holds of every exponent.
+fn is_in_range(exponent: u8)
+    ensures { exponent < 256 }
+{}
 
 impl CompactDecimal {
     /// The decimal with this exponent shown beside it: 1.2 and 6 give `1.2c6`. It takes no memory.
@@ -145,7 +137,9 @@ impl CompactDecimal {
     pub fn try_clone(&self) -> Result<CompactDecimal, AllocError>
         ensures value { IfOk result (λ v. v ≡ self.now) }
         ensures room { OnErr result (IsLong self.now.significand.absolute.count) }
+        ensures number { IsCompact self.now }
     {
+        is_in_range(self.exponent);
         let significand = self.significand.try_clone()?;
         Ok(CompactDecimal {
             significand,

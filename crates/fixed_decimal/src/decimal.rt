@@ -1,4 +1,5 @@
 ghost use Rattle.std.specs.Prelude.{◌≡◌, ◌++◌, IfOk, IsErrOf, OnErr};
+ghost use Rattle.fixed_decimal_unsigned.specs.Number.{IsNumber};
 ghost use Rattle.fixed_decimal_unsigned.specs.Range.{IsLong};
 ghost use Rattle.fixed_decimal_unsigned.specs.Shifts.{plain_zero};
 ghost use Rattle.fixed_decimal.specs.WholeNumbers.{IsWhole};
@@ -57,6 +58,7 @@ impl Signed<UnsignedDecimal> {
     pub fn try_clone(&self) -> Result<Decimal, AllocError>
         ensures value { IfOk result (λ v. v ≡ self.now) }
         ensures room { OnErr result (IsLong self.now.absolute.count) }
+        ensures number { IsNumber self.now.absolute }
     {
         let absolute = self.absolute.try_clone()?;
         Ok(Decimal::new(self.sign, absolute))

@@ -2,6 +2,7 @@ ghost use Rattle.std.specs.Prelude.{◌≡◌, ◌<◌, ◌≤◌, length, IfOk,
 ghost use Rattle.fixed_decimal_unsigned.specs.Range.{IsLong};
 ghost use Rattle.fixed_decimal.specs.IntegerText.{ShowsNoFraction, ReadsInteger, IsBeyondInteger};
 ghost use Rattle.fixed_decimal.specs.SignedText.{ReadsLongSigned, IsNoSignedText, signed_text_of};
+ghost use Rattle.fixed_decimal.specs.TextLaws.{IsWholeNumber};
 ghost use Rattle.fixed_decimal.specs.WholeNumbers.{IsWhole, IsSignedWhole, size_of};
 ghost use Rattle.std.specs.Cmp.Rules.{comparing};
 ghost use Rattle.std.proofs.Common.{rules};
@@ -93,6 +94,13 @@ impl FixedInteger {
         decimal
     }
 
+    // What holds of every whole number.
+    pub(crate) fn is_whole_number(&self)
+        ensures { IsWholeNumber self.now }
+    {
+        let _number = self.decimal.absolute.magnitude_range();
+    }
+
     // The number of bytes of the text.
     pub(crate) fn text_length(&self) -> usize
         ensures value { result ≡ length (signed_text_of self.now) }
@@ -108,7 +116,9 @@ impl FixedInteger {
     pub fn try_clone(&self) -> Result<FixedInteger, AllocError>
         ensures value { IfOk result (λ v. v ≡ self.now) }
         ensures room { OnErr result (IsLong self.now.absolute.count) }
+        ensures number { IsWholeNumber self.now }
     {
+        self.is_whole_number();
         let decimal = self.decimal.try_clone()?;
         Ok(FixedInteger { decimal })
     }

@@ -3,6 +3,11 @@ ghost use Rattle.fixed_decimal.specs.Calls.{RunsHaveOneEnd};
 ghost use Rattle.fixed_decimal.specs.SignedOrder.{SignedModesGoByOrder};
 ghost use Rattle.fixed_decimal.specs.TextLaws.{DecimalTextsReadOnce, IntegerTextsReadOnce, CompactTextsReadOnce, ScientificTextsReadOnce, PrintedDecimalsReadBack, PrintedIntegersReadBack, PrintedCompactsReadBack, PrintedScientificsReadBack, DecimalEqualityIsThatOfTexts, CompactEqualityIsThatOfTexts, ScientificEqualityIsThatOfTexts};
 
+pub use fixed_decimal_unsigned::laws::{
+    equal_texts_are_equal_numbers, equality_is_that_of_texts, printed_texts_read_back,
+    texts_read_once,
+};
+
 /// A text spells at most one decimal, and is not both within the limits and beyond them.
 pub fn decimal_texts_read_once()
     ensures { DecimalTextsReadOnce }

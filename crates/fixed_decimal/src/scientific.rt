@@ -4,7 +4,7 @@ ghost use Rattle.writeable.specs.Taking.{HasBegun};
 ghost use Rattle.fixed_decimal_unsigned.specs.Range.{IsLong};
 ghost use Rattle.fixed_decimal_unsigned.specs.declared.ParseError.{ParseError};
 ghost use Rattle.fixed_decimal.specs.PlainParts.{IsNotScientific, without_limit};
-ghost use Rattle.fixed_decimal.specs.ScientificText.{SpellsScientific, ReadsScientific, ReadsLongScientific, IsNoScientificText, scientific_text_of};
+ghost use Rattle.fixed_decimal.specs.ScientificText.{SpellsScientific, ReadsScientific, ReadsLongScientific, IsNoScientificText, IsScientific, scientific_text_of};
 ghost use Rattle.fixed_decimal.specs.SignedText.{signed_text_of};
 ghost use Rattle.std.specs.Cmp.Rules.{comparing};
 ghost use Rattle.std.proofs.Common.{rules};
@@ -119,6 +119,7 @@ impl ScientificDecimal {
     pub fn try_clone(&self) -> Result<ScientificDecimal, AllocError>
         ensures value { IfOk result (λ v. v ≡ self.now) }
         ensures room { OnErr result (IsLong self.now.significand.absolute.count ⊎ IsLong self.now.exponent.absolute.count) }
+        ensures number { IfOk result (λ v. IsScientific v) }
     {
         let significand = self.significand.try_clone()?;
         let exponent = self.exponent.try_clone()?;

@@ -1,10 +1,15 @@
 //! Roundings whose turns are counted. A count takes no bytes, so a row sees the number alone.
-ghost use Rattle.std.specs.Prelude.{◌≡◌, ◌<◌};
+ghost use Rattle.std.specs.Prelude.{◌≡◌, ◌+◌, ◌<◌, ◌≤◌};
 
-use fixed_decimal::{Decimal, RoundingIncrement, SignedRoundingMode, Turns};
-use std::alloc::AllocError;
+use crate::step::number_of;
+use crate::stop::Stop;
+use fixed_decimal::{
+    Decimal, RoundingIncrement, SignedRoundingMode, Turns, UnsignedDecimal, UnsignedRoundingMode,
+};
+use std::alloc::{AllocError, Global};
 use std::marker::Brand;
 use std::sync::ledger::{Blank, Ledger};
+use writeable::Writeable;
 
 // Rounds, with the turns counted in the ledger of a blank.
 fn round_in_ledger<L: Ledger>(
@@ -30,4 +35,41 @@ pub fn round(
     increment: RoundingIncrement,
 ) -> Result<(), AllocError> {
     round_in_ledger::<Brand>(number, position, mode, increment, Blank::new(1))
+}
+
+// Rounds the number of a byte up to tens: it has at most three digits, so this makes at most five turns.
+fn round_byte<L: Ledger>(
+    alloc: Global,
+    byte: u8,
+    turns: &mut Turns<L>,
+) -> Result<UnsignedDecimal, AllocError>
+    ensures { turns.new ≤ turns.old + 5 }
+{
+    let mut number = UnsignedDecimal::from_u8(alloc, byte)?;
+    let mode = UnsignedRoundingMode::Expand;
+    number.round_counted(1, mode, RoundingIncrement::MultiplesOf1, turns)?;
+    Ok(number)
+}
+
+// The number of a byte rounded so, with the turns counted in the ledger of a blank.
+fn counted_byte<L: Ledger>(
+    alloc: Global,
+    byte: u8,
+    blank: Blank,
+) -> Result<UnsignedDecimal, AllocError>
+    requires name { blank.name ≡ L.name }
+    requires parts { blank.parts ≡ L.parts }
+    requires some { 0 < L.parts }
+{
+    let mut turns: Turns<L> = Turns::new(blank);
+    round_byte(alloc, byte, &mut turns)
+}
+
+/// The answer of a row that names a byte: its number rounded up to tens by `round_counted`.
+pub fn byte_answer(alloc: Global, fields: &[&str]) -> Result<String, Stop> {
+    let Some(byte) = fields.first() else {
+        return Err(Stop::Unknown);
+    };
+    let number = counted_byte::<Brand>(alloc, number_of(byte)?, Blank::new(1))?;
+    Ok(number.write_to_string(alloc)?)
 }

@@ -1,9 +1,10 @@
-use crate::number::{Number, overlap};
+use crate::number::Number;
+use crate::rounding::Rounding;
 use crate::step::{Step, number_of, split_word, unescaped};
 use crate::stop::Stop;
-use crate::words::{increment_of, mode_of, sign_display_of, sign_of};
-use crate::{counted, in_place, integers};
-use fixed_decimal::{ConcatenateError, Decimal, ParseError, UnsignedDecimal};
+use crate::words::{sign_display_of, sign_of};
+use crate::{concatenation, counted, in_place, integers};
+use fixed_decimal::{Decimal, ParseError, UnsignedDecimal};
 use std::alloc::{AllocError, Global};
 use writeable::Writeable;
 
@@ -32,19 +33,11 @@ fn round_plain(number: &mut Decimal, step: Step<'_>) -> bool {
 
 // Rounds by a call that is passed a mode too, and an increment if it is not `round_with_mode`.
 fn round_by(number: &mut Decimal, step: Step<'_>) -> Result<(), Stop> {
-    let (position, words) = split_word(step.passed);
-    let (mode, increment) = split_word(words);
-    let position = number_of::<i16>(position)?;
-    let mode = mode_of(mode)?;
-    if step.name == "round_with_mode" {
-        number.round_with_mode(position, mode);
-        return Ok(());
-    }
-    let increment = increment_of(increment)?;
-    if step.name == "round_counted" {
-        counted::round(number, position, mode, increment)?;
-    } else {
-        number.round_with_mode_and_increment(position, mode, increment)?;
+    let it = Rounding::of(step.passed)?;
+    match step.name {
+        "round_with_mode" => number.round_with_mode(it.position, it.mode),
+        "round_counted" => counted::round(number, it.position, it.mode, it.increment)?,
+        _ => number.round_with_mode_and_increment(it.position, it.mode, it.increment)?,
     }
     Ok(())
 }
@@ -76,19 +69,13 @@ fn at_position(number: Decimal, name: &str, position: i16) -> Result<Decimal, St
 }
 
 // The number that a call leaves which is passed a position, a mode, and an increment behind it.
-fn by_mode(number: Decimal, name: &str, position: i16, words: &str) -> Result<Decimal, Stop> {
-    let (mode, increment) = split_word(words);
-    let mode = mode_of(mode)?;
-    if name == "rounded_with_mode" {
-        return Ok(number.rounded_with_mode(position, mode));
-    }
-    if name != "rounded_with_mode_and_increment" {
-        return Err(Stop::Unknown);
-    }
-    let increment = increment_of(increment)?;
-    match number.rounded_with_mode_and_increment(position, mode, increment) {
-        Ok(rounded) => Ok(rounded),
-        Err(_) => Err(Stop::Memory),
+fn by_mode(number: Decimal, name: &str, it: Rounding) -> Result<Decimal, Stop> {
+    match name {
+        "rounded_with_mode" => Ok(number.rounded_with_mode(it.position, it.mode)),
+        "rounded_with_mode_and_increment" => {
+            Ok(number.rounded_with_mode_and_increment(it.position, it.mode, it.increment)?)
+        }
+        _ => Err(Stop::Unknown),
     }
 }
 
@@ -102,7 +89,8 @@ fn left_by(number: Decimal, step: Step<'_>) -> Result<Decimal, Stop> {
     if words.is_empty() {
         return at_position(number, step.name, position);
     }
-    by_mode(number, step.name, position, words)
+    let rounding = Rounding::of(step.passed)?;
+    by_mode(number, step.name, rounding)
 }
 
 // The number that a consuming call leaves.
@@ -117,21 +105,14 @@ fn left_by_any(number: Decimal, step: Step<'_>) -> Result<Decimal, Stop> {
 // The answer of `concatenate_end` of the absolute value.
 fn concatenate_end(alloc: Global, mut number: Decimal, other: &str) -> Result<String, Stop> {
     let other = UnsignedDecimal::try_from_str(alloc, other)?;
-    match number.concatenate_end(other) {
-        Ok(()) => Ok(number.write_to_string(alloc)?),
-        Err(ConcatenateError::Overlap(back)) => overlap(alloc, &number, &back),
-        Err(ConcatenateError::Memory(_)) => Err(Stop::Memory),
-    }
+    let done = number.concatenate_end(other);
+    concatenation::left(alloc, &number, &done)
 }
 
 // The answer of `concatenated_end`.
 fn concatenated_end(alloc: Global, number: Decimal, other: &str) -> Result<String, Stop> {
     let other = UnsignedDecimal::try_from_str(alloc, other)?;
-    match number.concatenated_end(other) {
-        Ok(sum) => Ok(sum.write_to_string(alloc)?),
-        Err(ConcatenateError::Overlap((first, second))) => overlap(alloc, &first, &second),
-        Err(ConcatenateError::Memory(_)) => Err(Stop::Memory),
-    }
+    concatenation::given(alloc, &number.concatenated_end(other))
 }
 
 impl Number for Decimal {
@@ -169,7 +150,7 @@ impl Number for Decimal {
     }
 
     fn finish(self, alloc: Global, step: Step<'_>) -> Result<String, Stop> {
-        if let Some(answer) = in_place::told(alloc, &self, step)? {
+        if let Some(answer) = in_place::answer(alloc, &self, step)? {
             return Ok(answer);
         }
         match step.name {

@@ -42,21 +42,34 @@ fn calls_error(alloc: Global, case: &str) -> Result<String, Stop> {
     described(alloc, error.number(), &error)
 }
 
+// The answer for `LimitError`, which has one case.
+fn limit_error(alloc: Global, case: &str) -> Result<String, Stop> {
+    match case {
+        "" => described(alloc, LimitError.number(), &LimitError),
+        _ => Err(Stop::Unknown),
+    }
+}
+
+// The increment that stands where none is named.
+fn increment(alloc: Global, case: &str) -> Result<String, Stop> {
+    match case {
+        "default" => Ok(format!(in alloc; "{:?}", RoundingIncrement::default())?),
+        _ => Err(Stop::Unknown),
+    }
+}
+
 /// The answer for an error by its type and its case.
 pub fn answer(alloc: Global, error: &str, fields: &[&str]) -> Result<String, Stop> {
-    let case = match fields {
-        [] => "",
-        [case] => *case,
-        _ => return Err(Stop::Unknown),
+    let case = match fields.first() {
+        Some(case) => *case,
+        None => "",
     };
     match error {
         "ParseError" => parse_error(alloc, case),
         "ConcatenateError" => concatenate_error(alloc, case),
         "CallsError" => calls_error(alloc, case),
-        "LimitError" if case.is_empty() => described(alloc, LimitError.number(), &LimitError),
-        "RoundingIncrement" if case == "default" => {
-            Ok(format!(in alloc; "{:?}", RoundingIncrement::default())?)
-        }
+        "LimitError" => limit_error(alloc, case),
+        "RoundingIncrement" => increment(alloc, case),
         _ => Err(Stop::Unknown),
     }
 }

@@ -1,8 +1,9 @@
 //! Calls that change an unsigned number, and calls that tell of it.
 
-use crate::step::{Step, number_of, split_word};
+use crate::number::{ends, told};
+use crate::rounding::Rounding;
+use crate::step::{Step, number_of};
 use crate::stop::Stop;
-use crate::words::{increment_of, unsigned_mode_of};
 use fixed_decimal::UnsignedDecimal;
 use std::alloc::Global;
 
@@ -56,50 +57,30 @@ pub fn round_plain(number: &mut UnsignedDecimal, step: Step<'_>) -> bool {
 
 /// Rounds by a call that is passed a mode too, and an increment if it is not `round_with_mode`.
 pub fn round_by(number: &mut UnsignedDecimal, step: Step<'_>) -> Result<(), Stop> {
-    let (position, words) = split_word(step.passed);
-    let (mode, increment) = split_word(words);
-    let position = number_of::<i16>(position)?;
-    let mode = unsigned_mode_of(mode)?;
+    let it = Rounding::of(step.passed)?;
+    let mode = it.unsigned_mode()?;
     if step.name == "round_with_mode" {
-        number.round_with_mode(position, mode);
-        return Ok(());
+        number.round_with_mode(it.position, mode);
+    } else {
+        number.round_with_mode_and_increment(it.position, mode, it.increment)?;
     }
-    let increment = increment_of(increment)?;
-    number.round_with_mode_and_increment(position, mode, increment)?;
     Ok(())
 }
 
-// The magnitude that a call answers.
-fn magnitude_of(number: &UnsignedDecimal, name: &str) -> Option<i16> {
-    match name {
-        "nonzero_magnitude_start" => Some(number.nonzero_magnitude_start()),
-        "nonzero_magnitude_end" => Some(number.nonzero_magnitude_end()),
-        _ => None,
-    }
-}
-
 /// What a call tells of the number, or `None` where it tells nothing.
-pub fn told(
+pub fn answer(
     alloc: Global,
     number: &UnsignedDecimal,
     step: Step<'_>,
 ) -> Result<Option<String>, Stop> {
-    if let Some(magnitude) = magnitude_of(number, step.name) {
-        return Ok(Some(format!(in alloc; "{magnitude}")?));
-    }
     match step.name {
-        "is_zero" => {
-            let is_zero = number.is_zero();
-            Ok(Some(format!(in alloc; "{is_zero}")?))
-        }
-        "digit_at" => {
-            let digit = number.digit_at(number_of(step.passed)?);
-            Ok(Some(format!(in alloc; "{digit}")?))
-        }
+        "nonzero_magnitude_start" => told(alloc, &number.nonzero_magnitude_start()),
+        "nonzero_magnitude_end" => told(alloc, &number.nonzero_magnitude_end()),
+        "is_zero" => told(alloc, &number.is_zero()),
+        "digit_at" => told(alloc, &number.digit_at(number_of(step.passed)?)),
         "magnitude_range" => {
             let range = number.magnitude_range();
-            let (low, high) = (*range.start(), *range.end());
-            Ok(Some(format!(in alloc; "{low} to {high}")?))
+            ends(alloc, range.start(), range.end())
         }
         _ => Ok(None),
     }

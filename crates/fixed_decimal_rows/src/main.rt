@@ -5,12 +5,14 @@
 
 mod bounded;
 mod compact;
+mod concatenation;
 mod counted;
 mod decimal;
 mod errors;
 mod in_place;
 mod integers;
 mod number;
+mod rounding;
 mod rows;
 mod runs;
 mod scientific;

@@ -1,5 +1,5 @@
 use crate::bounded::held_in_room;
-use crate::step::{Step, number_of, unescaped};
+use crate::step::{Step, long_text, number_of, unescaped};
 use crate::stop::Stop;
 use fixed_decimal::ParseError;
 use std::alloc::{AllocError, Global};
@@ -37,12 +37,18 @@ fn read_escaped<N: Number>(alloc: Global, text: &str) -> Result<N, Stop> {
     }
 }
 
+// The number that a long text spells, by `try_from_str`.
+fn read_long<N: Number>(alloc: Global, word: &str) -> Result<N, Stop> {
+    let text = long_text(alloc, word)?;
+    Ok(N::read(alloc, text.as_str())?)
+}
+
 // The number that a row begins with.
 fn started<N: Number>(alloc: Global, step: Step<'_>) -> Result<N, Stop> {
-    if step.name == "try_from_str" {
-        read_escaped(alloc, step.passed)
-    } else {
-        N::make(alloc, step)
+    match step.name {
+        "try_from_str" => read_escaped(alloc, step.passed),
+        "try_from_long_str" => read_long(alloc, step.passed),
+        _ => N::make(alloc, step),
     }
 }
 
@@ -56,20 +62,35 @@ fn changed<N: Number>(alloc: Global, number: &mut N, step: Step<'_>) -> Result<b
     Ok(true)
 }
 
+/// The answer of a call that tells a value.
+pub fn told<T: Display>(alloc: Global, value: &T) -> Result<Option<String>, Stop> {
+    Ok(Some(format!(in alloc; "{value}")?))
+}
+
+/// The answer of a call that tells two ends.
+pub fn ends<T: Display>(alloc: Global, low: &T, high: &T) -> Result<Option<String>, Stop> {
+    Ok(Some(format!(in alloc; "{low} to {high}")?))
+}
+
 // The two ends of a length hint.
-fn hint_of<N: Number>(alloc: Global, number: &N) -> Result<String, Stop> {
+fn hint_of<N: Number>(alloc: Global, number: &N) -> Result<Option<String>, Stop> {
     let hint = number.writeable_length_hint();
     match hint.high {
-        Some(high) => Ok(format!(in alloc; "{} to {high}", hint.low)?),
-        None => Ok(format!(in alloc; "{} or more", hint.low)?),
+        Some(high) => ends(alloc, &hint.low, &high),
+        None => told(alloc, &hint.low),
     }
 }
 
 // Whether the number is the one that a text spells.
-fn is_that_of<N: Number>(alloc: Global, number: &N, text: &str) -> Result<String, Stop> {
+fn is_that_of<N: Number>(alloc: Global, number: &N, text: &str) -> Result<bool, Stop> {
     let other = N::read(alloc, text)?;
-    let is_same = *number == other;
-    Ok(format!(in alloc; "{is_same}")?)
+    Ok(*number == other)
+}
+
+// Whether the number's text is a long one.
+fn has_long_text<N: Number>(alloc: Global, number: &N, word: &str) -> Result<bool, Stop> {
+    let text = long_text(alloc, word)?;
+    Ok(number.write_to_string(alloc)?.as_str() == text.as_str())
 }
 
 // The answer of a call that each type has, or `None` where it is none of these.
@@ -78,23 +99,31 @@ fn common_answer<N: Number>(
     number: &N,
     step: Step<'_>,
 ) -> Result<Option<String>, Stop> {
-    let answer = match step.name {
-        "eq" => is_that_of(alloc, number, step.passed)?,
-        "to_string" => format!(in alloc; "{number}")?,
-        "writeable_length_hint" => hint_of(alloc, number)?,
-        "write_to" => held_in_room(alloc, number, number_of(step.passed)?)?,
-        _ => return Ok(None),
-    };
-    Ok(Some(answer))
+    match step.name {
+        "eq" => told(alloc, &is_that_of(alloc, number, step.passed)?),
+        "has_long_text" => told(alloc, &has_long_text(alloc, number, step.passed)?),
+        "to_string" => told(alloc, number),
+        "writeable_length_hint" => hint_of(alloc, number),
+        "write_to" => Ok(Some(held_in_room(alloc, number, number_of(step.passed)?)?)),
+        _ => Ok(None),
+    }
+}
+
+// The answer of a call that changes the number, its text, or of one that each type has; `None` where it is none of these.
+fn plain_answer<N: Number>(
+    alloc: Global,
+    number: &mut N,
+    step: Step<'_>,
+) -> Result<Option<String>, Stop> {
+    if changed(alloc, number, step)? {
+        return Ok(Some(number.write_to_string(alloc)?));
+    }
+    common_answer(alloc, number, step)
 }
 
 // The answer of a row's last call: what it answers, or the text of the number that it leaves.
-fn last_answer<N: Number>(alloc: Global, number: N, step: Step<'_>) -> Result<String, Stop> {
-    let mut number = number;
-    if changed(alloc, &mut number, step)? {
-        return Ok(number.write_to_string(alloc)?);
-    }
-    match common_answer(alloc, &number, step)? {
+fn last_answer<N: Number>(alloc: Global, mut number: N, step: Step<'_>) -> Result<String, Stop> {
+    match plain_answer(alloc, &mut number, step)? {
         Some(answer) => Ok(answer),
         None => number.finish(alloc, step),
     }
@@ -122,13 +151,4 @@ pub fn answer<N: Number>(alloc: Global, fields: &[&str]) -> Result<String, Stop>
     };
     let number: N = left_behind(alloc, start, calls)?;
     last_answer(alloc, number, Step::of(last))
-}
-
-/// The answer of a concatenation of numbers that overlap: both, handed back.
-pub fn overlap<A: Display, B: Display>(
-    alloc: Global,
-    first: &A,
-    second: &B,
-) -> Result<String, Stop> {
-    Ok(format!(in alloc; "Overlap: {first} and {second}")?)
 }

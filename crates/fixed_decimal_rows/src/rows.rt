@@ -1,5 +1,5 @@
 use crate::stop::Stop;
-use crate::{errors, number, runs};
+use crate::{counted, errors, number, runs};
 use fixed_decimal::{CompactDecimal, Decimal, FixedInteger, ScientificDecimal, UnsignedDecimal};
 use std::alloc::{AllocError, Global};
 
@@ -13,6 +13,7 @@ fn answer_by(alloc: Global, kind: &str, fields: &[&str]) -> Result<String, Stop>
         "ScientificDecimal" => number::answer::<ScientificDecimal>(alloc, fields),
         "run_calls" => runs::answer(alloc, fields),
         "run_calls_in_room" => runs::answer_in_room(alloc, fields),
+        "expand_byte" => counted::byte_answer(alloc, fields),
         _ => errors::answer(alloc, kind, fields),
     }
 }

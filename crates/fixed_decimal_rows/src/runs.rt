@@ -1,22 +1,18 @@
 //! Rows of `run_calls`.
 
 use crate::bounded::{Bounded, held};
-use crate::step::{Step, number_of, split_word, unescaped};
+use crate::rounding::Rounding;
+use crate::step::{Step, number_of, unescaped};
 use crate::stop::Stop;
-use crate::words::{increment_of, mode_of, sign_display_of, sign_of};
+use crate::words::{sign_display_of, sign_of};
 use fixed_decimal::{Call, CallsError, run_calls};
 use std::alloc::Global;
 use writeable::{Sink, TextSink};
 
 // A rounding of a position, a mode and an increment.
 fn rounding_of(words: &str) -> Result<Call, Stop> {
-    let (position, words) = split_word(words);
-    let (mode, increment) = split_word(words);
-    Ok(Call::Round(
-        number_of(position)?,
-        mode_of(mode)?,
-        increment_of(increment)?,
-    ))
+    let it = Rounding::of(words)?;
+    Ok(Call::Round(it.position, it.mode, it.increment))
 }
 
 // The call that is passed nothing.
@@ -29,17 +25,25 @@ fn trim_of(name: &str) -> Result<Call, Stop> {
     }
 }
 
+// The call that is passed a number.
+fn call_at(name: &str, position: i16) -> Result<Call, Stop> {
+    match name {
+        "MultiplyPow10" => Ok(Call::MultiplyPow10(position)),
+        "PadStart" => Ok(Call::PadStart(position)),
+        "PadEnd" => Ok(Call::PadEnd(position)),
+        "SetMaxPosition" => Ok(Call::SetMaxPosition(position)),
+        _ => Err(Stop::Unknown),
+    }
+}
+
 // The call that a field spells.
 fn call_of(step: Step<'_>) -> Result<Call, Stop> {
     match step.name {
-        "MultiplyPow10" => Ok(Call::MultiplyPow10(number_of(step.passed)?)),
-        "PadStart" => Ok(Call::PadStart(number_of(step.passed)?)),
-        "PadEnd" => Ok(Call::PadEnd(number_of(step.passed)?)),
-        "SetMaxPosition" => Ok(Call::SetMaxPosition(number_of(step.passed)?)),
         "Round" => rounding_of(step.passed),
         "SetSign" => Ok(Call::SetSign(sign_of(step.passed)?)),
         "ApplySignDisplay" => Ok(Call::ApplySignDisplay(sign_display_of(step.passed)?)),
-        _ => trim_of(step.name),
+        _ if step.passed.is_empty() => trim_of(step.name),
+        _ => call_at(step.name, number_of(step.passed)?),
     }
 }
 

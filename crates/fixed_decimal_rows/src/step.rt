@@ -36,40 +36,49 @@ where
     }
 }
 
-// The value of a digit to the base 16.
-fn hex_digit(character: u8) -> Option<u8> {
-    match character {
-        b'0'..=b'9' => Some(character - b'0'),
-        b'a'..=b'f' => Some(character - b'a' + 10),
-        _ => None,
-    }
-}
-
-// The first byte that a text spells, `\xff` or itself, and the rest of the text.
-fn first_byte(text: &[u8]) -> Option<(u8, &[u8])> {
-    match text {
-        [b'\\', b'x', high, low, rest @ ..] => {
-            let byte = (hex_digit(*high)? << 4) | hex_digit(*low)?;
-            Some((byte, rest))
-        }
-        [first, rest @ ..] => Some((*first, rest)),
-        [] => None,
-    }
+// Adds what stands behind a `\x`: a byte by its two digits to the base 16, and a text.
+fn push_escaped(bytes: &mut Vec<u8>, text: &str) -> Result<(), Stop> {
+    let Some((digits, rest)) = text.split_at_checked(2) else {
+        return Err(Stop::Unknown);
+    };
+    let Ok(byte) = u8::from_str_radix(digits, 16) else {
+        return Err(Stop::Unknown);
+    };
+    bytes.push(byte)?;
+    bytes.extend_from_slice(rest.as_bytes())?;
+    Ok(())
 }
 
 /// The bytes that a text spells: `\xff` is one byte, every other character is itself.
 pub fn unescaped(alloc: Global, text: &str) -> Result<Vec<u8>, Stop> {
     let mut bytes = Vec::new(alloc);
-    let mut left = text.as_bytes();
-    for _turn in 0..text.len() {
-        if left.is_empty() {
-            break;
-        }
-        let Some((byte, rest)) = first_byte(left) else {
-            return Err(Stop::Unknown);
-        };
-        bytes.push(byte)?;
-        left = rest;
+    let Some((plain, escaped)) = text.split_once("\\x") else {
+        bytes.extend_from_slice(text.as_bytes())?;
+        return Ok(bytes);
+    };
+    bytes.extend_from_slice(plain.as_bytes())?;
+    for part in escaped.split("\\x") {
+        push_escaped(&mut bytes, part)?;
     }
     Ok(bytes)
+}
+
+// The digits that a word spells: `9*3` is `999`, and each other word itself.
+fn repeated(alloc: Global, word: &str) -> Result<String, Stop> {
+    match word.split_once('*') {
+        Some((digit, count)) => Ok(digit.repeat(alloc, number_of(count)?)?),
+        None => Ok(String::from_str(alloc, word)?),
+    }
+}
+
+/// The text of a number whose digits before and behind the point are spelled so: `9*3.0*2` is `999.00`.
+pub fn long_text(alloc: Global, word: &str) -> Result<String, Stop> {
+    let Some((whole, fraction)) = word.split_once('.') else {
+        return repeated(alloc, word);
+    };
+    let mut text = repeated(alloc, whole)?;
+    text.push('.')?;
+    let fraction = repeated(alloc, fraction)?;
+    text.push_str(fraction.as_str())?;
+    Ok(text)
 }

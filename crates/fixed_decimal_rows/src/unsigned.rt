@@ -1,9 +1,9 @@
-use crate::number::{Number, overlap};
+use crate::number::Number;
+use crate::rounding::Rounding;
 use crate::step::{Step, number_of, split_word, unescaped};
 use crate::stop::Stop;
-use crate::words::{increment_of, unsigned_mode_of};
-use crate::{in_place, integers};
-use fixed_decimal::{ConcatenateError, ParseError, UnsignedDecimal};
+use crate::{concatenation, in_place, integers};
+use fixed_decimal::{ParseError, UnsignedDecimal, UnsignedRoundingMode};
 use std::alloc::{AllocError, Global};
 use writeable::Writeable;
 
@@ -39,21 +39,15 @@ fn at_position(
 fn by_mode(
     number: UnsignedDecimal,
     name: &str,
-    position: i16,
-    words: &str,
+    it: Rounding,
+    mode: UnsignedRoundingMode,
 ) -> Result<UnsignedDecimal, Stop> {
-    let (mode, increment) = split_word(words);
-    let mode = unsigned_mode_of(mode)?;
-    if name == "rounded_with_mode" {
-        return Ok(number.rounded_with_mode(position, mode));
-    }
-    if name != "rounded_with_mode_and_increment" {
-        return Err(Stop::Unknown);
-    }
-    let increment = increment_of(increment)?;
-    match number.rounded_with_mode_and_increment(position, mode, increment) {
-        Ok(rounded) => Ok(rounded),
-        Err(_) => Err(Stop::Memory),
+    match name {
+        "rounded_with_mode" => Ok(number.rounded_with_mode(it.position, mode)),
+        "rounded_with_mode_and_increment" => {
+            Ok(number.rounded_with_mode_and_increment(it.position, mode, it.increment)?)
+        }
+        _ => Err(Stop::Unknown),
     }
 }
 
@@ -67,7 +61,8 @@ fn left_by(number: UnsignedDecimal, step: Step<'_>) -> Result<UnsignedDecimal, S
     if words.is_empty() {
         return at_position(number, step.name, position);
     }
-    by_mode(number, step.name, position, words)
+    let rounding = Rounding::of(step.passed)?;
+    by_mode(number, step.name, rounding, rounding.unsigned_mode()?)
 }
 
 // The answer of `concatenate_end`.
@@ -77,21 +72,14 @@ fn concatenate_end(
     other: &str,
 ) -> Result<String, Stop> {
     let other = UnsignedDecimal::try_from_str(alloc, other)?;
-    match number.concatenate_end(other) {
-        Ok(()) => Ok(number.write_to_string(alloc)?),
-        Err(ConcatenateError::Overlap(back)) => overlap(alloc, &number, &back),
-        Err(ConcatenateError::Memory(_)) => Err(Stop::Memory),
-    }
+    let done = number.concatenate_end(other);
+    concatenation::left(alloc, &number, &done)
 }
 
 // The answer of `concatenated_end`.
 fn concatenated_end(alloc: Global, number: UnsignedDecimal, other: &str) -> Result<String, Stop> {
     let other = UnsignedDecimal::try_from_str(alloc, other)?;
-    match number.concatenated_end(other) {
-        Ok(sum) => Ok(sum.write_to_string(alloc)?),
-        Err(ConcatenateError::Overlap((first, second))) => overlap(alloc, &first, &second),
-        Err(ConcatenateError::Memory(_)) => Err(Stop::Memory),
-    }
+    concatenation::given(alloc, &number.concatenated_end(other))
 }
 
 impl Number for UnsignedDecimal {
@@ -126,7 +114,7 @@ impl Number for UnsignedDecimal {
     }
 
     fn finish(self, alloc: Global, step: Step<'_>) -> Result<String, Stop> {
-        if let Some(answer) = in_place::told(alloc, &self, step)? {
+        if let Some(answer) = in_place::answer(alloc, &self, step)? {
             return Ok(answer);
         }
         match step.name {

@@ -50,10 +50,10 @@ pub fn mode_of(word: &str) -> Result<SignedRoundingMode, Stop> {
     }
 }
 
-/// The increment that a word names.
+/// The increment that a word names, that of every count where there is no word.
 pub fn increment_of(word: &str) -> Result<RoundingIncrement, Stop> {
     match word {
-        "MultiplesOf1" => Ok(RoundingIncrement::MultiplesOf1),
+        "" | "MultiplesOf1" => Ok(RoundingIncrement::MultiplesOf1),
         "MultiplesOf2" => Ok(RoundingIncrement::MultiplesOf2),
         "MultiplesOf5" => Ok(RoundingIncrement::MultiplesOf5),
         "MultiplesOf25" => Ok(RoundingIncrement::MultiplesOf25),

@@ -20,4 +20,6 @@ pub mod NonzeroLemmas
 pub mod LongLemmas
 pub mod ConcatenationLemmas
 pub mod KnownValues
+pub mod KnownRanges
+pub mod KnownRoundings
 pub mod WritingLemmas

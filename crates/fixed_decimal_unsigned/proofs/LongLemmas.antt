@@ -1,21 +1,19 @@
 -- Counts of more than eight digits: where memory for digits may be wanted.
-use Rattle.std.proofs.Common.{◌≡◌, ℕ, ◌+◌, ◌-◌, ◌*◌, ◌/◌, ◌%◌, ◌^◌, ◌<◌, ◌≤◌, List, ◌++◌, length, get_or, drop, Result, Ok, Err, IsOk, OnErr, refl, sym, ap, ◌∙◌, subst, arith, ⊎_elim}
-use Rattle.std.proofs.Math.Nat.{div-add-mod', mul-div_cancel, mul-le-mul_right, mul_assoc, le-mul_of_pos_right, mod-one, eq-zero-or-pos}
+use Rattle.std.proofs.Common.{◌≡◌, ℕ, suc, ◌+◌, ◌-◌, ◌*◌, ◌/◌, ◌%◌, ◌^◌, ◌<◌, ◌≤◌, List, [], ◌∷◌, ◌++◌, length, length-append, get_or, Result, Ok, Err, IsOk, OnErr, refl, sym, ap, ◌∙◌, subst, arith, ⊎_elim}
+use Rattle.std.proofs.Math.Nat.{div-add-mod', mul-div_cancel, mul-le-mul_right, mul_assoc, mod-one, eq-zero-or-pos}
 use Rattle.std.proofs.lemmas.Bool.{cases_lt}
 use Rattle.std.specs.Char.{digit_value}
 use Rattle.std.specs.Int.Digits.{number_from_digits}
-use Rattle.std.specs.Str.Parse.{digits_value_after}
 use Rattle.fixed_decimal_unsigned.specs.NumberText.{spelled}
 use Rattle.fixed_decimal_unsigned.specs.Range.{IsLong}
 use Rattle.fixed_decimal_unsigned.specs.Stored.{count_of, IsStored}
 use Rattle.fixed_decimal_unsigned.proofs.TenLemmas.{tens_positive, tens_apart, tens_split, digit_under}
 use Rattle.fixed_decimal_unsigned.proofs.DigitsLemmas.{number_reaches}
-use Rattle.fixed_decimal_unsigned.proofs.MantissaLemmas.{spelled_after, spelled_from}
+use Rattle.fixed_decimal_unsigned.proofs.MantissaLemmas.{spelled_from}
 use Rattle.fixed_decimal_unsigned.proofs.RangeLemmas.{holds_length, trimmed_of}
-use Rattle.fixed_decimal_unsigned.proofs.SpelledLemmas.{value_after_drop}
 
 -- a multiple of ten to `low` has no last digit below
-last_above : (n e count low : ℕ) → count ≡ n * 10 ^ e → 0 < n % 10 → count % 10 ^ low ≡ 0 → low ≤ e
+pub last_above : (n e count low : ℕ) → count ≡ n * 10 ^ e → 0 < n % 10 → count % 10 ^ low ≡ 0 → low ≤ e
 last_above n e count low h last whole =
     ⊎_elim (λ under.
     let digit : count / 10 ^ e % 10 ≡ n % 10 = ap (λ x. x / 10 ^ e % 10) h ∙ ap (λ x. x % 10) (mul-div_cancel n (tens_positive e)) in
@@ -52,29 +50,21 @@ eight_digits ds l first =
 pub nine_digits : (ds : List ℕ) (n : ℕ) → 8 ≤ length ds → (0 < length ds → 0 < get_or ds 0 0) → number_from_digits 10 ds ≡ n / 10 → 10 ^ 8 ≤ n
 nine_digits ds n l first e = let many = eight_digits ds l first in omega arith
 
-pub tenth_reaches : (n : ℕ) → 10 ^ 8 ≤ n / 10 → 10 ^ 8 ≤ n
-tenth_reaches n h = omega arith
+-- and of a text, where the first digit that is not zero stands first
+text_reaches : (text : List ℕ) → 0 < length text → 0 < digit_value (get_or text 0 0) → 10 ^ (length text - 1) ≤ spelled text
+text_reaches [] some first = absurd (omega arith)
+text_reaches (c ∷ cs) some first =
+    let e : suc (length cs) - 1 ≡ length cs = omega arith in
+    let least : 1 * 10 ^ length cs ≤ (0 * 10 + digit_value c) * 10 ^ length cs = mul-le-mul_right (10 ^ length cs) (omega arith) in
+    subst (λ n. 10 ^ n ≤ spelled (c ∷ cs)) (sym e) (omega (arith, spelled_from (0 * 10 + digit_value c) cs, least))
 
-after_reaches : (n : ℕ) (text : List ℕ) → n ≤ digits_value_after 10 n text
-after_reaches n text = let up = le-mul_of_pos_right n (tens_positive (length text)) in omega (arith, spelled_from n text)
-
--- and of a text, where a digit follows at least eight
-pub nine_gathered : (ds text : List ℕ) (i value : ℕ) → i < length text → 8 ≤ length ds → (0 < length ds → 0 < get_or ds 0 0) → digits_value_after 10 (number_from_digits 10 ds) (drop i text) ≡ value → 10 ^ 8 ≤ value
-nine_gathered ds text i value l many first e =
-    let seven = eight_digits ds many first in
-    let up = after_reaches (number_from_digits 10 ds * 10 + digit_value (get_or text i 0)) (drop (i + 1) text) in
-    let next = value_after_drop text i (number_from_digits 10 ds) l in
-    omega arith
-
-pub front_long : (n : ℕ) (integer fraction : List ℕ) → n ≡ 0 → 10 ^ 8 ≤ digits_value_after 10 n integer → 10 ^ 8 ≤ spelled (integer ++ fraction)
-front_long n integer fraction z h =
-    let front : 10 ^ 8 ≤ spelled integer = subst (λ k. 10 ^ 8 ≤ digits_value_after 10 k integer) z h in
-    let up = after_reaches (spelled integer) fraction in
-    omega (arith, spelled_after integer fraction 0)
-
-pub behind_long : (n : ℕ) (integer fraction : List ℕ) → n ≡ spelled integer → 10 ^ 8 ≤ digits_value_after 10 n fraction → 10 ^ 8 ≤ spelled (integer ++ fraction)
-behind_long n integer fraction e h =
-    let all = subst (λ k. 10 ^ 8 ≤ digits_value_after 10 k fraction) e h in omega (arith, spelled_after integer fraction 0)
+pub long_gathered : (whole rest : List ℕ) → (0 < length whole → 0 < digit_value (get_or whole 0 0)) → (length whole ≡ 0 → 0 < length rest → 0 < digit_value (get_or rest 0 0))
+    → 8 < length whole + length rest → 10 ^ 8 ≤ spelled (whole ++ rest)
+long_gathered [] rest first behind many =
+    let reach = text_reaches rest (omega arith) (behind refl (omega arith)) in let up = tens_apart 8 (length rest - 1) (omega arith) in omega arith
+long_gathered (c ∷ cs) rest first behind many =
+    let long : length (cs ++ rest) ≡ length cs + length rest = length-append cs rest in
+    let reach = text_reaches (c ∷ (cs ++ rest)) (omega arith) (first (omega arith)) in let up = tens_apart 8 (length (c ∷ (cs ++ rest)) - 1) (omega arith) in omega arith
 
 -- a mantissa of more than eight digits, the zeros at its end taken away
 pub long_mantissa : (kept zeros count mantissa e : ℕ) → mantissa ≡ kept * 10 ^ zeros → (0 < count → 0 < kept % 10) → (count ≡ 0 → kept ≡ 0) → 10 ^ 8 ≤ kept → IsLong (mantissa * 10 ^ e)

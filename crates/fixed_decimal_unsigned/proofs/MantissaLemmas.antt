@@ -77,6 +77,14 @@ pub spelled_front_only : (front kept : List ℕ) → length kept ≡ 0 → spell
 spelled_front_only front [] z = ap spelled (append-nil front)
 spelled_front_only front (c ∷ cs) z = absurd (omega arith)
 
+-- the zeros at the front
+pub front_kept : (integer fraction kept : List ℕ) → spelled integer ≡ spelled kept → spelled (integer ++ fraction) ≡ spelled (kept ++ fraction)
+front_kept integer fraction kept e = spelled_joined integer fraction ∙ ap (λ n. n * 10 ^ length fraction + spelled fraction) e ∙ sym (spelled_joined kept fraction)
+
+pub front_dropped : (integer fraction kept rest : List ℕ) → length kept ≡ 0 → spelled integer ≡ spelled kept → spelled fraction ≡ spelled rest → spelled (integer ++ fraction) ≡ spelled (kept ++ rest)
+front_dropped integer fraction [] rest z e f = front_kept integer fraction [] e ∙ f
+front_dropped integer fraction (c ∷ cs) rest z e f = absurd (omega arith)
+
 mod_positive : (k : ℕ) → 0 < k % 10 → 0 < k
 mod_positive k h = omega arith
 

@@ -41,6 +41,16 @@ value_front front c k n e h =
 digit_positive : (c : ℕ) → digit_value c < 10 → (c ≡ 48 → ⊥) → 0 < digit_value c
 digit_positive c h ne = grind (arith, nat_tests)
 
+-- a zero at the front counts nothing, and another digit there is positive
+pub digits_behind : (c : ℕ) (rest : List ℕ) → AreDigits (c ∷ rest) → AreDigits rest
+digits_behind c rest h = h.1
+
+pub value_behind : (c n : ℕ) (rest : List ℕ) → c ≡ 48 → n ≡ spelled (c ∷ rest) → n ≡ spelled rest
+value_behind c n rest e h = h ∙ ap (λ d. digits_value_after 10 (0 * 10 + digit_value d) rest) e
+
+pub front_positive : (c : ℕ) (rest : List ℕ) → AreDigits (c ∷ rest) → (c ≡ 48 → ⊥) → 0 < digit_value (get_or (c ∷ rest) 0 0)
+front_positive c rest h ne = digit_positive c h.0 ne
+
 -- another digit at the end is no multiple of ten
 pub value_last : (front : List ℕ) (c : ℕ) → AreDigits (front ++ (c ∷ [])) → (c ≡ 48 → ⊥) → 0 < spelled (front ++ (c ∷ [])) % 10
 value_last front c h ne =
@@ -51,3 +61,7 @@ value_last front c h ne =
 
 pub value_after_drop : (text : List ℕ) (i n : ℕ) → i < length text → digits_value_after 10 n (drop i text) ≡ digits_value_after 10 (n * 10 + digit_value (get_or text i 0)) (drop (i + 1) text)
 value_after_drop text i n l = ap (digits_value_after 10 n) (drop-cons text i 0 l) ∙ ap (λ k. digits_value_after 10 (n * 10 + digit_value (get_or text i 0)) (drop k text)) (sym (add-one i))
+
+pub begins_at : (text : List ℕ) (i n : ℕ) → n + i ≡ 0 → 0 < digit_value (get_or text 0 0) → 0 < digit_value (get_or text i 0)
+begins_at text zero n e first = first
+begins_at text (suc i) n e first = absurd (omega arith)

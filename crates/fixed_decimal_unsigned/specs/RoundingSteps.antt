@@ -1,7 +1,7 @@
 -- The steps of a rounding: the two digits at the position, the part behind them against half a unit, and the choice between two multiples.
 -- Defined in docs/numbers.md, "Rounding".
 -- Cited by the private functions that round, and by no public clause.
-use Rattle.std.specs.Prelude.{◌≡◌, ℕ, ◌+◌, ◌%◌, ◌<◌, ◌≤◌, Bool, true, false, List, length, slice_index}
+use Rattle.std.specs.Prelude.{◌≡◌, ℕ, ◌+◌, ◌*◌, ◌%◌, ◌^◌, ◌<◌, ◌≤◌, Bool, true, false, List, length, slice_index}
 use Rattle.std.specs.Ordering.{MatchOrdering}
 use Rattle.std.specs.declared.cmp.Ordering.{Ordering}
 use Rattle.std.specs.declared.cmp.Ordering.TheVariants.{Less, Equal, Greater}
@@ -34,3 +34,12 @@ pub record IsTrimmed (digits : List ℕ) (top : ℕ) : Type 0 where
   pub last : 0 < length digits → 0 < number_from_digits 10 digits % 10
   pub room : length digits ≤ top + 1
   pub zero_top : length digits ≡ 0 → top ≡ 32768
+
+-- the new digits spell the old ones with two more behind them, without a zero before the first or behind the last; so many places are left below
+pub record IsAppended (old : List ℕ) (pair : ℕ) (new : List ℕ) (below : ℕ) : Type 0 where
+  pub tens : AllBelowBase 10 new
+  pub first : 0 < slice_index new 0
+  pub last : 0 < number_from_digits 10 new % 10
+  pub some : 0 < length new
+  pub value : number_from_digits 10 old * 100 + pair ≡ number_from_digits 10 new * 10 ^ below
+  pub places : length new + below ≤ length old + 2

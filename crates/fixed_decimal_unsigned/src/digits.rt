@@ -1,5 +1,5 @@
 // The digits of a number: this file alone knows how they lie in memory.
-ghost use Rattle.std.specs.Prelude.{◌≡◌, ◌==◌, ◌+◌, ◌-◌, ◌<◌, ◌≤◌, [], ◌∷◌, ◌++◌, length, slice_index, slice_get, take, drop, IsOk, IfOk, OnOk, OnErr};
+ghost use Rattle.std.specs.Prelude.{◌≡◌, ◌==◌, ◌+◌, ◌<◌, ◌≤◌, [], ◌∷◌, ◌++◌, length, slice_index, take, drop, IsOk, IfOk, OnOk, OnErr};
 ghost use Rattle.std.specs.Bool.{Decides};
 
 use smallvec::SmallVec;
@@ -36,6 +36,17 @@ impl Digits {
         Digits {
             kept: SmallVec::new(alloc),
         }
+    }
+
+    // No digits, with room for so many.
+    pub fn with_room(alloc: Global, count: usize) -> Result<Digits, AllocError>
+        ensures items { IfOk result (λ d. d.items ≡ []) }
+        ensures capacity { IfOk result (λ d. count ≤ d.capacity) }
+        ensures room { OnErr result (8 < count) }
+    {
+        let mut digits = Digits::new(alloc);
+        digits.reserve(count)?;
+        Ok(digits)
     }
 
     // How many digits there are.
@@ -94,15 +105,6 @@ impl Digits {
         ensures capacity { self.new.capacity ≡ self.old.capacity }
     {
         self.kept.push_reserved(digit);
-    }
-
-    // Takes the last digit away.
-    pub fn pop(&mut self) -> Option<u8>
-        ensures value { result ≡ slice_get self.old.items (length self.old.items - 1) }
-        ensures rest { self.new.items ≡ take (length self.old.items - 1) self.old.items }
-        ensures capacity { self.new.capacity ≡ self.old.capacity }
-    {
-        self.kept.pop()
     }
 
     // Keeps the first digits, so many as `len`.

@@ -30,5 +30,6 @@ mod writing;
 
 pub use error::{ConcatenateError, ParseError};
 pub use modes::{RoundingIncrement, UnsignedRoundingMode};
+pub use reading::capped_number;
 pub use turns::Turns;
 pub use unsigned_decimal::UnsignedDecimal;

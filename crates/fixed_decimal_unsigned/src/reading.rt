@@ -25,9 +25,9 @@ fn digit_of(c: u8) -> u8
     c - b'0'
 }
 
-// The number that digits spell, or the cap where it is larger.
+/// The number that digits spell, or 65536 where it is larger: 12 of `012`.
 #[tactic(auto, using(crate::proofs::SpelledLemmas::digits_at, crate::proofs::SpelledLemmas::capped_more))]
-fn capped_number(text: &[u8]) -> usize
+pub fn capped_number(text: &[u8]) -> usize
     requires { AreDigits text.now }
     ensures { result ≡ min (spelled text.now) 65536 }
 {
@@ -57,41 +57,59 @@ fn without_end_zeros(text: &[u8]) -> &[u8]
     kept
 }
 
-// Adds a digit behind those that are there, but no zero before the first other digit.
+// The text without the zeros that it begins with.
+#[tactic(auto, using(crate::proofs::SpelledLemmas::digits_behind, crate::proofs::SpelledLemmas::value_behind, crate::proofs::SpelledLemmas::front_positive))]
+fn without_front_zeros(text: &[u8]) -> &[u8]
+    requires { AreDigits text.now }
+    ensures digits { AreDigits result.now }
+    ensures length { length result.now ≤ length text.now }
+    ensures value { spelled text.now ≡ spelled result.now }
+    ensures first { 0 < length result.now → 0 < digit_value (slice_index result.now 0) }
+{
+    let mut kept = text;
+    while let Some((first, rest)) = kept.split_first() {
+        if *first != b'0' {
+            return kept;
+        }
+        kept = rest;
+    }
+    kept
+}
+
+// Adds a digit, for which there is room, behind those that are there.
 #[tactic(auto, using(std::proofs::lemmas::Int::Digits::number_push))]
-fn push_kept(digits: &mut Digits, digit: u8) -> Result<(), AllocError>
+fn push_digit(digits: &mut Digits, digit: u8)
     requires ten { digit < 10 }
     requires tens { AllBelowBase 10 digits.old.items }
     requires first { 0 < length digits.old.items → 0 < slice_index digits.old.items 0 }
-    ensures value { OnOk result (number_from_digits 10 digits.new.items ≡ number_from_digits 10 digits.old.items * 10 + digit) }
+    requires start { length digits.old.items ≡ 0 → 0 < digit }
+    requires room { length digits.old.items < digits.old.capacity }
+    ensures value { number_from_digits 10 digits.new.items ≡ number_from_digits 10 digits.old.items * 10 + digit }
     ensures tens { AllBelowBase 10 digits.new.items }
-    ensures first { 0 < length digits.new.items → 0 < slice_index digits.new.items 0 }
-    ensures length { length digits.new.items ≤ length digits.old.items + 1 }
-    ensures room { OnErr result (8 ≤ length digits.old.items) }
+    ensures first { 0 < slice_index digits.new.items 0 }
+    ensures length { length digits.new.items ≡ length digits.old.items + 1 }
+    ensures capacity { digits.new.capacity ≡ digits.old.capacity }
 {
-    if digit == 0 && digits.is_empty() {
-        return Ok(());
-    }
-    digits.push(digit)?;
-    Ok(())
+    digits.push_reserved(digit);
 }
 
-// Adds the digits of a text behind those that are there, but no zero before the first other digit.
-#[tactic(auto, using(crate::proofs::SpelledLemmas::digits_at, crate::proofs::SpelledLemmas::value_after_drop))]
-fn gather(digits: &mut Digits, text: &[u8]) -> Result<(), AllocError>
+// Adds the digits of a text, for which there is room, behind those that are there.
+#[tactic(auto, using(crate::proofs::SpelledLemmas::digits_at, crate::proofs::SpelledLemmas::value_after_drop, crate::proofs::SpelledLemmas::begins_at))]
+fn push_digits(digits: &mut Digits, text: &[u8])
     requires text_digits { AreDigits text.now }
+    requires text_first { length digits.old.items ≡ 0 → 0 < length text.now → 0 < digit_value (slice_index text.now 0) }
     requires tens { AllBelowBase 10 digits.old.items }
     requires first { 0 < length digits.old.items → 0 < slice_index digits.old.items 0 }
-    ensures value { OnOk result (number_from_digits 10 digits.new.items ≡ digits_value_after 10 (number_from_digits 10 digits.old.items) text.now) }
+    requires room { length digits.old.items + length text.now ≤ digits.old.capacity }
+    ensures value { number_from_digits 10 digits.new.items ≡ digits_value_after 10 (number_from_digits 10 digits.old.items) text.now }
     ensures tens { AllBelowBase 10 digits.new.items }
     ensures first { 0 < length digits.new.items → 0 < slice_index digits.new.items 0 }
-    ensures length { length digits.new.items ≤ length digits.old.items + length text.now }
-    ensures room { OnErr result (10 ^ 8 ≤ digits_value_after 10 (number_from_digits 10 digits.old.items) text.now) }
+    ensures length { length digits.new.items ≡ length digits.old.items + length text.now }
+    ensures capacity { digits.new.capacity ≡ digits.old.capacity }
 {
     for c in text {
-        push_kept(digits, digit_of(*c))?;
+        push_digit(digits, digit_of(*c));
     }
-    Ok(())
 }
 
 // The places of the first and the last digit of a mantissa.
@@ -145,20 +163,44 @@ fn without_mantissa_zeros<'a>(integer: &'a [u8], fraction: &'a [u8]) -> (&'a [u8
     }
 }
 
+// Both parts of a mantissa without the zeros that it begins with.
+#[tactic(auto, using(crate::proofs::MantissaLemmas::front_kept, crate::proofs::MantissaLemmas::front_dropped))]
+fn without_leading_zeros<'a>(integer: &'a [u8], fraction: &'a [u8]) -> (&'a [u8], &'a [u8])
+    requires integer_digits { AreDigits integer.now }
+    requires fraction_digits { AreDigits fraction.now }
+    ensures integer_digits { AreDigits result.0.now }
+    ensures fraction_digits { AreDigits result.1.now }
+    ensures integer_length { length result.0.now ≤ length integer.now }
+    ensures fraction_length { length result.1.now ≤ length fraction.now }
+    ensures value { spelled (integer.now ++ fraction.now) ≡ spelled (result.0.now ++ result.1.now) }
+    ensures integer_first { 0 < length result.0.now → 0 < digit_value (slice_index result.0.now 0) }
+    ensures fraction_first { length result.0.now ≡ 0 → 0 < length result.1.now → 0 < digit_value (slice_index result.1.now 0) }
+{
+    let kept = without_front_zeros(integer);
+    if kept.is_empty() {
+        (kept, without_front_zeros(fraction))
+    } else {
+        (kept, fraction)
+    }
+}
+
 // The digits that two texts spell one behind the other.
 #[tactic(auto, using(crate::proofs::MantissaLemmas::spelled_after))]
 fn gathered(alloc: Global, integer: &[u8], fraction: &[u8]) -> Result<Digits, AllocError>
     requires integer_digits { AreDigits integer.now }
     requires fraction_digits { AreDigits fraction.now }
+    requires integer_short { length integer.now ≤ 65536 }
+    requires fraction_short { length fraction.now ≤ 65536 }
     ensures value { IfOk result (λ d. number_from_digits 10 d.items ≡ spelled (integer.now ++ fraction.now)) }
     ensures tens { IfOk result (λ d. AllBelowBase 10 d.items) }
     ensures first { IfOk result (λ d. 0 < length d.items → 0 < slice_index d.items 0) }
     ensures length { IfOk result (λ d. length d.items ≤ length integer.now + length fraction.now) }
     ensures room { OnErr result (10 ^ 8 ≤ spelled (integer.now ++ fraction.now)) }
 {
-    let mut digits = Digits::new(alloc);
-    gather(&mut digits, integer)?;
-    gather(&mut digits, fraction)?;
+    let (whole, rest) = without_leading_zeros(integer, fraction);
+    let mut digits = Digits::with_room(alloc, whole.len() + rest.len())?;
+    push_digits(&mut digits, whole);
+    push_digits(&mut digits, rest);
     Ok(digits)
 }
 

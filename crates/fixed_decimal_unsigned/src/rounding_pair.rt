@@ -1,10 +1,10 @@
 // Rounding the digits of a number: the two digits at the place, and what they become.
-ghost use Rattle.std.specs.Prelude.{◌≡◌, ◌≢◌, ℕ, ◌+◌, ◌-◌, ◌*◌, ◌/◌, ◌%◌, ◌^◌, ◌<◌, ◌≤◌, length, slice_index, IfSome, IfNone, IfOk, OnErr, IsOk, cond, true, false, ◌⊎◌};
+ghost use Rattle.std.specs.Prelude.{◌≡◌, ◌≢◌, ℕ, ◌+◌, ◌-◌, ◌*◌, ◌/◌, ◌%◌, ◌^◌, ◌<◌, ◌≤◌, length, slice_index, IfSome, IfNone, IfOk, OnErr, IsOk, IsTrue, cond, true, false, ◌⊎◌};
 ghost use Rattle.std.specs.Bool.{MatchBool};
 ghost use Rattle.std.specs.Int.Digits.{number_from_digits, AllBelowBase};
 ghost use Rattle.fixed_decimal_unsigned.specs.Stored.{count_of};
 ghost use Rattle.fixed_decimal_unsigned.specs.Rounding.{IsRounded, increment_number};
-ghost use Rattle.fixed_decimal_unsigned.specs.RoundingSteps.{IsTrimmed, takes_upper_of};
+ghost use Rattle.fixed_decimal_unsigned.specs.RoundingSteps.{IsTrimmed, IsAppended, takes_upper_of};
 
 use crate::digits::Digits;
 use crate::modes::{RoundingIncrement, UnsignedRoundingMode};
@@ -63,23 +63,39 @@ fn step_up(mode: UnsignedRoundingMode, half: Ordering, is_odd: bool, step: u8) -
     }
 }
 
+// Whether a pair behind some digits begins with a zero that no digit stands before.
+fn begins_with_zero(digits: &Digits, pair: u8) -> bool
+    ensures none { IsTrue result → length digits.now.items ≡ 0 }
+    ensures ten { IsTrue result → pair < 10 }
+    ensures other { result ≡ false → length digits.now.items ≡ 0 → 10 ≤ pair }
+{
+    digits.is_empty() && pair < 10
+}
+
+// How many digits a pair adds behind others: none where it is zero or carries.
+fn digits_added(pair: u8) -> usize
+    ensures most { result ≤ 2 }
+    ensures first { 0 < pair → pair < 100 → 1 ≤ result }
+    ensures both { 0 < pair % 10 → pair < 100 → 2 ≤ result }
+{
+    if pair == 0 || pair >= 100 {
+        return 0;
+    }
+    if pair % 10 == 0 { 1 } else { 2 }
+}
+
 // Adds two digits, of which not both are zero, and no zero before the first digit or behind the last.
 // The answer is how many places of the two are left below the last digit.
-#[tactic(auto, using(crate::proofs::AppendLemmas::pair_pushed, crate::proofs::AppendLemmas::tens_pushed, crate::proofs::AppendLemmas::last_pushed))]
 fn push_pair(digits: &mut Digits, pair: u8) -> u32
     requires tens { AllBelowBase 10 digits.old.items }
     requires first { 0 < length digits.old.items → 0 < slice_index digits.old.items 0 }
     requires some { 0 < pair }
     requires hundred { pair < 100 }
-    requires room { length digits.old.items + 2 ≤ digits.old.capacity }
-    ensures tens { AllBelowBase 10 digits.new.items }
-    ensures first { 0 < slice_index digits.new.items 0 }
-    ensures last { 0 < number_from_digits 10 digits.new.items % 10 }
-    ensures some { 0 < length digits.new.items }
-    ensures value { number_from_digits 10 digits.old.items * 100 + pair ≡ number_from_digits 10 digits.new.items * 10 ^ result }
-    ensures length { length digits.new.items + result ≤ length digits.old.items + 2 }
+    requires room { length digits.old.items + 1 ≤ digits.old.capacity }
+    requires both_room { 0 < pair % 10 → length digits.old.items + 2 ≤ digits.old.capacity }
+    ensures { IsAppended digits.old.items pair digits.new.items result }
 {
-    if digits.is_empty() && pair < 10 {
+    if begins_with_zero(digits, pair) {
         digits.push_reserved(pair);
         return 0;
     }
@@ -98,7 +114,8 @@ fn append_pair<L: Ledger>(digits: &mut Digits, pair: u8, turns: &mut Turns<L>) -
     requires tens { AllBelowBase 10 digits.old.items }
     requires first { 0 < length digits.old.items → 0 < slice_index digits.old.items 0 }
     requires hundred { pair ≤ 100 }
-    requires room { length digits.old.items + 2 ≤ digits.old.capacity }
+    requires room { 0 < pair → pair < 100 → length digits.old.items + 1 ≤ digits.old.capacity }
+    requires both_room { 0 < pair % 10 → pair < 100 → length digits.old.items + 2 ≤ digits.old.capacity }
     requires short { length digits.old.items ≤ 65536 }
     ensures tens { AllBelowBase 10 digits.new.items }
     ensures first { 0 < length digits.new.items → 0 < slice_index digits.new.items 0 }
@@ -146,7 +163,7 @@ pub fn round_digits<L: Ledger>(
         return Ok(top);
     };
     let kept = (top as usize + 1).saturating_sub(place as usize + 2);
-    digits.reserve((kept + 2).saturating_sub(digits.len()))?;
+    digits.reserve((kept + digits_added(pair)).saturating_sub(digits.len()))?;
     digits.truncate(kept);
     let below = append_pair(digits, pair, turns);
     Ok(top_of(digits, place + below))

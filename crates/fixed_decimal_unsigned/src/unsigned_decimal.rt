@@ -104,7 +104,9 @@ impl UnsignedDecimal {
     pub fn try_clone(&self) -> Result<UnsignedDecimal, AllocError>
         ensures value { IfOk result (λ v. v ≡ self.now) }
         ensures room { OnErr result (IsLong self.now.count) }
+        ensures number { IsNumber self.now }
     {
+        let _number = self.magnitude_range();
         let digits = self.digits.try_clone()?;
         Ok(UnsignedDecimal {
             digits,

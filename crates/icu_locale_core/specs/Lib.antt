@@ -22,7 +22,7 @@ pub use Rattle.icu_locale_core_grammar.specs.OrderLaws
 pub use Rattle.icu_locale_core_grammar.specs.PreferenceLaws
 pub use Rattle.icu_locale_core_sets.specs.Laws as SetLaws
 pub use Rattle.icu_locale_core_entries.specs.Laws as EntryLaws
-pub use Rattle.icu_locale_core_single.specs.SingleLaws
+pub use Rattle.icu_locale_core_langid.specs.SingleLaws
 pub use Rattle.icu_locale_core_locale.specs.ReadsBack
 pub use Rattle.icu_locale_core_preferences.specs.Laws as HeldPreferenceLaws
 -- Subtags: what a rule is, raw forms, JSON texts, what an iterator has left.
@@ -33,7 +33,7 @@ pub use Rattle.icu_locale_core_subtags.specs.PiecesLeft
 -- One variant and one keyword, in each mode.
 pub use Rattle.icu_locale_core_grammar.specs.SingleVariant
 pub use Rattle.icu_locale_core_langid.specs.OneVariant
-pub use Rattle.icu_locale_core_single.specs.SingleModes
+pub use Rattle.icu_locale_core_langid.specs.SingleModes
 -- Language identifiers: their parts, their text, what each mode reads.
 pub use Rattle.icu_locale_core_langid.specs.Parts
 pub use Rattle.icu_locale_core_langid.specs.Modes
@@ -53,6 +53,7 @@ pub use Rattle.icu_locale_core_entries.specs.Retained
 -- Keywords with a type of their own.
 pub use Rattle.icu_locale_core_keywords.specs.KeywordWords
 pub use Rattle.icu_locale_core_keywords.specs.TypedKeywords
+pub use Rattle.icu_locale_core_keywords.specs.OwnWords
 pub use Rattle.icu_locale_core_keywords.specs.WordLaws
 -- Extensions: one alone, all of a tag, when two are one.
 pub use Rattle.icu_locale_core_extensions.specs.ExtensionText
@@ -76,3 +77,4 @@ pub use Rattle.icu_locale_core_grammar.specs.Stepping
 pub use Rattle.icu_locale_core_grammar.specs.TagStages
 -- When two locales are one.
 pub use Rattle.icu_locale_core_locale.specs.LocaleValue
+pub use Rattle.icu_locale_core_locale.specs.SameLocale

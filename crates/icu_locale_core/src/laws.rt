@@ -38,7 +38,7 @@ pub use icu_locale_core_langid::laws as language_identifiers;
 
 /// Of the readers of one variant and one keyword.
 pub mod single {
-    pub use icu_locale_core_single::laws::{modes_agree, modes_are_answered};
+    pub use icu_locale_core_langid::single::laws::{modes_agree, modes_are_answered};
 }
 
 // Of whole locales.

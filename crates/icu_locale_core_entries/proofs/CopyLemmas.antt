@@ -1,5 +1,5 @@
 -- Entries put into a map one by one: of those at places from i on, what is still to be put.
-use Rattle.std.proofs.Common.{◌≡◌, ℕ, ◌+◌, ◌<◌, ◌≤◌, Bool, true, List, [], ◌++◌, ◌==◌, length, drop, get_or, fold, sym, ap, ◌∙◌}
+use Rattle.std.proofs.Common.{◌≡◌, ℕ, ◌+◌, ◌<◌, ◌≤◌, true, List, [], ◌∷◌, ◌++◌, arith, ◌==◌, length, drop, get_or, fold, sym, ap, ◌∙◌}
 use Rattle.std.proofs.lemmas.Bool.{eqb-true}
 use Rattle.std.proofs.lemmas.List.{drop_more, drop_all, nil_from_length}
 use Rattle.icu_locale_core_grammar.specs.Subtags.{Text}
@@ -35,3 +35,11 @@ none_joined winners es none rises =
 
 pub copied_rising : (es slice : List Entry) → Rises (keys_of slice) → slice ≡ es → map_of slice ≡ es
 copied_rising es slice rises same = map_of_rising slice rises ∙ same
+
+-- the map of some entries, and of one more
+pub map_of-push : (m n es : List Entry) (e : Entry) → m ≡ map_of es → n ≡ put_first e m → n ≡ map_of (es ++ e ∷ [])
+map_of-push m n es e so_far put = put ∙ ap (put_first e) so_far ∙ sym (fold-append put_entry [] es (e ∷ []))
+
+-- a map without an entry has no place
+pub no_place : (items es : List Entry) (i : ℕ) → items ≡ es → es ≡ [] → i < length items → ⊥
+no_place items es i same none within = let e : length items ≡ 0 = ap length (same ∙ none) in omega (arith, e)

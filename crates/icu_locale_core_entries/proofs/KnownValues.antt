@@ -2,9 +2,9 @@
 use Rattle.std.proofs.Common.{◌≡◌, true, false, [], ◌∷◌, None, Some, codes, refl}
 use Rattle.std.specs.declared.cmp.Ordering.TheVariants.{Less, Greater}
 use Rattle.icu_locale_core_grammar.specs.Collections.{Entry}
+use Rattle.icu_locale_core_grammar.specs.TagOrder.{texts_cmp, entries_cmp}
 use Rattle.icu_locale_core_entries.specs.EntryChanges.{set_entry, without_key, joined_maps}
 use Rattle.icu_locale_core_entries.specs.EntryText.{value_text, entries_text, hyphened_entries}
-use Rattle.icu_locale_core_entries.specs.Orders.{value_cmp, entries_cmp}
 use Rattle.icu_locale_core_entries.specs.Values.{without_true, with_subtag}
 use Rattle.icu_locale_core_grammar.specs.TagPreferences.{one_piece}
 
@@ -86,7 +86,7 @@ empty_field = refl
 -- ---- orders
 
 -- a beginning comes first
-pub beginning_first : value_cmp (codes "abc" ∷ []) (codes "abc" ∷ codes "def" ∷ []) ≡ Less
+pub beginning_first : texts_cmp (codes "abc" ∷ []) (codes "abc" ∷ codes "def" ∷ []) ≡ Less
 beginning_first = refl
 
 -- keys before values

@@ -1,6 +1,7 @@
 -- A reading loop: what was taken so far led to the stage, and what is left comes behind.
-use Rattle.std.proofs.Common.{◌≡◌, ◌==◌, Bool, true, false, List, [], ◌∷◌, ◌++◌, Option, None, Some, length, refl, sym, ap, ◌∙◌, append_assoc}
-use Rattle.std.specs.Prelude.{if◌then◌else◌}
+use Rattle.std.proofs.Common.{◌≡◌, ◌==◌, Bool, true, false, List, [], ◌∷◌, ◌++◌, Option, None, Some, Result, Ok, Err, length, refl, sym, ap, subst, ◌∙◌, append_assoc}
+use Rattle.std.specs.Prelude.{if◌then◌else◌, MatchOption, MatchResult}
+use Rattle.std.specs.Result.{result_ok}
 use Rattle.icu_locale_core_grammar.specs.Subtags.{Text, is_value, is_true, lower}
 use Rattle.icu_locale_core_grammar.specs.Pieces.{pieces}
 use Rattle.icu_locale_core_grammar.specs.PartReaders.{listed, value_after}
@@ -67,3 +68,13 @@ no_piece_kept text now left p s cut so_far none = by (is_value p) refl
     by : (b : Bool) → is_value p ≡ b → is_value p ≡ false
     by true is = let wrong : true ≡ false = sym (begins_taken (listed text) now left so_far.taken p s so_far.parts cut so_far.reached is) ∙ begins_listed text none in cc
     by false is = is
+
+-- a subtag of a rule whose normal case is lower case, its fault left out
+pub read_lower : {E : Type 0} (accepts : Text → Bool) (normal : Text → Text) (fault : E) (piece : Text) (r : Result Text E) (o : Option Text)
+    → ((t : Text) → normal t ≡ lower t) → o ≡ result_ok r
+    → MatchResult r (λ s. (accepts piece ≡ true) × (s ≡ normal piece)) (λ e. (accepts piece ≡ false) × (e ≡ fault))
+    → MatchOption o (accepts piece ≡ false) (λ s. (accepts piece ≡ true) × (s ≡ lower piece))
+read_lower accepts normal fault piece (Ok s) o low is read =
+    subst (λ p. MatchOption p (accepts piece ≡ false) (λ t. (accepts piece ≡ true) × (t ≡ lower piece))) (sym is) (read.0, read.1 ∙ low piece)
+read_lower accepts normal fault piece (Err e) o low is read =
+    subst (λ p. MatchOption p (accepts piece ≡ false) (λ t. (accepts piece ≡ true) × (t ≡ lower piece))) (sym is) read.0

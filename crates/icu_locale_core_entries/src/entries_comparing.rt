@@ -4,7 +4,8 @@ ghost use Rattle.std.specs.Prelude.{◌++◌, Some, refl};
 ghost use Rattle.std.specs.Cmp.{partial_equiv_from_equiv};
 ghost use Rattle.std.specs.Hash as fed;
 ghost use Rattle.std.proofs.Common.{ap};
-ghost use Rattle.icu_locale_core_entries.specs.Orders.{same_entries, entries_cmp};
+ghost use Rattle.icu_locale_core_grammar.specs.TagOrder.{entries_cmp};
+ghost use Rattle.icu_locale_core_entries.specs.Orders.{same_entries};
 ghost use Rattle.icu_locale_core_entries.specs.OrderLaws.{entries_equiv, entries_total, entries_tie, entries_po, entries_decide};
 
 use crate::entries::EntriesOf;

@@ -62,9 +62,10 @@ impl<K: EntryKind> ValueOf<K> {
         ensures succeeds { without_true (option_to_list subtag) ≡ [] → IsOk result }
     {
         let mut value = Self::new_empty(alloc);
-        if let Some(subtag) = subtag {
-            value.push_subtag(subtag)?;
-        }
+        let Some(subtag) = subtag else {
+            return Ok(value);
+        };
+        value.push_subtag(subtag)?;
         Ok(value)
     }
 

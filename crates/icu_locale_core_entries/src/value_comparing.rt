@@ -3,8 +3,9 @@
 ghost use Rattle.std.specs.Prelude.{Some, refl};
 ghost use Rattle.std.specs.Cmp.{partial_equiv_from_equiv};
 ghost use Rattle.std.specs.Hash as fed;
+ghost use Rattle.icu_locale_core_grammar.specs.TagOrder.{texts_cmp};
 ghost use Rattle.icu_locale_core_sets.specs.Orders.{lists_of_texts_po, lists_fed_alike};
-ghost use Rattle.icu_locale_core_entries.specs.Orders.{same_value, value_cmp};
+ghost use Rattle.icu_locale_core_entries.specs.Orders.{same_value};
 ghost use Rattle.icu_locale_core_entries.specs.OrderLaws.{values_equiv, values_total, values_tie};
 
 use crate::kind::EntryKind;
@@ -27,7 +28,7 @@ impl<K: EntryKind> Eq for ValueOf<K> {
 }
 
 impl<K: EntryKind> PartialOrd for ValueOf<K> {
-    ghost partial_cmp = { λ v w. Some (value_cmp v w) };
+    ghost partial_cmp = { λ v w. Some (texts_cmp v w) };
 
     ghost laws = { lists_of_texts_po };
 
@@ -38,7 +39,7 @@ impl<K: EntryKind> PartialOrd for ValueOf<K> {
 
 /// Subtag by subtag, in byte order; a beginning comes first.
 impl<K: EntryKind> Ord for ValueOf<K> {
-    ghost cmp = { λ v w. value_cmp v w };
+    ghost cmp = { λ v w. texts_cmp v w };
 
     ghost total = { values_total };
 

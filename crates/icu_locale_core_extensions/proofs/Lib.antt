@@ -1,3 +1,5 @@
+pub mod BlockLemmas
+pub mod CountingLemmas
 pub mod OpeningLemmas
-pub mod ExtensionTextLemmas
+pub mod PlacedLemmas
 pub mod RoomLemmas

@@ -1,13 +1,15 @@
 -- When two extensions are one: part by part.
 -- Defined in docs/tags.md, "Extensions as values".
 -- Cited by `==` and `hash` of extensions.
-use Rattle.std.specs.Prelude.{Bool, ◌&&◌}
+use Rattle.std.specs.Prelude.{Bool, ◌&&◌, ◌++◌}
 use Rattle.std.specs.Cmp.Lexicographic.{pointwise}
 use Rattle.std.specs.Option.{option_eq}
+use Rattle.std.specs.Hash as fed
 use Rattle.icu_locale_core_grammar.specs.Subtags.{same_text}
 use Rattle.icu_locale_core_grammar.specs.Collections.{Entry}
 use Rattle.icu_locale_core_grammar.specs.Meaning.{UnicodeMeaning, TransformMeaning}
 use Rattle.icu_locale_core_langid.specs.SameLanguage.{same_language}
+use Rattle.icu_locale_core_langid.specs.SameLanguageLaws.{language_fed}
 use Rattle.icu_locale_core_entries.specs.Orders.{same_entries, same_value}
 
 -- attributes and keywords
@@ -21,3 +23,13 @@ same_transform a b = option_eq same_language a.head b.head && same_entries a.ent
 -- the singleton and the pieces
 abbrev pub same_other : Entry → Entry → Bool
 same_other a b = same_text a.0 b.0 && same_value a.1 b.1
+
+-- what a hasher is fed
+abbrev pub unicode_fed : UnicodeMeaning → fed.HashWrites
+unicode_fed u = fed.slice fed.str u.head ++ fed.slice (λ e. fed.str e.0 ++ fed.slice fed.str e.1) u.entries
+
+abbrev pub transform_fed : TransformMeaning → fed.HashWrites
+transform_fed t = fed.option language_fed t.head ++ fed.slice (λ e. fed.str e.0 ++ fed.slice fed.str e.1) t.entries
+
+abbrev pub other_fed : Entry → fed.HashWrites
+other_fed o = fed.str o.0 ++ fed.slice fed.str o.1

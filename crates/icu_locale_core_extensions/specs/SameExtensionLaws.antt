@@ -15,19 +15,7 @@ use Rattle.icu_locale_core_langid.specs.SameLanguage.{same_language}
 use Rattle.icu_locale_core_langid.specs.SameLanguageLaws.{language_fed, same_equiv, same_decides}
 use Rattle.icu_locale_core_entries.specs.Orders.{same_entries, same_value}
 use Rattle.icu_locale_core_entries.specs.OrderLaws.{entries_equiv, entries_decide}
-use Rattle.icu_locale_core_extensions.specs.SameExtension.{same_unicode, same_transform, same_other}
-
--- what a hasher is fed
-abbrev pub unicode_fed : UnicodeMeaning → fed.HashWrites
-unicode_fed u = fed.slice fed.str u.head ++ fed.slice (λ e. fed.str e.0 ++ fed.slice fed.str e.1) u.entries
-
-abbrev pub transform_fed : TransformMeaning → fed.HashWrites
-transform_fed t = fed.option language_fed t.head ++ fed.slice (λ e. fed.str e.0 ++ fed.slice fed.str e.1) t.entries
-
-abbrev pub other_fed : Entry → fed.HashWrites
-other_fed o = fed.str o.0 ++ fed.slice fed.str o.1
-
--- ---- laws
+use Rattle.icu_locale_core_extensions.specs.SameExtension.{same_unicode, same_transform, same_other, unicode_fed, transform_fed, other_fed}
 
 pub unicode_equiv : IsEquivalence same_unicode
 unicode_equiv = and_equiv (on_equiv (λ (a : UnicodeMeaning). a.head) (lists_equiv nat_list_eq_equiv)) (on_equiv (λ (a : UnicodeMeaning). a.entries) entries_equiv)

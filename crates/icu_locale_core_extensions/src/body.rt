@@ -6,15 +6,15 @@ ghost use Rattle.icu_locale_core_grammar.specs.TagStages.{body_after as stage_af
 ghost use Rattle.icu_locale_core_entries.specs.Steps.{IsStep};
 ghost use Rattle.icu_locale_core_extensions.specs.BodyView.{body_view, body_key, part_view, KeepsKey, HasKey};
 
-use crate::head::{AttributesHead, LanguageHead};
+use crate::head::{AttributesHead, LanguageHead, settled_language};
 use crate::opening::is_letter;
 use crate::other::{Other, other_after};
 use crate::singleton::OtherSingleton;
 use crate::transform::Transform;
 use crate::unicode::Unicode;
 use icu_locale_core_entries::{HeadedStage, Step, headed_after, headed_finish};
-use icu_locale_core_langid::LanguageIdentifier;
-use icu_locale_core_sets::Attributes;
+use icu_locale_core_langid::LanguageStage;
+use icu_locale_core_sets::GrowingSet;
 use icu_locale_core_subtags::{transform, unicode};
 use std::alloc::{AllocError, Global};
 
@@ -22,9 +22,9 @@ use std::alloc::{AllocError, Global};
 #[derive(Drop)]
 pub enum BodyStage {
     /// Behind `u`.
-    InUnicode(HeadedStage<Attributes, unicode::KeyRule>),
+    InUnicode(HeadedStage<GrowingSet<unicode::AttributeRule>, unicode::KeyRule>),
     /// Behind `t`.
-    InTransform(HeadedStage<Option<LanguageIdentifier>, transform::KeyRule>),
+    InTransform(HeadedStage<Option<LanguageStage>, transform::KeyRule>),
     /// Behind any other singleton but `x`.
     InOther(Other),
 }
@@ -46,7 +46,7 @@ pub fn opened_body(alloc: Global, singleton: &[u8]) -> Option<BodyStage>
     ensures key { IfSome result (λ b. body_key b ≡ lower singleton.now) }
 {
     if is_letter(singleton, b'u') {
-        return Some(BodyStage::InUnicode(HeadedStage::InHead(Attributes::new(alloc))));
+        return Some(BodyStage::InUnicode(HeadedStage::InHead(GrowingSet::new(alloc))));
     }
     if is_letter(singleton, b't') {
         return Some(BodyStage::InTransform(HeadedStage::InHead(None)));
@@ -97,12 +97,15 @@ pub fn body_finish(alloc: Global, stage: BodyStage) -> Result<Option<Part>, Allo
         BodyStage::InUnicode(stage) => match headed_finish(alloc, stage)? {
             Some((attributes, keywords)) => Ok(Some(Part::Unicode(Unicode {
                 keywords,
-                attributes,
+                attributes: attributes.settled(),
             }))),
             None => Ok(None),
         },
         BodyStage::InTransform(stage) => match headed_finish(alloc, stage)? {
-            Some((lang, fields)) => Ok(Some(Part::Transform(Transform { lang, fields }))),
+            Some((lang, fields)) => Ok(Some(Part::Transform(Transform {
+                lang: settled_language(lang),
+                fields,
+            }))),
             None => Ok(None),
         },
         BodyStage::InOther(other) => Ok(Some(Part::Other(other))),

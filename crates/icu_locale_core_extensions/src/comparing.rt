@@ -4,8 +4,8 @@ ghost use Rattle.std.specs.Prelude.{◌≡◌};
 ghost use Rattle.std.specs.Cmp.{partial_equiv_from_equiv};
 ghost use Rattle.std.specs.Option.{option_cmp};
 ghost use Rattle.icu_locale_core_grammar.specs.TagOrder.{language_cmp, unicode_cmp, transform_cmp, entry_cmp};
-ghost use Rattle.icu_locale_core_extensions.specs.SameExtension.{same_unicode, same_transform, same_other};
-ghost use Rattle.icu_locale_core_extensions.specs.SameExtensionLaws.{unicode_fed, transform_fed, other_fed, unicode_equiv, transform_equiv, other_equiv, unicode_alike, transform_alike, other_alike};
+ghost use Rattle.icu_locale_core_extensions.specs.SameExtension.{same_unicode, same_transform, same_other, unicode_fed, transform_fed, other_fed};
+ghost use Rattle.icu_locale_core_extensions.specs.SameExtensionLaws.{unicode_equiv, transform_equiv, other_equiv, unicode_alike, transform_alike, other_alike};
 
 use crate::other::Other;
 use crate::transform::Transform;

@@ -1,20 +1,21 @@
 //! The heads of both extensions: attributes of `u`, a language part of `t`.
 
+ghost use Rattle.std.specs.Prelude.{◌≡◌};
 ghost use Rattle.icu_locale_core_grammar.specs.Subtags.{is_attribute};
 ghost use Rattle.icu_locale_core_grammar.specs.TagStages.{attributes_after, language_after as language_stage_after};
 ghost use Rattle.icu_locale_core_langid.specs.Room.{grows_at};
 
 use icu_locale_core_entries::{HeadReader, Step};
-use icu_locale_core_langid::{LanguageIdentifier, language_after};
-use icu_locale_core_sets::Attributes;
-use icu_locale_core_subtags::unicode::Attribute;
+use icu_locale_core_langid::{LanguageIdentifier, LanguageStage, language_after};
+use icu_locale_core_sets::GrowingSet;
+use icu_locale_core_subtags::unicode::{Attribute, AttributeRule};
 use std::alloc::{AllocError, Global};
 
 /// The attributes that stand before the keywords of `u`.
 pub struct AttributesHead;
 
 impl HeadReader for AttributesHead {
-    type Stage = Attributes;
+    type Stage = GrowingSet<AttributeRule>;
 
     ghost step = { attributes_after };
 
@@ -22,9 +23,9 @@ impl HeadReader for AttributesHead {
 
     fn after(
         _alloc: Global,
-        mut stage: Attributes,
+        mut stage: GrowingSet<AttributeRule>,
         piece: &[u8],
-    ) -> Result<Step<Attributes>, AllocError> {
+    ) -> Result<Step<GrowingSet<AttributeRule>>, AllocError> {
         match Attribute::try_from_utf8(piece) {
             Ok(attribute) => {
                 stage.push(attribute)?;
@@ -39,7 +40,7 @@ impl HeadReader for AttributesHead {
 pub struct LanguageHead;
 
 impl HeadReader for LanguageHead {
-    type Stage = Option<LanguageIdentifier>;
+    type Stage = Option<LanguageStage>;
 
     ghost step = { language_stage_after };
 
@@ -47,9 +48,19 @@ impl HeadReader for LanguageHead {
 
     fn after(
         alloc: Global,
-        stage: Option<LanguageIdentifier>,
+        stage: Option<LanguageStage>,
         piece: &[u8],
-    ) -> Result<Step<Option<LanguageIdentifier>>, AllocError> {
+    ) -> Result<Step<Option<LanguageStage>>, AllocError> {
         language_after(alloc, stage, piece)
+    }
+}
+
+/// The language part that was read, if there is one. It takes no memory.
+pub(crate) fn settled_language(stage: Option<LanguageStage>) -> Option<LanguageIdentifier>
+    ensures { result ≡ stage }
+{
+    match stage {
+        Some(stage) => Some(stage.settled()),
+        None => None,
     }
 }

@@ -10,6 +10,7 @@
 //! ```
 #![tactic(auto)]
 
+mod block_writing;
 mod blocks;
 mod blocks_writing;
 mod body;
@@ -27,9 +28,11 @@ mod unicode;
 mod unicode_writing;
 
 pub use crate::blocks::Blocks;
-pub use crate::blocks_writing::{before_transform, extensions_length, write_extensions};
+pub use crate::blocks_writing::{extensions_length, write_extensions};
 pub use crate::body::{BodyStage, Part, body_after, body_finish, opened_body};
 pub use crate::extension_type::ExtensionType;
+pub use crate::opening::is_letter;
 pub use crate::other::Other;
+pub use crate::singleton::is_one_character;
 pub use crate::transform::Transform;
 pub use crate::unicode::Unicode;

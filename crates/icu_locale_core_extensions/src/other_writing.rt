@@ -1,76 +1,90 @@
-//! Printing extensions that have no rule of their own.
+//! Printing extensions that have no rule of their own, and the private pieces.
 
-ghost use Rattle.std.specs.Prelude.{◌≡◌, ◌++◌, ◌<◌, ◌^◌, false, [], ◌∷◌, is_err, length, flat_map, OnOk, OnErr, SomeIff};
+ghost use Rattle.std.specs.Prelude.{◌≡◌, ◌<◌, ◌^◌, false, is_err, length, OnOk, OnErr, SomeIff};
 ghost use Rattle.writeable.specs.AnnotatedText.{bytes};
 ghost use Rattle.writeable.specs.Taking.{HasBegun};
 ghost use Rattle.icu_locale_core_grammar.specs.NormalText.{other_block};
-ghost use Rattle.icu_locale_core_grammar.specs.Pieces.{hyphen, hyphened};
-ghost use Rattle.icu_locale_core_extensions.specs.ExtensionText.{other_alone, hyphened_blocks};
+ghost use Rattle.icu_locale_core_extensions.specs.ExtensionText.{hyphened_blocks};
 
+use crate::block_writing::{Block, hyphened_length, length_hint, write_alone, write_hyphened};
 use crate::other::Other;
-use icu_locale_core_sets::{pieces_length, write_pieces};
+use icu_locale_core_sets::{Private, pieces_length, write_pieces};
 use std::fmt;
 use writeable::{Error, LengthHint, Sink, Writeable, display};
 
-// Writes the singleton and the pieces.
-fn write_filled<S: Sink>(other: &Other, sink: &mut S) -> Result<(), Error>
-    requires { S.refused sink.old ≡ false }
-    ensures ok { OnOk result (S.takes sink.old (bytes other.now.0 ++ bytes (flat_map hyphened other.now.1)) sink.new) }
-    ensures refused { S.refused sink.new ≡ is_err result }
-    ensures begun { OnErr result (HasBegun S.takes S.lacks_room sink.old (bytes other.now.0 ++ bytes (flat_map hyphened other.now.1)) sink.new) }
-{
-    sink.write_str(other.get_ext_str())?;
-    write_pieces(other.as_slice(), sink)
-}
+impl Block for Other {
+    ghost use Rattle.icu_locale_core_grammar.specs.Meaning as meaning;
 
-// Writes a hyphen and the text.
-fn write_behind<S: Sink>(other: &Other, sink: &mut S) -> Result<(), Error>
-    requires { S.refused sink.old ≡ false }
-    ensures ok { OnOk result (S.takes sink.old (bytes (hyphen ∷ []) ++ bytes (other_alone other.now)) sink.new) }
-    ensures refused { S.refused sink.new ≡ is_err result }
-    ensures begun { OnErr result (HasBegun S.takes S.lacks_room sink.old (bytes (hyphen ∷ []) ++ bytes (other_alone other.now)) sink.new) }
-{
-    sink.write_char('-')?;
-    other.write_to(sink)
-}
+    ghost first = { λ o. o.0 };
 
-// How many bytes the text has, where a `usize` holds it.
-#[tactic(auto, using(crate::proofs::ExtensionTextLemmas::other_alone_length, crate::proofs::ExtensionTextLemmas::no_other_alone_length))]
-fn text_length(other: &Other) -> Option<usize>
-    ensures { SomeIff result (length (other_alone other.now) < 2 ^ 64) (length (other_alone other.now)) }
-{
-    if other.is_empty() {
-        return Some(0);
+    ghost behind = { λ o. o.1 };
+
+    ghost part = { λ o. meaning.Part.other o.1 };
+
+    #[tactic(auto, using(crate::proofs::BlockLemmas::by_length))]
+    fn has_no_piece(&self) -> bool {
+        self.is_empty()
     }
-    pieces_length(other.as_slice())?.checked_add(other.get_ext_str().len())
+
+    fn singleton(&self) -> &str {
+        self.get_ext_str()
+    }
+
+    fn write_pieces<S: Sink>(&self, sink: &mut S) -> Result<(), Error> {
+        write_pieces(self.as_slice(), sink)
+    }
+
+    fn pieces_length(&self) -> Option<usize> {
+        pieces_length(self.as_slice())
+    }
+}
+
+impl Block for Private {
+    ghost use Rattle.icu_locale_core_grammar.specs.Subtags.{private_text};
+    ghost use Rattle.icu_locale_core_grammar.specs.Meaning as meaning;
+
+    ghost first = { λ v. private_text };
+
+    ghost behind = { λ v. v };
+
+    ghost part = { λ v. meaning.Part.other v };
+
+    #[tactic(auto, using(crate::proofs::BlockLemmas::by_length))]
+    fn has_no_piece(&self) -> bool {
+        self.is_empty()
+    }
+
+    fn singleton(&self) -> &str {
+        "x"
+    }
+
+    fn write_pieces<S: Sink>(&self, sink: &mut S) -> Result<(), Error> {
+        write_pieces(self.as_slice(), sink)
+    }
+
+    fn pieces_length(&self) -> Option<usize> {
+        pieces_length(self.as_slice())
+    }
 }
 
 impl Other {
     /// Writes the text with a hyphen before it, `-a-foo-bar`; nothing where there is no piece.
     ///
     /// `Error`, only where the sink refused: it took a beginning. It takes no memory but the sink's.
-    #[tactic(auto, using(crate::proofs::ExtensionTextLemmas::other_hyphened_events, crate::proofs::ExtensionTextLemmas::no_other_hyphened_events))]
     pub fn write_hyphened<S: Sink>(&self, sink: &mut S) -> Result<(), Error>
         requires { S.refused sink.old ≡ false }
         ensures ok { OnOk result (S.takes sink.old (bytes (hyphened_blocks (other_block self.now))) sink.new) }
         ensures refused { S.refused sink.new ≡ is_err result }
         ensures begun { OnErr result (HasBegun S.takes S.lacks_room sink.old (bytes (hyphened_blocks (other_block self.now))) sink.new) }
     {
-        if self.is_empty() {
-            return Ok(());
-        }
-        write_behind(self, sink)
+        write_hyphened(self, sink)
     }
 
     /// How many bytes `write_hyphened` writes: 10 of `a-foo-bar`. `None` where a `usize` does not hold it.
-    #[tactic(auto, using(crate::proofs::ExtensionTextLemmas::other_hyphened_length, crate::proofs::ExtensionTextLemmas::no_other_hyphened_length))]
     pub fn hyphened_length(&self) -> Option<usize>
         ensures { SomeIff result (length (hyphened_blocks (other_block self.now)) < 2 ^ 64) (length (hyphened_blocks (other_block self.now))) }
     {
-        if self.is_empty() {
-            return Some(0);
-        }
-        text_length(self)?.checked_add(1)
+        hyphened_length(self)
     }
 }
 
@@ -83,24 +97,16 @@ impl Writeable for Other {
 
     ghost events = { λ o. bytes (other_alone o) };
 
-    #[tactic(auto, using(crate::proofs::ExtensionTextLemmas::other_alone_events, crate::proofs::ExtensionTextLemmas::no_other_alone_events))]
     fn write_to<S: Sink>(&self, sink: &mut S) -> Result<(), Error> {
-        if self.is_empty() {
-            return Ok(());
-        }
-        write_filled(self, sink)
+        write_alone(self, sink)
     }
 
-    #[tactic(auto, using(writeable::proofs::AnnotatedTextLemmas::text_of_bytes))]
     fn writeable_length_hint(&self) -> LengthHint
         ensures within { IsWithinHint result (length (text_of (bytes (other_alone self.now)))) }
         ensures low { length (other_alone self.now) < 2 ^ 64 → result.low ≡ length (other_alone self.now) }
         ensures high { length (other_alone self.now) < 2 ^ 64 → result.high ≡ Some (length (other_alone self.now)) }
     {
-        match text_length(self) {
-            Some(length) => LengthHint::exact(length),
-            None => LengthHint::at_least(usize::MAX),
-        }
+        length_hint(self)
     }
 }
 

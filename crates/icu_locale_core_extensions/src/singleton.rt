@@ -16,8 +16,8 @@ pub struct OtherRule;
 /// The singleton of an extension that has no rule of its own: `a`.
 pub(crate) type OtherSingleton = SubtagOf<OtherRule, 1>;
 
-// Whether the bytes are one letter or digit.
-fn is_one_character(text: &[u8]) -> bool
+/// Whether the bytes are one letter or digit.
+pub fn is_one_character(text: &[u8]) -> bool
     ensures { result ≡ is_singleton text.now }
 {
     match text {

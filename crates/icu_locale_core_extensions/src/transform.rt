@@ -11,12 +11,12 @@ ghost use Rattle.icu_locale_core_sets.specs.Reading.{IsRefused, begins, begins_b
 ghost use Rattle.icu_locale_core_extensions.specs.ExtensionText.{is_empty_transform};
 ghost use Rattle.icu_locale_core_extensions.specs.Room.{begins_transform};
 
-use crate::head::LanguageHead;
+use crate::head::{LanguageHead, settled_language};
 use crate::opening::body_behind;
 use icu_locale_core_entries::transform::Fields;
 use icu_locale_core_entries::{HeadedStage, Step, headed_after, headed_finish};
 use icu_locale_core_grammar::ParseError;
-use icu_locale_core_langid::LanguageIdentifier;
+use icu_locale_core_langid::{LanguageIdentifier, LanguageStage};
 use icu_locale_core_subtags::SubtagIterator;
 use icu_locale_core_subtags::transform::KeyRule;
 use std::alloc::{AllocError, Global};
@@ -45,7 +45,7 @@ fn read_body(alloc: Global, body: SubtagIterator<'_>) -> Result<Transform, Parse
     ensures fault { IfErr result (IsRefused (MeansTransform body.entry)) }
     ensures room { begins begins_transform body.entry ≡ false → ¬ (IsErrOf result ParseError.Memory) }
 {
-    let mut stage: HeadedStage<Option<LanguageIdentifier>, KeyRule> = HeadedStage::InHead(None);
+    let mut stage: HeadedStage<Option<LanguageStage>, KeyRule> = HeadedStage::InHead(None);
     for piece in body {
         match headed_after::<LanguageHead, KeyRule>(alloc, stage, piece) {
             Ok(Step::Taken(next)) => stage = next,
@@ -54,7 +54,10 @@ fn read_body(alloc: Global, body: SubtagIterator<'_>) -> Result<Transform, Parse
         }
     }
     match headed_finish(alloc, stage) {
-        Ok(Some((lang, fields))) => Ok(Transform { lang, fields }),
+        Ok(Some((lang, fields))) => Ok(Transform {
+            lang: settled_language(lang),
+            fields,
+        }),
         Ok(None) => Err(ParseError::InvalidExtension),
         Err(_) => Err(ParseError::Memory),
     }

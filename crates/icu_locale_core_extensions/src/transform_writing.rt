@@ -1,20 +1,21 @@
 //! Printing the extension `t`.
 
-ghost use Rattle.std.specs.Prelude.{◌≡◌, ◌++◌, ◌<◌, ◌^◌, false, [], ◌∷◌, is_err, length, flat_map, OnOk, OnErr, SomeIff};
+ghost use Rattle.std.specs.Prelude.{◌≡◌, ◌++◌, ◌<◌, ◌^◌, true, false, is_err, length, flat_map, OnOk, OnErr, SomeIff};
 ghost use Rattle.writeable.specs.AnnotatedText.{bytes};
 ghost use Rattle.writeable.specs.Taking.{HasBegun};
-ghost use Rattle.icu_locale_core_grammar.specs.Subtags.{transform_text};
 ghost use Rattle.icu_locale_core_grammar.specs.NormalText.{inner_pieces, transform_block};
-ghost use Rattle.icu_locale_core_grammar.specs.Pieces.{hyphen, hyphened};
-ghost use Rattle.icu_locale_core_extensions.specs.ExtensionText.{transform_alone, transform_tail, transform_events, hyphened_blocks};
+ghost use Rattle.icu_locale_core_grammar.specs.Pieces.{hyphened};
+ghost use Rattle.icu_locale_core_entries.specs.EntryText.{hyphened_entries};
+ghost use Rattle.icu_locale_core_extensions.specs.ExtensionText.{hyphened_blocks};
 
+use crate::block_writing::{Block, hyphened_length, length_hint, write_alone, write_hyphened};
 use crate::transform::Transform;
 use icu_locale_core_langid::LanguageIdentifier;
 use std::fmt;
 use writeable::{Error, LengthHint, Sink, Writeable, display};
 
 // Writes the language part in lower case, each piece with a hyphen before it.
-#[tactic(auto, using(crate::proofs::ExtensionTextLemmas::no_language_events))]
+#[tactic(auto, using(crate::proofs::BlockLemmas::no_language_events))]
 fn write_language<S: Sink>(lang: &Option<LanguageIdentifier>, sink: &mut S) -> Result<(), Error>
     requires { S.refused sink.old ≡ false }
     ensures ok { OnOk result (S.takes sink.old (bytes (flat_map hyphened (inner_pieces lang.now))) sink.new) }
@@ -40,82 +41,64 @@ fn language_length(lang: &Option<LanguageIdentifier>) -> Option<usize>
 // Writes the language part and the fields, each piece with a hyphen before it.
 fn write_tail<S: Sink>(transform: &Transform, sink: &mut S) -> Result<(), Error>
     requires { S.refused sink.old ≡ false }
-    ensures ok { OnOk result (S.takes sink.old (transform_events transform.now) sink.new) }
+    ensures ok { OnOk result (S.takes sink.old (bytes (flat_map hyphened (inner_pieces transform.now.head)) ++ bytes (hyphened_entries true transform.now.entries)) sink.new) }
     ensures refused { S.refused sink.new ≡ is_err result }
-    ensures begun { OnErr result (HasBegun S.takes S.lacks_room sink.old (transform_events transform.now) sink.new) }
+    ensures begun { OnErr result (HasBegun S.takes S.lacks_room sink.old (bytes (flat_map hyphened (inner_pieces transform.now.head)) ++ bytes (hyphened_entries true transform.now.entries)) sink.new) }
 {
     write_language(&transform.lang, sink)?;
     transform.fields.write_hyphened(sink)
 }
 
-// Writes `t` and what stands behind it.
-fn write_filled<S: Sink>(transform: &Transform, sink: &mut S) -> Result<(), Error>
-    requires { S.refused sink.old ≡ false }
-    ensures ok { OnOk result (S.takes sink.old (bytes transform_text ++ transform_events transform.now) sink.new) }
-    ensures refused { S.refused sink.new ≡ is_err result }
-    ensures begun { OnErr result (HasBegun S.takes S.lacks_room sink.old (bytes transform_text ++ transform_events transform.now) sink.new) }
-{
-    sink.write_str("t")?;
-    write_tail(transform, sink)
-}
+impl Block for Transform {
+    ghost use Rattle.icu_locale_core_grammar.specs.Subtags.{transform_text};
+    ghost use Rattle.icu_locale_core_grammar.specs.Meaning as meaning;
+    ghost use Rattle.icu_locale_core_grammar.specs.NormalText.{transform_pieces};
 
-// Writes a hyphen and the text.
-fn write_behind<S: Sink>(transform: &Transform, sink: &mut S) -> Result<(), Error>
-    requires { S.refused sink.old ≡ false }
-    ensures ok { OnOk result (S.takes sink.old (bytes (hyphen ∷ []) ++ bytes (transform_alone transform.now)) sink.new) }
-    ensures refused { S.refused sink.new ≡ is_err result }
-    ensures begun { OnErr result (HasBegun S.takes S.lacks_room sink.old (bytes (hyphen ∷ []) ++ bytes (transform_alone transform.now)) sink.new) }
-{
-    sink.write_char('-')?;
-    transform.write_to(sink)
-}
+    ghost first = { λ t. transform_text };
 
-// How many bytes `write_tail` writes, where a `usize` holds it.
-#[tactic(auto, using(crate::proofs::ExtensionTextLemmas::transform_tail_length))]
-fn tail_length(transform: &Transform) -> Option<usize>
-    ensures { SomeIff result (length (transform_tail transform.now) < 2 ^ 64) (length (transform_tail transform.now)) }
-{
-    let language = language_length(&transform.lang)?;
-    transform.fields.hyphened_length()?.checked_add(language)
-}
+    ghost behind = { λ t. transform_pieces t };
 
-// How many bytes the text has, where a `usize` holds it.
-#[tactic(auto, using(crate::proofs::ExtensionTextLemmas::transform_alone_length, crate::proofs::ExtensionTextLemmas::no_transform_alone_length))]
-fn text_length(transform: &Transform) -> Option<usize>
-    ensures { SomeIff result (length (transform_alone transform.now) < 2 ^ 64) (length (transform_alone transform.now)) }
-{
-    if transform.is_empty() {
-        return Some(0);
+    ghost part = { λ t. meaning.Part.transform t };
+
+    #[tactic(auto, using(crate::proofs::BlockLemmas::no_transform_piece))]
+    fn has_no_piece(&self) -> bool {
+        self.is_empty()
     }
-    tail_length(transform)?.checked_add(1)
+
+    fn singleton(&self) -> &str {
+        "t"
+    }
+
+    #[tactic(auto, using(crate::proofs::BlockLemmas::transform_tail_events))]
+    fn write_pieces<S: Sink>(&self, sink: &mut S) -> Result<(), Error> {
+        write_tail(self, sink)
+    }
+
+    #[tactic(auto, using(crate::proofs::BlockLemmas::transform_tail_length))]
+    fn pieces_length(&self) -> Option<usize> {
+        let language = language_length(&self.lang)?;
+        self.fields.hyphened_length()?.checked_add(language)
+    }
 }
 
 impl Transform {
     /// Writes the text with a hyphen before it, `-t-de-latn-m0-true`; nothing where it is empty.
     ///
     /// `Error`, only where the sink refused: it took a beginning. It takes no memory but the sink's.
-    #[tactic(auto, using(crate::proofs::ExtensionTextLemmas::transform_hyphened_events, crate::proofs::ExtensionTextLemmas::no_transform_hyphened_events))]
     pub fn write_hyphened<S: Sink>(&self, sink: &mut S) -> Result<(), Error>
         requires { S.refused sink.old ≡ false }
         ensures ok { OnOk result (S.takes sink.old (bytes (hyphened_blocks (transform_block self.now))) sink.new) }
         ensures refused { S.refused sink.new ≡ is_err result }
         ensures begun { OnErr result (HasBegun S.takes S.lacks_room sink.old (bytes (hyphened_blocks (transform_block self.now))) sink.new) }
     {
-        if self.is_empty() {
-            return Ok(());
-        }
-        write_behind(self, sink)
+        write_hyphened(self, sink)
     }
 
     /// How many bytes `write_hyphened` writes: 18 of `t-de-latn-m0-true`. `None` where a `usize` does not hold it.
-    #[tactic(auto, using(crate::proofs::ExtensionTextLemmas::transform_hyphened_length, crate::proofs::ExtensionTextLemmas::no_transform_hyphened_length))]
     pub fn hyphened_length(&self) -> Option<usize>
         ensures { SomeIff result (length (hyphened_blocks (transform_block self.now)) < 2 ^ 64) (length (hyphened_blocks (transform_block self.now))) }
     {
-        if self.is_empty() {
-            return Some(0);
-        }
-        text_length(self)?.checked_add(1)
+        hyphened_length(self)
     }
 }
 
@@ -128,24 +111,16 @@ impl Writeable for Transform {
 
     ghost events = { λ t. bytes (transform_alone t) };
 
-    #[tactic(auto, using(crate::proofs::ExtensionTextLemmas::transform_alone_events, crate::proofs::ExtensionTextLemmas::no_transform_alone_events))]
     fn write_to<S: Sink>(&self, sink: &mut S) -> Result<(), Error> {
-        if self.is_empty() {
-            return Ok(());
-        }
-        write_filled(self, sink)
+        write_alone(self, sink)
     }
 
-    #[tactic(auto, using(writeable::proofs::AnnotatedTextLemmas::text_of_bytes))]
     fn writeable_length_hint(&self) -> LengthHint
         ensures within { IsWithinHint result (length (text_of (bytes (transform_alone self.now)))) }
         ensures low { length (transform_alone self.now) < 2 ^ 64 → result.low ≡ length (transform_alone self.now) }
         ensures high { length (transform_alone self.now) < 2 ^ 64 → result.high ≡ Some (length (transform_alone self.now)) }
     {
-        match text_length(self) {
-            Some(length) => LengthHint::exact(length),
-            None => LengthHint::at_least(usize::MAX),
-        }
+        length_hint(self)
     }
 }
 

@@ -18,10 +18,10 @@ use crate::opening::body_behind;
 use icu_locale_core_entries::unicode::Keywords;
 use icu_locale_core_entries::{HeadedStage, Step, headed_after, headed_finish};
 use icu_locale_core_grammar::ParseError;
-use icu_locale_core_sets::Attributes;
 use icu_locale_core_sets::laws::texts_rise;
+use icu_locale_core_sets::{Attributes, GrowingSet};
 use icu_locale_core_subtags::SubtagIterator;
-use icu_locale_core_subtags::unicode::KeyRule;
+use icu_locale_core_subtags::unicode::{AttributeRule, KeyRule};
 use std::alloc::{AllocError, Global};
 use std::marker::Model;
 
@@ -48,7 +48,9 @@ fn read_body(alloc: Global, body: SubtagIterator<'_>) -> Result<Unicode, ParseEr
     ensures fault { IfErr result (IsRefused (MeansUnicode body.entry)) }
     ensures room { begins begins_unicode body.entry ≡ false → ¬ (IsErrOf result ParseError.Memory) }
 {
-    let mut stage: HeadedStage<Attributes, KeyRule> = HeadedStage::InHead(Attributes::new(alloc));
+    let mut stage: HeadedStage<GrowingSet<AttributeRule>, KeyRule> = HeadedStage::InHead(
+        GrowingSet::new(alloc),
+    );
     for piece in body {
         match headed_after::<AttributesHead, KeyRule>(alloc, stage, piece) {
             Ok(Step::Taken(next)) => stage = next,
@@ -59,7 +61,7 @@ fn read_body(alloc: Global, body: SubtagIterator<'_>) -> Result<Unicode, ParseEr
     match headed_finish(alloc, stage) {
         Ok(Some((attributes, keywords))) => Ok(Unicode {
             keywords,
-            attributes,
+            attributes: attributes.settled(),
         }),
         Ok(None) => Err(ParseError::InvalidExtension),
         Err(_) => Err(ParseError::Memory),

@@ -1,9 +1,7 @@
--- That the keys are keys, and that each word is a piece in lower case which, as a value, states its case.
+-- That the keys are keys, and that each word states its case: the proofs of what `OwnWords.antt` states.
 -- Defined in docs/tags.md, "Typed keywords".
--- Cited by the trait `WordKeyword`, whose laws they are.
-use Rattle.std.proofs.Common.{◌≡◌, true, List, Some, refl}
-use Rattle.icu_locale_core_grammar.specs.Subtags.{Text, is_key, is_other_piece, lower}
-use Rattle.icu_locale_core_keywords.specs.TypedKeywords.{stated_case, word_value}
+-- Cited by the impls of `WordKeyword`, whose laws they are; what a law cites stands in specs/.
+use Rattle.std.proofs.Common.{refl}
 use Rattle.icu_locale_core_keywords.specs.KeywordWords.{first_day_key, first_day_cases, first_day_word}
 use Rattle.icu_locale_core_keywords.specs.KeywordWords.{measurement_key, measurement_cases, measurement_word}
 use Rattle.icu_locale_core_keywords.specs.KeywordWords.{currency_format_key, currency_format_cases, currency_format_word}
@@ -20,17 +18,7 @@ use Rattle.icu_locale_core_keywords.specs.declared.keywords.line_break.LineBreak
 use Rattle.icu_locale_core_keywords.specs.declared.keywords.line_break_word.LineBreakWordHandling.{LineBreakWordHandling}
 use Rattle.icu_locale_core_keywords.specs.declared.keywords.collation_case_first.CollationCaseFirst.{CollationCaseFirst}
 use Rattle.icu_locale_core_keywords.specs.declared.keywords.collation_numeric_ordering.CollationNumericOrdering.{CollationNumericOrdering}
-
--- the key is one, in lower case
-pub record IsOwnKey (key : Text) : Type 0 where
-  pub taken : is_key key ≡ true
-  pub lowered : lower key ≡ key
-
--- the word is a piece in lower case, and as a value it states this case
-pub record IsOwnWord {A : Type 0} (word : A → Text) (cases : List A) (case : A) : Type 0 where
-  pub taken : is_other_piece (word case) ≡ true
-  pub lowered : lower (word case) ≡ word case
-  pub stated : stated_case word cases (word_value (word case)) ≡ Some case
+use Rattle.icu_locale_core_keywords.specs.OwnWords.{IsOwnKey, IsOwnWord}
 
 pub first_day_is_key : IsOwnKey first_day_key
 first_day_is_key = record { taken = refl; lowered = refl }

@@ -7,8 +7,7 @@ ghost use Rattle.icu_locale_core_keywords.specs.TypedKeywords.{stated_case, word
 
 use crate::keywords::currency::CurrencyType;
 use crate::keywords::numbering_system::NumberingSystem;
-use crate::keywords::region_override::RegionOverride;
-use crate::keywords::regional_subdivision::RegionalSubdivision;
+use crate::keywords::subdivision_keyword::{RegionOverride, RegionalSubdivision};
 use crate::preference_key::PreferenceKey;
 use crate::subdivision::SubdivisionId;
 use crate::word_keyword::WordKeyword;

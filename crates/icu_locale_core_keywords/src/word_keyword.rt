@@ -17,7 +17,7 @@ use std::alloc::{AllocError, Global};
 /// A type that has this is a `PreferenceKey`. Source: UTS 35, section 3.6.1.
 pub trait WordKeyword: Copy {
     ghost use Rattle.std.specs.Prelude.{◌≡◌, ℕ, List};
-    ghost use Rattle.icu_locale_core_keywords.specs.WordLaws.{IsOwnKey, IsOwnWord};
+    ghost use Rattle.icu_locale_core_keywords.specs.OwnWords.{IsOwnKey, IsOwnWord};
 
     // the key of the keyword
     ghost key: { List ℕ };

@@ -1,8 +1,12 @@
+pub mod KnownValues
 pub mod LanguageTextLemmas
 pub mod NormalizingLemmas
 pub mod OneVariantReader
 pub mod OneVariantSteps
 pub mod RoomLemmas
+pub mod SingleFrontLemmas
+pub mod SingleLawLemmas
+pub mod SingleStageLemmas
 pub mod SpelledSetLemmas
 pub mod SpellingLemmas
 pub mod SteppingLemmas

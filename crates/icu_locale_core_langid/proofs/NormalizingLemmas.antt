@@ -1,5 +1,5 @@
 -- A text compared with a normal text, and that a text of letters, digits and hyphens is UTF-8.
-use Rattle.std.proofs.Common.{◌≡◌, ℕ, zero, suc, ◌<◌, Bool, true, false, ◌&&◌, List, [], ◌∷◌, flat_map, sym, ap, ◌∙◌, subst, lit<, arith}
+use Rattle.std.proofs.Common.{◌≡◌, ℕ, zero, suc, ◌<◌, Bool, true, false, List, [], ◌∷◌, flat_map, sym, ap, ◌∙◌, subst, lit<, arith}
 use Rattle.std.specs.Prelude.{IsTrue, ◌↔◌}
 use Rattle.std.specs.Ordering.{is_eq}
 use Rattle.std.specs.declared.cmp.Ordering.{Ordering}
@@ -12,7 +12,7 @@ use Rattle.std.proofs.lemmas.Bool.Decides.{nat_tests}
 use Rattle.std.proofs.lemmas.Str.{IsUtf8-nil, IsUtf8-append, IsUtf8-from_ascii}
 use Rattle.writeable.specs.Order.{byte_order}
 use Rattle.icu_locale_core_grammar.specs.Subtags.{Text, is_plain, same_text}
-use Rattle.icu_locale_core_grammar.specs.Pieces.{pieces, hyphen, hyphened, joined_text}
+use Rattle.icu_locale_core_grammar.specs.Pieces.{pieces, hyphened, joined_text}
 use Rattle.icu_locale_core_grammar.specs.Collections.{Each}
 use Rattle.icu_locale_core_grammar.proofs.PlainPieces.{joined-pieces}
 use Rattle.icu_locale_core_grammar.proofs.CollectionLemmas.{same_text_equal, same_text_refl}

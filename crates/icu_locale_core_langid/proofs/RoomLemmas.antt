@@ -1,12 +1,12 @@
 -- Where a loop over the pieces of a language identifier wants memory, a language and a variant behind it were there.
-use Rattle.std.proofs.Common.{◌≡◌, Bool, true, false, not, ◌&&◌, ◌||◌, List, [], ◌∷◌, Option, None, Some, refl, sym, ap, ◌∙◌, subst}
+use Rattle.std.proofs.Common.{◌≡◌, Bool, true, false, not, ◌||◌, List, ◌∷◌, Option, None, Some, refl, sym, ap, ◌∙◌}
 use Rattle.std.specs.Prelude.{if◌then◌else◌}
 use Rattle.std.specs.List.{list_any}
 use Rattle.std.proofs.lemmas.Bool.{and_parts, and_from}
 use Rattle.icu_locale_core_grammar.specs.Subtags.{Text, is_language, is_variant, lower}
 use Rattle.icu_locale_core_grammar.specs.Collections.{contains_text}
 use Rattle.icu_locale_core_grammar.specs.LanguagePart.{LanguageId}
-use Rattle.icu_locale_core_grammar.specs.TagStages.{only_language, fits_variant, language_after}
+use Rattle.icu_locale_core_grammar.specs.TagStages.{only_language, language_after}
 use Rattle.icu_locale_core_grammar.proofs.SingleReader.{step_there}
 use Rattle.icu_locale_core_langid.specs.Room.{may_grow, grows_at}
 

@@ -5,9 +5,12 @@ pub mod LanguageText
 pub mod SameLanguage
 pub mod NormalizedText
 pub mod Room
+pub mod SingleModes
+pub mod SingleLaws
 -- What the readers follow, piece by piece.
 pub mod LanguageStep
 pub mod OneVariant
+pub mod SingleStageView
 pub mod Spelling
 -- What the impls prove.
 pub mod SameLanguageLaws

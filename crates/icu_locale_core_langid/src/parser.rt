@@ -9,6 +9,7 @@ ghost use Rattle.icu_locale_core_langid.specs.Modes.{ReadsInMode, HasFaultInMode
 ghost use Rattle.icu_locale_core_langid.specs.Room.{may_grow};
 
 use crate::language_identifier::LanguageIdentifier;
+use crate::language_stage::LanguageStage;
 use crate::modes::ParserMode;
 use crate::stepping::language_after;
 use icu_locale_core_grammar::ParseError;
@@ -19,7 +20,7 @@ use std::alloc::{AllocError, Global};
 fn read_front<'a>(
     alloc: Global,
     from: SubtagIterator<'a>,
-) -> Result<(Option<LanguageIdentifier>, SubtagIterator<'a>), AllocError>
+) -> Result<(Option<LanguageStage>, SubtagIterator<'a>), AllocError>
     ensures stops { IfOk result (λ r. StopsWith from.entry r.0 r.1) }
     ensures room { may_grow from.entry ≡ false → IsOk result }
 {
@@ -75,7 +76,7 @@ pub fn parse_language_identifier_from_iter(
                     return Err(ParseError::InvalidSubtag);
                 }
                 *iter = rest;
-                Ok(id)
+                Ok(id.settled())
             }
         },
     }

@@ -6,12 +6,12 @@ ghost use Rattle.icu_locale_core_grammar.specs.TagStages.{fits_script, fits_regi
 ghost use Rattle.icu_locale_core_langid.specs.Room.{grows_at};
 ghost use Rattle.icu_locale_core_subtags.specs.Steps.{IsStep};
 
-use crate::language_identifier::LanguageIdentifier;
+use crate::language_stage::LanguageStage;
 use icu_locale_core_subtags::{Language, Region, Script, Step, Variant};
 use std::alloc::{AllocError, Global};
 
 // The script that the piece is, right behind the language.
-fn fitting_script(id: &LanguageIdentifier, piece: &[u8]) -> Option<Script>
+fn fitting_script(id: &LanguageStage, piece: &[u8]) -> Option<Script>
     ensures { result ≡ (if fits_script id.now piece.now then Some (title piece.now) else None) }
 {
     if id.script.is_some() || id.region.is_some() || !id.variants.is_empty() {
@@ -24,7 +24,7 @@ fn fitting_script(id: &LanguageIdentifier, piece: &[u8]) -> Option<Script>
 }
 
 // The region that the piece is, before any variant.
-fn fitting_region(id: &LanguageIdentifier, piece: &[u8]) -> Option<Region>
+fn fitting_region(id: &LanguageStage, piece: &[u8]) -> Option<Region>
     ensures { result ≡ (if fits_region id.now piece.now then Some (upper piece.now) else None) }
 {
     if id.region.is_some() || !id.variants.is_empty() {
@@ -37,7 +37,7 @@ fn fitting_region(id: &LanguageIdentifier, piece: &[u8]) -> Option<Region>
 }
 
 // The variant that the piece is, where it is not there yet.
-fn fitting_variant(id: &LanguageIdentifier, piece: &[u8]) -> Option<Variant>
+fn fitting_variant(id: &LanguageStage, piece: &[u8]) -> Option<Variant>
     ensures { result ≡ (if fits_variant id.now piece.now then Some (lower piece.now) else None) }
 {
     match Variant::try_from_utf8(piece) {
@@ -52,9 +52,9 @@ fn fitting_variant(id: &LanguageIdentifier, piece: &[u8]) -> Option<Variant>
     }
 }
 
-// The identifier with one more piece.
+// The stage with one more piece.
 #[tactic(auto, unfolding(icu_locale_core_grammar::specs::TagStages::with_piece))]
-fn piece_after(id: LanguageIdentifier, piece: &[u8]) -> Result<Step<LanguageIdentifier>, AllocError>
+fn piece_after(id: LanguageStage, piece: &[u8]) -> Result<Step<LanguageStage>, AllocError>
     ensures step { IfOk result (IsStep with_piece (λ i. i) id piece.now) }
     ensures room { fits_variant id piece.now ≡ false → IsOk result }
 {
@@ -86,17 +86,15 @@ fn piece_after(id: LanguageIdentifier, piece: &[u8]) -> Result<Step<LanguageIden
 /// is taken for one more variant alone.
 pub fn language_after(
     alloc: Global,
-    language: Option<LanguageIdentifier>,
+    language: Option<LanguageStage>,
     piece: &[u8],
-) -> Result<Step<Option<LanguageIdentifier>>, AllocError>
+) -> Result<Step<Option<LanguageStage>>, AllocError>
     ensures step { IfOk result (IsStep stage_after (λ l. l) language piece.now) }
     ensures room { grows_at language piece.now ≡ false → IsOk result }
 {
     match language {
         None => match Language::try_from_utf8(piece) {
-            Ok(language) => Ok(Step::Taken(Some(LanguageIdentifier::from_language(
-                alloc, language,
-            )))),
+            Ok(language) => Ok(Step::Taken(Some(LanguageStage::from_language(alloc, language)))),
             Err(_) => Ok(Step::Refused(None)),
         },
         Some(id) => match piece_after(id, piece)? {

@@ -1,9 +1,7 @@
-pub mod CountingLemmas
 pub mod ExtensionsLemmas
 pub mod LocaleTextLemmas
 pub mod NormalizingLemmas
 pub mod OrderLemmas
-pub mod PlacedLemmas
 pub mod RetainingLemmas
 pub mod RoomLemmas
 pub mod SingletonLemmas

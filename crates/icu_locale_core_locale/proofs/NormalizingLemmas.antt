@@ -9,7 +9,8 @@ use Rattle.icu_locale_core_grammar.specs.declared.error.ParseError.{ParseError}
 use Rattle.icu_locale_core_grammar.specs.Subtags.{Text}
 use Rattle.icu_locale_core_grammar.specs.Meaning.{TagMeaning, MeansTag}
 use Rattle.icu_locale_core_grammar.specs.FaultyPiece.{HasFault}
-use Rattle.icu_locale_core_locale.specs.LocaleValue.{same_locale, locale_decides}
+use Rattle.icu_locale_core_locale.specs.SameLocale.{same_locale}
+use Rattle.icu_locale_core_locale.specs.SameLocaleLaws.{locale_decides}
 
 pub same_is_meant : (ps : List Text) (read held : TagMeaning) (same : Bool) → MeansTag ps read → same ≡ same_locale read held → IsTrue same ↔ MeansTag ps held
 same_is_meant ps read held same means is =

@@ -12,7 +12,7 @@ use Rattle.icu_locale_core_grammar.specs.OrderLaws.{IsOrder}
 use Rattle.icu_locale_core_grammar.proofs.OrderLemmas.{texts_order, entries_order, unicode_order, transform_order, tag_order}
 use Rattle.icu_locale_core_locale.specs.ExtensionsOrder.{extensions_cmp, OrdersAreTotal}
 use Rattle.icu_locale_core_locale.specs.ExtensionsValue.{ExtensionsValue}
-use Rattle.icu_locale_core_locale.specs.LocaleValue.{extensions_decide, locale_decides}
+use Rattle.icu_locale_core_locale.specs.SameLocaleLaws.{extensions_decide, locale_decides}
 
 -- ---- two lists, entry by entry
 

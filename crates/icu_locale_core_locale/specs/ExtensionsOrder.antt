@@ -9,7 +9,7 @@ use Rattle.icu_locale_core_grammar.specs.Meaning.{TagMeaning}
 use Rattle.icu_locale_core_grammar.specs.OrderLaws.{IsOrder}
 use Rattle.icu_locale_core_grammar.specs.TagOrder.{texts_cmp, entries_cmp, unicode_cmp, transform_cmp, tag_cmp}
 use Rattle.icu_locale_core_locale.specs.ExtensionsValue.{ExtensionsValue}
-use Rattle.icu_locale_core_locale.specs.LocaleValue.{same_extensions, same_locale}
+use Rattle.icu_locale_core_locale.specs.SameLocale.{same_extensions, same_locale}
 
 abbrev pub extensions_cmp : ExtensionsValue → ExtensionsValue → Ordering
 extensions_cmp a b =

@@ -5,5 +5,7 @@ pub mod LocaleText
 pub mod LocaleValue
 pub mod ReadsBack
 pub mod RetainedByType
+pub mod SameLocale
+pub mod SameLocaleLaws
 pub mod Room
 pub mod StageView

@@ -6,7 +6,8 @@ ghost use Rattle.writeable.specs.Order.{byte_order};
 ghost use Rattle.icu_locale_core_grammar.specs.NormalText.{normal_text};
 ghost use Rattle.icu_locale_core_grammar.specs.TagOrder.{entries_cmp, tag_cmp};
 ghost use Rattle.icu_locale_core_locale.specs.ExtensionsOrder.{extensions_cmp};
-ghost use Rattle.icu_locale_core_locale.specs.LocaleValue.{same_extensions, same_locale, extensions_fed, locale_fed, extensions_equiv, locale_equiv, extensions_alike, locale_alike};
+ghost use Rattle.icu_locale_core_locale.specs.SameLocale.{same_extensions, same_locale, extensions_fed, locale_fed};
+ghost use Rattle.icu_locale_core_locale.specs.SameLocaleLaws.{extensions_equiv, locale_equiv, extensions_alike, locale_alike};
 
 use crate::extensions::Extensions;
 use crate::locale::Locale;

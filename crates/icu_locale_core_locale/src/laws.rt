@@ -1,7 +1,7 @@
 //! Laws of locales: each is the contract of a function that computes nothing.
 
 ghost use Rattle.icu_locale_core_locale.specs.ExtensionsOrder.{OrdersAreTotal};
-ghost use Rattle.icu_locale_core_locale.specs.LocaleValue.{SameIsEqual};
+ghost use Rattle.icu_locale_core_locale.specs.SameLocale.{SameIsEqual};
 ghost use Rattle.icu_locale_core_locale.specs.ReadsBack.{LocalesReadBack};
 
 /// A locale that was read and printed reads back equal.

@@ -7,7 +7,8 @@ ghost use Rattle.icu_locale_core_grammar.specs.Pieces.{pieces};
 ghost use Rattle.icu_locale_core_grammar.specs.Meaning.{MeansTag};
 ghost use Rattle.icu_locale_core_grammar.specs.FaultyPiece.{HasFault};
 ghost use Rattle.icu_locale_core_langid.specs.Parts.{with_parts, und_text};
-ghost use Rattle.icu_locale_core_locale.specs.LocaleValue.{extensions_of, language_alone, unknown_locale};
+ghost use Rattle.icu_locale_core_locale.specs.LocaleValue.{language_alone, unknown_locale};
+ghost use Rattle.icu_locale_core_locale.specs.SameLocale.{extensions_of};
 ghost use Rattle.icu_locale_core_locale.specs.ExtensionsValue.{nothing};
 ghost use Rattle.icu_locale_core_locale.specs.Room.{tag_may_grow};
 

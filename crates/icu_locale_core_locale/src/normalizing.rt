@@ -1,6 +1,6 @@
 //! The normal text of a text that is a tag, and whether a text means a given locale.
 
-ghost use Rattle.std.specs.Prelude.{◌≡◌, ◌≢◌, ◌↔◌, ◌⊎◌, false, IsTrue, IsOk, IfOk, IfErr};
+ghost use Rattle.std.specs.Prelude.{◌≡◌, ◌≢◌, ◌↔◌, ◌⊎◌, false, IsTrue, IsOk, IfOk, IfErr, IsUtf8};
 ghost use Rattle.std.specs.Result.{IsErrOf};
 ghost use Rattle.std.specs.String.{string_bytes};
 ghost use Rattle.icu_locale_core_grammar.specs.declared.error.ParseError.{ParseError};
@@ -48,6 +48,19 @@ fn text_or_input<'a>(
     }
 }
 
+// The fault of bytes that are no text.
+fn fault_of(alloc: Global, input: &[u8]) -> ParseError
+    requires { ¬ (IsUtf8 input.now) }
+    ensures fault { (result ≡ ParseError.Memory) ⊎ HasFault MeansTag (pieces input.now) result }
+    ensures room { tag_may_grow (pieces input.now) ≡ false → result ≢ ParseError.Memory }
+{
+    match Locale::try_from_utf8(alloc, input) {
+        // letters, digits and hyphens are UTF-8
+        Ok(_) => unreachable!(),
+        Err(error) => error,
+    }
+}
+
 impl Locale {
     /// The normal text of a text, borrowed where the text is normal.
     ///
@@ -75,11 +88,7 @@ impl Locale {
     {
         match str::from_utf8(input) {
             Ok(text) => Self::normalize(alloc, text),
-            Err(_) => match Self::try_from_utf8(alloc, input) {
-                // letters, digits and hyphens are UTF-8
-                Ok(_) => unreachable!(),
-                Err(error) => Err(error),
-            },
+            Err(_) => Err(fault_of(alloc, input)),
         }
     }
 

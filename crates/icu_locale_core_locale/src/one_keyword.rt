@@ -3,12 +3,12 @@
 ghost use Rattle.std.specs.Prelude.{MatchResult};
 ghost use Rattle.icu_locale_core_grammar.specs.Pieces.{pieces};
 ghost use Rattle.icu_locale_core_grammar.specs.SingleVariant.{MeansSingle, HasSingleFault};
-ghost use Rattle.icu_locale_core_single.specs.SingleModes.{single};
+ghost use Rattle.icu_locale_core_langid.specs.SingleModes.{single};
 
 use crate::locale::Locale;
 use icu_locale_core_grammar::ParseError;
 use icu_locale_core_langid::ParserMode;
-use icu_locale_core_single::{
+use icu_locale_core_langid::single::{
     SingleParts, parse_locale_with_single_variant_single_keyword_unicode_keyword_extension,
 };
 

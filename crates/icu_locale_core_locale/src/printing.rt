@@ -1,44 +1,15 @@
 //! Printing a locale: its text, without parts.
 
-ghost use Rattle.std.specs.Prelude.{◌≡◌, ◌++◌, ◌<◌, ◌^◌, false, [], ◌∷◌, is_err, length, OnOk, OnErr, SomeIff};
-ghost use Rattle.writeable.specs.AnnotatedText.{bytes};
+ghost use Rattle.std.specs.Prelude.{◌≡◌, ◌<◌, ◌^◌, false, is_err, length, OnOk, OnErr, SomeIff};
 ghost use Rattle.writeable.specs.Taking.{HasBegun};
-ghost use Rattle.icu_locale_core_grammar.specs.Pieces.{hyphen, joined_text};
-ghost use Rattle.icu_locale_core_grammar.specs.NormalText.{private_pieces, normal_text};
+ghost use Rattle.icu_locale_core_grammar.specs.NormalText.{normal_text};
 ghost use Rattle.icu_locale_core_langid.specs.LanguageText.{language_text};
-ghost use Rattle.icu_locale_core_locale.specs.LocaleText.{private_tail, locale_events};
+ghost use Rattle.icu_locale_core_locale.specs.LocaleText.{locale_events};
 
 use crate::locale::Locale;
-use icu_locale_core_extensions::{extensions_length, write_extensions};
 use icu_locale_core_langid::LanguageIdentifier;
-use icu_locale_core_sets::{Private, pieces_length};
 use std::fmt;
 use writeable::{Error, LengthHint, Sink, Writeable, display};
-
-// Writes a hyphen and the private pieces.
-fn write_behind<S: Sink>(private: &Private, sink: &mut S) -> Result<(), Error>
-    requires { S.refused sink.old ≡ false }
-    ensures ok { OnOk result (S.takes sink.old (bytes (hyphen ∷ []) ++ bytes (joined_text (private_pieces private.now))) sink.new) }
-    ensures refused { S.refused sink.new ≡ is_err result }
-    ensures begun { OnErr result (HasBegun S.takes S.lacks_room sink.old (bytes (hyphen ∷ []) ++ bytes (joined_text (private_pieces private.now))) sink.new) }
-{
-    sink.write_char('-')?;
-    private.write_to(sink)
-}
-
-// Writes the private pieces behind what was written; nothing where there is none.
-#[tactic(auto, using(crate::proofs::LocaleTextLemmas::tail_events, crate::proofs::LocaleTextLemmas::no_tail_events))]
-pub(crate) fn write_private<S: Sink>(private: &Private, sink: &mut S) -> Result<(), Error>
-    requires { S.refused sink.old ≡ false }
-    ensures ok { OnOk result (S.takes sink.old (bytes (private_tail private.now)) sink.new) }
-    ensures refused { S.refused sink.new ≡ is_err result }
-    ensures begun { OnErr result (HasBegun S.takes S.lacks_room sink.old (bytes (private_tail private.now)) sink.new) }
-{
-    if private.is_empty() {
-        return Ok(());
-    }
-    write_behind(private, sink)
-}
 
 // Writes the text, part by part.
 fn write_parts<S: Sink>(locale: &Locale, sink: &mut S) -> Result<(), Error>
@@ -47,15 +18,8 @@ fn write_parts<S: Sink>(locale: &Locale, sink: &mut S) -> Result<(), Error>
     ensures refused { S.refused sink.new ≡ is_err result }
     ensures begun { OnErr result (HasBegun S.takes S.lacks_room sink.old (locale_events locale.now) sink.new) }
 {
-    let extensions = &locale.extensions;
     locale.id.write_to(sink)?;
-    write_extensions(
-        &extensions.unicode,
-        &extensions.transform,
-        extensions.other.as_slice(),
-        sink,
-    )?;
-    write_private(&extensions.private, sink)
+    locale.extensions.write_placed(false, sink)
 }
 
 // How many bytes the language part has, where a `usize` holds it.
@@ -66,31 +30,16 @@ fn language_length(id: &LanguageIdentifier) -> Option<usize>
     id.writeable_length_hint().high
 }
 
-// How many bytes `write_private` writes, where a `usize` holds it.
-#[tactic(auto, using(crate::proofs::LocaleTextLemmas::tail_length, crate::proofs::LocaleTextLemmas::no_tail_length))]
-fn private_length(private: &Private) -> Option<usize>
-    ensures { SomeIff result (length (private_tail private.now) < 2 ^ 64) (length (private_tail private.now)) }
-{
-    if private.is_empty() {
-        return Some(0);
-    }
-    pieces_length(private.as_slice())?.checked_add(2)
-}
-
 // How many bytes the text has, where a `usize` holds it.
 #[tactic(auto, using(crate::proofs::LocaleTextLemmas::length_joined))]
 fn text_length(locale: &Locale) -> Option<usize>
     ensures { SomeIff result (length (normal_text locale.now) < 2 ^ 64) (length (normal_text locale.now)) }
 {
-    let held = &locale.extensions;
     let language = language_length(&locale.id)?;
-    let private = private_length(&held.private)?;
-    let behind = extensions_length(
-        &held.unicode,
-        &held.transform,
-        held.other.as_slice(),
-    )?.checked_add(private)?;
-    behind.checked_add(language)
+    locale
+        .extensions
+        .placed_length(false)?
+        .checked_add(language)
 }
 
 /// The language part, the extensions in byte order of their singletons, and the private pieces: `en-Latn-US-u-nu-thai-x-foo`.

@@ -73,3 +73,10 @@ module _ (d : DataLocaleMeaning) where
       (length-append (piece_tail d.script) region_on
       ∙ ap (λ n. length (piece_tail d.script) + n)
       (length-append (piece_tail d.region) variant_on ∙ ap (λ n. length (piece_tail d.region) + n) (length-append (piece_tail d.variant) (subdivision_tail d.subdivision))))
+
+-- what is written part by part, of a data locale whose language is this text
+pub events_told : (text : Text) (own d : DataLocaleMeaning) → own ≡ d → text ≡ own.language
+    → bytes text ++ (bytes (piece_tail own.script) ++ (bytes (piece_tail own.region) ++ (bytes (piece_tail own.variant) ++ bytes (subdivision_tail own.subdivision)))) ≡ data_events d
+events_told text own d is told =
+    (λ i. bytes (told i) ++ (bytes (piece_tail own.script) ++ (bytes (piece_tail own.region) ++ (bytes (piece_tail own.variant) ++ bytes (subdivision_tail own.subdivision)))))
+    ∙ ap data_events is

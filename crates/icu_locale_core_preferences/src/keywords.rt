@@ -1,71 +1,61 @@
 //! The keywords of a locale that say what it prefers.
 
-ghost use Rattle.std.specs.Prelude.{◌≡◌};
-ghost use Rattle.icu_locale_core_grammar.specs.TagPreferences.{subdivision_key, override_key, numbering_key, keyword_piece, keyword_subdivision, preferences_of};
-ghost use Rattle.icu_locale_core_grammar.specs.PreferenceChanges.{fails_subdivision};
+ghost use Rattle.std.specs.Prelude.{◌≡◌, ◌&&◌, is_some, is_none, option_and_then};
+ghost use Rattle.icu_locale_core_grammar.specs.Collections.{value_at};
+ghost use Rattle.icu_locale_core_grammar.specs.TagPreferences.{subdivision_key, override_key, keyword_subdivision, preferences_of};
 
 use icu_locale_core_entries::unicode::Keywords;
-use icu_locale_core_keywords::SubdivisionId;
+use icu_locale_core_keywords::{
+    NumberingSystem, PreferenceKey, RegionOverride, RegionalSubdivision, SubdivisionId,
+};
 use icu_locale_core_locale::Locale;
 use icu_locale_core_subtags::Subtag;
 use icu_locale_core_subtags::unicode::Key;
 
-// The key `sd`.
-pub(crate) fn key_of_subdivision() -> Key
-    ensures { result ≡ subdivision_key }
+// The key of a preference.
+pub(crate) fn key_of<P: PreferenceKey>() -> Key
+    ensures { result ≡ P.keyword }
 {
-    match Key::try_from_str("sd") {
-        Ok(key) => key,
-        Err(_) => unreachable!(),
+    match P::unicode_extension_key() {
+        Some(key) => key,
+        None => unreachable!(),
     }
 }
 
-// The key `rg`.
-pub(crate) fn key_of_override() -> Key
-    ensures { result ≡ override_key }
+// The preference that the value at its key states.
+fn stated_in<P: PreferenceKey>(keywords: &Keywords) -> Option<P>
+    ensures { result ≡ option_and_then P.stated (value_at P.keyword keywords.now) }
 {
-    match Key::try_from_str("rg") {
-        Ok(key) => key,
-        Err(_) => unreachable!(),
-    }
-}
-
-// The key `nu`.
-fn key_of_numbering() -> Key
-    ensures { result ≡ numbering_key }
-{
-    match Key::try_from_str("nu") {
-        Ok(key) => key,
-        Err(_) => unreachable!(),
-    }
-}
-
-// The one piece of the value at this key.
-fn piece_at(keywords: &Keywords, key: &Key) -> Option<Subtag>
-    ensures { result ≡ keyword_piece key.now keywords.now }
-{
-    match keywords.get(key) {
-        Some(value) => value.as_single_subtag().copied(),
-        None => None,
-    }
-}
-
-// The subdivision that the value at this key spells.
-pub(crate) fn subdivision_at(keywords: &Keywords, key: &Key) -> Option<SubdivisionId>
-    ensures { result ≡ keyword_subdivision key.now keywords.now }
-{
-    let piece = piece_at(keywords, key)?;
-    match SubdivisionId::try_from_str(piece.as_str()) {
-        Ok(subdivision) => Some(subdivision),
+    let value = keywords.get(&key_of::<P>())?;
+    match P::try_from_value(value) {
+        Ok(preference) => Some(preference),
         Err(_) => None,
     }
 }
 
-// Whether the key is there, and its value spells no subdivision.
-pub(crate) fn fails_at(keywords: &Keywords, key: &Key) -> bool
-    ensures { result ≡ fails_subdivision key.now keywords.now }
+// Whether the key is there, and its value states no preference.
+pub(crate) fn fails_in<P: PreferenceKey + Copy>(keywords: &Keywords) -> bool
+    ensures { result ≡ (is_some (value_at P.keyword keywords.now) && is_none (option_and_then P.stated (value_at P.keyword keywords.now))) }
 {
-    keywords.contains_key(key) && subdivision_at(keywords, key).is_none()
+    keywords.contains_key(&key_of::<P>()) && stated_in::<P>(keywords).is_none()
+}
+
+// The subdivision.
+#[tactic(auto, using(crate::proofs::KeywordLemmas::subdivision_stated))]
+pub(crate) fn subdivision_in(keywords: &Keywords) -> Option<SubdivisionId>
+    ensures { result ≡ keyword_subdivision subdivision_key keywords.now }
+{
+    let stated: RegionalSubdivision = stated_in(keywords)?;
+    Some(*stated)
+}
+
+// The region override.
+#[tactic(auto, using(crate::proofs::KeywordLemmas::subdivision_stated))]
+pub(crate) fn override_in(keywords: &Keywords) -> Option<SubdivisionId>
+    ensures { result ≡ keyword_subdivision override_key keywords.now }
+{
+    let stated: RegionOverride = stated_in(keywords)?;
+    Some(*stated)
 }
 
 /// The numbering system that the locale prefers: the value of its keyword `nu`, where that is one piece.
@@ -74,5 +64,6 @@ pub(crate) fn fails_at(keywords: &Keywords, key: &Key) -> bool
 pub fn numbering_system(locale: &Locale) -> Option<Subtag>
     ensures { result ≡ (preferences_of locale.now).numbering_system }
 {
-    piece_at(&locale.extensions.unicode.keywords, &key_of_numbering())
+    let stated: NumberingSystem = stated_in(&locale.extensions.unicode.keywords)?;
+    Some(*stated)
 }

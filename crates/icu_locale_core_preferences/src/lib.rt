@@ -22,6 +22,7 @@ mod locale_preferences;
 mod making;
 mod printing;
 mod reading;
+mod single_parts;
 
 pub use crate::data_locale::DataLocale;
 pub use crate::keywords::numbering_system;

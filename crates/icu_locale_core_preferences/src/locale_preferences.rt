@@ -8,8 +8,10 @@ ghost use Rattle.icu_locale_core_keywords.specs.declared.error.PreferencesParseE
 ghost use Rattle.icu_locale_core_preferences.specs.DataLocales.{language_preferences};
 
 use crate::data_locale::DataLocale;
-use crate::keywords::{fails_at, key_of_override, key_of_subdivision, subdivision_at};
-use icu_locale_core_keywords::{PreferencesParseError, SubdivisionId};
+use crate::keywords::{fails_in, override_in, subdivision_in};
+use icu_locale_core_keywords::{
+    PreferencesParseError, RegionOverride, RegionalSubdivision, SubdivisionId,
+};
 use icu_locale_core_langid::LanguageIdentifier;
 use icu_locale_core_locale::Locale;
 use icu_locale_core_subtags::{Language, Region, Script, Variant};
@@ -78,8 +80,8 @@ impl From<&Locale> for LocalePreferences {
     fn from(locale: &Locale) -> Self {
         let keywords = &locale.extensions.unicode.keywords;
         let mut preferences = Self::from(&locale.id);
-        preferences.subdivision = subdivision_at(keywords, &key_of_subdivision());
-        preferences.region_override = subdivision_at(keywords, &key_of_override());
+        preferences.subdivision = subdivision_in(keywords);
+        preferences.region_override = override_in(keywords);
         preferences
     }
 }
@@ -106,11 +108,12 @@ impl LocalePreferences {
     ///
     /// `InvalidKeywordValue`: an `sd` or an `rg` is there and is no subdivision, as in `en-u-sd-12a` and `en-u-rg`. It takes no
     /// memory.
+    #[tactic(auto, using(crate::proofs::KeywordLemmas::subdivision_stated))]
     pub fn from_locale_strict(locale: &Locale) -> Result<Self, PreferencesParseError>
         ensures { MatchResult result (λ p. (fails_strictly locale.now ≡ false) × (p ≡ locale_preferences_of locale.now)) (λ e. (fails_strictly locale.now ≡ true) × (e ≡ PreferencesParseError.InvalidKeywordValue)) }
     {
         let keywords = &locale.extensions.unicode.keywords;
-        if fails_at(keywords, &key_of_subdivision()) || fails_at(keywords, &key_of_override()) {
+        if fails_in::<RegionalSubdivision>(keywords) || fails_in::<RegionOverride>(keywords) {
             return Err(PreferencesParseError::InvalidKeywordValue);
         }
         Ok(Self::from(locale))

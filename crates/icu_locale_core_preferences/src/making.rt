@@ -6,11 +6,11 @@ ghost use Rattle.icu_locale_core_grammar.specs.PreferenceChanges.{keyword_of, pr
 ghost use Rattle.icu_locale_core_preferences.specs.HeldTag.{held_entry, held_tag, with_keyword};
 
 use crate::data_locale::DataLocale;
-use crate::keywords::{key_of_override, key_of_subdivision};
+use crate::keywords::key_of;
 use crate::locale_preferences::LocalePreferences;
 use icu_locale_core_entries::unicode::{Keywords, Value};
 use icu_locale_core_extensions::{Transform, Unicode};
-use icu_locale_core_keywords::SubdivisionId;
+use icu_locale_core_keywords::{RegionOverride, RegionalSubdivision, SubdivisionId};
 use icu_locale_core_langid::LanguageIdentifier;
 use icu_locale_core_locale::{Extensions, Locale};
 use icu_locale_core_sets::{Attributes, Private, Variants};
@@ -57,8 +57,10 @@ fn keywords_of(
     ensures succeeds { region_override ≡ None → subdivision ≡ None → IsOk result }
 {
     let mut keywords = Keywords::new(alloc);
-    set_subdivision(alloc, &mut keywords, key_of_override(), region_override)?;
-    set_subdivision(alloc, &mut keywords, key_of_subdivision(), subdivision)?;
+    let override_key = key_of::<RegionOverride>();
+    let subdivision_key = key_of::<RegionalSubdivision>();
+    set_subdivision(alloc, &mut keywords, override_key, region_override)?;
+    set_subdivision(alloc, &mut keywords, subdivision_key, subdivision)?;
     Ok(keywords)
 }
 

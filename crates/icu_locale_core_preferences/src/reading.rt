@@ -10,11 +10,11 @@ ghost use Rattle.icu_locale_core_locale.specs.Room.{tag_may_grow};
 ghost use Rattle.icu_locale_core_preferences.specs.DataExtensions.{data_extensions, data_unicode};
 
 use crate::data_locale::DataLocale;
-use crate::keywords::key_of_subdivision;
+use crate::keywords::key_of;
 use icu_locale_core_entries::unicode::{Keywords, Value};
 use icu_locale_core_extensions::Unicode;
 use icu_locale_core_grammar::ParseError;
-use icu_locale_core_keywords::SubdivisionId;
+use icu_locale_core_keywords::{RegionalSubdivision, SubdivisionId};
 use icu_locale_core_locale::{Extensions, Locale};
 use icu_locale_core_subtags::Subtag;
 use icu_locale_core_subtags::unicode::Key;
@@ -34,7 +34,7 @@ fn is_alone(value: &Value, piece: Subtag) -> bool
 fn is_subdivision(key: &Key, value: &Value, subdivision: SubdivisionId) -> bool
     ensures { IsTrue result ↔ ((key.now ≡ subdivision_key) × (value.now ≡ subdivision_text subdivision ∷ [])) }
 {
-    *key == key_of_subdivision() && is_alone(value, subdivision.into_subtag())
+    *key == key_of::<RegionalSubdivision>() && is_alone(value, subdivision.into_subtag())
 }
 
 // Whether the subdivision is all that the keywords say.

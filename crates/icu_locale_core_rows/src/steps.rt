@@ -1,20 +1,38 @@
 //! Rows of readers that go piece by piece, by steps that the inner crates alone have.
 
-use crate::answers::{debug, printed, shown_or_hyphen, text, two_texts};
+use crate::answers::{debug, printed, text, two_texts};
 use crate::unanswered::Answer;
-use icu_locale_core::LanguageIdentifier;
 use icu_locale_core_entries::{
     EntriesOf, EntryKind, HeadedStage, NoHead, Step, headed_after, headed_finish,
 };
-use icu_locale_core_langid::language_after;
+use icu_locale_core_langid::{LanguageStage, language_after};
+use icu_locale_core_subtags::SubtagIterator;
 use std::alloc::{AllocError, Global};
 
-/// The language identifier behind one more piece, and whether the piece was taken.
+/// The language identifier behind the pieces of a text and one more, and whether that one was taken.
 pub fn language_behind(alloc: Global, front: &str, piece: &str) -> Answer {
-    let id = LanguageIdentifier::try_from_str(alloc, front)?;
-    match language_after(alloc, Some(id), piece.as_bytes())? {
-        Step::Taken(id) => two_texts(shown_or_hyphen(alloc, id.as_ref()), debug(alloc, true)),
-        Step::Refused(id) => two_texts(shown_or_hyphen(alloc, id.as_ref()), debug(alloc, false)),
+    match language_after(alloc, language_stage(alloc, front)?, piece.as_bytes())? {
+        Step::Taken(stage) => two_texts(settled(alloc, stage), debug(alloc, true)),
+        Step::Refused(stage) => two_texts(settled(alloc, stage), debug(alloc, false)),
+    }
+}
+
+// The stage behind the pieces of a text, without those that are refused.
+fn language_stage(alloc: Global, front: &str) -> Result<Option<LanguageStage>, AllocError> {
+    let mut stage = None;
+    for piece in SubtagIterator::new(front.as_bytes()) {
+        stage = match language_after(alloc, stage, piece)? {
+            Step::Taken(next) => next,
+            Step::Refused(same) => same,
+        };
+    }
+    Ok(stage)
+}
+
+fn settled(alloc: Global, stage: Option<LanguageStage>) -> Answer {
+    match stage {
+        Some(stage) => printed(alloc, &stage.settled()),
+        None => text(alloc, "-"),
     }
 }
 

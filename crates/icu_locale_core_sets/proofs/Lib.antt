@@ -1,3 +1,4 @@
+pub mod GrowingLemmas
 pub mod PlaceLemmas
 pub mod JoiningLemmas
 pub mod PrintingLemmas

@@ -104,7 +104,7 @@ pub contains_at : (t : Text) (us : List Text) (i : ℕ) → i < length us → Ho
 contains_at t us i within at = ap (contains_text t) (found t us i within at) ∙ contains_amid t (take i us) (drop (suc i) us)
 
 -- a text below each is not there
-absent : (t : Text) (us : List Text) → AllByRecursion (λ u. text_cmp t u ≡ Less) us → contains_text t us ≡ false
+pub absent : (t : Text) (us : List Text) → AllByRecursion (λ u. text_cmp t u ≡ Less) us → contains_text t us ≡ false
 absent t [] each = refl
 absent t (u ∷ us) each = or_from (same_text t u) (contains_text t us) (texts_ties t u ∙ ap is_eq each.0) (absent t us each.1)
 

@@ -1,5 +1,5 @@
 -- The events and the length of pieces that are written with a hyphen before each.
-use Rattle.std.proofs.Common.{◌≡◌, true, false, eqb, ℕ, ◌+◌, ◌<◌, ◌≤◌, List, [], ◌∷◌, ◌++◌, length, drop, get_or, refl, sym, ap, ◌∙◌, arith, length-append}
+use Rattle.std.proofs.Common.{◌≡◌, true, false, eqb, ℕ, ◌+◌, ◌<◌, ◌≤◌, List, [], ◌∷◌, ◌++◌, length, drop, get_or, sym, ap, ◌∙◌, arith}
 use Rattle.std.specs.Prelude.{flat_map}
 use Rattle.std.proofs.lemmas.Bool.{eqb-true}
 use Rattle.std.proofs.lemmas.List.{drop_more, drop_all}
@@ -38,3 +38,13 @@ no_private_events (w ∷ ws) none = let wrong : length (w ∷ ws) ≡ 0 = eqb-tr
 pub private_events : (own : List Text) → eqb (length own) 0 ≡ false → bytes (joined_text (private_pieces own)) ≡ bytes private_text ++ bytes (flat_map hyphened own)
 private_events [] some = cc
 private_events (w ∷ ws) some = bytes_joined private_text (flat_map hyphened (w ∷ ws))
+
+-- ---- sets
+
+pub set_events : (set slice : List Text) (first : Text) (others : List Text) → slice ≡ set → slice ≡ first ∷ others
+    → bytes (joined_text set) ≡ bytes first ++ bytes (flat_map hyphened others)
+set_events set slice first others same cut = ap (λ l. bytes (joined_text l)) (sym same ∙ cut) ∙ bytes_joined first (flat_map hyphened others)
+
+pub no_set_events : (set slice : List Text) → slice ≡ set → length slice ≡ 0 → bytes (joined_text set) ≡ []
+no_set_events set (t ∷ slice) same none = absurd (omega (arith, none))
+no_set_events set [] same none = ap (λ l. bytes (joined_text l)) (sym same) ∙ no_bytes

@@ -5,4 +5,5 @@ pub mod Laws
 -- What the laws of comparing rest on.
 pub mod Orders
 -- What private calls say.
+pub mod Growing
 pub mod Places

@@ -9,6 +9,7 @@ ghost use Rattle.icu_locale_core_grammar.specs.Pieces.{pieces};
 ghost use Rattle.icu_locale_core_grammar.specs.PartReaders.{ReadsAttributes};
 ghost use Rattle.icu_locale_core_sets.specs.Reading.{IsRefused, begins};
 
+use crate::growing_set::GrowingSet;
 use crate::laws::texts_rise;
 use crate::subtag_set::SubtagSet;
 use icu_locale_core_grammar::ParseError;
@@ -40,10 +41,10 @@ impl SubtagSet<AttributeRule> {
         ensures fault { IfErr result (IsRefused (ReadsAttributes code_units.now)) }
         ensures room { begins is_attribute (pieces code_units.now) ≡ false → ¬ (IsErrOf result ParseError.Memory) }
     {
-        let mut attributes = Attributes::new(alloc);
         if code_units.is_empty() {
-            return Ok(attributes);
+            return Ok(Attributes::new(alloc));
         }
+        let mut attributes = GrowingSet::new(alloc);
         for piece in SubtagIterator::new(code_units) {
             let Ok(attribute) = Attribute::try_from_utf8(piece) else {
                 return Err(ParseError::InvalidExtension);
@@ -52,7 +53,7 @@ impl SubtagSet<AttributeRule> {
                 return Err(ParseError::Memory);
             };
         }
-        Ok(attributes)
+        Ok(attributes.settled())
     }
 
     /// Puts the attributes of the other set into this one.

@@ -11,6 +11,7 @@
 #![tactic(auto)]
 
 mod attributes;
+mod growing_set;
 pub mod laws;
 mod printing;
 mod private;
@@ -18,6 +19,7 @@ mod subtag_set;
 mod variants;
 
 pub use crate::attributes::Attributes;
+pub use crate::growing_set::GrowingSet;
 pub use crate::printing::{pieces_length, write_pieces};
 pub use crate::private::Private;
 pub use crate::subtag_set::SubtagSet;

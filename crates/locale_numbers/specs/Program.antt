@@ -7,6 +7,7 @@ use Rattle.locale_numbers_book.specs.Json.{Reads, IsNoJson}
 use Rattle.locale_numbers_book.specs.Book.{BookTables, IsBook, IsNoBook}
 use Rattle.locale_numbers_book.specs.declared.BookError.{BookError}
 use Rattle.locale_numbers_book.specs.declared.BookError.TheVariants as refusal
+use Rattle.locale_numbers_engine.specs.declared.RunError.TheVariants as run
 use Rattle.locale_numbers.specs.declared.fault.ProgramFault.{ProgramFault}
 use Rattle.locale_numbers.specs.declared.fault.ProgramFault.TheVariants.{Usage, File, Book, Run}
 
@@ -26,6 +27,12 @@ pub record OfText {P : Type 0} (sample : List ℕ) (path : Option P) (Fact : Lis
   pub text : List ℕ
   pub unnamed : IsNone path → text ≡ sample
   pub fact : Fact text
+
+-- a fact of the book that a text says
+pub record OfSaid (text : List ℕ) (Fact : BookTables → Type 0) : Type 0 where
+  pub book : BookTables
+  pub said : Says text book
+  pub fact : Fact book
 
 -- a fact of the book that is read
 pub record OfBook {P : Type 0} (sample : List ℕ) (path : Option P) (Fact : BookTables → Type 0) : Type 0 where
@@ -55,3 +62,15 @@ MayCome sample path (Run fault) = Unit {0}
 abbrev pub IsBeforeLines : ProgramFault → Type 0
 IsBeforeLines (Run fault) = ⊥
 IsBeforeLines _ = Unit {0}
+
+-- before a book is read, the words are at fault, or memory was wanting
+abbrev pub IsOfWords : ProgramFault → Type 0
+IsOfWords Usage = Unit {0}
+IsOfWords (Run run.Memory) = Unit {0}
+IsOfWords _ = ⊥
+
+-- when each fault may come of a start: that of a file never, since no words name one
+abbrev pub MayStart : List ℕ → ProgramFault → Type 0
+MayStart sample File = ⊥
+MayStart sample (Book cause) = IsRefused sample cause
+MayStart sample _ = Unit {0}

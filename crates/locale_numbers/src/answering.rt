@@ -1,6 +1,8 @@
 // The answer of a book to a line.
-ghost use Rattle.std.specs.Prelude.{◌≡◌, ◌++◌, IfOk, OnOk, OnErr, IsErrOf, string_bytes};
+ghost use Rattle.std.specs.Prelude.{◌≡◌, ◌++◌, IsOk, IfOk, OnOk, OnErr, IsErrOf, string_bytes};
 ghost use Rattle.fixed_decimal.specs.Number.{Number};
+ghost use Rattle.fixed_decimal.specs.SignedText.{ReadsLongSigned};
+ghost use Rattle.locale_numbers_plain.specs.PlainText.{HasRoom};
 ghost use Rattle.locale_numbers_engine.specs.Growth.{Grows};
 ghost use Rattle.locale_numbers_book.specs.Choice.{chosen};
 ghost use Rattle.locale_numbers.specs.Answer.{refused, answer_with, answer_to, answer_of};
@@ -20,6 +22,9 @@ fn read_number(alloc: Global, text: &[u8]) -> Result<Decimal, ParseError>
     ensures value { IfOk result (λ value. reading_of text.now ≡ number value) }
     ensures limit { IsErrOf result ParseError.Limit → reading_of text.now ≡ beyond }
     ensures syntax { IsErrOf result ParseError.Syntax → reading_of text.now ≡ nothing }
+
+    // A text that says no number of more than eight digits is never told as out of memory.
+    ensures memory { IsErrOf result ParseError.Memory → ReadsLongSigned text.now }
 {
     Decimal::try_from_utf8(alloc, text)
 }
@@ -28,6 +33,7 @@ fn read_number(alloc: Global, text: &[u8]) -> Result<Decimal, ParseError>
 fn push_refusal(out: &mut String, cause: Refusal) -> Result<(), AllocError>
     ensures text { OnOk result (string_bytes out.new ≡ string_bytes out.old ++ refused cause) }
     ensures err { OnErr result (Grows (string_bytes out.old) (string_bytes out.new)) }
+    ensures room { HasRoom out.old (refused cause) → IsOk result }
 {
     out.push_str("err\t")?;
     out.push_str(cause.word())
@@ -44,6 +50,7 @@ fn push_number(
     ensures text { OnOk result (string_bytes out.new
         ≡ string_bytes out.old ++ answer_with (chosen book.now wanted.now.locale wanted.now.numbering_system) grouping value.now) }
     ensures err { OnErr result (Grows (string_bytes out.old) (string_bytes out.new)) }
+    ensures room { HasRoom out.old (answer_with (chosen book.now wanted.now.locale wanted.now.numbering_system) grouping value.now) → IsOk result }
 {
     let Some(tables) = book.tables_for(wanted.locale, wanted.numbering_system) else {
         return push_refusal(out, Refusal::Table);
@@ -64,6 +71,9 @@ fn push_text(
     ensures text { OnOk result (string_bytes out.new
         ≡ string_bytes out.old ++ answer_to book.now wanted.now grouping (reading_of text.now)) }
     ensures err { OnErr result (Grows (string_bytes out.old) (string_bytes out.new)) }
+
+    // Where there is room for the answer, only a number of more than eight digits may be out of memory.
+    ensures room { HasRoom out.old (answer_to book.now wanted.now grouping (reading_of text.now)) → ¬ (ReadsLongSigned text.now) → IsOk result }
 {
     match read_number(alloc, text) {
         Ok(value) => push_number(book, wanted, grouping, &value, out),

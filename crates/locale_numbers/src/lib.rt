@@ -20,6 +20,7 @@ mod program_run;
 mod refusal;
 mod request;
 mod running;
+mod starting;
 mod wanted;
 mod words;
 
@@ -27,8 +28,9 @@ pub use answering::answer;
 pub use fault::ProgramFault;
 pub use locale_numbers_book::{Book, BookError, SAMPLE_BOOK};
 pub use locale_numbers_engine::{
-    ByteReader, ByteWriter, ReadFault, Report, RunError, Tracked, WriteFault,
+    ByteReadFault, ByteReader, ByteWriteFault, ByteWriter, Report, RunError, Tracked,
 };
 pub use program_run::program;
 pub use running::run;
+pub use starting::start;
 pub use words::{Words, read_words};

@@ -10,7 +10,7 @@ ghost use Rattle.locale_numbers_book.specs.Book.{IsBook, IsNoBook, table_at, sam
 ghost use Rattle.locale_numbers_book.specs.Room.{book_may_grow};
 
 use crate::BookError;
-use crate::json::{array_at, digits_table, has_form, symbols_table, value_of};
+use crate::json::{array_at, digits_table, has_frame, symbols_table, value_of};
 use crate::key::SymbolsKey;
 use crate::system_named::SystemNamed;
 use icu_locale_core::DataLocale;
@@ -45,7 +45,7 @@ fn book_of(alloc: Global, value: &Value) -> Result<Book, BookError>
     ensures room { IsErrOf result BookError.Memory → book_may_grow (view value.now) ≡ true }
     ensures only { IfErr result IsShapeOrMemory }
 {
-    if !has_form(value) {
+    if !has_frame(value) {
         return Err(BookError::Shape);
     }
     let Some(symbols) = array_at(value, 0) else {

@@ -10,7 +10,7 @@ use locale_numbers_symbols::DecimalSymbols;
 
 /// The tables that a number is written with, borrowed from a book.
 #[derive(Clone, Copy)]
-pub struct Tables<'b> {
+pub struct NumberTables<'b> {
     /// The symbols round and between the digits.
     pub symbols: &'b DecimalSymbols,
     /// The ten digits, from zero up.
@@ -60,12 +60,12 @@ impl Book {
         &self,
         locale: DataLocale,
         numbering_system: Option<Subtag>,
-    ) -> Option<Tables<'_>>
+    ) -> Option<NumberTables<'_>>
         ensures { option_map (λ tables. record { symbols = tables.symbols.now; digits = tables.digits.now }) result
             ≡ chosen self.now locale numbering_system }
     {
         let symbols = self.symbols_for(locale, numbering_system)?;
         let digits = self.digits_for(numbering_system.as_ref(), symbols)?;
-        Some(Tables { symbols, digits })
+        Some(NumberTables { symbols, digits })
     }
 }

@@ -16,6 +16,6 @@ mod system_named;
 mod table;
 
 pub use book::Book;
-pub use choosing::Tables;
+pub use choosing::NumberTables;
 pub use error::BookError;
 pub use sample_book::SAMPLE_BOOK;

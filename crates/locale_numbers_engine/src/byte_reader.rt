@@ -6,7 +6,7 @@ use thiserror::Error;
 /// A read failed; the reader knows why.
 #[derive(Clone, Copy, Debug, PartialEq, Eq, Error)]
 #[error("a read failed")]
-pub struct ReadFault;
+pub struct ByteReadFault;
 
 /// Bytes that come piece by piece, from a reader that knows whether a read has failed.
 ///
@@ -22,7 +22,7 @@ pub trait ByteReader {
     /// Fills a front of `buffer`, and answers how many bytes that is.
     ///
     /// Of a buffer that has room, 0 is the end of the bytes. A failed read gives none.
-    fn read(&mut self, buffer: &mut [u8]) -> Result<usize, ReadFault>
+    fn read(&mut self, buffer: &mut [u8]) -> Result<usize, ByteReadFault>
         ensures bound { IfOk result (λ count. count ≤ length buffer.new) }
         ensures bytes { ReadConsumes (remaining self.old) (remaining self.new) result buffer.new }
 

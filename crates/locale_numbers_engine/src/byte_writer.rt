@@ -7,7 +7,7 @@ use thiserror::Error;
 /// A write or a flush failed, or a write took no byte; the writer knows why.
 #[derive(Clone, Copy, Debug, PartialEq, Eq, Error)]
 #[error("a write failed")]
-pub struct WriteFault;
+pub struct ByteWriteFault;
 
 /// A place for bytes, which knows whether a write or a flush has failed.
 ///
@@ -23,7 +23,7 @@ pub trait ByteWriter {
     /// Takes a front of `piece`, and answers how many bytes that is.
     ///
     /// A write that takes no byte of a piece that is not empty counts as failed.
-    fn write(&mut self, piece: &[u8]) -> Result<usize, WriteFault>
+    fn write(&mut self, piece: &[u8]) -> Result<usize, ByteWriteFault>
         ensures bound { IfOk result (λ count. count ≤ length piece.now) }
         ensures bytes { WriteAppends (contents self.old) (contents self.new) result piece.now }
 
@@ -31,7 +31,7 @@ pub trait ByteWriter {
         ensures fault { failed self.new ≡ (failed self.old || write_fails result piece.now) };
 
     /// Sends on what it has taken and still keeps back.
-    fn flush(&mut self) -> Result<(), WriteFault>
+    fn flush(&mut self) -> Result<(), ByteWriteFault>
         ensures bytes { Keeps (contents self.old) (contents self.new) }
         ensures fault { failed self.new ≡ (failed self.old || is_err result) };
 

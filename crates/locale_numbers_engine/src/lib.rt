@@ -25,8 +25,8 @@ mod tracked;
 mod writing;
 
 pub use answerer::Answerer;
-pub use byte_reader::{ByteReader, ReadFault};
-pub use byte_writer::{ByteWriter, WriteFault};
+pub use byte_reader::{ByteReadFault, ByteReader};
+pub use byte_writer::{ByteWriteFault, ByteWriter};
 pub use report::Report;
 pub use run_error::RunError;
 pub use running::run_with;

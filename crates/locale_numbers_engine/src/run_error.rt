@@ -1,6 +1,6 @@
 ghost use Rattle.std.specs.Prelude.{◌≡◌};
 
-use crate::byte_writer::WriteFault;
+use crate::byte_writer::ByteWriteFault;
 use std::alloc::AllocError;
 use thiserror::Error;
 
@@ -33,12 +33,12 @@ impl RunError {
     }
 }
 
-impl From<WriteFault> for RunError {
+impl From<ByteWriteFault> for RunError {
     ghost use Rattle.locale_numbers_engine.specs.declared.run_error.RunError.TheVariants.{Write};
 
     ghost from_gives = { λ _ refusal. refusal ≡ Write };
 
-    fn from(_fault: WriteFault) -> RunError {
+    fn from(_fault: ByteWriteFault) -> RunError {
         RunError::Write
     }
 }

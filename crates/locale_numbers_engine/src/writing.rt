@@ -3,13 +3,13 @@ ghost use Rattle.std.specs.Io.KnownBytes.{Appends};
 ghost use Rattle.locale_numbers_engine.specs.Run.{WritesFront};
 ghost use Rattle.locale_numbers_engine.specs.Progress.{Moves};
 
-use crate::byte_writer::{ByteWriter, WriteFault};
+use crate::byte_writer::{ByteWriteFault, ByteWriter};
 
 // How many bytes are read at once, and how long the ready answers may grow before they are written.
 pub const PIECE: usize = 65_536;
 
 // Writes all of these bytes; after a fault a front of them was written.
-pub fn write_whole<W: ByteWriter>(writer: &mut W, bytes: &[u8]) -> Result<(), WriteFault>
+pub fn write_whole<W: ByteWriter>(writer: &mut W, bytes: &[u8]) -> Result<(), ByteWriteFault>
     requires { W.failed writer.old ≡ false }
     ensures wrote { MatchResult result
         (λ _. Appends (W.contents writer.old) (W.contents writer.new) bytes.now)
@@ -19,7 +19,7 @@ pub fn write_whole<W: ByteWriter>(writer: &mut W, bytes: &[u8]) -> Result<(), Wr
     let mut rest = bytes;
     'write: while !rest.is_empty() {
         match writer.write(rest) {
-            Ok(0) => return Err(WriteFault),
+            Ok(0) => return Err(ByteWriteFault),
             Ok(count) => rest = &rest[count..],
             Err(fault) => return Err(fault),
         }
@@ -28,7 +28,7 @@ pub fn write_whole<W: ByteWriter>(writer: &mut W, bytes: &[u8]) -> Result<(), Wr
 }
 
 // Writes the ready answers, and lets them go.
-pub fn write_ready<W: ByteWriter>(writer: &mut W, ready: &mut String) -> Result<(), WriteFault>
+pub fn write_ready<W: ByteWriter>(writer: &mut W, ready: &mut String) -> Result<(), ByteWriteFault>
     requires { W.failed writer.old ≡ false }
     ensures wrote { MatchResult result
         (λ _. Appends (W.contents writer.old) (W.contents writer.new) (string_bytes ready.old))
@@ -44,7 +44,7 @@ pub fn write_ready<W: ByteWriter>(writer: &mut W, ready: &mut String) -> Result<
 }
 
 // Writes the ready answers once they are as long as a piece.
-pub fn write_full<W: ByteWriter>(writer: &mut W, ready: &mut String) -> Result<(), WriteFault>
+pub fn write_full<W: ByteWriter>(writer: &mut W, ready: &mut String) -> Result<(), ByteWriteFault>
     requires { W.failed writer.old ≡ false }
     ensures moved { MatchResult result
         (λ _. Moves (string_bytes ready.old) (string_bytes ready.new) (W.contents writer.old) (W.contents writer.new))

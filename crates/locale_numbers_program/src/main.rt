@@ -5,12 +5,13 @@
 
 #![tactic(auto)]
 
-mod start;
-
+use locale_numbers::{Tracked, start};
 use std::process::ExitCode;
 
 fn main(rt: HostRuntime) -> ExitCode {
-    match start::answer_input(&rt) {
+    let mut reader = Tracked::new(rt.stdin());
+    let mut writer = Tracked::new(rt.stdout());
+    match start(&rt, &mut reader, &mut writer) {
         Ok(()) => ExitCode::SUCCESS,
         Err(fault) => {
             let _ = eprintln!(rt; "{fault}");

@@ -1,8 +1,18 @@
 //! Which call a line asks for.
 use crate::row_error::RowError;
-use crate::{answers, faults, plain, runs, starts};
+use crate::{answers, faults, plain, repeated, runs, starts, tracked};
 use std::alloc::Global;
 use std::rt::Files;
+
+// What a call on a tracked reader or writer answers.
+fn tracked_result(alloc: Global, call: &str, arguments: &[&str]) -> Result<String, RowError> {
+    match call {
+        "tracked_read" => tracked::read_row(alloc),
+        "tracked_write" => tracked::write_row(alloc, arguments),
+        "tracked_flush" => tracked::flush_row(alloc, arguments),
+        _ => Err(RowError::NotUnderstood),
+    }
+}
 
 // What a call on a reader and a writer leaves.
 fn run_result<F: Files>(
@@ -14,10 +24,11 @@ fn run_result<F: Files>(
     match call {
         "run" => runs::run_row(alloc, arguments),
         "run_tracked" => runs::tracked_row(alloc, arguments),
+        "run_long" => repeated::long_row(alloc, arguments),
         "run_cuts" => runs::cuts_row(alloc, arguments),
         "run_with" => runs::shouted_row(alloc, arguments),
         "program" => starts::program_row(rt, alloc, arguments),
-        _ => Err(RowError::NotUnderstood),
+        other => tracked_result(alloc, other, arguments),
     }
 }
 
@@ -33,8 +44,8 @@ pub fn result_of<F: Files>(rt: &F, alloc: Global, line: &str) -> Result<String, 
         "BookError" => faults::book_row(alloc, arguments),
         "RunError" => faults::run_row(alloc, arguments),
         "ProgramFault" => faults::program_row(alloc, arguments),
-        "ReadFault" => faults::read_row(alloc, arguments),
-        "WriteFault" => faults::write_row(alloc, arguments),
+        "ByteReadFault" => faults::read_row(alloc, arguments),
+        "ByteWriteFault" => faults::write_row(alloc, arguments),
         "read_words" => starts::words_row(alloc, arguments),
         "push_plain" => plain::plain_row(alloc, arguments),
         "push_unsigned" => plain::unsigned_row(alloc, arguments),

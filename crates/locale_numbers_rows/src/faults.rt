@@ -1,7 +1,19 @@
 //! Refusals and faults by their names: number, word or status, and text.
 use crate::row_error::RowError;
-use locale_numbers::{BookError, ProgramFault, ReadFault, RunError, WriteFault};
+use locale_numbers::{BookError, ByteReadFault, ByteWriteFault, ProgramFault, RunError};
 use std::alloc::Global;
+
+fn later_error_named(name: &str) -> Result<BookError, RowError> {
+    match name {
+        "Condition" => Ok(BookError::Condition),
+        "Types" => Ok(BookError::Types),
+        "Exponents" => Ok(BookError::Exponents),
+        "Duplicate" => Ok(BookError::Duplicate),
+        "Cycle" => Ok(BookError::Cycle),
+        "Memory" => Ok(BookError::Memory),
+        _ => Err(RowError::NotUnderstood),
+    }
+}
 
 fn book_error_named(name: &str) -> Result<BookError, RowError> {
     match name {
@@ -11,13 +23,7 @@ fn book_error_named(name: &str) -> Result<BookError, RowError> {
         "System" => Ok(BookError::System),
         "Text" => Ok(BookError::Text),
         "Digits" => Ok(BookError::Digits),
-        "Condition" => Ok(BookError::Condition),
-        "Types" => Ok(BookError::Types),
-        "Exponents" => Ok(BookError::Exponents),
-        "Duplicate" => Ok(BookError::Duplicate),
-        "Cycle" => Ok(BookError::Cycle),
-        "Memory" => Ok(BookError::Memory),
-        _ => Err(RowError::NotUnderstood),
+        later => later_error_named(later),
     }
 }
 
@@ -31,11 +37,19 @@ fn run_error_named(name: &str) -> Result<RunError, RowError> {
 }
 
 fn program_fault_named(arguments: &[&str]) -> Result<ProgramFault, RowError> {
-    match arguments {
-        ["Usage"] => Ok(ProgramFault::Usage),
-        ["File"] => Ok(ProgramFault::File),
-        ["Book", name] => Ok(ProgramFault::Book(book_error_named(name)?)),
-        ["Run", name] => Ok(ProgramFault::Run(run_error_named(name)?)),
+    if let [kind, name] = arguments {
+        return match *kind {
+            "Book" => Ok(ProgramFault::Book(book_error_named(name)?)),
+            "Run" => Ok(ProgramFault::Run(run_error_named(name)?)),
+            _ => Err(RowError::NotUnderstood),
+        };
+    }
+    let [name] = arguments else {
+        return Err(RowError::NotUnderstood);
+    };
+    match *name {
+        "Usage" => Ok(ProgramFault::Usage),
+        "File" => Ok(ProgramFault::File),
         _ => Err(RowError::NotUnderstood),
     }
 }
@@ -69,18 +83,18 @@ pub fn program_row(alloc: Global, arguments: &[&str]) -> Result<String, RowError
     Ok(format!(in alloc; "{status}, {number}, {fault}")?)
 }
 
-/// `ReadFault`: its text.
+/// `ByteReadFault`: its text.
 pub fn read_row(alloc: Global, arguments: &[&str]) -> Result<String, RowError> {
     match arguments {
-        [] => Ok(ReadFault.to_string(alloc)?),
+        [] => Ok(ByteReadFault.to_string(alloc)?),
         _ => Err(RowError::NotUnderstood),
     }
 }
 
-/// `WriteFault`: its text.
+/// `ByteWriteFault`: its text.
 pub fn write_row(alloc: Global, arguments: &[&str]) -> Result<String, RowError> {
     match arguments {
-        [] => Ok(WriteFault.to_string(alloc)?),
+        [] => Ok(ByteWriteFault.to_string(alloc)?),
         _ => Err(RowError::NotUnderstood),
     }
 }

@@ -1,7 +1,6 @@
 //! How a reader gives its bytes.
 use crate::numbers::count;
 use crate::row_error::RowError;
-use std::alloc::Global;
 
 /// How many bytes a reader gives at its first read and at the others, how many reads it answers, and
 /// whether it fails behind its last byte.
@@ -26,21 +25,17 @@ impl Giving {
 
     /// The reader of `3`, of `3 then fails`, or of `3 fails after 1`: three bytes a read, to the end;
     /// then it fails; or after one read it fails.
-    pub fn from_field(alloc: Global, field: &str) -> Result<Self, RowError> {
-        let words: Vec<&str> = field.split(' ').collect(alloc)?;
-        match words.as_slice() {
-            [at_once] => Ok(Giving::steady(count(at_once)?)),
-            [at_once, "then", "fails"] => {
-                let mut giving = Giving::steady(count(at_once)?);
-                giving.ends_badly = true;
-                Ok(giving)
-            }
-            [at_once, "fails", "after", reads] => {
-                let mut giving = Giving::steady(count(at_once)?);
-                giving.reads = count(reads)? as u64;
-                Ok(giving)
-            }
-            _ => Err(RowError::NotUnderstood),
+    pub fn from_field(field: &str) -> Result<Self, RowError> {
+        if let Some(at_once) = field.strip_suffix(" then fails") {
+            let mut giving = Giving::steady(count(at_once)?);
+            giving.ends_badly = true;
+            return Ok(giving);
         }
+        if let Some((at_once, reads)) = field.split_once(" fails after ") {
+            let mut giving = Giving::steady(count(at_once)?);
+            giving.reads = count(reads)? as u64;
+            return Ok(giving);
+        }
+        Ok(Giving::steady(count(field)?))
     }
 }

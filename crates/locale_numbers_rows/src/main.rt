@@ -12,12 +12,14 @@ mod narrow;
 mod numbers;
 mod pieces;
 mod plain;
+mod repeated;
 mod row_error;
 mod runs;
 mod shelf;
 mod shouter;
 mod starts;
 mod taking;
+mod tracked;
 
 use row_error::RowError;
 use std::alloc::Global;

@@ -2,7 +2,7 @@
 ghost use Rattle.std.specs.Prelude.{Some};
 
 use crate::taking::Full;
-use locale_numbers::{ByteWriter, WriteFault};
+use locale_numbers::{ByteWriteFault, ByteWriter};
 
 /// Takes at most so many bytes a write and so many in all, and counts its flushes.
 #[derive(Drop)]
@@ -21,12 +21,12 @@ impl ByteWriter for Narrow {
 
     ghost failed = { λ narrow. narrow.failed };
 
-    fn write(&mut self, piece: &[u8]) -> Result<usize, WriteFault> {
+    fn write(&mut self, piece: &[u8]) -> Result<usize, ByteWriteFault> {
         let count = self.at_once.min(self.room).min(piece.len());
         if count == 0 && !piece.is_empty() {
             self.failed = true;
             return match self.full {
-                Full::Errs => Err(WriteFault),
+                Full::Errs => Err(ByteWriteFault),
                 Full::TakesNone => Ok(0),
             };
         }
@@ -37,16 +37,16 @@ impl ByteWriter for Narrow {
             }
             Err(_) => {
                 self.failed = true;
-                Err(WriteFault)
+                Err(ByteWriteFault)
             }
         }
     }
 
-    fn flush(&mut self) -> Result<(), WriteFault> {
+    fn flush(&mut self) -> Result<(), ByteWriteFault> {
         self.flushes = self.flushes.saturating_add(1);
         if self.flush_fails {
             self.failed = true;
-            return Err(WriteFault);
+            return Err(ByteWriteFault);
         }
         Ok(())
     }

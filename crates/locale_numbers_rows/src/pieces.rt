@@ -1,7 +1,7 @@
 //! A reader that gives little at a time, and may fail.
 ghost use Rattle.std.specs.Prelude.{None};
 
-use locale_numbers::{ByteReader, ReadFault};
+use locale_numbers::{ByteReadFault, ByteReader};
 
 /// Gives at most so many bytes at its first read, and at the others. It fails once it has been read
 /// so often, and, where it ends badly, behind its last byte.
@@ -20,10 +20,10 @@ impl<'a> ByteReader for Pieces<'a> {
 
     ghost failed = { λ pieces. pieces.failed };
 
-    fn read(&mut self, buffer: &mut [u8]) -> Result<usize, ReadFault> {
+    fn read(&mut self, buffer: &mut [u8]) -> Result<usize, ByteReadFault> {
         if self.reads_left == 0 || (self.ends_badly && self.rest.is_empty()) {
             self.failed = true;
-            return Err(ReadFault);
+            return Err(ByteReadFault);
         }
         self.reads_left -= 1;
         let count = self.at_first.min(buffer.len()).min(self.rest.len());

@@ -1,11 +1,11 @@
 //! The plain text of a number, and where separators stand.
 use crate::numbers::{magnitude, small};
 use crate::row_error::RowError;
-use arrayvec::ArrayString;
 use fixed_decimal::{Decimal, ParseError};
 use locale_numbers_plain::{grouper, push_plain, push_unsigned};
 use locale_numbers_symbols::{DecimalSymbols, GroupingSizes, GroupingStrategy};
 use std::alloc::{AllocError, Global};
+use tinystr::TinyAsciiStr;
 
 const LATIN: [char; 10] = ['0', '1', '2', '3', '4', '5', '6', '7', '8', '9'];
 
@@ -42,10 +42,10 @@ fn signs_named(name: &str) -> Result<Signs, RowError> {
     }
 }
 
-fn digits_named(name: &str) -> Result<[char; 10], RowError> {
+fn digits_named(name: &str) -> Result<&'static [char; 10], RowError> {
     match name {
-        "latn" => Ok(LATIN),
-        "beng" => Ok(BENGALI),
+        "latn" => Ok(&LATIN),
+        "beng" => Ok(&BENGALI),
         _ => Err(RowError::NotUnderstood),
     }
 }
@@ -86,7 +86,7 @@ fn symbols_with(
         plus_sign_suffix: String::from_str(alloc, signs.plus_suffix)?,
         decimal_separator: String::from_str(alloc, ".")?,
         grouping_separator: String::from_str(alloc, ",")?,
-        numsys: ArrayString::new(),
+        numsys: TinyAsciiStr::EMPTY,
         grouping_sizes,
     })
 }
@@ -115,7 +115,7 @@ pub fn plain_row(alloc: Global, arguments: &[&str]) -> Result<String, RowError> 
     let symbols = symbols_of(alloc, signs, sizes)?;
     let number = number_of(alloc, number)?;
     let mut out = String::from_str(alloc, held)?;
-    push_plain(&mut out, &number, &symbols, &digits, grouping)?;
+    push_plain(&mut out, &number, &symbols, digits, grouping)?;
     Ok(out)
 }
 
@@ -129,7 +129,7 @@ pub fn unsigned_row(alloc: Global, arguments: &[&str]) -> Result<String, RowErro
     let symbols = symbols_of(alloc, signs, sizes)?;
     let number = number_of(alloc, number)?;
     let mut out = String::from_str(alloc, held)?;
-    push_unsigned(&mut out, &number, &symbols, &digits, grouping)?;
+    push_unsigned(&mut out, &number, &symbols, digits, grouping)?;
     Ok(out)
 }
 

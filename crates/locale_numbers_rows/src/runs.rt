@@ -114,8 +114,8 @@ pub fn run_row(alloc: Global, arguments: &[&str]) -> Result<String, RowError> {
         return Err(RowError::NotUnderstood);
     };
     let capacity = capacity_of(capacity)?;
-    let giving = Giving::from_field(alloc, reader)?;
-    let taking = Taking::from_field(alloc, writer)?;
+    let giving = Giving::from_field(reader)?;
+    let taking = Taking::from_field(writer)?;
     let input = unescaped(alloc, input)?;
     let book = book_of(alloc, book)?;
     run_text(alloc, &book, capacity, giving, taking, &input)
@@ -208,8 +208,8 @@ pub fn shouted_row(alloc: Global, arguments: &[&str]) -> Result<String, RowError
         "all" => u64::MAX,
         answers => count(answers)? as u64,
     };
-    let giving = Giving::from_field(alloc, reader)?;
-    let taking = Taking::from_field(alloc, writer)?;
+    let giving = Giving::from_field(reader)?;
+    let taking = Taking::from_field(writer)?;
     let input = unescaped(alloc, input)?;
     shouted_text(alloc, refused_from, giving, taking, &input)
 }

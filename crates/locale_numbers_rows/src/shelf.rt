@@ -6,7 +6,7 @@ use std::io::{Read, Seek, SeekFrom, Write};
 use std::rt::Files;
 
 // What stands under a path: nothing, a file, or a file that can't be read to its end.
-#[derive(Clone, Copy, Debug)]
+#[derive(Clone, Copy)]
 pub enum Stored<'a> {
     Nothing,
     Whole(&'a [u8]),
@@ -14,7 +14,7 @@ pub enum Stored<'a> {
 }
 
 // A file system that has the same thing under every path.
-#[derive(Clone, Copy, Debug)]
+#[derive(Clone, Copy)]
 pub struct Shelf<'a> {
     pub stored: Stored<'a>,
 }

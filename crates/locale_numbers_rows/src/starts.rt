@@ -89,8 +89,8 @@ pub fn program_row<F: Files>(
         path => Some(path),
     };
     let capacity = capacity_of(capacity)?;
-    let giving = Giving::from_field(alloc, reader)?;
-    let taking = Taking::from_field(alloc, writer)?;
+    let giving = Giving::from_field(reader)?;
+    let taking = Taking::from_field(writer)?;
     let text = book_bytes(alloc, text)?;
     let input = unescaped(alloc, input)?;
     let words = Words { book, capacity };

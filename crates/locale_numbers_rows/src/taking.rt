@@ -1,10 +1,9 @@
 //! How a writer takes its bytes.
 use crate::numbers::count;
 use crate::row_error::RowError;
-use std::alloc::Global;
 
 /// How a writer with no room left refuses a byte.
-#[derive(Clone, Copy, Debug, PartialEq, Eq)]
+#[derive(Clone, Copy)]
 pub enum Full {
     Errs,
     TakesNone,
@@ -40,18 +39,18 @@ impl Taking {
 
     /// The writer of `3`, of `3 errs at 10`, of `3 takes none at 10`, or of `3 flush fails`: three bytes
     /// a write, with room for all, or for ten; or with room for all and a flush that fails.
-    pub fn from_field(alloc: Global, field: &str) -> Result<Self, RowError> {
-        let words: Vec<&str> = field.split(' ').collect(alloc)?;
-        match words.as_slice() {
-            [at_once] => Ok(Taking::steady(count(at_once)?)),
-            [at_once, "errs", "at", room] => Taking::up_to(at_once, room, Full::Errs),
-            [at_once, "takes", "none", "at", room] => Taking::up_to(at_once, room, Full::TakesNone),
-            [at_once, "flush", "fails"] => {
-                let mut taking = Taking::steady(count(at_once)?);
-                taking.flush_fails = true;
-                Ok(taking)
-            }
-            _ => Err(RowError::NotUnderstood),
+    pub fn from_field(field: &str) -> Result<Self, RowError> {
+        if let Some(at_once) = field.strip_suffix(" flush fails") {
+            let mut taking = Taking::steady(count(at_once)?);
+            taking.flush_fails = true;
+            return Ok(taking);
         }
+        if let Some((at_once, room)) = field.split_once(" errs at ") {
+            return Taking::up_to(at_once, room, Full::Errs);
+        }
+        if let Some((at_once, room)) = field.split_once(" takes none at ") {
+            return Taking::up_to(at_once, room, Full::TakesNone);
+        }
+        Ok(Taking::steady(count(field)?))
     }
 }

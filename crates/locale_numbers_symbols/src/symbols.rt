@@ -1,6 +1,6 @@
 use crate::GroupingSizes;
-use arrayvec::ArrayString;
 use std::marker::Model;
+use tinystr::TinyAsciiStr;
 
 /// The texts that stand round and between the digits of a number, and where groups end.
 ///
@@ -21,7 +21,7 @@ pub struct DecimalSymbols {
     /// What stands between two groups of integer digits.
     pub grouping_separator: String,
     /// The numbering system of the digits, as `latn`: at most 8 bytes.
-    pub numsys: ArrayString<8>,
+    pub numsys: TinyAsciiStr<8>,
     /// Where groups end.
     pub grouping_sizes: GroupingSizes,
 }
@@ -39,7 +39,7 @@ impl Model for DecimalSymbols {
       plus_sign_suffix = chars (string_bytes s.plus_sign_suffix);
       decimal_separator = chars (string_bytes s.decimal_separator);
       grouping_separator = chars (string_bytes s.grouping_separator);
-      numsys = s.numsys.bytes;
+      numsys = s.numsys;
       grouping_sizes = s.grouping_sizes;
     } };
 }

@@ -5,17 +5,16 @@ use Rattle.std.specs.Bool.{Decides}
 use Rattle.std.specs.Cmp.Lexicographic.{pointwise, texts_ties}
 use Rattle.std.specs.List.{list_all}
 use Rattle.std.specs.Char.{to_ascii_uppercase, to_ascii_lowercase}
-use Rattle.std.proofs.lemmas.Bool.Decides.{Decides-eqb}
+use Rattle.std.proofs.lemmas.Bool.Decides.{Decides-eqb, Decides-like, same_from_decides}
 use Rattle.std.proofs.lemmas.Slice.Eq.{slice_eq-Decides}
 use Rattle.std.proofs.lemmas.List.{append_assoc, take-map, take-take}
 use Rattle.std.proofs.lemmas.Str.Ascii.{lowercase-lowercase, uppercase-uppercase, lowercase-uppercase}
-use Rattle.tinystr.specs.SmallText.{LAST_ASCII, is_text_byte}
+use Rattle.tinystr.specs.SmallText.{LAST_ASCII, is_text_byte, IsSmall, padded, text_of}
 use Rattle.tinystr.specs.declared.error.ParseError.TheVariants.{TooLong, ContainsNull, NonAscii}
 use Rattle.tinystr.specs.Faults.{StopsAtNonAscii, StopsBehindNul, IsFault}
 use Rattle.tinystr.specs.Case.{lowercase, titlecase}
 use Rattle.tinystr.specs.Laws.{OneForm, EqualTexts, NicheIsNoForm, OneFault, TextsHaveNoFault, CaseSettles, CaseMeetsCut, JoinsAlike}
 use Rattle.tinystr.proofs.SmallTextLemmas.{text_of-cons, text_of-padded}
-use Rattle.tinystr.specs.SmallText.{text_of}
 use Rattle.tinystr.proofs.CaseLemmas.{length-titlecase}
 use Rattle.tinystr.proofs.FaultsLemmas.{fault_refuses, above_is_no_text}
 use Rattle.tinystr.proofs.RawLemmas.{clean_refuses_high, clean_refuses_behind}
@@ -32,6 +31,15 @@ equal_texts_law one other = record {
   same = same_texts one other;
   order = subst (λ r. Decides r (one ≡ other)) (texts_ties one other) (same_texts one other);
 }
+
+-- the forms of two texts are the same bytes exactly where the texts are
+pub same_forms : (n : ℕ) (one other : List ℕ) → IsSmall n one → IsSmall n other
+    → pointwise nat_eq (padded n one) (padded n other) ≡ pointwise nat_eq one other
+same_forms n one other first second =
+    let forms = pointwise nat_eq (padded n one) (padded n other) in
+    same_from_decides forms (pointwise nat_eq one other)
+    (Decides-like forms (one_form_law n one other first second) (ap (padded n)) (same_texts (padded n one) (padded n other)))
+    (same_texts one other)
 
 pub niche_law : NicheIsNoForm
 niche_law zero some form = absurd (omega (arith, some))

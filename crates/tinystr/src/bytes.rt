@@ -1,6 +1,7 @@
 //! What is computed from the bytes of a form or of a text.
 
-ghost use Rattle.std.specs.Prelude.{◌≡◌, ◌≤◌, ◌+◌, ◌++◌, length, take, drop, map, true};
+ghost use Rattle.std.specs.Prelude.{◌≡◌, ◌≤◌, ◌+◌, ◌++◌, length, take, drop, map, true, nat_eq};
+ghost use Rattle.std.specs.Cmp.Lexicographic.{pointwise};
 ghost use Rattle.std.specs.List.{list_all};
 ghost use Rattle.std.specs.Char.{is_ascii_alphabetic, is_ascii_alphanumeric, is_ascii_digit, is_ascii_uppercase, is_ascii_lowercase, to_ascii_lowercase, to_ascii_uppercase};
 ghost use Rattle.tinystr.specs.SmallText.{text_of, is_text_byte};
@@ -21,6 +22,13 @@ pub(crate) fn text_len(bytes: &[u8]) -> usize
         }
     }
     bytes.len()
+}
+
+/// Whether the bytes are the same.
+pub(crate) fn are_same(one: &[u8], other: &[u8]) -> bool
+    ensures { result ≡ pointwise nat_eq one.now other.now }
+{
+    one == other
 }
 
 /// Writes a text over the bytes from a place on.

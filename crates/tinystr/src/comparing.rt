@@ -9,6 +9,7 @@ ghost use Rattle.std.specs.Hash as fed;
 ghost use Rattle.std.proofs.Common.{rules};
 
 use crate::TinyAsciiStr;
+use crate::bytes::are_same;
 use std::cmp::Ordering;
 use std::convert::AsStr;
 use std::fmt;
@@ -20,7 +21,7 @@ impl<const N: usize> PartialEq for TinyAsciiStr<N> {
     ghost laws = { on_per (λ s. s) (partial_equiv_from_equiv nat_list_eq_equiv) };
 
     fn eq(&self, other: &Self) -> bool {
-        self.as_str() == other.as_str()
+        are_same(self.all_bytes(), other.all_bytes())
     }
 }
 

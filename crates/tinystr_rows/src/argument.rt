@@ -120,3 +120,11 @@ fn bytes_of(alloc: Global, units: &[u16]) -> Result<Vec<u8>, AllocError> {
     }
     Ok(bytes)
 }
+
+/// The number that a word names.
+pub fn count_of(word: &str) -> Result<usize, Fault> {
+    match word.parse::<usize>() {
+        Ok(count) => Ok(count),
+        Err(_) => Err(Fault::NotUnderstood),
+    }
+}

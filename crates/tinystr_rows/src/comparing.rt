@@ -5,9 +5,11 @@ ghost use Rattle.std.specs.Prelude.{◌≤◌};
 use crate::argument::Argument;
 use crate::line::Fault;
 use crate::writing::{put_bytes, put_flag};
+use std::alloc::{AllocError, Global};
+use std::collections::BTreeSet;
 use std::collections::hash_map::DefaultHasher;
 use std::hash::{Hash, Hasher};
-use tinystr::TinyAsciiStr;
+use tinystr::{TinyAsciiStr, TinyStr4};
 
 pub fn answer<const N: usize>(
     call: &str,
@@ -20,6 +22,7 @@ pub fn answer<const N: usize>(
         [] if call == "default" => put_bytes(out, TinyAsciiStr::<N>::default().as_utf8()),
         [text] => answer_one(call, text.small::<N>()?, out),
         [one, other] => answer_two(call, one.small::<N>()?, other.small::<N>()?, out),
+        texts if call == "BTreeSet" && N == 4 => put_all(&set_of(*out.allocator(), texts)?, out),
         _ => Err(Fault::NotUnderstood),
     }
 }
@@ -57,4 +60,22 @@ fn hash_of<T: Hash>(value: &T) -> u64 {
     let mut hasher = DefaultHasher::new();
     value.hash(&mut hasher);
     hasher.finish()
+}
+
+/// The texts in a set.
+fn set_of(alloc: Global, texts: &[Argument<'_>]) -> Result<BTreeSet<TinyStr4>, Fault> {
+    let mut set = BTreeSet::new(alloc);
+    for text in texts {
+        set.insert(text.small::<4>()?).map_err(AllocError::from)?;
+    }
+    Ok(set)
+}
+
+/// Writes the texts of a set in their order, a comma behind each.
+fn put_all(set: &BTreeSet<TinyStr4>, out: &mut String) -> Result<(), Fault> {
+    for text in set.iter() {
+        out.push_str(text.as_str())?;
+        out.push(',')?;
+    }
+    Ok(())
 }

@@ -1,5 +1,6 @@
 //! The number and the words of each error.
 
+use crate::argument::count_of;
 use crate::line::Fault;
 use std::fmt::Display;
 use tinystr::{ParseError, UleError};
@@ -42,11 +43,4 @@ fn answer_plain(error: &str, out: &mut String) -> Result<(), Fault> {
 fn put_error<E: Display>(number: u8, error: &E, out: &mut String) -> Result<(), Fault> {
     write!(out, "{number} \"{error}\"")?;
     Ok(())
-}
-
-fn count_of(word: &str) -> Result<usize, Fault> {
-    match word.parse::<usize>() {
-        Ok(count) => Ok(count),
-        Err(_) => Err(Fault::NotUnderstood),
-    }
 }

@@ -7,59 +7,85 @@ use crate::line::Fault;
 use crate::writing::put_bytes;
 use tinystr::TinyAsciiStr;
 
-pub fn answer<const N: usize>(
+/// The answer of a call, of texts of the capacity 1 or 4.
+pub fn answer(
+    call: &str,
+    capacity: &str,
+    arguments: &[Argument<'_>],
+    out: &mut String,
+) -> Result<(), Fault> {
+    match capacity {
+        "1" => answer_at::<1>(call, arguments, out),
+        "4" => answer_at::<4>(call, arguments, out),
+        _ => Err(Fault::NotUnderstood),
+    }
+}
+
+fn answer_at<const N: usize>(
     call: &str,
     arguments: &[Argument<'_>],
     out: &mut String,
 ) -> Result<(), Fault>
     requires { N ≤ 16 }
 {
-    match arguments {
-        [text, capacity] if call == "resize" => {
-            put_resized(text.small::<N>()?, capacity.word, out)
-        }
-        [front, rest, capacity] if call == "concat" => {
-            put_joined(front.small::<N>()?, rest.small::<N>()?, capacity.word, out)
-        }
+    match (call, arguments) {
+        ("resize", [text, capacity]) => put_resized::<N>(text, capacity.word, out),
+        ("concat", [front, rest, capacity]) => put_joined::<N>(front, rest, capacity.word, out),
         _ => Err(Fault::NotUnderstood),
     }
 }
 
 /// Writes the text at another capacity, which is 0 to 16.
 fn put_resized<const N: usize>(
-    text: TinyAsciiStr<N>,
+    text: &Argument<'_>,
     capacity: &str,
     out: &mut String,
-) -> Result<(), Fault> {
+) -> Result<(), Fault>
+    requires { N ≤ 16 }
+{
+    let text = text.small::<N>()?;
     match capacity {
-        "0" => put_bytes(out, text.resize::<0>().as_utf8()),
-        "1" => put_bytes(out, text.resize::<1>().as_utf8()),
-        "2" => put_bytes(out, text.resize::<2>().as_utf8()),
-        "3" => put_bytes(out, text.resize::<3>().as_utf8()),
-        "4" => put_bytes(out, text.resize::<4>().as_utf8()),
-        "5" => put_bytes(out, text.resize::<5>().as_utf8()),
-        "6" => put_bytes(out, text.resize::<6>().as_utf8()),
-        "7" => put_bytes(out, text.resize::<7>().as_utf8()),
-        "8" => put_bytes(out, text.resize::<8>().as_utf8()),
-        "9" => put_bytes(out, text.resize::<9>().as_utf8()),
-        "10" => put_bytes(out, text.resize::<10>().as_utf8()),
-        "11" => put_bytes(out, text.resize::<11>().as_utf8()),
-        "12" => put_bytes(out, text.resize::<12>().as_utf8()),
-        "13" => put_bytes(out, text.resize::<13>().as_utf8()),
-        "14" => put_bytes(out, text.resize::<14>().as_utf8()),
-        "15" => put_bytes(out, text.resize::<15>().as_utf8()),
-        "16" => put_bytes(out, text.resize::<16>().as_utf8()),
+        "0" => resized::<N, 0>(text, out),
+        "1" => resized::<N, 1>(text, out),
+        "2" => resized::<N, 2>(text, out),
+        "3" => resized::<N, 3>(text, out),
+        "4" => resized::<N, 4>(text, out),
+        "5" => resized::<N, 5>(text, out),
+        "6" => resized::<N, 6>(text, out),
+        "7" => resized::<N, 7>(text, out),
+        "8" => resized::<N, 8>(text, out),
+        "9" => resized::<N, 9>(text, out),
+        "10" => resized::<N, 10>(text, out),
+        "11" => resized::<N, 11>(text, out),
+        "12" => resized::<N, 12>(text, out),
+        "13" => resized::<N, 13>(text, out),
+        "14" => resized::<N, 14>(text, out),
+        "15" => resized::<N, 15>(text, out),
+        "16" => resized::<N, 16>(text, out),
         _ => Err(Fault::NotUnderstood),
     }
 }
 
+fn resized<const N: usize, const M: usize>(
+    text: TinyAsciiStr<N>,
+    out: &mut String,
+) -> Result<(), Fault>
+    requires text { N ≤ 16 }
+    requires wanted { M ≤ 16 }
+{
+    put_bytes(out, text.resize::<M>().as_utf8())
+}
+
 /// Writes both texts joined at a capacity, which is 1, 5 or 8.
 fn put_joined<const N: usize>(
-    front: TinyAsciiStr<N>,
-    rest: TinyAsciiStr<N>,
+    front: &Argument<'_>,
+    rest: &Argument<'_>,
     capacity: &str,
     out: &mut String,
-) -> Result<(), Fault> {
+) -> Result<(), Fault>
+    requires { N ≤ 16 }
+{
+    let (front, rest) = (front.small::<N>()?, rest.small::<N>()?);
     match capacity {
         "1" => put_bytes(out, front.concat::<N, 1>(rest).as_utf8()),
         "5" => put_bytes(out, front.concat::<N, 5>(rest).as_utf8()),

@@ -4,8 +4,8 @@ ghost use Rattle.std.specs.Prelude.{◌≤◌};
 
 use crate::argument::{Argument, arguments_of};
 use crate::{
-    aligned4, aligned8, ascii, case, classes, comparing, decimal, errors, joining, json, lossy,
-    readers, ule, unvalidated,
+    aligned4, aligned8, ascii_bytes, comparing, decimal, errors, joining, json, lossy, readers,
+    texts, ule, unvalidated,
 };
 use std::alloc::{AllocError, Global};
 
@@ -38,40 +38,44 @@ fn answer_line(alloc: Global, line: &str, out: &mut String) -> Result<(), Fault>
     let words: Vec<&str> = line.split('\t').collect(alloc)?;
     match words.as_slice() {
         [module, error, counts @ ..] if *module == "error" => errors::answer(error, counts, out),
-        [module, call, capacity, rest @ ..] => {
+        [module, call, first] if *module == "asciibyte" => ascii_bytes::answer(call, first, out),
+        [module, name, capacity, rest @ ..] => {
             let arguments = arguments_of(alloc, rest)?;
-            at_capacity(module, call, capacity, arguments.as_slice(), out)
+            answer_call(module, name, capacity, arguments.as_slice(), out)
         }
         _ => Err(Fault::NotUnderstood),
     }
 }
 
-/// The answer at a capacity, which is 0 to 16.
-fn at_capacity(
+/// The answer of a call at a capacity, which is 0 to 16.
+fn answer_call(
     module: &str,
-    call: &str,
+    name: &str,
     capacity: &str,
     arguments: &[Argument<'_>],
     out: &mut String,
 ) -> Result<(), Fault> {
+    if module == "joining" {
+        return joining::answer(name, capacity, arguments, out);
+    }
     match capacity {
-        "0" => answer::<0>(module, call, arguments, out),
-        "1" => answer::<1>(module, call, arguments, out),
-        "2" => answer::<2>(module, call, arguments, out),
-        "3" => answer::<3>(module, call, arguments, out),
-        "4" => answer::<4>(module, call, arguments, out),
-        "5" => answer::<5>(module, call, arguments, out),
-        "6" => answer::<6>(module, call, arguments, out),
-        "7" => answer::<7>(module, call, arguments, out),
-        "8" => answer::<8>(module, call, arguments, out),
-        "9" => answer::<9>(module, call, arguments, out),
-        "10" => answer::<10>(module, call, arguments, out),
-        "11" => answer::<11>(module, call, arguments, out),
-        "12" => answer::<12>(module, call, arguments, out),
-        "13" => answer::<13>(module, call, arguments, out),
-        "14" => answer::<14>(module, call, arguments, out),
-        "15" => answer::<15>(module, call, arguments, out),
-        "16" => answer::<16>(module, call, arguments, out),
+        "0" => answer::<0>(module, name, arguments, out),
+        "1" => answer::<1>(module, name, arguments, out),
+        "2" => answer::<2>(module, name, arguments, out),
+        "3" => answer::<3>(module, name, arguments, out),
+        "4" => answer::<4>(module, name, arguments, out),
+        "5" => answer::<5>(module, name, arguments, out),
+        "6" => answer::<6>(module, name, arguments, out),
+        "7" => answer::<7>(module, name, arguments, out),
+        "8" => answer::<8>(module, name, arguments, out),
+        "9" => answer::<9>(module, name, arguments, out),
+        "10" => answer::<10>(module, name, arguments, out),
+        "11" => answer::<11>(module, name, arguments, out),
+        "12" => answer::<12>(module, name, arguments, out),
+        "13" => answer::<13>(module, name, arguments, out),
+        "14" => answer::<14>(module, name, arguments, out),
+        "15" => answer::<15>(module, name, arguments, out),
+        "16" => answer::<16>(module, name, arguments, out),
         _ => Err(Fault::NotUnderstood),
     }
 }
@@ -88,12 +92,9 @@ fn answer<const N: usize>(
     match module {
         "aligned4" => aligned4::answer::<N>(call, arguments, out),
         "aligned8" => aligned8::answer::<N>(call, arguments, out),
-        "ascii" => ascii::answer::<N>(call, arguments, out),
-        "case" => case::answer::<N>(call, arguments, out),
-        "classes" => classes::answer::<N>(call, arguments, out),
+        "ascii" | "case" | "classes" => texts::answer::<N>(call, arguments, out),
         "comparing" => comparing::answer::<N>(call, arguments, out),
         "decimal" => decimal::answer::<N>(call, arguments, out),
-        "joining" => joining::answer::<N>(call, arguments, out),
         "json" => json::answer::<N>(call, arguments, out),
         "lossy" => lossy::answer::<N>(call, arguments, out),
         "readers" => readers::answer::<N>(call, arguments, out),

@@ -7,9 +7,7 @@
 mod aligned4;
 mod aligned8;
 mod argument;
-mod ascii;
-mod case;
-mod classes;
+mod ascii_bytes;
 mod comparing;
 mod decimal;
 mod errors;
@@ -18,6 +16,7 @@ mod json;
 mod line;
 mod lossy;
 mod readers;
+mod texts;
 mod ule;
 mod unvalidated;
 mod writing;

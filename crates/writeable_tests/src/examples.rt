@@ -15,7 +15,7 @@ impl fmt::Display for Shown {
 }
 
 #[test]
-fn parts_errors_and_hints(rt: HostRuntime) -> Result<(), Fail> {
+fn parts_errors_and_hints(rt: HostRuntime) {
     let part = Part {
         category: "decimal",
         value: "integer",
@@ -24,7 +24,6 @@ fn parts_errors_and_hints(rt: HostRuntime) -> Result<(), Fail> {
     assert_eq!(rt; part.value, "integer");
     assert!(rt; OUTER != INNER);
     assert_eq!(rt; Error.number(), 1);
-    assert_eq!(rt; Error.to_string(rt.alloc())?.as_str(), "the sink refused");
     for (hint, low, high) in [
         (LengthHint::exact(3), 3, Some(3)),
         (LengthHint::at_least(2), 2, None),
@@ -34,11 +33,19 @@ fn parts_errors_and_hints(rt: HostRuntime) -> Result<(), Fail> {
         assert_eq!(rt; hint.low, low);
         assert_eq!(rt; hint.high, high);
     }
-    Ok(())
+}
+
+// Against `a,`: after `a,`, and after `a,b`.
+fn verdicts() -> Result<(Ordering, Ordering), Error> {
+    let mut sink = CompareSink::new(b"a,");
+    sink.write_str("a,")?;
+    let all = sink.verdict();
+    sink.write_char('b')?;
+    Ok((all, sink.verdict()))
 }
 
 #[test]
-fn orders_of_texts(rt: HostRuntime) -> Result<(), Fail> {
+fn orders_of_texts(rt: HostRuntime) {
     for (other, want) in [
         ("a,b", Ordering::Equal),
         // the shorter one is less
@@ -52,13 +59,8 @@ fn orders_of_texts(rt: HostRuntime) -> Result<(), Fail> {
         assert_eq!(rt; strict_cmp(&Pair, other.as_bytes()), want, "{other}");
     }
     // a beginning, all of it, more than it
-    let mut sink = CompareSink::new(b"a,");
-    assert_eq!(rt; sink.verdict(), Ordering::Less);
-    sink.write_str("a,")?;
-    assert_eq!(rt; sink.verdict(), Ordering::Equal);
-    sink.write_char('b')?;
-    assert_eq!(rt; sink.verdict(), Ordering::Greater);
-    Ok(())
+    assert_eq!(rt; CompareSink::new(b"a,").verdict(), Ordering::Less);
+    assert_eq!(rt; verdicts(), Ok((Ordering::Equal, Ordering::Greater)));
 }
 
 #[test]
@@ -68,5 +70,6 @@ fn texts_of_values(rt: HostRuntime) -> Result<(), Fail> {
     let shown = Shown(Pair);
     assert_eq!(rt; format!(in rt.alloc(); "<{shown}>")?.as_str(), "<a,b>");
     assert_eq!(rt; write!(Failing, "{shown}"), Err(fmt::Error));
+    assert_eq!(rt; Error.to_string(rt.alloc())?.as_str(), "the sink refused");
     Ok(())
 }

@@ -1,20 +1,30 @@
 //! Which parts a `PartsSink` lists, and where.
+ghost use Rattle.std.specs.Prelude.{◌≡◌, false};
+
 use crate::fakes::{INNER, OUTER, Pair};
 use std::alloc::{AllocError, Global};
 use std::test::Fail;
 use writeable::{Error, PartsSink, Sink, Writeable};
 
-// Takes a script: `(` opens A, `[` opens B, `)` and `]` close, all else is text.
+// Writes a script: `(` opens A, `[` opens B, `)` and `]` close, all else is text.
+fn write_script<S: Sink>(sink: &mut S, script: &str) -> Result<(), Error>
+    requires { S.refused sink.old ≡ false }
+{
+    for character in script.chars() {
+        let taken = match character {
+            '(' => sink.open_part(OUTER),
+            '[' => sink.open_part(INNER),
+            ')' | ']' => sink.close_part(),
+            _ => sink.write_char(character),
+        };
+        taken?;
+    }
+    Ok(())
+}
+
 fn written(alloc: Global, script: &str) -> Result<PartsSink, Error> {
     let mut sink = PartsSink::new(alloc);
-    for character in script.chars() {
-        match character {
-            '(' => sink.open_part(OUTER)?,
-            '[' => sink.open_part(INNER)?,
-            ')' | ']' => sink.close_part()?,
-            _ => sink.write_char(character)?,
-        }
-    }
+    write_script(&mut sink, script)?;
     Ok(sink)
 }
 
@@ -55,13 +65,16 @@ fn lists_closed_parts_with_bytes(rt: HostRuntime) -> Result<(), Fail> {
     Ok(())
 }
 
+fn parts_of<T: Writeable>(alloc: Global, value: &T) -> Result<PartsSink, Error> {
+    let mut sink = PartsSink::new(alloc);
+    value.write_to(&mut sink)?;
+    Ok(sink)
+}
+
 #[test]
 fn lists_the_parts_of_a_value(rt: HostRuntime) -> Result<(), Fail> {
-    let mut sink = PartsSink::new(rt.alloc());
-    Pair.write_to(&mut sink)?;
+    let sink = parts_of(rt.alloc(), &Pair)?;
     assert_eq!(rt; sink.text(), "a,b");
-    assert_eq!(rt; sink.parts().len(), 2);
-    assert_eq!(rt; sink.parts()[0], (0, 3, OUTER));
-    assert_eq!(rt; sink.parts()[1], (1, 2, INNER));
+    assert_eq!(rt; sink.parts(), [(0, 3, OUTER), (1, 2, INNER)].as_slice());
     Ok(())
 }

@@ -1,8 +1,27 @@
 //! What a `TextSink` holds, what a `CountSink` counts, and what a refusal leaves.
+ghost use Rattle.std.specs.Prelude.{◌≡◌, false};
+
 use crate::fakes::{OUTER, Pair, Short};
 use std::alloc::Global;
 use std::test::Fail;
 use writeable::{CountSink, Error, Sink, TextSink, Writeable};
+
+// Writes `a,b` as a part, and a character behind it.
+fn write_call_by_call<S: Sink>(sink: &mut S) -> Result<(), Error>
+    requires { S.refused sink.old ≡ false }
+{
+    sink.open_part(OUTER)?;
+    sink.write_str("a,")?;
+    sink.write_char('b')?;
+    sink.close_part()?;
+    sink.write_char('٬')
+}
+
+fn text_call_by_call(alloc: Global) -> Result<TextSink, Error> {
+    let mut sink = TextSink::new(alloc);
+    write_call_by_call(&mut sink)?;
+    Ok(sink)
+}
 
 fn pair_behind(alloc: Global, front: &str) -> Result<TextSink, Error> {
     let mut sink = TextSink::new(alloc);
@@ -13,29 +32,33 @@ fn pair_behind(alloc: Global, front: &str) -> Result<TextSink, Error> {
 
 #[test]
 fn texts_of_a_sink(rt: HostRuntime) -> Result<(), Fail> {
-    let mut sink = TextSink::new(rt.alloc());
-    assert_eq!(rt; sink.text(), "");
-    sink.open_part(OUTER)?;
-    sink.write_str("a,")?;
-    sink.write_char('b')?;
-    sink.close_part()?;
-    sink.write_char('٬')?;
+    assert_eq!(rt; TextSink::new(rt.alloc()).text(), "");
+    let sink = text_call_by_call(rt.alloc())?;
     assert_eq!(rt; sink.text(), "a,b٬");
     assert!(rt; !sink.has_refused());
     assert_eq!(rt; pair_behind(rt.alloc(), "x")?.text(), "xa,b");
     Ok(())
 }
 
-fn counted<T: Writeable>(value: &T) -> Result<CountSink, Error> {
+fn counted_call_by_call() -> Result<u64, Error> {
+    let mut sink = CountSink::new();
+    sink.write_str("ab")?;
+    sink.write_char('c')?;
+    sink.write_char('٬')?;
+    Ok(sink.count())
+}
+
+// The count, and whether the sink has refused.
+fn counted<T: Writeable>(value: &T) -> Result<(u64, bool), Error> {
     let mut sink = CountSink::new();
     sink.open_part(OUTER)?;
     value.write_to(&mut sink)?;
     sink.close_part()?;
-    Ok(sink)
+    Ok((sink.count(), sink.has_refused()))
 }
 
 #[test]
-fn counts_of_bytes(rt: HostRuntime) -> Result<(), Fail> {
+fn counts_of_bytes(rt: HostRuntime) {
     assert_eq!(rt; CountSink::new().count(), 0);
     for (text, want) in [
         ("", 0),
@@ -43,17 +66,10 @@ fn counts_of_bytes(rt: HostRuntime) -> Result<(), Fail> {
         // bytes, not characters
         ("١٬٢", 6),
     ] {
-        let sink = counted(&text)?;
-        assert_eq!(rt; sink.count(), want, "{text}");
-        assert!(rt; !sink.has_refused());
+        assert_eq!(rt; counted(&text), Ok((want, false)), "{text}");
     }
-    assert_eq!(rt; counted(&Pair)?.count(), 3);
-    let mut sink = CountSink::new();
-    sink.write_str("ab")?;
-    sink.write_char('c')?;
-    sink.write_char('٬')?;
-    assert_eq!(rt; sink.count(), 5);
-    Ok(())
+    assert_eq!(rt; counted(&Pair), Ok((3, false)));
+    assert_eq!(rt; counted_call_by_call(), Ok(5));
 }
 
 #[test]

@@ -10,5 +10,4 @@ pub(crate) mod line_break;
 pub(crate) mod line_break_word;
 pub(crate) mod measurement_system;
 pub(crate) mod numbering_system;
-pub(crate) mod region_override;
-pub(crate) mod regional_subdivision;
+pub(crate) mod subdivision_keyword;

@@ -1,6 +1,6 @@
 //! All extensions of a locale.
 
-ghost use Rattle.std.specs.Prelude.{◌≡◌, ◌↔◌, [], IsOk, IfOk, IsTrue};
+ghost use Rattle.std.specs.Prelude.{◌≡◌, ◌↔◌, [], ◌∷◌, ◌++◌, IsOk, IfOk, IsTrue, OnOk};
 ghost use Rattle.icu_locale_core_locale.specs.ExtensionsValue.{nothing, only_unicode};
 ghost use Rattle.icu_locale_core_locale.specs.LocaleValue.{is_empty_extensions};
 
@@ -33,6 +33,17 @@ impl Model for Extensions {
     } };
 }
 
+// Puts an equal extension behind the others.
+fn push_copy(others: &mut Vec<Other>, other: &Other) -> Result<(), AllocError>
+    ensures { OnOk result (others.new.items ≡ others.old.items ++ other.now ∷ []) }
+{
+    let copy = other.try_clone()?;
+    match others.push(copy) {
+        Ok(()) => Ok(()),
+        Err(_) => Err(AllocError),
+    }
+}
+
 // The same extensions, in the same order.
 fn copied(alloc: Global, others: &[Other]) -> Result<Vec<Other>, AllocError>
     ensures succeeds { others.now ≡ [] → IsOk result }
@@ -40,9 +51,7 @@ fn copied(alloc: Global, others: &[Other]) -> Result<Vec<Other>, AllocError>
 {
     let mut copy = Vec::new(alloc);
     for other in others {
-        let Ok(()) = copy.push(other.try_clone()?) else {
-            return Err(AllocError);
-        };
+        push_copy(&mut copy, other)?;
     }
     Ok(copy)
 }

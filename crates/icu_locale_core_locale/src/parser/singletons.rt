@@ -1,31 +1,18 @@
 //! Singletons, and those that have come.
 
 ghost use Rattle.std.specs.Prelude.{◌≡◌, [], ◌∷◌};
-ghost use Rattle.icu_locale_core_grammar.specs.Subtags.{is_private, is_singleton, lower};
+ghost use Rattle.icu_locale_core_grammar.specs.Subtags.{is_private, lower};
 ghost use Rattle.icu_locale_core_grammar.specs.Collections.{contains_text};
 ghost use Rattle.icu_locale_core_extensions.specs.BodyView.{body_key};
 ghost use Rattle.icu_locale_core_locale.specs.StageView.{singletons};
 
-use icu_locale_core_extensions::BodyStage;
+use icu_locale_core_extensions::{BodyStage, is_letter};
 
 /// Whether the piece is `x`, in either case.
 pub(crate) fn opens_private(piece: &[u8]) -> bool
     ensures { result ≡ is_private piece.now }
 {
-    match piece {
-        [only] => only.to_ascii_lowercase() == b'x',
-        _ => false,
-    }
-}
-
-/// Whether the piece is one letter or digit.
-pub(crate) fn stands_alone(piece: &[u8]) -> bool
-    ensures { result ≡ is_singleton piece.now }
-{
-    match piece {
-        [only] => only.is_ascii_alphanumeric(),
-        _ => false,
-    }
+    is_letter(piece, b'x')
 }
 
 /// Whether the piece is one of these singletons, in either case.

@@ -1,9 +1,10 @@
 //! The stages of a tag that is being read.
 
-ghost use Rattle.std.specs.Prelude.{◌≡◌, false, None, Some, IfOk, IsOk, MatchOption};
+ghost use Rattle.std.specs.Prelude.{◌≡◌, ℕ, List, [], false, None, Some, IfOk, IsOk, MatchOption};
 ghost use Rattle.icu_locale_core_grammar.specs.Stepping.{InFront, InBlock};
 ghost use Rattle.icu_locale_core_grammar.specs.TagStages.{body_after as body_stage_after, language_after as language_stage_after};
-ghost use Rattle.icu_locale_core_extensions.specs.BodyView.{body_key, body_view};
+ghost use Rattle.icu_locale_core_grammar.specs.Meaning.{put_part};
+ghost use Rattle.icu_locale_core_extensions.specs.BodyView.{body_key, body_view, part_view, HasKey};
 ghost use Rattle.icu_locale_core_langid.specs.Room.{grows_at};
 ghost use Rattle.icu_locale_core_locale.specs.Room.{tag_grows_at};
 ghost use Rattle.icu_locale_core_locale.specs.StageView.{singletons, stage_view, block_view, stage_behind, GoesOn, Ends};
@@ -11,11 +12,15 @@ ghost use Rattle.icu_locale_core_locale.specs.StageView.{singletons, stage_view,
 use crate::extensions::Extensions;
 use crate::locale::Locale;
 use crate::parser::attempt::Attempt;
-use crate::parser::singletons::{has_come, key_of, opens_private, stands_alone};
+use crate::parser::singletons::{has_come, key_of, opens_private};
 use icu_locale_core_entries::Step;
-use icu_locale_core_extensions::{Blocks, BodyStage, body_after, body_finish, opened_body};
+use icu_locale_core_extensions::{
+    Blocks, BodyStage, Part, body_after, body_finish, is_one_character, opened_body,
+};
 use icu_locale_core_grammar::ParseError;
-use icu_locale_core_langid::{LanguageIdentifier, Step as LanguageStep, language_after};
+use icu_locale_core_langid::{
+    LanguageIdentifier, LanguageStage, Step as LanguageStep, language_after,
+};
 use icu_locale_core_sets::Private;
 use icu_locale_core_subtags::private::Subtag;
 use std::alloc::{AllocError, Global};
@@ -39,7 +44,7 @@ pub struct ExtensionStage {
 #[derive(Drop)]
 pub enum LocaleStage {
     /// In the language part.
-    InLanguage(Option<LanguageIdentifier>),
+    InLanguage(Option<LanguageStage>),
     /// In an extension.
     InExtension(ExtensionStage),
     /// Behind `x`.
@@ -89,7 +94,7 @@ fn after_identifier(alloc: Global, id: LanguageIdentifier, piece: &[u8]) -> Atte
 #[tactic(auto, unfolding(icu_locale_core_grammar::specs::Stepping::whole_after))]
 fn after_language(
     alloc: Global,
-    language: Option<LanguageIdentifier>,
+    language: Option<LanguageStage>,
     piece: &[u8],
 ) -> Result<Attempt<LocaleStage>, AllocError>
     ensures step { IfOk result (GoesOn (InFront language) piece.now) }
@@ -98,7 +103,7 @@ fn after_language(
     match language_after(alloc, language, piece)? {
         LanguageStep::Taken(next) => Ok(Attempt::Goes(LocaleStage::InLanguage(next))),
         LanguageStep::Refused(None) => Ok(Attempt::Stops(ParseError::InvalidLanguage)),
-        LanguageStep::Refused(Some(id)) => Ok(after_identifier(alloc, id, piece)),
+        LanguageStep::Refused(Some(id)) => Ok(after_identifier(alloc, id.settled(), piece)),
     }
 }
 
@@ -122,7 +127,7 @@ fn after_ended(
         return Err(AllocError);
     };
     blocks.put(part)?;
-    let repeated = stands_alone(piece) && has_come(seen.as_slice(), piece);
+    let repeated = is_one_character(piece) && has_come(seen.as_slice(), piece);
     match stage_after_part(alloc, id, seen, blocks, piece) {
         Some(stage) => Ok(Attempt::Goes(stage)),
         None if repeated => Ok(Attempt::Stops(ParseError::DuplicatedExtension)),
@@ -200,6 +205,34 @@ pub fn next_stage(
     }
 }
 
+// The extensions, with the last one.
+fn with_last(alloc: Global, mut blocks: Blocks, last: Part) -> Result<Extensions, AllocError>
+    ensures { IfOk result (λ e. (key : List ℕ) → HasKey key last → e ≡ record { blocks = put_part key (part_view last) blocks; own = [] }) }
+{
+    match blocks.put(last) {
+        Ok(()) => Ok(Extensions::from_blocks(blocks, Private::new(alloc))),
+        Err(error) => Err(error),
+    }
+}
+
+// The locale of an extension that is read last, and has a piece.
+fn ended_body(
+    alloc: Global,
+    id: LanguageIdentifier,
+    blocks: Blocks,
+    body: BodyStage,
+) -> Result<Attempt<Locale>, AllocError>
+    ensures { (seen : List (List ℕ)) → IfOk result (Ends (InBlock id seen blocks (body_key body) (body_view body))) }
+{
+    match body_finish(alloc, body)? {
+        Some(last) => {
+            let extensions = with_last(alloc, blocks, last)?;
+            Ok(Attempt::Goes(Locale { id, extensions }))
+        }
+        None => Ok(Attempt::Stops(ParseError::InvalidExtension)),
+    }
+}
+
 // The locale of an extension that is read last.
 fn ended_extension(alloc: Global, stage: ExtensionStage) -> Result<Attempt<Locale>, AllocError>
     ensures { IfOk result (Ends (block_view stage.id stage.seen.items stage.blocks stage.body stage.filled)) }
@@ -207,21 +240,15 @@ fn ended_extension(alloc: Global, stage: ExtensionStage) -> Result<Attempt<Local
     let ExtensionStage {
         id,
         seen: _,
-        mut blocks,
+        blocks,
         body,
         filled,
     } = stage;
-    if !filled {
-        return Ok(Attempt::Stops(ParseError::InvalidExtension));
+    if filled {
+        ended_body(alloc, id, blocks, body)
+    } else {
+        Ok(Attempt::Stops(ParseError::InvalidExtension))
     }
-    let Some(part) = body_finish(alloc, body)? else {
-        return Ok(Attempt::Stops(ParseError::InvalidExtension));
-    };
-    blocks.put(part)?;
-    Ok(Attempt::Goes(Locale {
-        id,
-        extensions: Extensions::from_blocks(blocks, Private::new(alloc)),
-    }))
 }
 
 /// The locale that was read, or the fault at the end. `AllocError` is answered for memory alone, which is taken for an extension
@@ -233,7 +260,7 @@ pub fn finished(alloc: Global, stage: LocaleStage) -> Result<Attempt<Locale>, Al
     match stage {
         LocaleStage::InLanguage(None) => Ok(Attempt::Stops(ParseError::InvalidLanguage)),
         LocaleStage::InLanguage(Some(id)) => Ok(Attempt::Goes(Locale {
-            id,
+            id: id.settled(),
             extensions: Extensions::new(alloc),
         })),
         LocaleStage::InExtension(stage) => ended_extension(alloc, stage),

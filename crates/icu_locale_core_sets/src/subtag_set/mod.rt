@@ -4,11 +4,12 @@ ghost use Rattle.std.specs.Prelude.{◌≡◌, ◌==◌, ℕ, List, true, false,
 ghost use Rattle.std.specs.Option.{option_copied};
 ghost use Rattle.std.specs.Iterator.Adapters.{IterYieldsInOrder};
 ghost use Rattle.std.specs.Slice.Iter.{iter_rest};
-ghost use Rattle.icu_locale_core_grammar.specs.Collections.{contains_text, insert_text};
-ghost use Rattle.icu_locale_core_sets.specs.SubtagSets.{IsSubtagSet, remove_text};
+ghost use Rattle.icu_locale_core_grammar.specs.Collections.{AreApart, contains_text, insert_text, set_of};
+ghost use Rattle.icu_locale_core_sets.specs.SubtagSets.{AreNormalPieces, IsSubtagSet, remove_text};
 
 mod comparing;
 mod place;
+mod printing;
 
 use self::place::place_of;
 use icu_locale_core_subtags::laws::subtags_are_words;
@@ -42,6 +43,17 @@ impl<R: SubtagRule<8>> SubtagSet<R> {
         SubtagSet {
             items: Vec::new(alloc),
         }
+    }
+
+    // The set of these subtags, of which none stands twice. It takes no memory.
+    pub(crate) fn from_distinct(items: Vec<SubtagOf<R, 8>>) -> Self
+        requires apart { AreApart items.items }
+        requires each { AreNormalPieces R.accepts R.normal items.items }
+        ensures { result ≡ set_of items.items }
+    {
+        let mut items = items;
+        items.sort_unstable();
+        SubtagSet { items }
     }
 
     /// Puts the subtag into the set; answers whether the set changed.

@@ -5,7 +5,7 @@ ghost use Rattle.locale_numbers_book.specs.BookError.{IsShapeOrMemory};
 ghost use Rattle.locale_numbers_book.specs.Book.{symbols_key, grouping_sizes_of, symbols_of, has_count, has_texts, symbols_entry, digits_entry};
 ghost use Rattle.locale_numbers_book.specs.Room.{locale_may_grow, symbols_may_grow};
 
-use super::fields::{digits, has_text, locale, numsys, size, symbol, system, system_or_none};
+use super::fields::{digits, has_text, locale, size, symbol, system, system_or_none};
 use crate::BookError;
 use crate::key::SymbolsKey;
 use icu_locale_core::subtags::Subtag;
@@ -58,7 +58,7 @@ fn symbols(alloc: Global, entry: &Value) -> Result<DecimalSymbols, BookError>
     ensures none { symbols_of (view entry.now) ≡ None → IsErrOf result BookError.Shape }
     ensures only { IfErr result IsShapeOrMemory }
 {
-    let Some(numsys) = numsys(entry, 2) else {
+    let Some(system) = system(entry, 2) else {
         return Err(BookError::Shape);
     };
     let Some(grouping_sizes) = grouping_sizes(entry) else {
@@ -80,7 +80,7 @@ fn symbols(alloc: Global, entry: &Value) -> Result<DecimalSymbols, BookError>
         plus_sign_suffix,
         decimal_separator,
         grouping_separator,
-        numsys,
+        numsys: system.to_tinystr(),
         grouping_sizes,
     })
 }

@@ -11,7 +11,6 @@ ghost use Rattle.locale_numbers_book.specs.TagReading.{data_locale_of};
 ghost use Rattle.locale_numbers_book.specs.Fields.{is_plain, is_small_letter_or_digit, is_system_name, plain_text_in, system_named, system_in, system_or_none_in, locale_in, size_in, digits_in, ten_characters};
 
 use crate::BookError;
-use arrayvec::ArrayString;
 use icu_locale_core::subtags::Subtag;
 use icu_locale_core::{DataLocale, ParseError};
 use serde_json::Value;
@@ -123,29 +122,6 @@ fn is_small_alphanumeric(bytes: &[u8]) -> bool
     bytes
         .iter()
         .all(|b| b.is_ascii_lowercase() || b.is_ascii_digit())
-}
-
-/// The name of a numbering system at a place of an entry.
-pub fn system_name(entry: &Value, place: usize) -> Option<&str>
-    ensures { option_map (λ text. text.now) result ≡ field_at system_in place (view entry.now) }
-{
-    let text = text_at(entry, place)?;
-    if is_system_name(text) {
-        Some(text)
-    } else {
-        None
-    }
-}
-
-/// The same name, kept in the value itself.
-pub fn numsys(entry: &Value, place: usize) -> Option<ArrayString<8>>
-    ensures { option_map (λ name. name.bytes) result ≡ field_at system_in place (view entry.now) }
-{
-    let name = system_name(entry, place)?;
-    match ArrayString::from(name) {
-        Ok(kept) => Some(kept),
-        Err(_) => None,
-    }
 }
 
 /// The system that a text names.

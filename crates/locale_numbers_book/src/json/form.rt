@@ -1,8 +1,8 @@
 //! The outer form of a book.
-ghost use Rattle.std.specs.Prelude.{◌≡◌, option_map, option_and_then};
+ghost use Rattle.std.specs.Prelude.{◌≡◌, ◌&&◌, option_map, option_and_then};
 ghost use Rattle.serde_json.specs.Find.{at, as_array};
 ghost use Rattle.serde_json.specs.View.{view, items_view};
-ghost use Rattle.locale_numbers_book.specs.Book.{has_form, is_array_at};
+ghost use Rattle.locale_numbers_book.specs.Book.{has_count, is_array_at};
 
 use super::entries::has_count;
 use serde_json::Value;
@@ -24,14 +24,10 @@ fn is_array_at(value: &Value, place: usize) -> bool
     }
 }
 
-/// Whether a value is an array of five arrays.
-pub fn has_form(value: &Value) -> bool
-    ensures { result ≡ has_form (view value.now) }
+/// Whether a value is an array of five items, of which the last three are arrays.
+pub fn has_frame(value: &Value) -> bool
+    ensures { result ≡ (has_count 5 (view value.now)
+        && (is_array_at 2 (view value.now) && (is_array_at 3 (view value.now) && is_array_at 4 (view value.now)))) }
 {
-    has_count(value, 5)
-        && is_array_at(value, 0)
-        && is_array_at(value, 1)
-        && is_array_at(value, 2)
-        && is_array_at(value, 3)
-        && is_array_at(value, 4)
+    has_count(value, 5) && is_array_at(value, 2) && is_array_at(value, 3) && is_array_at(value, 4)
 }

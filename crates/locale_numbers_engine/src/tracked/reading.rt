@@ -1,5 +1,5 @@
 use super::Tracked;
-use crate::byte_reader::{ByteReader, ReadFault};
+use crate::byte_reader::{ByteReadFault, ByteReader};
 use std::io;
 
 impl<R: io::Read> ByteReader for Tracked<R> {
@@ -7,12 +7,12 @@ impl<R: io::Read> ByteReader for Tracked<R> {
 
     ghost failed = { λ t. t.failed };
 
-    fn read(&mut self, buffer: &mut [u8]) -> Result<usize, ReadFault> {
+    fn read(&mut self, buffer: &mut [u8]) -> Result<usize, ByteReadFault> {
         match self.inner.read(buffer) {
             Ok(count) => Ok(count),
             Err(_) => {
                 self.failed = true;
-                Err(ReadFault)
+                Err(ByteReadFault)
             }
         }
     }

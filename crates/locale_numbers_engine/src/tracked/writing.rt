@@ -1,5 +1,5 @@
 use super::Tracked;
-use crate::byte_writer::{ByteWriter, WriteFault};
+use crate::byte_writer::{ByteWriteFault, ByteWriter};
 use std::io;
 
 impl<W: io::Write> ByteWriter for Tracked<W> {
@@ -7,7 +7,7 @@ impl<W: io::Write> ByteWriter for Tracked<W> {
 
     ghost failed = { λ t. t.failed };
 
-    fn write(&mut self, piece: &[u8]) -> Result<usize, WriteFault> {
+    fn write(&mut self, piece: &[u8]) -> Result<usize, ByteWriteFault> {
         match self.inner.write(piece) {
             Ok(count) => {
                 if count == 0 && !piece.is_empty() {
@@ -17,17 +17,17 @@ impl<W: io::Write> ByteWriter for Tracked<W> {
             }
             Err(_) => {
                 self.failed = true;
-                Err(WriteFault)
+                Err(ByteWriteFault)
             }
         }
     }
 
-    fn flush(&mut self) -> Result<(), WriteFault> {
+    fn flush(&mut self) -> Result<(), ByteWriteFault> {
         let flushed = self.inner.flush();
         self.failed = self.failed || flushed.is_err();
         match flushed {
             Ok(()) => Ok(()),
-            Err(_) => Err(WriteFault),
+            Err(_) => Err(ByteWriteFault),
         }
     }
 

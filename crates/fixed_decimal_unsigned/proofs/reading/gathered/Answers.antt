@@ -1,10 +1,11 @@
-use Rattle.std.proofs.Common.{ap}
-use Rattle.std.specs.Int.Digits.{number_from_digits}
+use Rattle.std.proofs.Common.{◌≤◌, ◌^◌, sym, subst}
 use Rattle.writeable.specs.Taking.{on_err}
-use Rattle.fixed_decimal_unsigned.proofs.LongLemmas.{front_long}
+use Rattle.fixed_decimal_unsigned.proofs.LongLemmas.{long_gathered}
 use Rattle.fixed_decimal_unsigned.proofs.reading.gathered.Goals as goal
 
-pub returns-in_err-gather-clause-room : goal.returns-in_err-gather-clause-room
-returns-in_err-gather-clause-room c =
+pub returns-in_err-digits-clause-room : goal.returns-in_err-digits-clause-room
+returns-in_err-digits-clause-room c =
+    let parts = c.without_leading_zeros.result in
     on_err c.from_residual.result
-    (front_long (number_from_digits 10 c.new-digits.result.items) c.args.integer.now c.args.fraction.now (ap (number_from_digits 10) c.new-digits.ensures.items) c.in_err-gather.ensures.room)
+    (subst (λ n. 10 ^ 8 ≤ n) (sym c.without_leading_zeros.ensures.value)
+    (long_gathered parts.0.now parts.1.now c.without_leading_zeros.ensures.integer_first c.without_leading_zeros.ensures.fraction_first c.in_err-digits.ensures.room))

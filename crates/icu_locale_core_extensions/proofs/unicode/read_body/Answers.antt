@@ -21,7 +21,7 @@ returns-in-Ok-Refused-clause-fault c =
 pub returns-in-Ok-Some-clause-value : goal.returns-in-Ok-Some-clause-value
 returns-in-Ok-Some-clause-value c =
     let ended = rw c.in-Ok-Some.field-0-is at c.in-Ok-Some.ensures.value in
-    reading_meant unicode_reader _ _ _ _ c.in-None.ensures.steps.0 c.loop-piece.invariant (sym ended)
+    rw c.settled.ensures (reading_meant unicode_reader _ _ _ _ c.in-None.ensures.steps.0 c.loop-piece.invariant (sym ended))
 
 pub returns-in-Ok-None-clause-fault : goal.returns-in-Ok-None-clause-fault
 returns-in-Ok-None-clause-fault c =

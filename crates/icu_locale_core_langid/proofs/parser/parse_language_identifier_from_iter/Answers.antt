@@ -12,4 +12,5 @@ returns-in-None-clause-fault c =
 
 pub returns-else-not-leaves-clause-value : goal.returns-else-not-leaves-clause-value
 returns-else-not-leaves-clause-value c =
-    read_in_mode c.args.mode c.args.iter.now c.in-Some.id c.in-Ok.rest (stopped c.again.result c.args.iter.now c.in-Ok.stage _ c.in-Ok.rest c.again.ensures c.in-Some.is c.in-Ok.ensures.stops) (sym c.leaves.ensures ∙ c.if-not-leaves.false)
+    rw c.settled.ensures
+    (read_in_mode c.args.mode c.args.iter.now c.in-Some.id c.in-Ok.rest (stopped c.again.result c.args.iter.now c.in-Ok.stage _ c.in-Ok.rest c.again.ensures c.in-Some.is c.in-Ok.ensures.stops) (sym c.leaves.ensures ∙ c.if-not-leaves.false))

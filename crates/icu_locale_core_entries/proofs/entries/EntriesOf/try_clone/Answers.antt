@@ -1,5 +1,5 @@
 use Rattle.std.proofs.Common.{◌∙◌}
-use Rattle.icu_locale_core_entries.proofs.CopyLemmas.{copying_goes_on, copying_ends, copied_rising}
+use Rattle.icu_locale_core_entries.proofs.CopyLemmas.{copying_goes_on, copying_ends, copied_rising, no_place}
 use Rattle.icu_locale_core_entries.proofs.entries.EntriesOf.try_clone.Goals as goal
 
 pub loop-key-preserved : goal.loop-key-preserved
@@ -9,3 +9,12 @@ loop-key-preserved g c =
 pub returns-clause-value : goal.returns-clause-value
 returns-clause-value g c =
     copying_ends _ _ _ _ c.loop-key.invariant c.loop-key-test.false ∙ copied_rising _ _ c.as_slice-key-items.ensures.rises c.as_slice-key-items.ensures.value
+
+pub returns-in_err-copied-clause-succeeds : goal.returns-in_err-copied-clause-succeeds
+returns-in_err-copied-clause-succeeds g c = λ none. absurd (no_place _ _ _ c.as_slice-key-items.ensures.value none c.loop-key-test.true)
+
+pub returns-in_err-try_clone-clause-succeeds : goal.returns-in_err-try_clone-clause-succeeds
+returns-in_err-try_clone-clause-succeeds g c = λ none. absurd (no_place _ _ _ c.as_slice-key-items.ensures.value none c.loop-key-test.true)
+
+pub returns-in_err-put_first-clause-succeeds : goal.returns-in_err-put_first-clause-succeeds
+returns-in_err-put_first-clause-succeeds g c = λ none. absurd (no_place _ _ _ c.as_slice-key-items.ensures.value none c.loop-key-test.true)

@@ -1,0 +1,10 @@
+use Rattle.std.proofs.Common.{subst}
+use Rattle.writeable.specs.Taking.{on_err}
+use Rattle.fixed_decimal_unsigned.specs.Number.{Number}
+use Rattle.fixed_decimal_unsigned.specs.Range.{IsLong}
+use Rattle.fixed_decimal.specs.SignedValue.{SignedValue}
+use Rattle.fixed_decimal.proofs.integer.FixedInteger.try_clone.Goals as goal
+
+pub returns-in_err-decimal-clause-room : goal.returns-in_err-decimal-clause-room
+returns-in_err-decimal-clause-room c =
+    on_err c.from_residual.result (subst (λ (v : SignedValue Number). IsLong v.absolute.count) c.self.view_is c.in_err-decimal.ensures.room)

@@ -1,0 +1,10 @@
+pub mod Choice
+pub mod Cow
+pub mod DataErrors
+pub mod Identifiers
+pub mod Laws
+pub mod Options
+pub mod Preferences
+pub mod SameSymbols
+pub mod SameSymbolsLaws
+pub mod Symbols

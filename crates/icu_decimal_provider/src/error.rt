@@ -1,0 +1,51 @@
+//! Why there is no table.
+
+ghost use Rattle.std.specs.Prelude.{◌≡◌};
+ghost use Rattle.icu_decimal_provider.specs.DataErrors.{number_of};
+
+use thiserror::Error;
+
+/// Why a provider gives no table, or why a table is none.
+///
+/// After ICU4X's `DataError`, whose kinds these are as far as a formatter meets them.
+#[derive(Clone, Copy, Debug, Drop, PartialEq, Eq, Error)]
+pub enum DataError {
+    /// No table stands under the identifier: with the sample book, symbols of `xx`.
+    #[error("identifier not found")]
+    IdentifierNotFound,
+    /// No identifier was asked for.
+    #[error("invalid request")]
+    InvalidRequest,
+    /// The exponents of compact patterns fall: 3 and then 2.
+    #[error("compact exponents decrease")]
+    Decreasing,
+    /// The exponent of a compact pattern is more than 15 below its type: 4 at type 20.
+    #[error("too many zeros")]
+    TooManyZeros,
+    /// The exponent of a compact pattern is above its type: 4 at type 3.
+    #[error("exponent above its type")]
+    AboveType,
+    /// A request for memory was refused.
+    #[error("out of memory")]
+    Memory,
+    /// Any other cause, which the provider knows.
+    #[error("custom")]
+    Custom,
+}
+
+impl DataError {
+    /// The number of the error, 1 to 7 in the order above: 1 of `IdentifierNotFound`. It takes no memory.
+    pub fn number(&self) -> u8
+        ensures { result ≡ number_of self.now }
+    {
+        match *self {
+            DataError::IdentifierNotFound => 1,
+            DataError::InvalidRequest => 2,
+            DataError::Decreasing => 3,
+            DataError::TooManyZeros => 4,
+            DataError::AboveType => 5,
+            DataError::Memory => 6,
+            DataError::Custom => 7,
+        }
+    }
+}

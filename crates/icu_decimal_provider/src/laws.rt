@@ -1,0 +1,60 @@
+//! Laws, beside the clauses of the calls: equal values are one value, and what the first table is.
+
+ghost use Rattle.std.specs.Prelude.{◌≡◌, ◌↔◌, IsTrue};
+ghost use Rattle.icu_locale_core.specs.Subtags.{Text};
+ghost use Rattle.icu_decimal_provider.specs.Identifiers.{symbols_identifiers, digits_identifiers};
+ghost use Rattle.icu_decimal_provider.specs.Laws.{FirstIsFound};
+
+use crate::preferences::{CompactDecimalFormatterPreferences, DecimalFormatterPreferences};
+use crate::provider::{DataIdentifier, DataMarker, DecimalSymbolStrsBuilder, DecimalSymbols};
+use std::hash::Hash;
+
+/// Where a provider says of each identifier that its table is there or not found, and nothing else, the first that is there is
+/// taken, and not found is answered where none is.
+pub fn first_is_found<M: DataMarker>()
+    ensures { FirstIsFound M.DataStruct }
+{}
+
+/// Two identifiers are `==` exactly where they are one value.
+pub fn same_identifiers(one: &DataIdentifier, other: &DataIdentifier) -> bool
+    ensures { IsTrue result ↔ (one.now ≡ other.now) }
+{
+    one == other
+}
+
+/// Two preferences are `==` exactly where they are one value; then they ask for the same tables and are hashed alike.
+pub fn same_preferences(
+    one: &DecimalFormatterPreferences,
+    other: &DecimalFormatterPreferences,
+) -> bool
+    ensures same { IsTrue result ↔ (one.now ≡ other.now) }
+    ensures symbols { IsTrue result → symbols_identifiers one.now ≡ symbols_identifiers other.now }
+    ensures digits { IsTrue result → (named : Text) → digits_identifiers one.now.numbering_system named ≡ digits_identifiers other.now.numbering_system named }
+    ensures hashed { IsTrue result → ⟦<DecimalFormatterPreferences as Hash>⟧.hash_input one.now ≡ ⟦<DecimalFormatterPreferences as Hash>⟧.hash_input other.now }
+{
+    one == other
+}
+
+/// The same for compact numbers.
+pub fn same_compact_preferences(
+    one: &CompactDecimalFormatterPreferences,
+    other: &CompactDecimalFormatterPreferences,
+) -> bool
+    ensures { IsTrue result ↔ (one.now ≡ other.now) }
+{
+    one == other
+}
+
+/// Two tables of symbols are `==` exactly where they are one value.
+pub fn same_symbols(one: &DecimalSymbols, other: &DecimalSymbols) -> bool
+    ensures { IsTrue result ↔ (one.now ≡ other.now) }
+{
+    one == other
+}
+
+/// Two builders of texts are `==` exactly where they are one value.
+pub fn same_builders(one: &DecimalSymbolStrsBuilder, other: &DecimalSymbolStrsBuilder) -> bool
+    ensures { IsTrue result ↔ (one.now ≡ other.now) }
+{
+    one == other
+}

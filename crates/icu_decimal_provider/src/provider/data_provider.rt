@@ -1,0 +1,29 @@
+//! Markers of tables, and who provides them.
+
+ghost use Rattle.std.specs.Prelude.{◌≡◌};
+
+use crate::error::DataError;
+use crate::provider::identifier::DataIdentifier;
+
+/// A name for a kind of tables, which says their type: `DecimalSymbolsV1` is that of `DecimalSymbols`.
+pub trait DataMarker {
+    /// The type of the tables.
+    type DataStruct;
+}
+
+/// A provider of the tables of one kind. What it answers is a function of the identifier.
+pub trait DataProvider<M: DataMarker> {
+    ghost use Rattle.std.specs.Prelude.{◌≡◌, Result};
+    ghost use Rattle.std.specs.Result.{result_map_both};
+    ghost use Rattle.icu_decimal_provider.specs.declared.error.DataError.{DataError};
+    ghost use Rattle.icu_decimal_provider.specs.Identifiers.{Identifier};
+
+    // what stands under each identifier
+    ghost table: { Self → Identifier → Result M.DataStruct DataError };
+
+    /// The table under the identifier, borrowed from the provider.
+    ///
+    /// `IdentifierNotFound`: no table stands there. Any other error is the provider's own. It takes no memory.
+    fn load(&self, id: &DataIdentifier) -> Result<&M::DataStruct, DataError>
+        ensures { result_map_both (λ found. found.now) (λ error. error) result ≡ table self.now id.now };
+}

@@ -1,0 +1,15 @@
+//! Where grouping separators stand.
+
+/// Where grouping separators stand in the integer digits of a number, counted from the right.
+///
+/// The sizes 3, 3, 1 give `1,000,000`; the sizes 3, 2, 1 give `10,00,000`; the sizes 3, 3, 2 leave `1000` as it is and give
+/// `10,000`.
+#[derive(Clone, Copy, Debug, PartialEq, Eq)]
+pub struct GroupingSizes {
+    /// The count of digits in the last group. At 0 no separator stands anywhere.
+    pub primary: u8,
+    /// The count of digits in each group before the last but the first. At 0 it is `primary`.
+    pub secondary: u8,
+    /// The least count of digits before the last separator. 0 means 1.
+    pub min_grouping: u8,
+}

@@ -1,0 +1,57 @@
+//! What a table stands under.
+
+ghost use Rattle.std.specs.Prelude.{◌≡◌};
+ghost use Rattle.icu_decimal_provider.specs.Identifiers.{of_locale, of_system, of_both};
+
+use icu_locale_core::DataLocale;
+use std::marker::Model;
+use tinystr::TinyAsciiStr;
+
+/// What a table stands under: a locale, and attributes. The attributes of symbols and of digits are a numbering system, or
+/// empty.
+#[derive(Clone, Copy, Debug, PartialEq, Eq, Hash)]
+pub struct DataIdentifier {
+    /// The locale; `und` where the table does not depend on one.
+    pub locale: DataLocale,
+    /// The attributes; empty where there are none.
+    pub attributes: TinyAsciiStr<8>,
+}
+
+impl Model for DataIdentifier {
+    ghost use Rattle.icu_decimal_provider.specs.Identifiers.{Identifier};
+
+    ghost Value = { Identifier };
+
+    ghost view = { λ d. record { locale = d.locale; attributes = d.attributes } };
+
+    ghost inverse = { λ v. record { locale = v.locale; attributes = v.attributes } };
+}
+
+impl DataIdentifier {
+    /// The identifier of a locale without attributes: `en` and the empty text. It takes no memory.
+    pub fn for_locale(locale: DataLocale) -> Self
+        ensures { result ≡ of_locale locale }
+    {
+        DataIdentifier {
+            locale,
+            attributes: TinyAsciiStr::default(),
+        }
+    }
+
+    /// The identifier of attributes without a locale: of `thai` it is `und` and `thai`. It takes no memory.
+    pub fn for_marker_attributes(attributes: TinyAsciiStr<8>) -> Self
+        ensures { result ≡ of_system attributes }
+    {
+        DataIdentifier {
+            locale: DataLocale::default(),
+            attributes,
+        }
+    }
+
+    /// The identifier of both: of `thai` and `en` it is `en` and `thai`. It takes no memory.
+    pub fn for_marker_attributes_and_locale(attributes: TinyAsciiStr<8>, locale: DataLocale) -> Self
+        ensures { result ≡ of_both attributes locale }
+    {
+        DataIdentifier { locale, attributes }
+    }
+}

@@ -1,0 +1,20 @@
+//! The kinds of tables.
+
+use crate::provider::data_provider::DataMarker;
+use crate::provider::symbols::DecimalSymbols;
+
+/// The symbols of a locale: what stands round and between the digits, and where groups end.
+#[derive(Clone, Copy, Debug)]
+pub struct DecimalSymbolsV1;
+
+impl DataMarker for DecimalSymbolsV1 {
+    type DataStruct = DecimalSymbols;
+}
+
+/// The ten digits of a numbering system, from zero up.
+#[derive(Clone, Copy, Debug)]
+pub struct DecimalDigitsV1;
+
+impl DataMarker for DecimalDigitsV1 {
+    type DataStruct = [char; 10];
+}

@@ -1,0 +1,2 @@
+pub mod GrouperLemmas
+pub mod KnownValues

@@ -1,0 +1,19 @@
+//! How a number is written: where grouping separators stand, and the affixes of its sign.
+//!
+//! With the sizes 3, 2, 1 the number 100000 is written `1,00,000`: a separator follows the digits at the magnitudes 5 and 3. With
+//! a minus sign it is `-1,00,000`. The rules are in docs/plain-text.md.
+//!
+//! ```rust
+//! use icu_decimal_text::FormattedSign;
+//! use icu_decimal_text::grouper::check;
+//!
+//! let follows = check(5, 3, GroupingStrategy::Auto, sizes);               // true
+//! let negative = FormattedSign::new(Sign::Negative, &symbols, "5");       // -5
+//! ```
+#![tactic(auto)]
+
+mod formatted_sign;
+pub mod grouper;
+pub mod laws;
+
+pub use formatted_sign::FormattedSign;

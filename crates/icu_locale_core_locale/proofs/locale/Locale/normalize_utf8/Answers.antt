@@ -1,9 +1,0 @@
-use Rattle.icu_locale_core_grammar.specs.Pieces.{pieces}
-use Rattle.icu_locale_core_grammar.proofs.PlainPieces.{tag_plain}
-use Rattle.icu_locale_core_langid.proofs.NormalizingLemmas.{plain_utf8}
-use Rattle.icu_locale_core_locale.proofs.locale.Locale.normalize_utf8.Goals as goal
-
--- what means a tag is UTF-8, and the input is not
-pub unreachable-requires : goal.unreachable-requires
-unreachable-requires c =
-    c.in-Err.ensures.cases.0 (plain_utf8 c.args.input.now (tag_plain (pieces c.args.input.now) _ c.in-Ok-try_from_utf8.ensures.value))

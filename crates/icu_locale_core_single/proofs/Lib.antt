@@ -1,4 +1,0 @@
-pub mod FrontLemmas
-pub mod KnownValues
-pub mod LawLemmas
-pub mod StageLemmas

@@ -1,5 +1,0 @@
-use Rattle.icu_locale_core_single.proofs.LawLemmas.{modes_same, keywordless_same}
-use Rattle.icu_locale_core_single.proofs.laws.modes_agree.Goals as goal
-
-pub returns : goal.returns
-returns c = record { whole = modes_same; keywordless = keywordless_same }
