@@ -1,8 +1,9 @@
 //! Answers of values that were read, and of texts.
 
-use crate::unanswered::{Answer, Unanswered};
+use crate::unanswered::Answer;
 use icu_locale_core::ParseError;
 use icu_locale_core::subtags::{SubtagOf, SubtagRule};
+use serde_json::Value;
 use std::alloc::{AllocError, Global};
 use std::fmt::Debug;
 use writeable::Writeable;
@@ -22,8 +23,8 @@ pub fn shown<T: Writeable + Drop>(alloc: Global, read: Result<T, ParseError>) ->
     Ok(read?.write_to_string(alloc)?)
 }
 
-/// What the value prints that was made of others, or why it was not.
-pub fn made<T: Writeable + Drop>(alloc: Global, value: Result<T, Unanswered>) -> Answer {
+/// What the value prints that was made in memory.
+pub fn made<T: Writeable + Drop>(alloc: Global, value: Result<T, AllocError>) -> Answer {
     Ok(value?.write_to_string(alloc)?)
 }
 
@@ -40,18 +41,14 @@ pub fn debug<T: Debug + Drop>(alloc: Global, value: T) -> Answer {
     Ok(format!(in alloc; "{value:?}")?)
 }
 
-/// The value that was read as Rust writes it, or the refusal.
-pub fn told<T: Debug + Drop>(alloc: Global, read: Result<T, ParseError>) -> Answer {
-    debug(alloc, read?)
+/// The text of a JSON value.
+pub fn json_text(alloc: Global, value: Result<Value, AllocError>) -> Answer {
+    Ok(value?.to_string(alloc)?)
 }
 
 /// What a change answered, with `-` for nothing, and what it left: `thai ca-buddhist-nu-latn`.
-pub fn change<O: Writeable + Drop, N: Writeable + Drop>(
-    alloc: Global,
-    changed: Result<(Option<O>, N), Unanswered>,
-) -> Answer {
-    let (old, new) = changed?;
-    two_texts(shown_or_hyphen(alloc, old.as_ref()), printed(alloc, &new))
+pub fn change<O: Writeable, N: Writeable>(alloc: Global, old: Option<&O>, new: &N) -> Answer {
+    two_texts(shown_or_hyphen(alloc, old), printed(alloc, new))
 }
 
 /// Two texts with a space between them.

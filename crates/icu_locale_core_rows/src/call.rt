@@ -15,7 +15,8 @@ pub struct Call<'r> {
     pub third: &'r str,
 }
 
-/// The row `Locale`, `total_cmp`, `en-x-a`, `en-US`, with tabs between, taken apart; `None` where it has more arguments.
+/// The row `Locale`, `total_cmp`, `en-x-a`, `en-US`, with tabs between, taken apart; `None` where it names no call, or has
+/// more arguments.
 pub fn call_of(row: &str) -> Option<Call<'_>> {
     let mut fields = row.split('\t');
     let call = Call {
@@ -25,8 +26,8 @@ pub fn call_of(row: &str) -> Option<Call<'_>> {
         second: fields.next().unwrap_or(""),
         third: fields.next().unwrap_or(""),
     };
-    match fields.next() {
-        Some(_) => None,
-        None => Some(call),
+    if call.name.is_empty() || fields.next().is_some() {
+        return None;
     }
+    Some(call)
 }

@@ -1,11 +1,13 @@
 //! Rows of data locales.
 
-use crate::answers::{made, printed, shown, shown_or_hyphen, told, two_texts};
+use crate::answers::{debug, made, printed, shown_or_hyphen, two_texts};
 use crate::call::Call;
-use crate::part::part;
+use crate::part::{TagPart, copied, part};
 use crate::single::one_variant;
 use crate::unanswered::{Answer, Unanswered};
 use crate::whole_tag::language_and_region;
+use icu_locale_core::extensions::unicode::SubdivisionId;
+use icu_locale_core::laws::preferences::same_data_locales;
 use icu_locale_core::{DataLocale, LanguageIdentifier, Locale, ParseError};
 use std::alloc::Global;
 use std::cmp::Ordering;
@@ -14,69 +16,91 @@ use std::cmp::Ordering;
 pub fn data_locale(alloc: Global, call: Call<'_>) -> Answer {
     match call.name {
         "default" => printed(alloc, &DataLocale::default()),
-        "strict_cmp" => told(alloc, byte_order_of(alloc, call.first, call.second)),
-        "into_locale" => made(alloc, as_locale(alloc, call.first)),
-        "is_unknown" => told(alloc, is_unknown(alloc, call.first)),
-        "{:?}" => told(alloc, DataLocale::try_from_str(alloc, call.first)),
-        "parts" => parts_of(alloc, call.first),
-        _ => converted(alloc, call),
+        "From<&Locale>" => of_lent_locale(alloc, &Locale::try_from_str(alloc, call.first)?),
+        "From<Locale>" => of_locale(alloc, Locale::try_from_str(alloc, call.first)?),
+        "From<&LanguageIdentifier>" => {
+            of_lent_identifier(alloc, &LanguageIdentifier::try_from_str(alloc, call.first)?)
+        }
+        "From<LanguageIdentifier>" => {
+            of_identifier(alloc, LanguageIdentifier::try_from_str(alloc, call.first)?)
+        }
+        "From<(Language, Option<Script>, Option<Region>)>" => {
+            let triple = language_and_region(call.first, call.second)?;
+            printed(alloc, &DataLocale::from(triple))
+        }
+        "with_subdivision" => with_subdivision(alloc, SubdivisionId::try_from_str(call.first)?),
+        _ => part::<DataLocale>(alloc, call),
     }
 }
 
-fn byte_order_of(alloc: Global, text: &str, bytes: &str) -> Result<Ordering, ParseError> {
-    Ok(DataLocale::try_from_str(alloc, text)?.strict_cmp(bytes.as_bytes()))
+fn of_lent_locale(alloc: Global, locale: &Locale) -> Answer {
+    printed(alloc, &DataLocale::from(locale))
 }
 
-fn as_locale(alloc: Global, text: &str) -> Result<Locale, Unanswered> {
-    Ok(DataLocale::try_from_str(alloc, text)?.into_locale(alloc)?)
+fn of_locale(alloc: Global, locale: Locale) -> Answer {
+    printed(alloc, &DataLocale::from(locale))
 }
 
-fn is_unknown(alloc: Global, text: &str) -> Result<bool, ParseError> {
-    Ok(DataLocale::try_from_str(alloc, text)?.is_unknown())
+fn of_lent_identifier(alloc: Global, id: &LanguageIdentifier) -> Answer {
+    printed(alloc, &DataLocale::from(id))
+}
+
+fn of_identifier(alloc: Global, id: LanguageIdentifier) -> Answer {
+    printed(alloc, &DataLocale::from(id))
+}
+
+// The text of the data locale that has this subdivision alone, and of its locale, and whether that one's data locale is unknown.
+fn with_subdivision(alloc: Global, subdivision: SubdivisionId) -> Answer {
+    let mut data_locale = DataLocale::default();
+    data_locale.subdivision = Some(subdivision);
+    let locale = data_locale.into_locale(alloc)?;
+    two_texts(printed(alloc, &data_locale), held(alloc, &locale))
+}
+
+fn held(alloc: Global, locale: &Locale) -> Answer {
+    two_texts(
+        printed(alloc, locale),
+        debug(alloc, DataLocale::from(locale).is_unknown()),
+    )
+}
+
+impl TagPart for DataLocale {
+    fn of_text(alloc: Global, text: &str) -> Result<Self, ParseError> {
+        Self::try_from_str(alloc, text)
+    }
+
+    fn of_bytes(alloc: Global, bytes: &[u8]) -> Result<Self, ParseError> {
+        Self::try_from_utf8(alloc, bytes)
+    }
+
+    fn order(&self, other: &Self) -> Ordering {
+        self.total_cmp(other)
+    }
+
+    fn answer(self, alloc: Global, call: Call<'_>) -> Answer {
+        match call.name {
+            "try_clone" => copied(alloc, &self, Ok(self)),
+            "strict_cmp" => debug(alloc, self.strict_cmp(call.second.as_bytes())),
+            "into_locale" => made(alloc, self.into_locale(alloc)),
+            "is_unknown" => debug(alloc, self.is_unknown()),
+            "{:?}" => debug(alloc, self),
+            "parts" => parts_of(alloc, self),
+            "same_data_locales" => is_same(alloc, &self, call.second),
+            _ => Err(Unanswered::NotUnderstood),
+        }
+    }
+}
+
+fn is_same(alloc: Global, one: &DataLocale, other: &str) -> Answer {
+    let other = DataLocale::try_from_str(alloc, other)?;
+    debug(alloc, same_data_locales(one, &other))
 }
 
 // The texts of the parts, with `-` for each that is missing.
-fn parts_of(alloc: Global, text: &str) -> Answer {
-    let parts = DataLocale::try_from_str(alloc, text)?;
+fn parts_of(alloc: Global, parts: DataLocale) -> Answer {
     let front = (parts.language, parts.script, parts.region, parts.variant);
     two_texts(
         one_variant(alloc, Ok(front)),
         shown_or_hyphen(alloc, parts.subdivision.as_ref()),
     )
-}
-
-// The answer to a call that makes a data locale of another value.
-fn converted(alloc: Global, call: Call<'_>) -> Answer {
-    match call.name {
-        "From<&Locale>" => shown(alloc, of_lent_locale(alloc, call.first)),
-        "From<Locale>" => shown(alloc, of_locale(alloc, call.first)),
-        "From<&LanguageIdentifier>" => shown(alloc, of_lent_identifier(alloc, call.first)),
-        "From<LanguageIdentifier>" => shown(alloc, of_identifier(alloc, call.first)),
-        "From<(Language, Option<Script>, Option<Region>)>" => {
-            shown(alloc, of_triple(call.first, call.second))
-        }
-        _ => part::<DataLocale>(alloc, call),
-    }
-}
-
-fn of_lent_locale(alloc: Global, text: &str) -> Result<DataLocale, ParseError> {
-    let locale = Locale::try_from_str(alloc, text)?;
-    Ok(DataLocale::from(&locale))
-}
-
-fn of_locale(alloc: Global, text: &str) -> Result<DataLocale, ParseError> {
-    Ok(DataLocale::from(Locale::try_from_str(alloc, text)?))
-}
-
-fn of_lent_identifier(alloc: Global, text: &str) -> Result<DataLocale, ParseError> {
-    let id = LanguageIdentifier::try_from_str(alloc, text)?;
-    Ok(DataLocale::from(&id))
-}
-
-fn of_identifier(alloc: Global, text: &str) -> Result<DataLocale, ParseError> {
-    Ok(DataLocale::from(LanguageIdentifier::try_from_str(alloc, text)?))
-}
-
-fn of_triple(language: &str, region: &str) -> Result<DataLocale, ParseError> {
-    Ok(DataLocale::from(language_and_region(language, region)?))
 }

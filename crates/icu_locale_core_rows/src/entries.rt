@@ -1,101 +1,134 @@
 //! Rows of keywords and fields.
 
-use crate::answers::{change, made, shown_or_hyphen, text, told};
+use crate::answers::{change, debug, made, printed, shown_or_hyphen, text};
 use crate::call::Call;
-use crate::part::{part_or_none, partial_order_of};
+use crate::part::{TagPart, copied, part};
+use crate::steps::headed;
 use crate::unanswered::{Answer, Unanswered};
 use icu_locale_core::ParseError;
-use icu_locale_core::extensions::transform::{self, Fields};
-use icu_locale_core::extensions::unicode::{Key, Keywords, Value};
+use icu_locale_core::extensions::transform::Fields;
+use icu_locale_core::extensions::unicode::Keywords;
+use icu_locale_core::subtags::{Subtag, SubtagOf};
+use icu_locale_core_entries::{EntriesOf, EntryKind, ValueOf};
+use icu_locale_core_subtags::{transform, unicode};
 use std::alloc::Global;
+use std::cmp::Ordering;
 use writeable::TextSink;
 
 /// The answer to a call of keywords.
 pub fn keywords(alloc: Global, call: Call<'_>) -> Answer {
     match call.name {
-        "get" => value_at(alloc, call.first, call.second),
-        "contains_key" => told(alloc, contains_key(alloc, call.first, call.second)),
-        "set" => change(
+        "retain_by_key" => kept_keywords(
             alloc,
-            with_entry(alloc, call.first, call.second, call.third),
+            Keywords::try_from_str(alloc, call.first)?,
+            call.second,
         ),
-        "remove" => change(alloc, without_key(alloc, call.first, call.second)),
-        "extend_from_keywords" => made(alloc, extended(alloc, call.first, call.second)),
-        "is_well_formed" => told(alloc, is_well_formed(alloc, call.first)),
-        "partial_cmp" => {
-            told(
-                alloc,
-                partial_order_of::<Keywords>(alloc, call.first, call.second),
-            )
-        }
-        _ => part_or_none::<Keywords>(alloc, call),
+        _ => entries::<unicode::KeyRule>(alloc, call),
     }
 }
 
-fn value_at(alloc: Global, text: &str, key: &str) -> Answer {
-    let map = Keywords::try_from_str(alloc, text)?;
-    shown_or_hyphen(alloc, map.get(&Key::try_from_str(key)?))
-}
-
-fn contains_key(alloc: Global, text: &str, key: &str) -> Result<bool, ParseError> {
-    let map = Keywords::try_from_str(alloc, text)?;
-    Ok(map.contains_key(&Key::try_from_str(key)?))
-}
-
-// The value that stood at the key, and the keywords with another one there.
-fn with_entry(
-    alloc: Global,
-    text: &str,
-    key: &str,
-    value: &str,
-) -> Result<(Option<Value>, Keywords), Unanswered> {
-    let key = Key::try_from_str(key)?;
-    let mut map = Keywords::try_from_str(alloc, text)?;
-    let old = map.set(key, Value::try_from_str(alloc, value)?)?;
-    Ok((old, map))
-}
-
-// The value that stood at the key, and the keywords without it.
-fn without_key(
-    alloc: Global,
-    text: &str,
-    key: &str,
-) -> Result<(Option<Value>, Keywords), Unanswered> {
-    let key = Key::try_from_str(key)?;
-    let mut map = Keywords::try_from_str(alloc, text)?;
-    let old = map.remove(&key);
-    Ok((old, map))
-}
-
-fn extended(alloc: Global, text: &str, other: &str) -> Result<Keywords, Unanswered> {
-    let mut map = Keywords::try_from_str(alloc, text)?;
-    map.extend_from_keywords(Keywords::try_from_str(alloc, other)?)?;
-    Ok(map)
-}
-
-fn is_well_formed(alloc: Global, text: &str) -> Result<bool, ParseError> {
-    Ok(Keywords::try_from_str(alloc, text)?.is_well_formed())
+// The keywords of which the closure keeps this key alone.
+fn kept_keywords(alloc: Global, mut map: Keywords, key: &str) -> Answer {
+    map.retain_by_key(|own| own.as_str() == key);
+    printed(alloc, &map)
 }
 
 /// The answer to a call of fields.
 pub fn fields(alloc: Global, call: Call<'_>) -> Answer {
     match call.name {
-        "contains_key" => told(alloc, contains_field(alloc, call.first, call.second)),
-        "write_hyphened" => hyphened(alloc, call.first),
-        "hyphened_length" => told(alloc, hyphened_length(alloc, call.first)),
-        "is_well_formed" => told(alloc, are_well_formed(alloc, call.first)),
-        _ => part_or_none::<Fields>(alloc, call),
+        "retain_by_key" => {
+            kept_fields(alloc, Fields::try_from_str(alloc, call.first)?, call.second)
+        }
+        _ => entries::<transform::KeyRule>(alloc, call),
     }
 }
 
-fn contains_field(alloc: Global, text: &str, key: &str) -> Result<bool, ParseError> {
-    let map = Fields::try_from_str(alloc, text)?;
-    Ok(map.contains_key(&transform::Key::try_from_str(key)?))
+// The fields of which the closure keeps this key alone.
+fn kept_fields(alloc: Global, mut map: Fields, key: &str) -> Answer {
+    map.retain_by_key(|own| own.as_str() == key);
+    printed(alloc, &map)
 }
 
-// The text of the fields with a hyphen before it.
-fn hyphened(alloc: Global, fields: &str) -> Answer {
-    let map = Fields::try_from_str(alloc, fields)?;
+// The answer to a call of keywords, or of fields.
+fn entries<K: EntryKind>(alloc: Global, call: Call<'_>) -> Answer {
+    match call.name {
+        "new" => printed(alloc, &EntriesOf::<K>::new(alloc)),
+        "new_single" => one_entry::<K>(
+            alloc,
+            SubtagOf::try_from_str(call.first)?,
+            ValueOf::try_from_str(alloc, call.second)?,
+        ),
+        "try_from_iter" => collected(alloc, entries_of::<K>(alloc, call.first)?),
+        "headed_after" => headed::<K>(alloc, call.first),
+        _ => part::<EntriesOf<K>>(alloc, call),
+    }
+}
+
+fn one_entry<K: EntryKind>(alloc: Global, key: SubtagOf<K, 2>, value: ValueOf<K>) -> Answer {
+    made(alloc, EntriesOf::<K>::new_single(alloc, key, value))
+}
+
+// The entries between spaces, each a key, a hyphen and its value.
+fn entries_of<K: EntryKind>(
+    alloc: Global,
+    texts: &str,
+) -> Result<Vec<(SubtagOf<K, 2>, ValueOf<K>)>, Unanswered> {
+    let mut entries = Vec::new(alloc);
+    for text in texts.split_whitespace() {
+        entries.push(entry_of(alloc, text)?)?;
+    }
+    Ok(entries)
+}
+
+fn entry_of<K: EntryKind>(
+    alloc: Global,
+    text: &str,
+) -> Result<(SubtagOf<K, 2>, ValueOf<K>), ParseError> {
+    let (key, value) = text.split_once('-').unwrap_or((text, ""));
+    let key = SubtagOf::try_from_str(key)?;
+    Ok((key, ValueOf::try_from_str(alloc, value)?))
+}
+
+fn collected<K: EntryKind>(alloc: Global, entries: Vec<(SubtagOf<K, 2>, ValueOf<K>)>) -> Answer {
+    made(alloc, EntriesOf::<K>::try_from_iter(alloc, entries))
+}
+
+impl<K: EntryKind> TagPart for EntriesOf<K> {
+    fn of_text(alloc: Global, text: &str) -> Result<Self, ParseError> {
+        Self::try_from_str(alloc, text)
+    }
+
+    fn of_bytes(alloc: Global, bytes: &[u8]) -> Result<Self, ParseError> {
+        Self::try_from_utf8(alloc, bytes)
+    }
+
+    fn order(&self, other: &Self) -> Ordering {
+        self.cmp(other)
+    }
+
+    fn answer(self, alloc: Global, call: Call<'_>) -> Answer {
+        match call.name {
+            "try_clone" => copied(alloc, &self, self.try_clone()),
+            "is_empty" => debug(alloc, self.is_empty()),
+            "is_well_formed" => debug(alloc, self.is_well_formed()),
+            "hyphened_length" => debug(alloc, self.hyphened_length()),
+            "iter" => debug(alloc, self.iter().count()),
+            "write_hyphened" => hyphened(alloc, &self),
+            "partial_cmp" => {
+                partial_order(alloc, &self, &Self::try_from_str(alloc, call.second)?)
+            }
+            "extend_from_keywords" => extended(
+                alloc,
+                self,
+                Self::try_from_str(alloc, call.second)?,
+            ),
+            _ => at_key(alloc, call, self),
+        }
+    }
+}
+
+// The text of the entries with a hyphen before it.
+fn hyphened<K: EntryKind>(alloc: Global, map: &EntriesOf<K>) -> Answer {
     let mut sink = TextSink::new(alloc);
     match map.write_hyphened(&mut sink) {
         Ok(()) => text(alloc, sink.text()),
@@ -103,10 +136,72 @@ fn hyphened(alloc: Global, fields: &str) -> Answer {
     }
 }
 
-fn hyphened_length(alloc: Global, text: &str) -> Result<Option<usize>, ParseError> {
-    Ok(Fields::try_from_str(alloc, text)?.hyphened_length())
+fn partial_order<K: EntryKind>(alloc: Global, one: &EntriesOf<K>, other: &EntriesOf<K>) -> Answer {
+    debug(alloc, one.partial_cmp(other))
 }
 
-fn are_well_formed(alloc: Global, text: &str) -> Result<bool, ParseError> {
-    Ok(Fields::try_from_str(alloc, text)?.is_well_formed())
+fn extended<K: EntryKind>(alloc: Global, mut map: EntriesOf<K>, other: EntriesOf<K>) -> Answer {
+    map.extend_from_keywords(other)?;
+    printed(alloc, &map)
+}
+
+// The answer to a call of entries and a key.
+fn at_key<K: EntryKind>(alloc: Global, call: Call<'_>, mut map: EntriesOf<K>) -> Answer {
+    match call.name {
+        "get" => shown_or_hyphen(alloc, map.get(&SubtagOf::try_from_str(call.second)?)),
+        "contains_key" => debug(
+            alloc,
+            map.contains_key(&SubtagOf::try_from_str(call.second)?),
+        ),
+        "set" => with_entry(
+            alloc,
+            map,
+            SubtagOf::try_from_str(call.second)?,
+            ValueOf::try_from_str(alloc, call.third)?,
+        ),
+        "get_mut" => pushed_at(
+            alloc,
+            map,
+            SubtagOf::try_from_str(call.second)?,
+            Subtag::try_from_str(call.third)?,
+        ),
+        "remove" => without_key(alloc, map, SubtagOf::try_from_str(call.second)?),
+        "clear" => {
+            let _old = map.clear();
+            printed(alloc, &map)
+        }
+        "clear_answers" => printed(alloc, &map.clear()),
+        _ => Err(Unanswered::NotUnderstood),
+    }
+}
+
+// The value that stood at the key, and the entries with another one there.
+fn with_entry<K: EntryKind>(
+    alloc: Global,
+    mut map: EntriesOf<K>,
+    key: SubtagOf<K, 2>,
+    value: ValueOf<K>,
+) -> Answer {
+    let old = map.set(key, value)?;
+    change(alloc, old.as_ref(), &map)
+}
+
+// The entries with one more subtag in the value at the key; `-` where there is none.
+fn pushed_at<K: EntryKind>(
+    alloc: Global,
+    mut map: EntriesOf<K>,
+    key: SubtagOf<K, 2>,
+    subtag: Subtag,
+) -> Answer {
+    match map.get_mut(&key) {
+        Some(value) => value.push_subtag(subtag)?,
+        None => return text(alloc, "-"),
+    }
+    printed(alloc, &map)
+}
+
+// The value that stood at the key, and the entries without it.
+fn without_key<K: EntryKind>(alloc: Global, mut map: EntriesOf<K>, key: SubtagOf<K, 2>) -> Answer {
+    let old = map.remove(&key);
+    change(alloc, old.as_ref(), &map)
 }

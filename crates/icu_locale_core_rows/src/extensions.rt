@@ -1,88 +1,269 @@
 //! Rows of extensions.
 
-use crate::answers::{made, printed, shown, text, told};
+use crate::answers::{debug, joined, made, printed, shown, shown_or_hyphen, text, two_texts};
+use crate::bytes::number_of;
 use crate::call::Call;
-use crate::part::{TagPart, part_or_none, partial_order_of};
+use crate::part::{TagPart, copied, hash_of, part};
 use crate::unanswered::{Answer, Unanswered};
-use icu_locale_core::ParseError;
 use icu_locale_core::extensions::other::Other;
-use icu_locale_core::extensions::private::Private;
+use icu_locale_core::extensions::private::{self, Private};
+use icu_locale_core::extensions::transform::Transform;
 use icu_locale_core::extensions::unicode::Unicode;
 use icu_locale_core::extensions::{ExtensionType, Extensions};
+use icu_locale_core::parser::SubtagIterator;
+use icu_locale_core::{Locale, ParseError};
 use std::alloc::Global;
+use std::cmp::Ordering;
 
 /// The answer to a call of the extension `u`.
 pub fn unicode(alloc: Global, call: Call<'_>) -> Answer {
     match call.name {
         "new" => printed(alloc, &Unicode::new(alloc)),
-        "extend" => made(alloc, extended(alloc, call.first, call.second)),
-        _ => part_or_none::<Unicode>(alloc, call),
+        _ => part::<Unicode>(alloc, call),
     }
 }
 
-fn extended(alloc: Global, text: &str, other: &str) -> Result<Unicode, Unanswered> {
-    let mut unicode = Unicode::try_from_str(alloc, text)?;
-    unicode.extend(Unicode::try_from_str(alloc, other)?)?;
-    Ok(unicode)
+impl TagPart for Unicode {
+    fn of_text(alloc: Global, text: &str) -> Result<Self, ParseError> {
+        Self::try_from_str(alloc, text)
+    }
+
+    fn of_bytes(alloc: Global, bytes: &[u8]) -> Result<Self, ParseError> {
+        Self::try_from_utf8(alloc, bytes)
+    }
+
+    fn order(&self, other: &Self) -> Ordering {
+        self.total_cmp(other)
+    }
+
+    fn answer(mut self, alloc: Global, call: Call<'_>) -> Answer {
+        match call.name {
+            "try_clone" => copied(alloc, &self, self.try_clone()),
+            "is_empty" => debug(alloc, self.is_empty()),
+            "extend" => extended(alloc, self, Unicode::try_from_str(alloc, call.second)?),
+            "clear" => {
+                self.clear();
+                printed(alloc, &self)
+            }
+            _ => Err(Unanswered::NotUnderstood),
+        }
+    }
+}
+
+fn extended(alloc: Global, mut unicode: Unicode, other: Unicode) -> Answer {
+    unicode.extend(other)?;
+    printed(alloc, &unicode)
+}
+
+impl TagPart for Transform {
+    fn of_text(alloc: Global, text: &str) -> Result<Self, ParseError> {
+        Self::try_from_str(alloc, text)
+    }
+
+    fn of_bytes(alloc: Global, bytes: &[u8]) -> Result<Self, ParseError> {
+        Self::try_from_utf8(alloc, bytes)
+    }
+
+    fn order(&self, other: &Self) -> Ordering {
+        self.total_cmp(other)
+    }
+
+    fn answer(mut self, alloc: Global, call: Call<'_>) -> Answer {
+        match call.name {
+            "try_clone" => copied(alloc, &self, self.try_clone()),
+            "is_empty" => debug(alloc, self.is_empty()),
+            "clear" => {
+                self.clear();
+                printed(alloc, &self)
+            }
+            _ => Err(Unanswered::NotUnderstood),
+        }
+    }
+}
+
+impl TagPart for Other {
+    fn of_text(alloc: Global, text: &str) -> Result<Self, ParseError> {
+        Self::try_from_str(alloc, text)
+    }
+
+    fn of_bytes(alloc: Global, bytes: &[u8]) -> Result<Self, ParseError> {
+        Self::try_from_utf8(alloc, bytes)
+    }
+
+    fn order(&self, other: &Self) -> Ordering {
+        self.total_cmp(other)
+    }
+
+    fn answer(self, alloc: Global, call: Call<'_>) -> Answer {
+        match call.name {
+            "clear" => printed(alloc, &emptied(self)),
+            _ => of_other(alloc, call.name, &self),
+        }
+    }
+}
+
+fn of_other(alloc: Global, name: &str, other: &Other) -> Answer {
+    match name {
+        "try_clone" => copied(alloc, other, other.try_clone()),
+        "get_ext" => debug(alloc, other.get_ext()),
+        "get_ext_byte" => debug(alloc, other.get_ext_byte()),
+        "get_ext_str" => text(alloc, other.get_ext_str()),
+        "as_slice" => joined(alloc, other.as_slice()),
+        "clear_total_cmp" => emptied_order(alloc, other, other.try_clone()?),
+        "is_empty" => debug(alloc, other.is_empty()),
+        _ => Err(Unanswered::NotUnderstood),
+    }
+}
+
+// Whether a copy that was emptied is empty, and its order before the whole.
+fn emptied_order(alloc: Global, whole: &Other, copy: Other) -> Answer {
+    let other = emptied(copy);
+    two_texts(
+        debug(alloc, other.is_empty()),
+        debug(alloc, other.total_cmp(whole)),
+    )
 }
 
 /// The answer to a call of private pieces.
 pub fn private_pieces(alloc: Global, call: Call<'_>) -> Answer {
     match call.name {
         "new" => printed(alloc, &Private::new(alloc)),
-        "len" => told(alloc, length_of(alloc, call.first)),
-        "partial_cmp" => told(
+        "new_single" => one_piece(alloc, private::Subtag::try_from_str(call.first)?),
+        "try_from_iter" => shown(alloc, collected(alloc, call.first)),
+        "push_alike" => alike(
             alloc,
-            partial_order_of::<Private>(alloc, call.first, call.second),
+            &two_pieces(alloc, call.first, call.second)?,
+            &collected(alloc, call.third)?,
         ),
-        _ => part_or_none::<Private>(alloc, call),
+        _ => part::<Private>(alloc, call),
     }
 }
 
-fn length_of(alloc: Global, text: &str) -> Result<usize, ParseError> {
-    Ok(Private::try_from_str(alloc, text)?.len())
+fn one_piece(alloc: Global, subtag: private::Subtag) -> Answer {
+    made(alloc, Private::new_single(alloc, subtag))
 }
 
-/// The answer to a call of the extensions that are neither `u`, `t` nor `x`.
-pub fn other(alloc: Global, call: Call<'_>) -> Answer {
-    match call.name {
-        "get_ext" => told(alloc, type_of(alloc, call.first)),
-        "get_ext_byte" => told(alloc, singleton_byte(alloc, call.first)),
-        "get_ext_str" => singleton_text(alloc, call.first),
-        _ => part_or_none::<Other>(alloc, call),
+fn collected(alloc: Global, text: &str) -> Result<Private, ParseError> {
+    Private::try_from_iter(alloc, SubtagIterator::new(text.as_bytes()))
+}
+
+// The pieces of one, and another pushed behind it.
+fn two_pieces(alloc: Global, first: &str, second: &str) -> Result<Private, Unanswered> {
+    let first = private::Subtag::try_from_str(first)?;
+    let second = private::Subtag::try_from_str(second)?;
+    let mut pieces = Private::new_single(alloc, first)?;
+    pieces.push(second)?;
+    Ok(pieces)
+}
+
+// Whether two values are equal, and whether they have one hash.
+fn alike(alloc: Global, one: &Private, other: &Private) -> Answer {
+    two_texts(
+        debug(alloc, one == other),
+        debug(alloc, hash_of(one) == hash_of(other)),
+    )
+}
+
+impl TagPart for Private {
+    fn of_text(alloc: Global, text: &str) -> Result<Self, ParseError> {
+        Self::try_from_str(alloc, text)
+    }
+
+    fn of_bytes(alloc: Global, bytes: &[u8]) -> Result<Self, ParseError> {
+        Self::try_from_utf8(alloc, bytes)
+    }
+
+    fn order(&self, other: &Self) -> Ordering {
+        self.cmp(other)
+    }
+
+    fn answer(mut self, alloc: Global, call: Call<'_>) -> Answer {
+        match call.name {
+            "try_clone" => copied(alloc, &self, self.try_clone()),
+            "len" => debug(alloc, self.len()),
+            "iter" => debug(alloc, self.iter().count()),
+            "first" => shown_or_hyphen(alloc, self.first()),
+            "get" => shown_or_hyphen(alloc, self.get(number_of(call.second)?)),
+            "as_slice" => joined(alloc, self.as_slice()),
+            "partial_cmp" => private_order(alloc, &self, call.second),
+            "is_empty" => debug(alloc, self.is_empty()),
+            "clear" => {
+                self.clear();
+                printed(alloc, &self)
+            }
+            _ => Err(Unanswered::NotUnderstood),
+        }
     }
 }
 
-fn type_of(alloc: Global, text: &str) -> Result<ExtensionType, ParseError> {
-    Ok(Other::try_from_str(alloc, text)?.get_ext())
-}
-
-fn singleton_byte(alloc: Global, text: &str) -> Result<u8, ParseError> {
-    Ok(Other::try_from_str(alloc, text)?.get_ext_byte())
-}
-
-fn singleton_text(alloc: Global, extension: &str) -> Answer {
-    text(alloc, Other::try_from_str(alloc, extension)?.get_ext_str())
+fn private_order(alloc: Global, one: &Private, other: &str) -> Answer {
+    let other = Private::try_from_str(alloc, other)?;
+    debug(alloc, one.partial_cmp(&other))
 }
 
 /// The answer to a call of all extensions of a tag.
 pub fn extensions(alloc: Global, call: Call<'_>) -> Answer {
     match call.name {
         "new" => printed(alloc, &Extensions::new(alloc)),
-        "from_unicode" => shown(alloc, of_unicode(alloc, call.first)),
-        "push" => made(alloc, pushed(alloc, call.first, call.second)),
-        _ => part_or_none::<Extensions>(alloc, call),
+        "from_unicode" => of_unicode(alloc, Unicode::try_from_str(alloc, call.first)?),
+        _ => part::<Extensions>(alloc, call),
     }
 }
 
-fn of_unicode(alloc: Global, text: &str) -> Result<Extensions, ParseError> {
-    Ok(Extensions::from_unicode(alloc, Unicode::try_from_str(alloc, text)?))
+fn of_unicode(alloc: Global, unicode: Unicode) -> Answer {
+    printed(alloc, &Extensions::from_unicode(alloc, unicode))
 }
 
-fn pushed(alloc: Global, text: &str, others: &str) -> Result<Extensions, Unanswered> {
-    let mut extensions = Extensions::read(alloc, text)?;
+/// Extensions are read of a whole tag.
+impl TagPart for Extensions {
+    fn of_text(alloc: Global, text: &str) -> Result<Self, ParseError> {
+        let Locale { id: _, extensions } = Locale::try_from_str(alloc, text)?;
+        Ok(extensions)
+    }
+
+    fn of_bytes(alloc: Global, bytes: &[u8]) -> Result<Self, ParseError> {
+        let Locale { id: _, extensions } = Locale::try_from_utf8(alloc, bytes)?;
+        Ok(extensions)
+    }
+
+    fn order(&self, other: &Self) -> Ordering {
+        self.total_cmp(other)
+    }
+
+    fn answer(mut self, alloc: Global, call: Call<'_>) -> Answer {
+        match call.name {
+            "try_clone" => copied(alloc, &self, self.try_clone()),
+            "is_empty" => debug(alloc, self.is_empty()),
+            "push" => with_others(alloc, self, call.second),
+            "retain_by_type" => retained(alloc, self, call.second),
+            "clear" => {
+                self.clear();
+                printed(alloc, &self)
+            }
+            _ => Err(Unanswered::NotUnderstood),
+        }
+    }
+}
+
+fn with_others(alloc: Global, mut extensions: Extensions, others: &str) -> Answer {
     push_others(alloc, &mut extensions.other, others)?;
-    Ok(extensions)
+    printed(alloc, &extensions)
+}
+
+// The extensions of which the closure keeps `u` alone, or all but `a`.
+fn retained(alloc: Global, mut extensions: Extensions, what: &str) -> Answer {
+    match what {
+        "u" => extensions.retain_by_type(|kind| match kind {
+            ExtensionType::Unicode => true,
+            _ => false,
+        }),
+        "not a" => extensions.retain_by_type(|kind| match kind {
+            ExtensionType::Other(97) => false,
+            _ => true,
+        }),
+        _ => return Err(Unanswered::NotUnderstood),
+    }
+    printed(alloc, &extensions)
 }
 
 /// Pushes the other extensions that stand between spaces, of which a singleton alone is an emptied one.
@@ -99,7 +280,10 @@ fn other_of(alloc: Global, text: &str) -> Result<Other, Unanswered> {
         return Ok(Other::try_from_str(alloc, text)?);
     }
     let whole = format!(in alloc; "{text}-foo")?;
-    let mut other = Other::try_from_str(alloc, whole.as_str())?;
+    Ok(emptied(Other::try_from_str(alloc, whole.as_str())?))
+}
+
+fn emptied(mut other: Other) -> Other {
     other.clear();
-    Ok(other)
+    other
 }

@@ -14,17 +14,16 @@ mod extensions;
 mod language_identifiers;
 mod locales;
 mod part;
-mod parts;
 mod preferences;
 mod rows;
 mod sets;
 mod single;
+mod steps;
 mod subtags;
 mod typed_keywords;
 mod unanswered;
 mod values;
 mod whole_tag;
-mod whole_tags;
 
 use rows::answer;
 use std::io::{self, BufRead, BufReader};

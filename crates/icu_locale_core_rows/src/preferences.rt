@@ -1,25 +1,21 @@
 //! Rows of what locales prefer.
 
-use crate::answers::{printed, shown, shown_or_hyphen, told};
+use crate::answers::{debug, made, printed, shown_or_hyphen};
 use crate::call::Call;
 use crate::unanswered::{Answer, Unanswered};
+use icu_locale_core::laws::preferences::same_preferences;
 use icu_locale_core::preferences::{LocalePreferences, numbering_system};
-use icu_locale_core::{DataLocale, Locale, ParseError};
+use icu_locale_core::{Locale, ParseError};
 use std::alloc::Global;
 
 /// The answer to a call of preferences, which are those of the locale of a text.
 pub fn preferences(alloc: Global, call: Call<'_>) -> Answer {
     match call.name {
-        "to_data_locale_language_priority" => shown(alloc, language_first(alloc, call.first)),
-        "to_data_locale_region_priority" => shown(alloc, region_first(alloc, call.first)),
-        "extend" => as_locale(alloc, extended(alloc, call.first, call.second)),
-        "to_locale" => as_locale(alloc, read(alloc, call.first)),
-        "from_locale_strict" => as_locale(alloc, strictly(alloc, call.first)),
-        "==" => told(alloc, are_equal(alloc, call.first, call.second)),
-        "language" => language_of(alloc, call.first),
-        "region" => region_of(alloc, call.first),
-        "numbering_system" => system_of(alloc, call.first),
-        _ => Err(Unanswered::NotUnderstood),
+        "from_locale_strict" => strictly(alloc, &Locale::try_from_str(alloc, call.first)?),
+        "numbering_system" => system_of(alloc, &Locale::try_from_str(alloc, call.first)?),
+        "default" => made(alloc, LocalePreferences::default().to_locale(alloc)),
+        "==" | "extend" | "same_preferences" => of_two(alloc, call),
+        _ => of_one(alloc, call, preferences_of(alloc, call.first)?),
     }
 }
 
@@ -29,47 +25,54 @@ fn preferences_of(alloc: Global, text: &str) -> Result<LocalePreferences, ParseE
     Ok(LocalePreferences::from(&locale))
 }
 
-fn language_first(alloc: Global, text: &str) -> Result<DataLocale, ParseError> {
-    Ok(preferences_of(alloc, text)?.to_data_locale_language_priority())
+fn strictly(alloc: Global, locale: &Locale) -> Answer {
+    let preferences = LocalePreferences::from_locale_strict(locale)?;
+    made(alloc, preferences.to_locale(alloc))
 }
 
-fn region_first(alloc: Global, text: &str) -> Result<DataLocale, ParseError> {
-    Ok(preferences_of(alloc, text)?.to_data_locale_region_priority())
+fn system_of(alloc: Global, locale: &Locale) -> Answer {
+    shown_or_hyphen(alloc, numbering_system(locale).as_ref())
 }
 
-fn read(alloc: Global, text: &str) -> Result<LocalePreferences, Unanswered> {
-    Ok(preferences_of(alloc, text)?)
+fn of_two(alloc: Global, call: Call<'_>) -> Answer {
+    let one = preferences_of(alloc, call.first)?;
+    let other = preferences_of(alloc, call.second)?;
+    match call.name {
+        "extend" => joined(alloc, one, other),
+        _ => compared(alloc, call.name, &one, &other),
+    }
 }
 
-fn extended(alloc: Global, text: &str, other: &str) -> Result<LocalePreferences, Unanswered> {
-    let mut preferences = preferences_of(alloc, text)?;
-    preferences.extend(preferences_of(alloc, other)?);
-    Ok(preferences)
+fn joined(alloc: Global, one: LocalePreferences, other: LocalePreferences) -> Answer {
+    let mut both = one;
+    both.extend(other);
+    made(alloc, both.to_locale(alloc))
 }
 
-fn strictly(alloc: Global, text: &str) -> Result<LocalePreferences, Unanswered> {
-    let locale = Locale::try_from_str(alloc, text)?;
-    Ok(LocalePreferences::from_locale_strict(&locale)?)
+// Whether the preferences are equal, by `==` or by the law's call.
+fn compared(
+    alloc: Global,
+    name: &str,
+    one: &LocalePreferences,
+    other: &LocalePreferences,
+) -> Answer {
+    match name {
+        "==" => debug(alloc, one == other),
+        _ => debug(alloc, same_preferences(one, other)),
+    }
 }
 
-fn as_locale(alloc: Global, read: Result<LocalePreferences, Unanswered>) -> Answer {
-    let locale = read?.to_locale(alloc)?;
-    printed(alloc, &locale)
-}
-
-fn are_equal(alloc: Global, text: &str, other: &str) -> Result<bool, ParseError> {
-    Ok(preferences_of(alloc, text)? == preferences_of(alloc, other)?)
-}
-
-fn language_of(alloc: Global, text: &str) -> Answer {
-    printed(alloc, &preferences_of(alloc, text)?.language())
-}
-
-fn region_of(alloc: Global, text: &str) -> Answer {
-    shown_or_hyphen(alloc, preferences_of(alloc, text)?.region().as_ref())
-}
-
-fn system_of(alloc: Global, text: &str) -> Answer {
-    let locale = Locale::try_from_str(alloc, text)?;
-    shown_or_hyphen(alloc, numbering_system(&locale).as_ref())
+fn of_one(alloc: Global, call: Call<'_>, preferences: LocalePreferences) -> Answer {
+    match call.name {
+        "to_data_locale_language_priority" => {
+            printed(alloc, &preferences.to_data_locale_language_priority())
+        }
+        "to_data_locale_region_priority" => {
+            printed(alloc, &preferences.to_data_locale_region_priority())
+        }
+        "to_locale" => made(alloc, preferences.to_locale(alloc)),
+        "language" => printed(alloc, &preferences.language()),
+        "region" => shown_or_hyphen(alloc, preferences.region().as_ref()),
+        _ => Err(Unanswered::NotUnderstood),
+    }
 }

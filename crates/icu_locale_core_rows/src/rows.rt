@@ -4,25 +4,28 @@ use crate::call::{Call, call_of};
 use crate::data_locales::data_locale;
 use crate::entries::{fields, keywords};
 use crate::errors::{parse_error, preferences_parse_error};
-use crate::extensions::{extensions, other, private_pieces, unicode};
+use crate::extensions::{extensions, private_pieces, unicode};
 use crate::language_identifiers::language_identifier;
 use crate::locales::locale;
-use crate::part::{part, part_or_none};
+use crate::part::part;
 use crate::preferences::preferences;
 use crate::sets::{attributes, variants};
 use crate::single::in_mode;
 use crate::subtags::{language, pieces, region, script, subtag, transform_key, variant};
-use crate::typed_keywords::{currency, keyword, subdivision_id, word_keyword};
+use crate::typed_keywords::{currency, keyword, subdivision_id, tried, word_keyword, word_of};
 use crate::unanswered::{Answer, Unanswered};
-use crate::values::{transform_value, unicode_value};
+use crate::values::value;
+use icu_locale_core::extensions::other::Other;
 use icu_locale_core::extensions::private;
 use icu_locale_core::extensions::transform::Transform;
-use icu_locale_core::extensions::unicode::{Attribute, Key, SubdivisionSuffix};
+use icu_locale_core::extensions::unicode::{Attribute, Key, SubdivisionSuffix, Value};
 use icu_locale_core::preferences::extensions::unicode::keywords::{
     CollationCaseFirst, CollationNumericOrdering, CurrencyFormatStyle, EmojiPresentationStyle,
     FirstDay, LineBreakStyle, LineBreakWordHandling, MeasurementSystem, NumberingSystem,
     RegionOverride, RegionalSubdivision,
 };
+use icu_locale_core_subtags::transform;
+use icu_locale_core_subtags::unicode::KeyRule;
 use std::alloc::{AllocError, Global};
 
 /// The answer to a row: the text of the value, `""` where that is empty; the name of the refusal; or `?`.
@@ -67,15 +70,15 @@ fn of_extensions(alloc: Global, call: Call<'_>) -> Answer {
     match call.kind {
         "Extensions" => extensions(alloc, call),
         "Unicode" => unicode(alloc, call),
-        "Transform" => part_or_none::<Transform>(alloc, call),
+        "Transform" => part::<Transform>(alloc, call),
         "Private" => private_pieces(alloc, call),
-        "Other" => other(alloc, call),
+        "Other" => part::<Other>(alloc, call),
         "Variants" => variants(alloc, call),
         "Attributes" => attributes(alloc, call),
         "Keywords" => keywords(alloc, call),
         "Fields" => fields(alloc, call),
-        "unicode::Value" => unicode_value(alloc, call),
-        "transform::Value" => transform_value(alloc, call),
+        "unicode::Value" => value::<KeyRule>(alloc, call),
+        "transform::Value" => value::<transform::KeyRule>(alloc, call),
         _ => of_subtags(alloc, call),
     }
 }
@@ -100,6 +103,15 @@ fn of_subtags(alloc: Global, call: Call<'_>) -> Answer {
 
 // The answer to a call of a keyword with a type.
 fn of_keywords(alloc: Global, call: Call<'_>) -> Answer {
+    match call.name {
+        "try_from" => tried(alloc, call.kind, &Value::try_from_str(alloc, call.first)?),
+        "as_str" => word_of(alloc, call.kind, call.first),
+        _ => of_keyword(alloc, call),
+    }
+}
+
+// The answer to a call that every keyword with a type has.
+fn of_keyword(alloc: Global, call: Call<'_>) -> Answer {
     match call.kind {
         "NumberingSystem" => keyword::<NumberingSystem>(alloc, call),
         "RegionalSubdivision" => keyword::<RegionalSubdivision>(alloc, call),

@@ -23,46 +23,26 @@ pub fn mode_of(name: &str) -> Result<ParserMode, Unanswered> {
 
 /// The answer to a call of the readers that take a mode.
 pub fn in_mode(alloc: Global, call: Call<'_>) -> Answer {
+    let mode = mode_of(call.first)?;
+    let text = call.second.as_bytes();
     match call.name {
-        "parse_locale_with_single_variant_single_keyword_unicode_extension_from_iter" => {
-            of_pieces(alloc, call.first, call.second)
-        }
-        "parse_locale_with_single_variant_single_keyword_unicode_keyword_extension" => {
-            of_text(alloc, call.first, call.second)
-        }
-        "parse_language_identifier_with_single_variant" => {
-            language_part(alloc, call.first, call.second)
-        }
+        "parse_locale_with_single_variant_single_keyword_unicode_extension_from_iter" => single(
+            alloc,
+            parse_locale_with_single_variant_single_keyword_unicode_extension_from_iter(
+                SubtagIterator::new(text),
+                mode,
+            ),
+        ),
+        "parse_locale_with_single_variant_single_keyword_unicode_keyword_extension" => single(
+            alloc,
+            parse_locale_with_single_variant_single_keyword_unicode_keyword_extension(text, mode),
+        ),
+        "parse_language_identifier_with_single_variant" => one_variant(
+            alloc,
+            parse_language_identifier_with_single_variant(text, mode),
+        ),
         _ => Err(Unanswered::NotUnderstood),
     }
-}
-
-fn of_pieces(alloc: Global, mode: &str, text: &str) -> Answer {
-    let pieces = SubtagIterator::new(text.as_bytes());
-    let mode = mode_of(mode)?;
-    single(
-        alloc,
-        parse_locale_with_single_variant_single_keyword_unicode_extension_from_iter(pieces, mode),
-    )
-}
-
-fn of_text(alloc: Global, mode: &str, text: &str) -> Answer {
-    let mode = mode_of(mode)?;
-    single(
-        alloc,
-        parse_locale_with_single_variant_single_keyword_unicode_keyword_extension(
-            text.as_bytes(),
-            mode,
-        ),
-    )
-}
-
-fn language_part(alloc: Global, mode: &str, text: &str) -> Answer {
-    let mode = mode_of(mode)?;
-    one_variant(
-        alloc,
-        parse_language_identifier_with_single_variant(text.as_bytes(), mode),
-    )
 }
 
 /// The texts of the parts, with `-` for each that is missing: `en - US -`, and behind them the keyword, if any.

@@ -1,29 +1,22 @@
 //! Rows of subtags, and of the pieces of a text.
 
-use crate::answers::{debug, made, printed, push_behind, shown, text, told};
+use crate::answers::{debug, json_text, printed, push_behind, shown, text};
 use crate::bytes::{escaped, json_of, unescaped};
 use crate::call::Call;
-use crate::part::part;
+use crate::part::{TagPart, copied, part};
 use crate::unanswered::{Answer, Unanswered};
 use icu_locale_core::ParseError;
-use icu_locale_core::extensions::transform;
+use icu_locale_core::extensions::transform::Key;
 use icu_locale_core::parser::SubtagIterator;
 use icu_locale_core::subtags::{Language, Region, Script, Subtag, SubtagOf, SubtagRule, Variant};
+use icu_locale_core_subtags::{LanguageRule, RegionRule};
 use std::alloc::{AllocError, Global};
+use std::cmp::Ordering;
 use std::collections::BTreeSet;
-
-fn small_text<R: SubtagRule<N>, const N: usize>(
-    alloc: Global,
-    read: Result<SubtagOf<R, N>, ParseError>,
-) -> Answer {
-    text(alloc, read?.to_tinystr().as_str())
-}
+use tinystr::TinyAsciiStr;
 
 // The subtag of this raw form.
-fn of_raw<R: SubtagRule<N>, const N: usize>(
-    alloc: Global,
-    bytes: &str,
-) -> Result<SubtagOf<R, N>, Unanswered> {
+fn of_raw<R: SubtagRule<N>, const N: usize>(alloc: Global, bytes: &str) -> Answer {
     let bytes = unescaped(alloc, bytes)?;
     if bytes.len() != N {
         return Err(Unanswered::NotUnderstood);
@@ -31,101 +24,85 @@ fn of_raw<R: SubtagRule<N>, const N: usize>(
     let mut raw = [0; N];
     let all = &mut raw[..];
     all.copy_from_slice(&bytes);
-    Ok(SubtagOf::<R, N>::try_from_raw(raw)?)
+    shown(alloc, SubtagOf::<R, N>::try_from_raw(raw))
 }
 
-fn raw_of<R: SubtagRule<N>, const N: usize>(
-    alloc: Global,
-    read: Result<SubtagOf<R, N>, ParseError>,
-) -> Answer {
-    escaped(alloc, &read?.into_raw())
+impl<R: SubtagRule<N>, const N: usize> TagPart for SubtagOf<R, N> {
+    fn of_text(_alloc: Global, text: &str) -> Result<Self, ParseError> {
+        Self::try_from_str(text)
+    }
+
+    fn of_bytes(_alloc: Global, bytes: &[u8]) -> Result<Self, ParseError> {
+        Self::try_from_utf8(bytes)
+    }
+
+    fn order(&self, other: &Self) -> Ordering {
+        self.cmp(other)
+    }
+
+    fn answer(self, alloc: Global, call: Call<'_>) -> Answer {
+        match call.name {
+            "try_clone" => copied(alloc, &self, self.clone()),
+            "to_tinystr" => text(alloc, self.to_tinystr().as_str()),
+            "into_raw" => escaped(alloc, &self.into_raw()),
+            "strict_cmp" => byte_order(alloc, self, call.second),
+            "normalizing_eq" => debug(alloc, self.normalizing_eq(call.second)),
+            "to_json" => json_text(alloc, self.to_json(alloc)),
+            "{:?}" => debug(alloc, self),
+            _ => Err(Unanswered::NotUnderstood),
+        }
+    }
 }
 
 fn byte_order<R: SubtagRule<N>, const N: usize>(
     alloc: Global,
-    read: Result<SubtagOf<R, N>, ParseError>,
+    subtag: SubtagOf<R, N>,
     bytes: &str,
 ) -> Answer {
-    let subtag = read?;
     let bytes = unescaped(alloc, bytes)?;
     debug(alloc, subtag.strict_cmp(&bytes))
-}
-
-fn reads_from<R: SubtagRule<N>, const N: usize>(
-    alloc: Global,
-    read: Result<SubtagOf<R, N>, ParseError>,
-    other: &str,
-) -> Answer {
-    debug(alloc, read?.normalizing_eq(other))
-}
-
-fn json_text<R: SubtagRule<N>, const N: usize>(
-    alloc: Global,
-    read: Result<SubtagOf<R, N>, ParseError>,
-) -> Answer {
-    Ok(read?.to_json(alloc)?.to_string(alloc)?)
 }
 
 /// The answer to a call of languages.
 pub fn language(alloc: Global, call: Call<'_>) -> Answer {
     match call.name {
         "default" => printed(alloc, &Language::default()),
-        "is_unknown" => told(alloc, is_unknown(call.first)),
+        "UNKNOWN" => unknown(alloc),
+        "is_unknown" => debug(alloc, Language::try_from_str(call.first)?.is_unknown()),
         "parse" => shown(alloc, call.first.parse::<Language>()),
-        "to_tinystr" => small_text(alloc, Language::try_from_str(call.first)),
-        "try_from_raw" => made(alloc, raw_language(alloc, call.first)),
-        "to_json" => json_text(alloc, Language::try_from_str(call.first)),
-        "from_json" => made(alloc, language_of_json(alloc, call.first)),
+        "try_from_raw" => of_raw::<LanguageRule, 3>(alloc, call.first),
+        "from_json" => shown(alloc, Language::from_json(&json_of(alloc, call.first)?)),
         _ => part::<Language>(alloc, call),
     }
 }
 
-fn raw_language(alloc: Global, bytes: &str) -> Result<Language, Unanswered> {
-    of_raw(alloc, bytes)
-}
-
-fn language_of_json(alloc: Global, json: &str) -> Result<Language, Unanswered> {
-    let value = json_of(alloc, json)?;
-    Ok(Language::from_json(&value)?)
-}
-
-fn is_unknown(text: &str) -> Result<bool, ParseError> {
-    Ok(Language::try_from_str(text)?.is_unknown())
+fn unknown(alloc: Global) -> Answer {
+    text(alloc, Language::UNKNOWN.as_str())
 }
 
 /// The answer to a call of scripts.
 pub fn script(alloc: Global, call: Call<'_>) -> Answer {
     match call.name {
-        "strict_cmp" => byte_order(alloc, Script::try_from_str(call.first), call.second),
-        "from_json" => made(alloc, script_of_json(alloc, call.first)),
+        "from_json" => shown(alloc, Script::from_json(&json_of(alloc, call.first)?)),
         _ => part::<Script>(alloc, call),
     }
 }
 
-fn script_of_json(alloc: Global, json: &str) -> Result<Script, Unanswered> {
-    let value = json_of(alloc, json)?;
-    Ok(Script::from_json(&value)?)
+/// The answer to a call of the keys of fields.
+pub fn transform_key(alloc: Global, call: Call<'_>) -> Answer {
+    match call.name {
+        "from_json" => shown(alloc, Key::from_json(&json_of(alloc, call.first)?)),
+        _ => part::<Key>(alloc, call),
+    }
 }
 
 /// The answer to a call of regions.
 pub fn region(alloc: Global, call: Call<'_>) -> Answer {
     match call.name {
-        "is_alphabetic" => told(alloc, is_alphabetic(call.first)),
-        "into_raw" => raw_of(alloc, Region::try_from_str(call.first)),
-        "try_from_raw" => made(alloc, raw_region(alloc, call.first)),
-        "strict_cmp" => byte_order(alloc, Region::try_from_str(call.first), call.second),
-        "normalizing_eq" => reads_from(alloc, Region::try_from_str(call.first), call.second),
-        "{:?}" => told(alloc, Region::try_from_str(call.first)),
+        "is_alphabetic" => debug(alloc, Region::try_from_str(call.first)?.is_alphabetic()),
+        "try_from_raw" => of_raw::<RegionRule, 3>(alloc, call.first),
         _ => part::<Region>(alloc, call),
     }
-}
-
-fn raw_region(alloc: Global, bytes: &str) -> Result<Region, Unanswered> {
-    of_raw(alloc, bytes)
-}
-
-fn is_alphabetic(text: &str) -> Result<bool, ParseError> {
-    Ok(Region::try_from_str(text)?.is_alphabetic())
 }
 
 /// The answer to a call of variants one by one.
@@ -156,42 +133,31 @@ fn spaced(alloc: Global, set: &BTreeSet<Variant>) -> Answer {
 /// The answer to a call of the subtags that any extension may have.
 pub fn subtag(alloc: Global, call: Call<'_>) -> Answer {
     match call.name {
-        "len" => told(alloc, length_of(call.first)),
-        "eq_str" => told(alloc, is_text(call.first, call.second)),
-        "from" => shown(alloc, of_script(call.first)),
+        "try_from" => of_tinystr(alloc, call.first),
+        "as_tinystr" => text(
+            alloc,
+            Subtag::try_from_str(call.first)?.as_tinystr().as_str(),
+        ),
+        "len" => debug(alloc, Subtag::try_from_str(call.first)?.len()),
+        "eq_str" => debug(alloc, Subtag::try_from_str(call.first)?.eq_str(call.second)),
+        "from" => printed(alloc, &Subtag::from(Script::try_from_str(call.first)?)),
         _ => part::<Subtag>(alloc, call),
     }
 }
 
-fn length_of(text: &str) -> Result<usize, ParseError> {
-    Ok(Subtag::try_from_str(text)?.len())
-}
-
-fn is_text(text: &str, other: &str) -> Result<bool, ParseError> {
-    Ok(Subtag::try_from_str(text)?.eq_str(other))
-}
-
-fn of_script(script: &str) -> Result<Subtag, ParseError> {
-    Ok(Subtag::from(Script::try_from_str(script)?))
-}
-
-/// The answer to a call of the keys of fields.
-pub fn transform_key(alloc: Global, call: Call<'_>) -> Answer {
-    match call.name {
-        "from_json" => made(alloc, key_of_json(alloc, call.first)),
-        _ => part::<transform::Key>(alloc, call),
+fn of_tinystr(alloc: Global, text: &str) -> Answer {
+    match TinyAsciiStr::<16>::try_from_str(text) {
+        Ok(small) => shown(alloc, Subtag::try_from(small)),
+        Err(_) => Err(Unanswered::NotUnderstood),
     }
-}
-
-fn key_of_json(alloc: Global, json: &str) -> Result<transform::Key, Unanswered> {
-    let value = json_of(alloc, json)?;
-    Ok(transform::Key::from_json(&value)?)
 }
 
 /// The answer to a call of the pieces of a text: each piece of `en-` in brackets is `[en][]`.
 pub fn pieces(alloc: Global, call: Call<'_>) -> Answer {
     match call.name {
         "new" => Ok(bracketed(alloc, call.first)?),
+        "peek" => Ok(peeked(alloc, call.first)?),
+        "next_const" => Ok(handed_on(alloc, call.first)?),
         _ => Err(Unanswered::NotUnderstood),
     }
 }
@@ -199,9 +165,7 @@ pub fn pieces(alloc: Global, call: Call<'_>) -> Answer {
 fn bracketed(alloc: Global, text: &str) -> Result<String, AllocError> {
     let mut shown = String::new(alloc);
     for piece in SubtagIterator::new(text.as_bytes()) {
-        shown.push_str("[")?;
-        push_bytes(&mut shown, piece)?;
-        shown.push_str("]")?;
+        push_piece(&mut shown, Some(piece))?;
     }
     Ok(shown)
 }
@@ -211,4 +175,47 @@ fn push_bytes(shown: &mut String, piece: &[u8]) -> Result<(), AllocError> {
         shown.push(char::from(*byte))?;
     }
     Ok(())
+}
+
+// A piece in brackets; `-` where there is none.
+fn push_piece(shown: &mut String, piece: Option<&[u8]>) -> Result<(), AllocError> {
+    match piece {
+        Some(piece) => {
+            shown.push_str("[")?;
+            push_bytes(shown, piece)?;
+            shown.push_str("]")
+        }
+        None => shown.push_str("-"),
+    }
+}
+
+// The first piece as `peek` answers it, of the iterator and of its copy, and as `next` does; what then is left in a copy, and in the
+// iterator itself.
+fn peeked(alloc: Global, text: &str) -> Result<String, AllocError> {
+    let mut shown = String::new(alloc);
+    let mut pieces = SubtagIterator::new(text.as_bytes());
+    push_piece(&mut shown, pieces.peek())?;
+    push_piece(&mut shown, pieces.again().peek())?;
+    push_piece(&mut shown, pieces.next())?;
+    let mut same = pieces.again();
+    push_piece(&mut shown, same.next())?;
+    push_piece(&mut shown, same.next())?;
+    push_piece(&mut shown, same.peek())?;
+    push_piece(&mut shown, pieces.next())?;
+    Ok(shown)
+}
+
+// The first piece, the one that is peeked at behind it, and what three more steps answer.
+fn handed_on(alloc: Global, text: &str) -> Result<String, AllocError> {
+    let mut shown = String::new(alloc);
+    let (pieces, first) = SubtagIterator::new(text.as_bytes()).next_const();
+    push_piece(&mut shown, first)?;
+    push_piece(&mut shown, pieces.peek())?;
+    let (pieces, second) = pieces.next_const();
+    push_piece(&mut shown, second)?;
+    let (pieces, third) = pieces.next_const();
+    push_piece(&mut shown, third)?;
+    let (_, last) = pieces.next_const();
+    push_piece(&mut shown, last)?;
+    Ok(shown)
 }

@@ -1,25 +1,44 @@
 //! Rows of keywords with a type of their own, and of subdivisions.
 
-use crate::answers::{debug, printed, shown, shown_or_hyphen, text};
+use crate::answers::{debug, printed, shown_or_hyphen, text, two_texts};
 use crate::call::Call;
-use crate::part::part;
+use crate::part::{TagPart, copied, hash_of, part};
 use crate::unanswered::{Answer, Unanswered};
 use icu_locale_core::ParseError;
 use icu_locale_core::extensions::unicode::{Key, SubdivisionId, SubdivisionSuffix, Value};
 use icu_locale_core::preferences::PreferenceKey;
-use icu_locale_core::preferences::extensions::unicode::keywords::{CurrencyType, WordKeyword};
+use icu_locale_core::preferences::extensions::unicode::keywords::{
+    CollationCaseFirst, CollationNumericOrdering, CurrencyFormatStyle, CurrencyType,
+    EmojiPresentationStyle, FirstDay, LineBreakStyle, LineBreakWordHandling, MeasurementSystem,
+    NumberingSystem, RegionOverride, RegionalSubdivision, WordKeyword,
+};
 use icu_locale_core::subtags::Region;
 use std::alloc::Global;
+use std::cmp::Ordering;
 use std::fmt::Debug;
+use std::hash::Hash;
 
 /// The answer to a call of a keyword with a type.
-pub fn keyword<P: PreferenceKey + Copy + Debug>(alloc: Global, call: Call<'_>) -> Answer {
+pub fn keyword<P: PreferenceKey + Copy + Debug + PartialEq + Hash>(
+    alloc: Global,
+    call: Call<'_>,
+) -> Answer {
     match call.name {
-        "unicode_extension_key" => { shown_or_hyphen(alloc, P::unicode_extension_key().as_ref()) }
-        "unicode_extension_value" => written(alloc, stated::<P>(alloc, call.first)),
-        "try_from_value" => case_of(alloc, stated::<P>(alloc, call.first)),
-        "try_from_key_value" => case_of(alloc, stated_at::<P>(alloc, call.first, call.second)),
+        "==" | "hash" => alike::<P>(alloc, call),
+        "unicode_extension_key" => shown_or_hyphen(alloc, P::unicode_extension_key().as_ref()),
+        "unicode_extension_value" => written(alloc, &stated::<P>(alloc, call.first)?),
+        "try_from_value" => debug(alloc, stated::<P>(alloc, call.first)?),
+        "try_from_key_value" => debug(alloc, stated_at::<P>(alloc, call.first, call.second)?),
         _ => Err(Unanswered::NotUnderstood),
+    }
+}
+
+fn alike<P: PreferenceKey + Copy + PartialEq + Hash>(alloc: Global, call: Call<'_>) -> Answer {
+    let one = stated::<P>(alloc, call.first)?;
+    let other = stated::<P>(alloc, call.second)?;
+    match call.name {
+        "==" => debug(alloc, one == other),
+        _ => debug(alloc, hash_of(&one) == hash_of(&other)),
     }
 }
 
@@ -39,70 +58,112 @@ fn stated_at<P: PreferenceKey + Copy>(
     Ok(P::try_from_key_value(&Key::try_from_str(key)?, &value)?)
 }
 
-// The preference as Rust writes it.
-fn case_of<T: Debug + Copy>(alloc: Global, stated: Result<T, Unanswered>) -> Answer {
-    debug(alloc, stated?)
-}
-
 // The value of a preference.
-fn written<P: PreferenceKey + Copy>(alloc: Global, stated: Result<P, Unanswered>) -> Answer {
-    let value = stated?.unicode_extension_value(alloc)?;
+fn written<P: PreferenceKey>(alloc: Global, stated: &P) -> Answer {
+    let value = stated.unicode_extension_value(alloc)?;
     shown_or_hyphen(alloc, value.as_ref())
 }
 
 /// The answer to a call of a keyword whose values are words.
-pub fn word_keyword<W: WordKeyword + Debug + 'static>(alloc: Global, call: Call<'_>) -> Answer {
+pub fn word_keyword<W: WordKeyword + Debug + PartialEq + Hash + 'static>(
+    alloc: Global,
+    call: Call<'_>,
+) -> Answer {
     match call.name {
-        "word" => word_of(alloc, stated::<W>(alloc, call.first)),
+        "word" => text(alloc, stated::<W>(alloc, call.first)?.word()),
         "cases" => debug(alloc, W::cases()),
         "key" => text(alloc, W::key()),
         _ => keyword::<W>(alloc, call),
     }
 }
 
-// The word of a case.
-fn word_of<W: WordKeyword>(alloc: Global, stated: Result<W, Unanswered>) -> Answer {
-    text(alloc, stated?.word())
-}
-
 /// The answer to a call of currencies.
 pub fn currency(alloc: Global, call: Call<'_>) -> Answer {
     match call.name {
-        "iso_code" => code_of(alloc, stated::<CurrencyType>(alloc, call.first)),
+        "iso_code" => text(
+            alloc,
+            stated::<CurrencyType>(alloc, call.first)?
+                .iso_code()
+                .as_str(),
+        ),
         _ => keyword::<CurrencyType>(alloc, call),
     }
 }
 
-// The code of a currency.
-fn code_of(alloc: Global, stated: Result<CurrencyType, Unanswered>) -> Answer {
-    text(alloc, stated?.iso_code().as_str())
+/// The keyword of this type that `try_from` reads of a value: the subtag, the region and the suffix, or the case.
+pub fn tried(alloc: Global, kind: &str, value: &Value) -> Answer {
+    match kind {
+        "NumberingSystem" => text(alloc, NumberingSystem::try_from(value)?.as_str()),
+        "CurrencyType" => text(alloc, CurrencyType::try_from(value)?.as_str()),
+        "RegionalSubdivision" => parts_of(alloc, *RegionalSubdivision::try_from(value)?),
+        "RegionOverride" => parts_of(alloc, *RegionOverride::try_from(value)?),
+        "FirstDay" => debug(alloc, FirstDay::try_from(value)?),
+        "LineBreakStyle" => debug(alloc, LineBreakStyle::try_from(value)?),
+        "LineBreakWordHandling" => debug(alloc, LineBreakWordHandling::try_from(value)?),
+        _ => Err(Unanswered::NotUnderstood),
+    }
+}
+
+fn parts_of(alloc: Global, id: SubdivisionId) -> Answer {
+    two_texts(printed(alloc, &id.region), printed(alloc, &id.suffix))
+}
+
+/// The word of the case that a text states, by `as_str` of this type.
+pub fn word_of(alloc: Global, kind: &str, of: &str) -> Answer {
+    match kind {
+        "FirstDay" => text(alloc, stated::<FirstDay>(alloc, of)?.as_str()),
+        "MeasurementSystem" => text(alloc, stated::<MeasurementSystem>(alloc, of)?.as_str()),
+        "CurrencyFormatStyle" => text(alloc, stated::<CurrencyFormatStyle>(alloc, of)?.as_str()),
+        "EmojiPresentationStyle" => {
+            text(alloc, stated::<EmojiPresentationStyle>(alloc, of)?.as_str())
+        }
+        "LineBreakStyle" => text(alloc, stated::<LineBreakStyle>(alloc, of)?.as_str()),
+        "CollationCaseFirst" => text(alloc, stated::<CollationCaseFirst>(alloc, of)?.as_str()),
+        "CollationNumericOrdering" => {
+            text(
+                alloc,
+                stated::<CollationNumericOrdering>(alloc, of)?.as_str(),
+            )
+        }
+        "LineBreakWordHandling" => {
+            text(alloc, stated::<LineBreakWordHandling>(alloc, of)?.as_str())
+        }
+        _ => Err(Unanswered::NotUnderstood),
+    }
 }
 
 /// The answer to a call of subdivisions.
 pub fn subdivision_id(alloc: Global, call: Call<'_>) -> Answer {
     match call.name {
-        "new" => shown(alloc, of_parts(call.first, call.second)),
-        "region" => region_of(alloc, SubdivisionId::try_from_str(call.first)),
-        "suffix" => suffix_of(alloc, SubdivisionId::try_from_str(call.first)),
-        "into_subtag" => subtag_of(alloc, SubdivisionId::try_from_str(call.first)),
+        "new" => {
+            let region = Region::try_from_str(call.first)?;
+            let suffix = SubdivisionSuffix::try_from_str(call.second)?;
+            printed(alloc, &SubdivisionId::new(region, suffix))
+        }
         _ => part::<SubdivisionId>(alloc, call),
     }
 }
 
-fn of_parts(region: &str, suffix: &str) -> Result<SubdivisionId, ParseError> {
-    let region = Region::try_from_str(region)?;
-    let suffix = SubdivisionSuffix::try_from_str(suffix)?;
-    Ok(SubdivisionId::new(region, suffix))
-}
+impl TagPart for SubdivisionId {
+    fn of_text(_alloc: Global, text: &str) -> Result<Self, ParseError> {
+        Self::try_from_str(text)
+    }
 
-fn region_of(alloc: Global, read: Result<SubdivisionId, ParseError>) -> Answer {
-    printed(alloc, &read?.region)
-}
+    fn of_bytes(_alloc: Global, bytes: &[u8]) -> Result<Self, ParseError> {
+        Self::try_from_utf8(bytes)
+    }
 
-fn suffix_of(alloc: Global, read: Result<SubdivisionId, ParseError>) -> Answer {
-    printed(alloc, &read?.suffix)
-}
+    fn order(&self, other: &Self) -> Ordering {
+        self.cmp(other)
+    }
 
-fn subtag_of(alloc: Global, read: Result<SubdivisionId, ParseError>) -> Answer {
-    printed(alloc, &read?.into_subtag())
+    fn answer(self, alloc: Global, call: Call<'_>) -> Answer {
+        match call.name {
+            "try_clone" => copied(alloc, &self, Ok(self)),
+            "region" => printed(alloc, &self.region),
+            "suffix" => printed(alloc, &self.suffix),
+            "into_subtag" => printed(alloc, &self.into_subtag()),
+            _ => Err(Unanswered::NotUnderstood),
+        }
+    }
 }

@@ -1,89 +1,92 @@
 //! Rows of the values of keywords and fields.
 
-use crate::answers::{change, debug, made, shown_or_hyphen, told};
+use crate::answers::{change, debug, joined, made, printed, shown_or_hyphen};
 use crate::bytes::number_of;
 use crate::call::Call;
-use crate::part::part_or_none;
+use crate::part::{TagPart, copied, part};
 use crate::unanswered::{Answer, Unanswered};
 use icu_locale_core::ParseError;
-use icu_locale_core::extensions::transform;
-use icu_locale_core::extensions::unicode::Value;
 use icu_locale_core::subtags::Subtag;
+use icu_locale_core_entries::{EntryKind, ValueOf};
 use std::alloc::Global;
+use std::cmp::Ordering;
 
-/// The answer to a call of the values of keywords.
-pub fn unicode_value(alloc: Global, call: Call<'_>) -> Answer {
+/// The answer to a call of the values of keywords, or of fields.
+pub fn value<K: EntryKind>(alloc: Global, call: Call<'_>) -> Answer {
     match call.name {
-        "eq_str" => told(alloc, is_text(alloc, call.first, call.second)),
-        "get_subtag" => subtag_at(alloc, call.first, call.second),
-        "remove_subtag" => change(alloc, without_subtag(alloc, call.first, call.second)),
-        "as_single_subtag" => lent_single(alloc, call.first),
-        "into_single_subtag" => single(alloc, call.first),
-        "from_subtag" => made(alloc, of_subtag(alloc, call.first)),
-        "push_subtag" => made(alloc, with_subtag(alloc, call.first, call.second)),
-        "subtag_count" => count_with(alloc, call.first, call.second),
-        "is_well_formed" => is_well_formed_with(alloc, call.first, call.second),
-        _ => part_or_none::<Value>(alloc, call),
+        "new_empty" => printed(alloc, &ValueOf::<K>::new_empty(alloc)),
+        "from_subtag" => of_subtag::<K>(alloc, call.first),
+        "try_from_iter" => of_subtags::<K>(alloc, call),
+        _ => part::<ValueOf<K>>(alloc, call),
     }
 }
 
-fn is_text(alloc: Global, text: &str, other: &str) -> Result<bool, ParseError> {
-    Ok(Value::try_from_str(alloc, text)?.eq_str(other))
+// The value of one subtag, or of none.
+fn of_subtag<K: EntryKind>(alloc: Global, text: &str) -> Answer {
+    if text.is_empty() {
+        return made(alloc, ValueOf::<K>::from_subtag(alloc, None));
+    }
+    let subtag = Subtag::try_from_str(text)?;
+    made(alloc, ValueOf::<K>::from_subtag(alloc, Some(subtag)))
 }
 
-fn subtag_at(alloc: Global, text: &str, place: &str) -> Answer {
-    let place = number_of(place)?;
-    shown_or_hyphen(alloc, Value::try_from_str(alloc, text)?.get_subtag(place))
+// The value of three subtags.
+fn of_subtags<K: EntryKind>(alloc: Global, call: Call<'_>) -> Answer {
+    let first = Subtag::try_from_str(call.first)?;
+    let second = Subtag::try_from_str(call.second)?;
+    let third = Subtag::try_from_str(call.third)?;
+    made(
+        alloc,
+        ValueOf::<K>::try_from_iter(alloc, [first, second, third]),
+    )
+}
+
+impl<K: EntryKind> TagPart for ValueOf<K> {
+    fn of_text(alloc: Global, text: &str) -> Result<Self, ParseError> {
+        Self::try_from_str(alloc, text)
+    }
+
+    fn of_bytes(alloc: Global, bytes: &[u8]) -> Result<Self, ParseError> {
+        Self::try_from_utf8(alloc, bytes)
+    }
+
+    fn order(&self, other: &Self) -> Ordering {
+        self.cmp(other)
+    }
+
+    fn answer(mut self, alloc: Global, call: Call<'_>) -> Answer {
+        match call.name {
+            "try_clone" => copied(alloc, &self, self.try_clone()),
+            "is_empty" => debug(alloc, self.is_empty()),
+            "eq_str" => debug(alloc, self.eq_str(call.second)),
+            "get_subtag" => shown_or_hyphen(alloc, self.get_subtag(number_of(call.second)?)),
+            "remove_subtag" => without_subtag(alloc, self, number_of(call.second)?),
+            "as_single_subtag" => shown_or_hyphen(alloc, self.as_single_subtag()),
+            "into_single_subtag" => shown_or_hyphen(alloc, self.into_single_subtag().as_ref()),
+            "clear" => {
+                self.clear();
+                printed(alloc, &self)
+            }
+            _ => with_subtag(alloc, call, self),
+        }
+    }
 }
 
 // The subtag that stood at the place, and the value without it.
-fn without_subtag(
-    alloc: Global,
-    text: &str,
-    place: &str,
-) -> Result<(Option<Subtag>, Value), Unanswered> {
-    let place = number_of(place)?;
-    let mut value = Value::try_from_str(alloc, text)?;
+fn without_subtag<K: EntryKind>(alloc: Global, mut value: ValueOf<K>, place: usize) -> Answer {
     let old = value.remove_subtag(place);
-    Ok((old, value))
+    change(alloc, old.as_ref(), &value)
 }
 
-fn lent_single(alloc: Global, text: &str) -> Answer {
-    shown_or_hyphen(alloc, Value::try_from_str(alloc, text)?.as_single_subtag())
-}
-
-fn single(alloc: Global, text: &str) -> Answer {
-    let single = Value::try_from_str(alloc, text)?.into_single_subtag();
-    shown_or_hyphen(alloc, single.as_ref())
-}
-
-fn of_subtag(alloc: Global, subtag: &str) -> Result<Value, Unanswered> {
-    Ok(Value::from_subtag(alloc, Some(Subtag::try_from_str(subtag)?))?)
-}
-
-// The value of a text, with one more subtag.
-fn with_subtag(alloc: Global, text: &str, subtag: &str) -> Result<Value, Unanswered> {
-    let mut value = Value::try_from_str(alloc, text)?;
-    value.push_subtag(Subtag::try_from_str(subtag)?)?;
-    Ok(value)
-}
-
-fn count_with(alloc: Global, text: &str, subtag: &str) -> Answer {
-    debug(alloc, with_subtag(alloc, text, subtag)?.subtag_count())
-}
-
-fn is_well_formed_with(alloc: Global, text: &str, subtag: &str) -> Answer {
-    debug(alloc, with_subtag(alloc, text, subtag)?.is_well_formed())
-}
-
-/// The answer to a call of the values of fields.
-pub fn transform_value(alloc: Global, call: Call<'_>) -> Answer {
+// The answer to a call of a value with one more subtag.
+fn with_subtag<K: EntryKind>(alloc: Global, call: Call<'_>, mut value: ValueOf<K>) -> Answer {
+    value.push_subtag(Subtag::try_from_str(call.second)?)?;
     match call.name {
-        "eq_str" => told(alloc, is_field_text(alloc, call.first, call.second)),
-        _ => part_or_none::<transform::Value>(alloc, call),
+        "push_subtag" => printed(alloc, &value),
+        "subtag_count" => debug(alloc, value.subtag_count()),
+        "is_well_formed" => debug(alloc, value.is_well_formed()),
+        "as_subtags_slice" => joined(alloc, value.as_subtags_slice()),
+        "iter" => debug(alloc, value.iter().count()),
+        _ => Err(Unanswered::NotUnderstood),
     }
-}
-
-fn is_field_text(alloc: Global, text: &str, other: &str) -> Result<bool, ParseError> {
-    Ok(transform::Value::try_from_str(alloc, text)?.eq_str(other))
 }

@@ -1,7 +1,0 @@
-use Rattle.std.proofs.Common.{refl, lit≤}
-use Rattle.tinystr.specs.SmallText.{padded}
-use Rattle.icu_locale_core_tests.proofs.subtags.unknown_is_und.Goals as goal
-
-pub invariant_of-as_str : goal.invariant_of-as_str
-unfolding padded
-invariant_of-as_str g c = record { small = record { short = lit≤ tt; ascii = refl }; rest = refl }
