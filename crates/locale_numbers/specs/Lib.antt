@@ -1,8 +1,12 @@
 pub mod Answer
+pub mod Changing
+pub mod Cutting
 pub mod Fault
 pub mod Laws
 pub mod NumberReading
 pub mod Program
 pub mod Refusal
 pub mod Request
+pub mod Rounded
+pub mod RoundingField
 pub mod Wanted
