@@ -1,5 +1,5 @@
 -- Lines whose tags are alike have one answer: `specs/Laws.antt`.
-use Rattle.std.proofs.Common.{◌≡◌, ◌<◌, ◌==◌, ℕ, Bool, true, false, cond, ◌&&◌, ◌||◌, List, [], ◌∷◌, ◌++◌, Option, Some, None, refl, sym, ap, ◌∙◌, subst, arith}
+use Rattle.std.proofs.Common.{◌≡◌, ◌<◌, ◌==◌, ℕ, Bool, true, false, cond, ◌||◌, List, [], ◌∷◌, ◌++◌, Option, Some, None, refl, sym, ap, ◌∙◌, subst, arith}
 use Rattle.std.specs.Prelude.{flat_map, if◌then◌else◌}
 use Rattle.std.specs.List.{list_all, onto_first}
 use Rattle.std.specs.Char.{is_ascii_alphanumeric}
@@ -20,7 +20,11 @@ use Rattle.icu_locale_core.proofs.NormalTags.{read_again}
 use Rattle.locale_numbers_symbols.specs.declared.GroupingStrategy.{GroupingStrategy}
 use Rattle.locale_numbers_book.specs.Book.{BookTables}
 use Rattle.locale_numbers.specs.NumberReading.{reading_of}
-use Rattle.locale_numbers.specs.Request.{tab, is_tab, fields, form_named, grouping_named, keeps_sign, keeps_digits, request_by, request_in, request_of}
+use Rattle.locale_numbers.specs.Request.{tab, fields, form_named, grouping_named, sign_named, request_by, request_in, request_of}
+use Rattle.locale_numbers.specs.Cutting.{is_separator}
+use Rattle.locale_numbers.specs.RoundingField.{rounding_named}
+use Rattle.locale_numbers.specs.declared.sign_field.SignAsked.{SignAsked}
+use Rattle.locale_numbers.specs.declared.rounding_field.RoundingAsked.{RoundingAsked}
 use Rattle.locale_numbers.specs.declared.request.Form.{Form}
 use Rattle.locale_numbers.specs.Wanted.{wanted_by, wanted_of}
 use Rattle.locale_numbers.specs.Answer.{answer_tagged, answer_asked}
@@ -33,7 +37,7 @@ use Rattle.locale_numbers.specs.Laws.{AreAlike, AlikeTagsAreAnsweredAlike, Norma
 abbrev is_tag_byte : ℕ → Bool
 is_tag_byte b = is_ascii_alphanumeric b || (b == hyphen)
 
-byte_no_tab : (b : ℕ) → is_tag_byte b ≡ true → is_tab b ≡ false
+byte_no_tab : (b : ℕ) → is_tag_byte b ≡ true → is_separator tab b ≡ false
 byte_no_tab b h = grind (arith, nat_tests)
 
 byte_ascii : (b : ℕ) → is_tag_byte b ≡ true → b < 128
@@ -95,12 +99,13 @@ request_behind text rest h =
 -- ---- fields behind a tag
 
 module _ (book : BookTables) (text other : List ℕ) (alike : wanted_of text ≡ wanted_of other) where
-  known_alike : (number : List ℕ) (form : Option Form) (grouping : Option GroupingStrategy) (kept : Bool)
-      → answer_asked book (request_by text form grouping kept number) ≡ answer_asked book (request_by other form grouping kept number)
-  known_alike number (Some form) (Some grouping) true = ap (λ w. answer_tagged book w grouping (reading_of number)) alike
-  known_alike number (Some form) (Some grouping) false = refl
-  known_alike number (Some form) None kept = refl
-  known_alike number None grouping kept = refl
+  known_alike : (number : List ℕ) (form : Option Form) (grouping : Option GroupingStrategy) (sign : Option SignAsked) (rounding : Option RoundingAsked)
+      → answer_asked book (request_by text form grouping sign rounding number) ≡ answer_asked book (request_by other form grouping sign rounding number)
+  known_alike number (Some form) (Some grouping) (Some sign) (Some rounding) = ap (λ w. answer_tagged book w grouping sign rounding (reading_of number)) alike
+  known_alike number (Some form) (Some grouping) (Some sign) None = refl
+  known_alike number (Some form) (Some grouping) None rounding = refl
+  known_alike number (Some form) None sign rounding = refl
+  known_alike number None grouping sign rounding = refl
 
   fields_alike : (fs : List (List ℕ)) → answer_asked book (request_in (text ∷ fs)) ≡ answer_asked book (request_in (other ∷ fs))
   fields_alike [] = refl
@@ -108,7 +113,7 @@ module _ (book : BookTables) (text other : List ℕ) (alike : wanted_of text ≡
   fields_alike (a ∷ b ∷ []) = refl
   fields_alike (a ∷ b ∷ c ∷ []) = refl
   fields_alike (a ∷ b ∷ c ∷ d ∷ []) = refl
-  fields_alike (form ∷ grouping ∷ sign ∷ rounding ∷ number ∷ []) = known_alike number (form_named form) (grouping_named grouping) (keeps_sign sign && keeps_digits rounding)
+  fields_alike (form ∷ grouping ∷ sign ∷ rounding ∷ number ∷ []) = known_alike number (form_named form) (grouping_named grouping) (sign_named sign) (rounding_named rounding)
   fields_alike (a ∷ b ∷ c ∷ d ∷ e ∷ f ∷ fs) = refl
 
   read_alike : (rest : List ℕ) (t : Bool)

@@ -1,13 +1,24 @@
--- Known values of the definitions: lines taken apart, what tags ask for, texts of numbers, lines of the program.
-use Rattle.std.proofs.Common.{◌≡◌, [], ◌∷◌, ◌++◌, codes, true, false, Some, None, refl}
+-- Known values of the definitions: lines taken apart, roundings, what tags ask for, texts of numbers, lines of the program.
+use Rattle.std.proofs.Common.{◌≡◌, [], ◌∷◌, ◌++◌, codes, ◌*◌, ◌^◌, pos, negsuc, true, false, Some, None, refl}
 use Rattle.locale_numbers_symbols.specs.declared.GroupingStrategy.TheVariants.{Min2}
 use Rattle.locale_numbers_engine.specs.declared.RunError.TheVariants as run
 use Rattle.locale_numbers_book.specs.declared.BookError.TheVariants as book
 use Rattle.locale_numbers.specs.declared.request.Form.TheVariants.{Plain}
+use Rattle.locale_numbers.specs.declared.sign_field.SignAsked.TheVariants.{Keep, Show}
+use Rattle.locale_numbers.specs.declared.rounding_field.RoundingAsked.TheVariants.{Unrounded, At}
 use Rattle.locale_numbers.specs.declared.fault.ProgramFault.TheVariants.{Usage, Book, Run}
 use Rattle.locale_numbers.specs.Fault.{status_of, line_of}
+use Rattle.fixed_decimal.specs.Rounding.{count_limit}
+use Rattle.fixed_decimal.specs.declared.sign.Sign.TheVariants.{None as NoSign, Negative}
+use Rattle.fixed_decimal.specs.declared.sign.SignDisplay.TheVariants as display
+use Rattle.fixed_decimal.specs.declared.modes.SignedRoundingMode.TheVariants.{Unsigned}
+use Rattle.fixed_decimal.specs.declared.UnsignedRoundingMode.TheVariants.{Expand, Trunc, HalfTrunc, HalfEven}
+use Rattle.fixed_decimal.specs.declared.RoundingIncrement.TheVariants.{MultiplesOf1, MultiplesOf2, MultiplesOf25}
+use Rattle.locale_numbers.specs.Changing.{changed}
+use Rattle.locale_numbers.specs.Rounded.{multiple_of, highest_of}
+use Rattle.locale_numbers.specs.RoundingField.{position_named, rounding_named}
 use Rattle.locale_numbers.specs.NumberReading.{reading_of, parts_of, nothing, beyond}
-use Rattle.locale_numbers.specs.Request.{tab, fields, request_in, grouping_named}
+use Rattle.locale_numbers.specs.Request.{tab, fields, request_in, grouping_named, sign_named}
 use Rattle.icu_locale_core.specs.Stepping.{headed_after, whole_after}
 use Rattle.icu_locale_core.specs.TagStages.{with_piece, body_after}
 use Rattle.locale_numbers_book.specs.TagReading.{tag_of}
@@ -20,7 +31,7 @@ empty_field : fields (codes "a" ++ tab ∷ tab ∷ codes "b") ≡ codes "a" ∷ 
 empty_field = refl
 
 plain_line : request_in (codes "en" ∷ codes "plain" ∷ codes "min2" ∷ codes "keep" ∷ codes "-" ∷ codes "1000" ∷ [])
-    ≡ Some (record { tag = codes "en"; form = Plain; grouping = Min2; text = codes "1000" })
+    ≡ Some (record { tag = codes "en"; form = Plain; grouping = Min2; sign = Keep; rounding = Unrounded; text = codes "1000" })
 plain_line = refl
 
 five_fields : request_in (codes "en" ∷ codes "plain" ∷ codes "auto" ∷ codes "keep" ∷ codes "-" ∷ []) ≡ None
@@ -35,6 +46,75 @@ capital_word = refl
 
 short_word : grouping_named (codes "min") ≡ None
 short_word = refl
+
+-- ---- roundings
+
+-- -7.235, rounded at the hundredths to a multiple of 25 of them
+quarters : rounding_named (codes "-2,half-trunc,25") ≡ Some (At (negsuc 1) (Unsigned HalfTrunc) MultiplesOf25)
+quarters = refl
+
+least_position : position_named (codes "-32768") ≡ Some (negsuc 32767)
+least_position = refl
+
+greatest_position : position_named (codes "32767") ≡ Some (pos 32767)
+greatest_position = refl
+
+position_too_low : position_named (codes "-32769") ≡ None
+position_too_low = refl
+
+position_too_high : position_named (codes "32768") ≡ None
+position_too_high = refl
+
+position_with_plus : position_named (codes "+1") ≡ None
+position_with_plus = refl
+
+minus_zero : position_named (codes "-0") ≡ None
+minus_zero = refl
+
+zero_in_front : position_named (codes "01") ≡ None
+zero_in_front = refl
+
+no_position : position_named [] ≡ None
+no_position = refl
+
+half_of_a_mode : rounding_named (codes "0,half,1") ≡ None
+half_of_a_mode = refl
+
+third_increment : rounding_named (codes "0,trunc,3") ≡ None
+third_increment = refl
+
+one_comma : rounding_named (codes "0,trunc") ≡ None
+one_comma = refl
+
+-- 9.75 at the tenths to five of them is 10.0
+to_fives : multiple_of HalfEven (5 * 10 ^ 32767) (975 * 10 ^ 32766) ≡ 100 * 10 ^ 32767
+to_fives = refl
+
+-- a tie between two units of 2 is at 3, and goes to 4 by the even count
+even_count : multiple_of HalfEven 2 3 ≡ 4
+even_count = refl
+
+-- the position, the first digit
+padded : highest_of 0 3 7 ≡ 2
+padded = refl
+
+one_place_more : highest_of 0 0 10 ≡ 1
+one_place_more = refl
+
+-- 9 and 32,767 zeros, to twenty of that place, would be ten to the power 32768
+overflow : changed (At (pos 32767) (Unsigned Expand) MultiplesOf2) Keep (record { sign = NoSign; absolute = record { count = 9 * 10 ^ 65535; low = 32768; high = 65535 } })
+    ≡ record { sign = NoSign; absolute = record { count = 0; low = 32768; high = 65535 } }
+unfolding count_limit
+overflow = refl
+
+-- -0.4 at the ones is zero before its sign is chosen
+none_at_zero : changed (At (pos 0) (Unsigned Trunc) MultiplesOf1) (Show display.ExceptZero) (record { sign = Negative; absolute = record { count = 4 * 10 ^ 32767; low = 32767; high = 32768 } })
+    ≡ record { sign = NoSign; absolute = record { count = 0; low = 32768; high = 32768 } }
+unfolding count_limit
+none_at_zero = refl
+
+no_such_sign : sign_named (codes "plus") ≡ None
+no_such_sign = refl
 
 -- ---- what tags ask for
 

@@ -1,8 +1,11 @@
 pub mod AlikeTags
+pub mod AnsweringLemmas
 pub mod KnownValues
 pub mod LawsLemmas
 pub mod NumberReadingLemmas
 pub mod PartsLemmas
 pub mod ReadingLemmas
 pub mod RequestLemmas
+pub mod RoundedLemmas
+pub mod RoundingFieldLemmas
 pub mod WantedLemmas

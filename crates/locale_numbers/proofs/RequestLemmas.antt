@@ -6,7 +6,9 @@ use Rattle.std.specs.List.{slice_split, position_or_len, count_by, onto_first}
 use Rattle.std.proofs.lemmas.Grind.{common_steps}
 use Rattle.std.proofs.lemmas.Bool.Decides.{nat_tests}
 use Rattle.std.proofs.lemmas.List.Splits.{slice_split_first, length-slice_split}
-use Rattle.locale_numbers.specs.Request.{fields, is_tab}
+use Rattle.locale_numbers.specs.Request.{fields, tab}
+use Rattle.locale_numbers.specs.Cutting.{is_separator, cut_at}
+use Rattle.locale_numbers.specs.RoundingField.{comma}
 
 -- a choice that is nothing, or something
 none_is : (b : Bool) (i : ℕ) → None ≡ cond b (Some i) None → b ≡ false
@@ -28,23 +30,31 @@ whole p (x ∷ xs) none = at (p x) none (whole p xs)
     at true none rest = absurd (grind (arith, nat_tests))
     at false none rest = rw (rest (grind (arith, nat_tests)))
 
--- with no tab, a line is one field
-pub fields_none : (line : List ℕ) → None ≡ position is_tab line → fields line ≡ line ∷ []
-fields_none line none = whole is_tab line (none_is _ _ none)
+-- with no separator, a text is one piece
+pub fields_none : (separator : ℕ) (text : List ℕ) → None ≡ position (is_separator separator) text → cut_at separator text ≡ text ∷ []
+fields_none separator text none = whole (is_separator separator) text (none_is _ _ none)
 
--- with a tab, the first field stands before it
-pub fields_some : (line : List ℕ) (end : ℕ) → Some end ≡ position is_tab line → fields line ≡ take end line ∷ fields (take (length line - (end + 1)) (drop (end + 1) line))
-fields_some line end some =
+-- with one, the first piece stands before it
+pub fields_some : (separator : ℕ) (text : List ℕ) (end : ℕ) → Some end ≡ position (is_separator separator) text
+    → cut_at separator text ≡ take end text ∷ cut_at separator (take (length text - (end + 1)) (drop (end + 1) text))
+fields_some separator text end some =
     let at = some_is _ _ _ some in
-    let lt : position_or_len is_tab line < length line = grind (arith, nat_tests) in
-    let rest : take (length line - (end + 1)) (drop (end + 1) line) ≡ drop (end + 1) line = grind (arith, common_steps) in
-    rw (rest, at.1) (slice_split_first is_tab line 0 lt)
+    let lt : position_or_len (is_separator separator) text < length text = grind (arith, nat_tests) in
+    let rest : take (length text - (end + 1)) (drop (end + 1) text) ≡ drop (end + 1) text = grind (arith, common_steps) in
+    rw (rest, at.1) (slice_split_first (is_separator separator) text 0 lt)
 
 -- six fields and what follows a tab are more than six
 pub more_than_six : (line rest tag form grouping sign rounding text : List ℕ) → fields line ≡ tag ∷ form ∷ grouping ∷ sign ∷ rounding ∷ text ∷ fields rest → length (fields line) ≡ 6 → ⊥
 more_than_six line rest tag form grouping sign rounding text seven six =
     let most : length (fields line) ≡ 6 + length (fields rest) = ap length seven ∙ omega arith in
-    let some : length (fields rest) ≡ count_by is_tab rest + 1 = length-slice_split is_tab rest in
+    let some : length (fields rest) ≡ count_by (is_separator tab) rest + 1 = length-slice_split (is_separator tab) rest in
+    omega arith
+
+-- three pieces and what follows a separator are more than three
+pub more_than_three : (text rest first second third : List ℕ) → cut_at comma text ≡ first ∷ second ∷ third ∷ cut_at comma rest → length (cut_at comma text) ≡ 3 → ⊥
+more_than_three text rest first second third four three =
+    let most : length (cut_at comma text) ≡ 3 + length (cut_at comma rest) = ap length four ∙ omega arith in
+    let some : length (cut_at comma rest) ≡ count_by (is_separator comma) rest + 1 = length-slice_split (is_separator comma) rest in
     omega arith
 
 -- a test that fails where it would show a fact that does not hold

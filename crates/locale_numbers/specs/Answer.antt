@@ -9,10 +9,13 @@ use Rattle.locale_numbers_symbols.specs.declared.GroupingStrategy.{GroupingStrat
 use Rattle.locale_numbers_plain.specs.PlainText.{plain_text, shown_of}
 use Rattle.locale_numbers_book.specs.Book.{BookTables}
 use Rattle.locale_numbers_book.specs.Choice.{ChosenTables, chosen}
+use Rattle.locale_numbers.specs.Changing.{changed}
 use Rattle.locale_numbers.specs.NumberReading.{Reading, number, beyond, nothing, reading_of}
 use Rattle.locale_numbers.specs.Request.{tab, Asked, request_of}
 use Rattle.locale_numbers.specs.Wanted.{Wanted, wanted_of}
 use Rattle.locale_numbers.specs.Refusal.{word_of}
+use Rattle.locale_numbers.specs.declared.sign_field.SignAsked.{SignAsked}
+use Rattle.locale_numbers.specs.declared.rounding_field.RoundingAsked.{RoundingAsked}
 use Rattle.locale_numbers.specs.declared.refusal.Refusal.{Refusal}
 use Rattle.locale_numbers.specs.declared.refusal.Refusal.TheVariants as refusal
 
@@ -30,21 +33,22 @@ answer_with None grouping value = refused refusal.Table
 answer_with (Some tables) grouping value =
     written (plain_text grouping tables.symbols.grouping_sizes (marks_of tables.symbols tables.digits) (shown_of value))
 
--- the answer to what a tag asks for and a grouping, by what the text says
-abbrev pub answer_to : BookTables → Wanted → GroupingStrategy → Reading → List ℕ
-answer_to book wanted grouping nothing = refused refusal.Number
-answer_to book wanted grouping beyond = refused refusal.Limit
-answer_to book wanted grouping (number value) = answer_with (chosen book wanted.locale wanted.numbering_system) grouping value
+-- the answer to what a tag and the rest of a request ask for, by what the text says
+abbrev pub answer_to : BookTables → Wanted → GroupingStrategy → SignAsked → RoundingAsked → Reading → List ℕ
+answer_to book wanted grouping sign rounding nothing = refused refusal.Number
+answer_to book wanted grouping sign rounding beyond = refused refusal.Limit
+answer_to book wanted grouping sign rounding (number value) =
+    answer_with (chosen book wanted.locale wanted.numbering_system) grouping (changed rounding sign value)
 
 -- the answer by what the tag asks for, where it is a tag
-abbrev pub answer_tagged : BookTables → Option Wanted → GroupingStrategy → Reading → List ℕ
-answer_tagged book None grouping reading = refused refusal.Tag
-answer_tagged book (Some wanted) grouping reading = answer_to book wanted grouping reading
+abbrev pub answer_tagged : BookTables → Option Wanted → GroupingStrategy → SignAsked → RoundingAsked → Reading → List ℕ
+answer_tagged book None grouping sign rounding reading = refused refusal.Tag
+answer_tagged book (Some wanted) grouping sign rounding reading = answer_to book wanted grouping sign rounding reading
 
 -- the answer to a request, or to a line that is none
 abbrev pub answer_asked : BookTables → Option Asked → List ℕ
 answer_asked book None = refused refusal.Shape
-answer_asked book (Some asked) = answer_tagged book (wanted_of asked.tag) asked.grouping (reading_of asked.text)
+answer_asked book (Some asked) = answer_tagged book (wanted_of asked.tag) asked.grouping asked.sign asked.rounding (reading_of asked.text)
 
 -- the answer to a line, without its line feed
 abbrev pub answer_of : BookTables → List ℕ → List ℕ

@@ -1,7 +1,12 @@
 -- Laws over the definitions alone, for readers of the clauses that cite them.
--- Defined in docs/requests.md, "Answer line", and docs/numbers.md, "The text".
+-- Defined in docs/requests.md, "Answer line", and docs/numbers.md, "The text" and "Rounding".
 -- Cited by the functions of `laws`.
-use Rattle.std.specs.Prelude.{◌≡◌, ◌↔◌, List, ℕ, ◌∷◌, ◌++◌}
+use Rattle.std.specs.Prelude.{◌≡◌, ◌↔◌, List, ℕ, ℤ, ◌∷◌, ◌++◌}
+use Rattle.fixed_decimal.specs.Number.{Number, place}
+use Rattle.fixed_decimal.specs.SignedRounding.{RoundsSigned}
+use Rattle.fixed_decimal.specs.SignedValue.{SignedValue}
+use Rattle.fixed_decimal.specs.declared.RoundingIncrement.{RoundingIncrement}
+use Rattle.fixed_decimal.specs.declared.modes.SignedRoundingMode.{SignedRoundingMode}
 use Rattle.fixed_decimal.specs.SignedText.{ReadsSigned, IsBeyondSigned, IsNoSignedText}
 use Rattle.icu_locale_core.specs.Pieces.{pieces}
 use Rattle.icu_locale_core.specs.Meaning.{TagMeaning, MeansTag}
@@ -10,6 +15,7 @@ use Rattle.icu_locale_core.specs.TagPreferences.{least_of, keyword_piece, keywor
 use Rattle.locale_numbers_book.specs.Book.{BookTables}
 use Rattle.locale_numbers.specs.NumberReading.{Reading, number, beyond, nothing, reading_of}
 use Rattle.locale_numbers.specs.Request.{tab}
+use Rattle.locale_numbers.specs.Rounded.{rounded}
 use Rattle.locale_numbers.specs.Answer.{answer_of}
 
 -- ---- numbers
@@ -23,6 +29,13 @@ IsReading text nothing = IsNoSignedText text
 -- each text has one reading, and the function answers it
 abbrev pub HasOneReading : Type 0
 HasOneReading = (text : List ℕ) (reading : Reading) → IsReading text reading ↔ (reading ≡ reading_of text)
+
+-- ---- roundings
+
+-- a rounding of a number names one number, and the function answers it
+abbrev pub HasOneRounding : Type 0
+HasOneRounding = (mode : SignedRoundingMode) (increment : RoundingIncrement) (position : ℤ) (old new : SignedValue Number)
+    → RoundsSigned mode increment (place position) old new ↔ (new ≡ rounded mode increment (place position) old)
 
 -- ---- tags
 

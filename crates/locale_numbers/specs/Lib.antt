@@ -1,10 +1,14 @@
 pub mod Answer
+pub mod Changing
+pub mod Cutting
 pub mod Fault
 pub mod Laws
 pub mod NumberReading
 pub mod Program
 pub mod Refusal
 pub mod Request
+pub mod Rounded
+pub mod RoundingField
 pub mod Wanted
 pub use Rattle.locale_numbers_book.specs.Book
 pub use Rattle.locale_numbers_book.specs.BookError

@@ -6,10 +6,14 @@ ghost use Rattle.locale_numbers_plain.specs.PlainText.{HasRoom};
 ghost use Rattle.locale_numbers_engine.specs.Growth.{Grows};
 ghost use Rattle.locale_numbers_book.specs.Choice.{chosen};
 ghost use Rattle.locale_numbers.specs.Answer.{refused, answer_with, answer_to, answer_of};
+ghost use Rattle.locale_numbers.specs.Changing.{MayGrowRead};
 ghost use Rattle.locale_numbers.specs.NumberReading.{number, beyond, nothing, reading_of};
 
+use crate::changing::change;
 use crate::refusal::Refusal;
 use crate::request::{Form, read_request};
+use crate::rounding_field::RoundingAsked;
+use crate::sign_field::SignAsked;
 use crate::wanted::{Wanted, read_wanted};
 use fixed_decimal::{Decimal, ParseError};
 use locale_numbers_book::Book;
@@ -59,24 +63,31 @@ fn push_number(
     push_plain(out, value, tables.symbols, tables.digits, grouping)
 }
 
-// Puts the answer to what a tag asks for, a grouping and a number's text behind what `out` holds.
+// Puts the answer to what a tag asks for, the fields of a request and a number's text behind what `out` holds.
 fn push_text(
     alloc: Global,
     book: &Book,
     wanted: &Wanted,
     grouping: GroupingStrategy,
+    sign: SignAsked,
+    rounding: RoundingAsked,
     text: &[u8],
     out: &mut String,
 ) -> Result<(), AllocError>
     ensures text { OnOk result (string_bytes out.new
-        ≡ string_bytes out.old ++ answer_to book.now wanted.now grouping (reading_of text.now)) }
+        ≡ string_bytes out.old ++ answer_to book.now wanted.now grouping sign rounding (reading_of text.now)) }
     ensures err { OnErr result (Grows (string_bytes out.old) (string_bytes out.new)) }
 
-    // Where there is room for the answer, only a number of more than eight digits may be out of memory.
-    ensures room { HasRoom out.old (answer_to book.now wanted.now grouping (reading_of text.now)) → ¬ (ReadsLongSigned text.now) → IsOk result }
+    // Where there is room for the answer, only a number of more than eight digits may be out of memory, and a
+    // rounding to multiples of 25 that may lengthen one of eight.
+    ensures room { HasRoom out.old (answer_to book.now wanted.now grouping sign rounding (reading_of text.now))
+        → ¬ (ReadsLongSigned text.now) → ¬ (MayGrowRead rounding (reading_of text.now)) → IsOk result }
 {
     match read_number(alloc, text) {
-        Ok(value) => push_number(book, wanted, grouping, &value, out),
+        Ok(mut value) => {
+            change(&mut value, rounding, sign)?;
+            push_number(book, wanted, grouping, &value, out)
+        }
         Err(ParseError::Syntax) => push_refusal(out, Refusal::Number),
         Err(ParseError::Limit) => push_refusal(out, Refusal::Limit),
         Err(ParseError::Memory) => Err(AllocError),
@@ -101,7 +112,16 @@ pub(crate) fn answer_onto(
         return push_refusal(out, Refusal::Tag);
     };
     match request.form {
-        Form::Plain => push_text(alloc, book, &wanted, request.grouping, request.text, out),
+        Form::Plain => push_text(
+            alloc,
+            book,
+            &wanted,
+            request.grouping,
+            request.sign,
+            request.rounding,
+            request.text,
+            out,
+        ),
     }
 }
 

@@ -1,6 +1,6 @@
 //! Laws over the definitions that the clauses of this crate cite. Each function is a proof: it
 //! computes nothing.
-ghost use Rattle.locale_numbers.specs.Laws.{HasOneReading, AlikeTagsAreAnsweredAlike, NormalTextIsAnsweredAlike};
+ghost use Rattle.locale_numbers.specs.Laws.{HasOneReading, HasOneRounding, AlikeTagsAreAnsweredAlike, NormalTextIsAnsweredAlike};
 
 pub use locale_numbers_book::laws::{data_locales_are_read, tags_are_read};
 
@@ -8,6 +8,11 @@ pub use locale_numbers_book::laws::{data_locales_are_read, tags_are_read};
 /// `fixed_decimal` say of a text is what the answer to a line goes by.
 pub fn texts_have_one_reading()
     ensures { HasOneReading }
+{}
+
+/// Each rounding of a number has one end: what the relation of `fixed_decimal` names is what the answer to a line goes by.
+pub fn roundings_have_one_end()
+    ensures { HasOneRounding }
 {}
 
 /// Of a tag its language, script, region and first variant count, and its `sd` and `nu` where they read: nothing else in a

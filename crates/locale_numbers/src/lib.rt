@@ -14,12 +14,16 @@
 #![tactic(auto)]
 
 mod answering;
+mod changing;
+mod cutting;
 mod fault;
 pub mod laws;
 mod program_run;
 mod refusal;
 mod request;
+mod rounding_field;
 mod running;
+mod sign_field;
 mod starting;
 mod wanted;
 mod words;

@@ -1,8 +1,11 @@
 // The request line: six fields between tabs.
-ghost use Rattle.std.specs.Prelude.{◌≡◌, ◌∷◌, [], ◌&&◌, ◌↔◌, length, position, IsSome, IfSome, MatchOption, Some, None};
+ghost use Rattle.std.specs.Prelude.{◌≡◌, ◌∷◌, [], ◌↔◌, length, IsSome, IfSome, MatchOption, Some, None};
 ghost use Rattle.std.specs.Str.{is_utf8};
-ghost use Rattle.locale_numbers.specs.Request.{fields, is_tab, form_named, grouping_named, keeps_sign, keeps_digits, request_of};
+ghost use Rattle.locale_numbers.specs.Request.{fields, form_named, grouping_named, request_of};
 
+use crate::cutting::cut_field;
+use crate::rounding_field::{RoundingAsked, rounding_by};
+use crate::sign_field::{SignAsked, sign_by};
 use locale_numbers_symbols::GroupingStrategy;
 
 const TAB: u8 = b'\t';
@@ -23,6 +26,10 @@ pub(crate) struct Request<'a> {
     pub form: Form,
     /// Where separators stand.
     pub grouping: GroupingStrategy,
+    /// Which sign is written.
+    pub sign: SignAsked,
+    /// What is rounded.
+    pub rounding: RoundingAsked,
     /// The number's text.
     pub text: &'a [u8],
 }
@@ -55,24 +62,6 @@ fn grouping_by(word: &[u8]) -> Option<GroupingStrategy>
     }
 }
 
-/// The place of a line's first tab.
-fn first_tab(line: &[u8]) -> Option<usize>
-    ensures { result ≡ position is_tab line.now }
-{
-    line.iter().position(|byte| *byte == TAB)
-}
-
-/// The first field of a line, and what stands behind its tab, where it ends with one.
-fn cut_field(line: &[u8]) -> (&[u8], Option<&[u8]>)
-    ensures { MatchOption result.1 (fields line.now ≡ result.0.now ∷ [])
-        (λ rest. fields line.now ≡ result.0.now ∷ fields rest.now) }
-{
-    match first_tab(line) {
-        None => (line, None),
-        Some(end) => (&line[..end], Some(&line[end + 1..])),
-    }
-}
-
 /// Six fields of a line.
 #[derive(Clone, Copy)]
 struct Fields<'a> {
@@ -90,12 +79,12 @@ fn six_fields(line: &[u8]) -> Option<Fields<'_>>
     ensures fields { IfSome result (λ six. fields line.now
         ≡ six.tag.now ∷ six.form.now ∷ six.grouping.now ∷ six.sign.now ∷ six.rounding.now ∷ six.text.now ∷ []) }
 {
-    let (tag, rest) = cut_field(line);
-    let (form, rest) = cut_field(rest?);
-    let (grouping, rest) = cut_field(rest?);
-    let (sign, rest) = cut_field(rest?);
-    let (rounding, rest) = cut_field(rest?);
-    match cut_field(rest?) {
+    let (tag, rest) = cut_field(line, TAB);
+    let (form, rest) = cut_field(rest?, TAB);
+    let (grouping, rest) = cut_field(rest?, TAB);
+    let (sign, rest) = cut_field(rest?, TAB);
+    let (rounding, rest) = cut_field(rest?, TAB);
+    match cut_field(rest?, TAB) {
         (text, None) => Some(Fields {
             tag,
             form,
@@ -115,24 +104,10 @@ fn is_text(bytes: &[u8]) -> bool
     str::from_utf8(bytes).is_ok()
 }
 
-/// Whether the sign stays as it is written.
-fn is_keep(word: &[u8]) -> bool
-    ensures { result ≡ keeps_sign word.now }
-{
-    word == b"keep".as_slice()
-}
-
-/// Whether nothing is rounded.
-fn is_unrounded(word: &[u8]) -> bool
-    ensures { result ≡ keeps_digits word.now }
-{
-    word == b"-".as_slice()
-}
-
 /// The request that a line is, or `None` where it is none: not UTF-8, or not six known fields.
 pub(crate) fn read_request(line: &[u8]) -> Option<Request<'_>>
     ensures { MatchOption result (request_of line.now ≡ None) (λ asked. request_of line.now
-        ≡ Some (record { tag = asked.tag.now; form = asked.form; grouping = asked.grouping; text = asked.text.now })) }
+        ≡ Some (record { tag = asked.tag.now; form = asked.form; grouping = asked.grouping; sign = asked.sign; rounding = asked.rounding; text = asked.text.now })) }
 {
     if !is_text(line) {
         return None;
@@ -140,13 +115,14 @@ pub(crate) fn read_request(line: &[u8]) -> Option<Request<'_>>
     let six = six_fields(line)?;
     let form = form_by(six.form)?;
     let grouping = grouping_by(six.grouping)?;
-    if !is_keep(six.sign) || !is_unrounded(six.rounding) {
-        return None;
-    }
+    let sign = sign_by(six.sign)?;
+    let rounding = rounding_by(six.rounding)?;
     Some(Request {
         tag: six.tag,
         form,
         grouping,
+        sign,
+        rounding,
         text: six.text,
     })
 }

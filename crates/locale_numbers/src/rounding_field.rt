@@ -1,0 +1,162 @@
+// The rounding that a request asks for: a position, a mode and an increment, or none.
+ghost use Rattle.std.specs.Prelude.{◌≡◌, ◌<◌, ◌≤◌, ◌∷◌, [], ◌↔◌, true, length, min, IsSome, IfSome};
+ghost use Rattle.std.specs.Char.{digit_value};
+ghost use Rattle.std.specs.List.{list_all};
+ghost use Rattle.fixed_decimal.specs.NumberText.{spelled};
+ghost use Rattle.locale_numbers.specs.NumberReading.{is_digit};
+ghost use Rattle.locale_numbers.specs.RoundingField.{comma, is_size, size_named, position_named, mode_named, increment_named, rounding_in, rounding_named};
+ghost use Rattle.locale_numbers.specs.Cutting.{cut_at};
+
+use crate::cutting::cut_field;
+use fixed_decimal::{RoundingIncrement, SignedRoundingMode, UnsignedRoundingMode};
+
+const COMMA: u8 = b',';
+
+// One more than the size of any position.
+const TOO_LARGE: u32 = 32769;
+
+/// What is rounded.
+#[derive(Clone, Copy, Debug, PartialEq, Eq)]
+pub(crate) enum RoundingAsked {
+    /// Nothing.
+    Unrounded,
+    /// The number, at a position, by a mode, to multiples of an increment.
+    At(i16, SignedRoundingMode, RoundingIncrement),
+}
+
+// Whether each byte is one of the ten decimal digits.
+fn are_digits(word: &[u8]) -> bool
+    ensures { result ≡ list_all is_digit word.now }
+{
+    word.iter().all(|byte| byte.is_ascii_digit())
+}
+
+// Whether a word is digits, of which the first is not zero.
+fn is_size(word: &[u8]) -> bool
+    ensures { result ≡ is_size word.now }
+{
+    match word.split_first() {
+        None => false,
+        Some((first, _)) => *first != b'0' && are_digits(word),
+    }
+}
+
+// The value of a digit's character.
+fn digit_of(digit: u8) -> u8
+    requires { digit_value digit < 10 }
+    ensures { result ≡ digit_value digit }
+{
+    digit - b'0'
+}
+
+// The number that digits spell, or one too large for a position where it is as large at least.
+#[tactic(auto, using(crate::proofs::RoundingFieldLemmas::digit_at, crate::proofs::RoundingFieldLemmas::capped_more))]
+fn capped_number(digits: &[u8]) -> u32
+    requires { list_all is_digit digits.now ≡ true }
+    ensures { result ≡ min (spelled digits.now) 32769 }
+{
+    let mut number = 0u32;
+    for digit in digits {
+        number = (number * 10 + digit_of(*digit) as u32).min(TOO_LARGE);
+    }
+    number
+}
+
+// The number above zero, and not above a bound, that a word writes with no zero in front.
+fn size_by(most: u32, word: &[u8]) -> Option<u32>
+    requires { most ≤ 32768 }
+    ensures { result ≡ size_named most word.now }
+{
+    if !is_size(word) {
+        return None;
+    }
+    let number = capped_number(word);
+    if number <= most { Some(number) } else { None }
+}
+
+// The position that a word names.
+fn position_by(word: &[u8]) -> Option<i16>
+    ensures { result ≡ position_named word.now }
+{
+    let (first, rest) = word.split_first()?;
+    if word == b"0".as_slice() {
+        Some(0)
+    } else if *first == b'-' {
+        let size = size_by(32768, rest)?;
+        Some((-(size as i32)) as i16)
+    } else {
+        let size = size_by(32767, word)?;
+        Some(size as i16)
+    }
+}
+
+// The mode that a word names.
+fn mode_by(word: &[u8]) -> Option<SignedRoundingMode>
+    ensures { result ≡ mode_named word.now }
+{
+    if word == b"expand".as_slice() {
+        Some(SignedRoundingMode::Unsigned(UnsignedRoundingMode::Expand))
+    } else if word == b"trunc".as_slice() {
+        Some(SignedRoundingMode::Unsigned(UnsignedRoundingMode::Trunc))
+    } else if word == b"ceil".as_slice() {
+        Some(SignedRoundingMode::Ceil)
+    } else if word == b"floor".as_slice() {
+        Some(SignedRoundingMode::Floor)
+    } else if word == b"half-expand".as_slice() {
+        Some(SignedRoundingMode::Unsigned(UnsignedRoundingMode::HalfExpand))
+    } else if word == b"half-trunc".as_slice() {
+        Some(SignedRoundingMode::Unsigned(UnsignedRoundingMode::HalfTrunc))
+    } else if word == b"half-ceil".as_slice() {
+        Some(SignedRoundingMode::HalfCeil)
+    } else if word == b"half-floor".as_slice() {
+        Some(SignedRoundingMode::HalfFloor)
+    } else if word == b"half-even".as_slice() {
+        Some(SignedRoundingMode::Unsigned(UnsignedRoundingMode::HalfEven))
+    } else {
+        None
+    }
+}
+
+// The increment that a word names.
+fn increment_by(word: &[u8]) -> Option<RoundingIncrement>
+    ensures { result ≡ increment_named word.now }
+{
+    if word == b"1".as_slice() {
+        Some(RoundingIncrement::MultiplesOf1)
+    } else if word == b"2".as_slice() {
+        Some(RoundingIncrement::MultiplesOf2)
+    } else if word == b"5".as_slice() {
+        Some(RoundingIncrement::MultiplesOf5)
+    } else if word == b"25".as_slice() {
+        Some(RoundingIncrement::MultiplesOf25)
+    } else {
+        None
+    }
+}
+
+// The three words between the commas of a field, where they are three.
+fn three_words(field: &[u8]) -> Option<(&[u8], &[u8], &[u8])>
+    ensures three { IsSome result ↔ (length (cut_at comma field.now) ≡ 3) }
+    ensures words { IfSome result (λ three. cut_at comma field.now ≡ three.0.now ∷ three.1.now ∷ three.2.now ∷ []) }
+{
+    let (position, rest) = cut_field(field, COMMA);
+    let (mode, rest) = cut_field(rest?, COMMA);
+    match cut_field(rest?, COMMA) {
+        (increment, None) => Some((position, mode, increment)),
+        (_, Some(_)) => None,
+    }
+}
+
+/// What a field rounds, where it is known: `-`, or a position, a mode and an increment between commas, as `-2,half-even,5`.
+pub(crate) fn rounding_by(field: &[u8]) -> Option<RoundingAsked>
+    ensures { result ≡ rounding_named field.now }
+{
+    if field == b"-".as_slice() {
+        return Some(RoundingAsked::Unrounded);
+    }
+    let (position, mode, increment) = three_words(field)?;
+    let position = position_by(position)?;
+    let mode = mode_by(mode)?;
+    let increment = increment_by(increment)?;
+    Some(RoundingAsked::At(position, mode, increment))
+}
