@@ -77,7 +77,7 @@ right_refused text left right Limit h syntax limit e = right_beyond text left ri
 right_refused text left right Syntax h syntax limit e = right_no_text text left right h (syntax refl)
 right_refused text left right Memory h syntax limit e = absurd (cc)
 
--- want of memory is that of a side
+-- out of memory is that of a side
 pub right_long : (text left right : List ℕ) (refused : ParseError) → SpellsScientific text left right → (refused ≡ Memory → ReadsLongSigned right) → without_limit refused ≡ Memory → ReadsLongScientific text
 right_long text left right Limit h memory e = absurd (cc)
 right_long text left right Syntax h memory e = absurd (cc)

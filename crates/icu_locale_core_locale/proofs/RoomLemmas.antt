@@ -123,7 +123,7 @@ no_growth_at_end ps taken left s parts reached none = ap (λ t. tag_grows_at t N
 
 -- ---- faults
 
--- a fault of the grammar is no want of memory
+-- a fault of the grammar is not out of memory
 pub never_memory : {T : Type 0} (ps : List Text) (e : ParseError) → HasFault MeansTag ps e → IsErrOf {T = T} (Err e) Memory → ⊥
 never_memory ps InvalidLanguage fault is = cc
 never_memory ps InvalidSubtag fault is = cc

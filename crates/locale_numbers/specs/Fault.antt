@@ -8,7 +8,7 @@ use Rattle.locale_numbers_engine.specs.declared.RunError.TheVariants as run
 use Rattle.locale_numbers.specs.declared.fault.ProgramFault.{ProgramFault}
 use Rattle.locale_numbers.specs.declared.fault.ProgramFault.TheVariants.{Usage, File, Book, Run}
 
--- want of memory is 6, wherever it arose
+-- out of memory is 6, wherever it arose
 abbrev pub status_of : ProgramFault → ℕ
 status_of Usage = 2
 status_of File = 3

@@ -15,7 +15,7 @@ use Rattle.locale_numbers.specs.declared.fault.ProgramFault.TheVariants.{Usage, 
 abbrev pub Says : List ℕ → BookTables → Type 0
 Says text book = (value : Data) × Reads text value × IsBook value book
 
--- why a text is refused as a book; of want of memory nothing is said
+-- why a text is refused as a book; nothing is said of out of memory
 abbrev pub IsRefused : List ℕ → BookError → Type 0
 IsRefused text refusal.Json = IsNoJson text
 IsRefused text refusal.Shape = (value : Data) × Reads text value × IsNoBook value

@@ -26,7 +26,7 @@ impl ProgramFault {
     ghost use Rattle.locale_numbers.specs.Fault.{status_of};
 
     /// The status with which the program ends: 2 for usage, 3 for the file, 4 for the book, 5 for
-    /// a failed read or write, 6 for want of memory, wherever it arose.
+    /// a failed read or write, 6 for out of memory, wherever it arose.
     ///
     /// Of `Book(BookError::Json)` it is 4, of `Book(BookError::Memory)` 6. Takes no memory.
     pub fn status(&self) -> u8

@@ -13,7 +13,7 @@ use std::io::Read;
 use std::rt::Files;
 use std::{fs, io};
 
-// The fault that a failed call on the book's file is: want of memory, or the file.
+// The fault that a failed call on the book's file is: out of memory, or the file.
 fn file_fault(error: io::Error) -> ProgramFault
     ensures { IsOfFile result }
 {

@@ -37,8 +37,8 @@ impl<'b> Answerer for BookAnswerer<'b> {
 /// Under the sample book the bytes `xx`, line feed give `err`, a tab, `shape`, line feed, and a
 /// report of 1 line. The answer to a line is that of [`answer`](crate::answer), however the bytes
 /// are cut into reads. `capacity` is how many formatters may be kept, 1 at least; none is, so far,
-/// and `made` is 0. Of neither `reader` nor `writer` a call may have failed before. Takes memory, but
-/// no more for more lines.
+/// and `made` is 0. Of neither `reader` nor `writer` a call may have failed before. Takes memory; that
+/// it takes no more for more lines is measured by bench/, and not proved.
 ///
 /// - Read: a read failed, or the reader still gave bytes after 18,446,744,073,709,551,615 reads. The
 ///   whole lines that it gave have been answered.

@@ -15,7 +15,7 @@ use std::env::{self, Env};
 use std::io::{self, ErrorKind};
 use std::rt::Files;
 
-// The fault that words are which can't be copied: want of memory, or one that is not UTF-8.
+// The fault that words are which can't be copied: out of memory, or one that is not UTF-8.
 fn fault_of(error: io::Error) -> ProgramFault
     ensures memory { error_kind error ≡ OutOfMemory → result ≡ ProgramFault.Run RunError.Memory }
     ensures usage { ¬ (error_kind error ≡ OutOfMemory) → result ≡ ProgramFault.Usage }

@@ -17,7 +17,7 @@ pub fn add<K: Eq + Hash + Drop, V: Drop>(
     ensures fresh { OnOk result (get K.eq table.old key ≡ None) }
     ensures shape { IsErrOf result BookError.Shape → IsSome (get K.eq table.old key) }
 
-    // A key that stands already is never told as want of memory.
+    // A key that stands already is never told as out of memory.
     ensures twice { IsSome (get K.eq table.old key) → IsErrOf result BookError.Shape }
     ensures only { IfErr result IsShapeOrMemory }
 {

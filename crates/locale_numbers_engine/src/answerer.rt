@@ -16,7 +16,7 @@ pub trait Answerer {
 
     /// Puts the answer to `line`, with no line feed after it, behind what `out` holds.
     ///
-    /// It fails for want of memory alone; then a part of the answer may stand there.
+    /// It fails only where it is out of memory; a part of the answer may then stand there.
     fn answer_onto(&mut self, line: &[u8], out: &mut String) -> Result<(), AllocError>
         requires { is_ready self.old }
         ensures text { OnOk result (
