@@ -27,7 +27,8 @@ pub use compact::CompactDecimal;
 pub use decimal::Decimal;
 pub use error::LimitError;
 pub use fixed_decimal_unsigned::{
-    ConcatenateError, ParseError, RoundingIncrement, Turns, UnsignedDecimal, UnsignedRoundingMode,
+    ConcatenateError, ParseError, RoundingIncrement, ShownDigits, Turns, UnsignedDecimal,
+    UnsignedRoundingMode,
 };
 pub use integer::FixedInteger;
 pub use modes::SignedRoundingMode;

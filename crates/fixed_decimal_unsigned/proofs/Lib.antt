@@ -23,3 +23,4 @@ pub mod KnownValues
 pub mod KnownRanges
 pub mod KnownRoundings
 pub mod WritingLemmas
+pub mod ShownDigitsLemmas

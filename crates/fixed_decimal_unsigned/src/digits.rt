@@ -1,9 +1,12 @@
 // The digits of a number: this file alone knows how they lie in memory.
 ghost use Rattle.std.specs.Prelude.{◌≡◌, ◌==◌, ◌+◌, ◌<◌, ◌≤◌, [], ◌∷◌, ◌++◌, length, slice_index, take, drop, IsOk, IfOk, OnOk, OnErr};
+ghost use Rattle.std.specs.Prelude.{◌^◌};
 ghost use Rattle.std.specs.Bool.{Decides};
+ghost use Rattle.std.specs.Iterator.{YieldsFirst, item_count};
 
 use smallvec::SmallVec;
 use std::alloc::{AllocError, Global};
+use std::iter::FusedIterator;
 use std::marker::Model;
 
 // How many digits lie inline, and so need no memory.
@@ -72,6 +75,17 @@ impl Digits {
         ensures ten { result < 10 }
     {
         self.kept.as_slice()[index]
+    }
+
+    // The digits from an index on, so many at most.
+    pub fn run(&self, from: usize, most: usize) -> DigitRun<'_>
+        ensures { result ≡ take most (drop from self.now.items) }
+    {
+        let digits = self.kept.as_slice();
+        let rest = &digits[from.min(digits.len())..];
+        DigitRun {
+            rest: &rest[..most.min(rest.len())],
+        }
     }
 
     // Adds a digit behind the last.
@@ -154,3 +168,43 @@ impl Digits {
         self.kept.clear();
     }
 }
+
+// Some of the digits, one after another.
+#[derive(Debug, Drop)]
+pub struct DigitRun<'l> {
+    rest: &'l [u8],
+}
+
+impl<'l> Model for DigitRun<'l> {
+    ghost use Rattle.std.specs.Prelude.{ℕ, List};
+
+    ghost Value = { List ℕ };
+
+    ghost view = { λ run. run.rest.now };
+}
+
+impl<'l> DigitRun<'l> {
+    // How many digits are left.
+    pub fn len(&self) -> usize
+        ensures value { result ≡ length self.now }
+        ensures bound { result < 2 ^ 63 }
+    {
+        self.rest.len()
+    }
+}
+
+impl<'l> Iterator for DigitRun<'l> {
+    type Item = u8;
+
+    ghost next_gives = { YieldsFirst (λ run. run) };
+
+    ghost remaining = { item_count (λ run. run) };
+
+    fn next(&mut self) -> Option<u8> {
+        let (first, others) = self.rest.split_first()?;
+        self.rest = others;
+        Some(*first)
+    }
+}
+
+impl<'l> FusedIterator for DigitRun<'l> {}
