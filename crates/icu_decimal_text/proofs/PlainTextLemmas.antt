@@ -1,23 +1,25 @@
--- The text of a number: its digits by magnitude, what is left of them to write, and the text of the events.
-use Rattle.std.proofs.Common.{◌≡◌, ℕ, zero, suc, ◌+◌, ◌-◌, ◌<◌, ◌≤◌, Bool, true, false, cond, List, [], ◌∷◌, ◌++◌, length, map, slice_index, refl, sym, ap, ◌∙◌, append_assoc, arith}
+-- The text of a number: its digits in groups, and the digits written in pieces.
+use Rattle.std.proofs.Common.{◌≡◌, ℕ, zero, suc, ◌+◌, ◌-◌, ◌/◌, ◌^◌, ◌<◌, ◌≤◌, List, [], ◌∷◌, ◌++◌, length, map, take, drop, slice_index, Option, None, Some, refl, sym, ap, subst, ◌∙◌, append_assoc, arith}
+use Rattle.std.proofs.lemmas.List.{drop-drop, drop-map, map-append, take-map}
+use Rattle.std.proofs.lemmas.List.Concat.{flat_map-append}
+use Rattle.std.proofs.lemmas.Nat.{mod_below}
 use Rattle.std.specs.Char.{encode_utf8}
-use Rattle.writeable.specs.AnnotatedText.{Event, bytes, opening, closing}
-use Rattle.fixed_decimal.specs.Number.{Number, digit, digits_down, fraction_digits, whole_digits}
-use Rattle.icu_decimal_text.specs.Affixes.{as_part, decimal_part}
-use Rattle.icu_decimal_text.specs.Grouper.{ends_at, group_sizes, marked, separates}
-use Rattle.icu_decimal_text.specs.PlainText.{Tables, chained, digit_events, fraction_events, whole_events}
-use Rattle.icu_decimal_text.proofs.GrouperLemmas.{ends_is_separated, joined_is_separated}
+use Rattle.std.specs.Int.Digits.{AllBelowBase}
+use Rattle.std.specs.List.{flat_map}
+use Rattle.std.specs.Option.{MatchOption, unwrap_or}
 use Rattle.std.specs.Prelude.{codes}
+use Rattle.writeable.specs.AnnotatedText.{Event, bytes, opening, closing}
+use Rattle.writeable.proofs.AnnotatedTextLemmas.{bytes_joined, no_bytes}
+use Rattle.fixed_decimal.specs.Number.{Number, digits_down, fraction_digits, whole_digits}
+use Rattle.icu_decimal_text.specs.Affixes.{as_part, decimal_part}
+use Rattle.icu_decimal_text.specs.Grouper.{cut_by, group_sizes, joined}
+use Rattle.icu_decimal_text.specs.LaterGroups.{later_events}
+use Rattle.icu_decimal_text.specs.PlainText.{Tables, chained, digit_events, digit_text, fraction_events, whole_events}
 
 -- so many digits give so many
 length_digits : {A : Type 0} (f : ℕ → A) (count base k : ℕ) → length (map f (digits_down count base k)) ≡ k
 length_digits f count base zero = refl
 length_digits f count base (suc k) = ap suc (length_digits f count base k)
-
--- a list before others, or none
-chained_cond : {A : Type 0} (b : Bool) (list : List A) (lists : List (List A)) → chained (cond b (list ∷ []) [] ++ lists) ≡ cond b list [] ++ chained lists
-chained_cond true list lists = refl
-chained_cond false list lists = refl
 
 -- The integer digits.
 
@@ -25,60 +27,125 @@ chained_cond false list lists = refl
 abbrev pub group_part : Tables → List Event
 group_part t = as_part (decimal_part (codes "group")) t.symbols.strings.grouping_separator
 
--- of n digits and their separators, those that are left to write
-abbrev pub whole_left : Tables → ℕ → ℕ → ℕ → List Event
-whole_left t count n left =
-    chained (marked (ends_at (group_sizes t.strategy t.symbols.grouping_sizes n)) (group_part t ∷ []) (map (digit_events t.digits) (digits_down count 32768 left)))
+-- the groups behind the first, each with the separator before it
+pub groups_behind : (separator table ns ds : List ℕ) → chained (flat_map (λ group. (as_part (decimal_part (codes "group")) separator ∷ []) ++ group) (cut_by ns (map (digit_events table) ds))) ≡ later_events separator table ns ds
+groups_behind separator table [] ds = refl
+groups_behind separator table (n ∷ ns) ds =
+    let part : List Event = as_part (decimal_part (codes "group")) separator in
+    let behind : List (List Event) → List (List Event) = λ digits. flat_map (λ group. (part ∷ []) ++ group) (cut_by ns digits) in
+    ap (λ es. part ++ es) (flat_map-append (λ list. list) (take n (map (digit_events table) ds)) (behind (drop n (map (digit_events table) ds))))
+    ∙ ap (λ group. part ++ (chained group ++ chained (behind (drop n (map (digit_events table) ds))))) (take-map (digit_events table) n ds)
+    ∙ ap (λ digits. part ++ (chained (map (digit_events table) (take n ds)) ++ chained (behind digits))) (drop-map (digit_events table) n ds)
+    ∙ ap (λ es. part ++ (chained (map (digit_events table) (take n ds)) ++ es)) (groups_behind separator table ns (drop n ds))
+    ∙ sym (append_assoc part (chained (map (digit_events table) (take n ds))) (later_events separator table ns (drop n ds)))
 
--- the digit at a magnitude, and the separator behind it, where one follows
-abbrev pub whole_piece : Tables → ℕ → Bool → List Event
-whole_piece t c follows = bytes (encode_utf8 c) ++ cond follows (group_part t) []
+-- groups of these sizes
+cut_events : Tables → List ℕ → List ℕ → List Event
+cut_events t ns ds = chained (joined (group_part t ∷ []) (cut_by ns (map (digit_events t.digits) ds)))
 
-pub whole_step : (t : Tables) (count n k : ℕ) → k < n → whole_left t count n (suc k) ≡ whole_piece t (slice_index t.digits (digit count (32768 + k))) (separates t.strategy t.symbols.grouping_sizes n k) ++ whole_left t count n k
-whole_step t count n k within =
-    let first : List Event = digit_events t.digits (digit count (32768 + k)) in
-    let rest : List (List Event) = marked (ends_at (group_sizes t.strategy t.symbols.grouping_sizes n)) (group_part t ∷ []) (map (digit_events t.digits) (digits_down count 32768 k)) in
-    let follows : ends_at (group_sizes t.strategy t.symbols.grouping_sizes n) (length (map (digit_events t.digits) (digits_down count 32768 k))) ≡ separates t.strategy t.symbols.grouping_sizes n k = ap (ends_at (group_sizes t.strategy t.symbols.grouping_sizes n)) (length_digits (digit_events t.digits) count 32768 k) ∙ ends_is_separated t.strategy t.symbols.grouping_sizes n k within in
-    ap (λ b. first ++ chained (cond b (group_part t ∷ []) [] ++ rest)) follows
-    ∙ ap (λ es. first ++ es) (chained_cond (separates t.strategy t.symbols.grouping_sizes n k) (group_part t) rest)
-    ∙ sym (append_assoc first (cond (separates t.strategy t.symbols.grouping_sizes n k) (group_part t) []) (chained rest))
+first_group : (t : Tables) (n : ℕ) (ns ds : List ℕ) → cut_events t (n ∷ ns) ds ≡ chained (map (digit_events t.digits) (take n ds)) ++ later_events t.symbols.strings.grouping_separator t.digits ns (drop n ds)
+unfolding cut_events
+first_group t n ns ds =
+    let behind : List (List Event) → List (List Event) = λ digits. flat_map (λ group. (group_part t ∷ []) ++ group) (cut_by ns digits) in
+    flat_map-append (λ list. list) (take n (map (digit_events t.digits) ds)) (behind (drop n (map (digit_events t.digits) ds)))
+    ∙ ap (λ group. chained group ++ chained (behind (drop n (map (digit_events t.digits) ds)))) (take-map (digit_events t.digits) n ds)
+    ∙ ap (λ digits. chained (map (digit_events t.digits) (take n ds)) ++ chained (behind digits)) (drop-map (digit_events t.digits) n ds)
+    ∙ ap (λ es. chained (map (digit_events t.digits) (take n ds)) ++ es) (groups_behind t.symbols.strings.grouping_separator t.digits ns (drop n ds))
 
--- the same as the loop has it
-pub whole_next : (t : Tables) (count n left k c : ℕ) (separator : List ℕ) (follows : Bool) → left ≡ suc k → k < n → c ≡ slice_index t.digits (digit count (32768 + k)) → separator ≡ t.symbols.strings.grouping_separator → follows ≡ separates t.strategy t.symbols.grouping_sizes n k → whole_left t count n left ≡ (bytes (encode_utf8 c) ++ cond follows (as_part (decimal_part (codes "group")) separator) []) ++ whole_left t count n k
-whole_next t count n left k c separator follows next within same written is =
-    ap (whole_left t count n) next ∙ whole_step t count n k within
-    ∙ ap (λ d. whole_piece t d (separates t.strategy t.symbols.grouping_sizes n k) ++ whole_left t count n k) (sym same)
-    ∙ ap (λ b. whole_piece t c b ++ whole_left t count n k) (sym is)
-    ∙ ap (λ text. (bytes (encode_utf8 c) ++ cond follows (as_part (decimal_part (codes "group")) text) []) ++ whole_left t count n k) (sym written)
+first_by : (t : Tables) (sizes ds : List ℕ) (first : Option ℕ) (others : List ℕ) → MatchOption first ((sizes ≡ []) × (others ≡ [])) (λ n. sizes ≡ n ∷ others) → cut_events t sizes ds ≡ chained (map (digit_events t.digits) (take (unwrap_or first 0) ds)) ++ later_events t.symbols.strings.grouping_separator t.digits others (drop (unwrap_or first 0) ds)
+unfolding cut_events
+first_by t sizes ds None others none =
+    ap (λ ns. cut_events t ns ds) none.0 ∙ ap (λ ns. later_events t.symbols.strings.grouping_separator t.digits ns ds) (sym none.1)
+first_by t sizes ds (Some n) others next = ap (λ ns. cut_events t ns ds) next ∙ first_group t n others ds
 
--- at first all are left, and none at the end
-pub whole_starts : (t : Tables) (v : Number) (n : ℕ) → v.high - 32767 ≡ n → 0 < n → whole_events t (whole_digits v) ≡ whole_left t v.count n n
-whole_starts t v n same some =
-    let digits : List (List Event) = map (digit_events t.digits) (digits_down v.count 32768 n) in
-    let size : length digits ≡ n = length_digits (digit_events t.digits) v.count 32768 n in
-    ap (λ k. whole_events t (digits_down v.count 32768 k)) same
-    ∙ ap chained (joined_is_separated t.strategy t.symbols.grouping_sizes (group_part t ∷ []) digits (omega (arith, size, some)))
-    ∙ ap (λ k. chained (marked (ends_at (group_sizes t.strategy t.symbols.grouping_sizes k)) (group_part t ∷ []) digits)) size
+-- the integer digits are the first group and those behind it, as the writer has them
+pub whole_groups : (t : Tables) (v : Number) (digits size : ℕ) (sizes others ds after separator : List ℕ) (first : Option ℕ) → v.high - 32767 ≡ digits → sizes ≡ group_sizes t.strategy t.symbols.grouping_sizes digits → MatchOption first ((sizes ≡ []) × (others ≡ [])) (λ n. sizes ≡ n ∷ others) → size ≡ unwrap_or first 0 → ds ≡ whole_digits v → after ≡ drop size ds → separator ≡ t.symbols.strings.grouping_separator → whole_events t (whole_digits v) ≡ chained (map (digit_events t.digits) (take size ds)) ++ later_events separator t.digits others after
+unfolding cut_events
+whole_groups t v digits size sizes others ds after separator first same cut next sized shown left written =
+    let count : length (map (digit_events t.digits) (whole_digits v)) ≡ digits = length_digits (digit_events t.digits) v.count 32768 (v.high - 32767) ∙ same in
+    ap (λ n. cut_events t (group_sizes t.strategy t.symbols.grouping_sizes n) (whole_digits v)) count
+    ∙ ap (λ ns. cut_events t ns (whole_digits v)) (sym cut)
+    ∙ ap (cut_events t sizes) (sym shown)
+    ∙ first_by t sizes ds first others next
+    ∙ ap (λ n. chained (map (digit_events t.digits) (take n ds)) ++ later_events t.symbols.strings.grouping_separator t.digits others (drop n ds)) (sym sized)
+    ∙ ap (λ rest. chained (map (digit_events t.digits) (take size ds)) ++ later_events t.symbols.strings.grouping_separator t.digits others rest) (sym left)
+    ∙ ap (λ text. chained (map (digit_events t.digits) (take size ds)) ++ later_events text t.digits others after) (sym written)
 
-pub whole_done : (t : Tables) (count n left : ℕ) → left ≤ 0 → whole_left t count n left ≡ []
-whole_done t count n zero none = refl
-whole_done t count n (suc k) none = absurd (omega (arith, none))
+-- Digits written.
+
+-- each is below ten
+pub tens_down : (count base n : ℕ) → AllBelowBase 10 (digits_down count base n)
+tens_down count base zero = tt
+tens_down count base (suc k) = (mod_below (count / 10 ^ (base + k)) 10 (omega arith), tens_down count base k)
+
+pub tens_dropped : (n : ℕ) (ds : List ℕ) → AllBelowBase 10 ds → AllBelowBase 10 (drop n ds)
+tens_dropped zero ds tens = tens
+tens_dropped (suc n) [] tens = tt
+tens_dropped (suc n) (d ∷ ds) tens = tens_dropped n ds tens.1
+
+pub tens_rest : (ds rest : List ℕ) (d : ℕ) → ds ≡ d ∷ rest → AllBelowBase 10 ds → AllBelowBase 10 rest
+tens_rest ds rest d is tens = (subst (AllBelowBase 10) is tens).1
+
+-- the events of their characters
+pub bytes_chained : (table ds : List ℕ) → bytes (chained (map (digit_text table) ds)) ≡ chained (map (digit_events table) ds)
+bytes_chained table [] = no_bytes
+bytes_chained table (d ∷ ds) =
+    bytes_joined (digit_text table d) (chained (map (digit_text table) ds)) ∙ ap (λ es. digit_events table d ++ es) (bytes_chained table ds)
+
+-- of so many digits the first, and the others
+pub next_text : (table ds rest : List ℕ) (left k d : ℕ) → left ≡ k + 1 → ds ≡ d ∷ rest → chained (map (digit_text table) (take left ds)) ≡ encode_utf8 (slice_index table d) ++ chained (map (digit_text table) (take k rest))
+next_text table ds rest left k d next is =
+    let more : left ≡ suc k = omega (arith, next) in
+    ap (λ n. chained (map (digit_text table) (take n ds))) more ∙ ap (λ digits. chained (map (digit_text table) (take (suc k) digits))) is
+
+pub next_rest : (ds rest : List ℕ) (left k d : ℕ) → left ≡ k + 1 → ds ≡ d ∷ rest → drop left ds ≡ drop k rest
+next_rest ds rest left k d next is =
+    let more : left ≡ suc k = omega (arith, next) in ap (λ n. drop n ds) more ∙ ap (drop (suc k)) is
+
+-- of so many digits the first few, and the others
+take_none : (k : ℕ) → take {A = ℕ} k [] ≡ []
+take_none zero = refl
+take_none (suc k) = refl
+
+take_parts : (n k : ℕ) (ds : List ℕ) → take (n + k) ds ≡ take n ds ++ take k (drop n ds)
+take_parts zero k ds = let none : 0 + k ≡ k = omega arith in ap (λ j. take j ds) none
+take_parts (suc n) k [] = let whole : suc n + k ≡ suc (n + k) = omega arith in ap (λ j. take j []) whole ∙ sym (take_none k)
+take_parts (suc n) k (d ∷ ds) = let whole : suc n + k ≡ suc (n + k) = omega arith in ap (λ j. take j (d ∷ ds)) whole ∙ ap (λ rest. d ∷ rest) (take_parts n k ds)
+
+pub next_piece : (table ds after : List ℕ) (left n k : ℕ) → left ≡ n + k → after ≡ drop n ds → chained (map (digit_events table) (take left ds)) ≡ chained (map (digit_events table) (take n ds)) ++ chained (map (digit_events table) (take k after))
+next_piece table ds after left n k whole is =
+    ap (λ j. chained (map (digit_events table) (take j ds))) whole
+    ∙ ap (λ digits. chained (map (digit_events table) digits)) (take_parts n k ds)
+    ∙ ap chained (map-append (digit_events table) (take n ds) (take k (drop n ds)))
+    ∙ flat_map-append (λ list. list) (map (digit_events table) (take n ds)) (map (digit_events table) (take k (drop n ds)))
+    ∙ ap (λ digits. chained (map (digit_events table) (take n ds)) ++ chained (map (digit_events table) (take k digits))) (sym is)
+
+pub piece_dropped : (ds after : List ℕ) (left n k : ℕ) → left ≡ n + k → after ≡ drop n ds → drop k after ≡ drop left ds
+piece_dropped ds after left n k whole is = ap (drop k) is ∙ drop-drop k n ds ∙ ap (λ j. drop j ds) (sym whole)
+
+pub no_piece : (table ds : List ℕ) (left : ℕ) → left ≤ 0 → chained (map (digit_events table) (take left ds)) ≡ []
+no_piece table ds zero none = refl
+no_piece table ds (suc k) none = absurd (omega (arith, none))
+
+pub none_dropped : (ds : List ℕ) (left : ℕ) → left ≤ 0 → ds ≡ drop left ds
+none_dropped ds zero none = refl
+none_dropped ds (suc k) none = absurd (omega (arith, none))
+
+-- of the groups behind the first the next one, and the others
+pub next_group : (separator table ns others ds after : List ℕ) (n : ℕ) → ns ≡ n ∷ others → after ≡ drop n ds → later_events separator table ns ds ≡ (as_part (decimal_part (codes "group")) separator ++ chained (map (digit_events table) (take n ds))) ++ later_events separator table others after
+next_group separator table ns others ds after n next is =
+    ap (λ sizes. later_events separator table sizes ds) next
+    ∙ ap (λ digits. (as_part (decimal_part (codes "group")) separator ++ chained (map (digit_events table) (take n ds))) ++ later_events separator table others digits) (sym is)
+
+pub no_group : (separator table ns ds : List ℕ) → ns ≡ [] → later_events separator table ns ds ≡ []
+no_group separator table ns ds none = ap (λ sizes. later_events separator table sizes ds) none
+
+-- a character has at most four bytes
+pub few_bytes : (c : ℕ) → length (encode_utf8 c) ≤ 4
+unfolding encode_utf8
+few_bytes c = grind arith
 
 -- The fraction.
-
--- the digits that are left to write
-abbrev pub fraction_left : List ℕ → ℕ → ℕ → ℕ → List Event
-fraction_left table count base left = chained (map (digit_events table) (digits_down count base left))
-
-pub fraction_next : (table : List ℕ) (count base left k at c : ℕ) → left ≡ suc k → at ≡ base + k → c ≡ slice_index table (digit count at) → fraction_left table count base left ≡ bytes (encode_utf8 c) ++ fraction_left table count base k
-fraction_next table count base left k at c next same is =
-    ap (fraction_left table count base) next
-    ∙ ap (λ p. digit_events table (digit count p) ++ fraction_left table count base k) (sym same)
-    ∙ ap (λ d. bytes (encode_utf8 d) ++ fraction_left table count base k) (sym is)
-
-pub fraction_done : (table : List ℕ) (count base left : ℕ) → left ≤ 0 → fraction_left table count base left ≡ []
-fraction_done table count base zero none = refl
-fraction_done table count base (suc k) none = absurd (omega (arith, none))
 
 some_by : (t : Tables) (count low k : ℕ) → 0 < k → fraction_events t (digits_down count low k) ≡ as_part (decimal_part (codes "decimal")) t.symbols.strings.decimal_separator ++ (opening (decimal_part (codes "fraction")) ++ (chained (map (digit_events t.digits) (digits_down count low k)) ++ closing))
 some_by t count low zero some = absurd (omega (arith, some))

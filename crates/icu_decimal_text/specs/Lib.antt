@@ -3,7 +3,9 @@ pub mod FoundTables
 pub mod Grouper
 pub mod GroupLaws
 pub mod HeldAffixes
+pub mod HeldSizes
 pub mod HeldTables
+pub mod LaterGroups
 pub mod PlainText
 pub mod SameAffixes
 pub mod SamePlain

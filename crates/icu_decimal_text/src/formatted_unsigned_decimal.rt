@@ -57,7 +57,7 @@ impl<'l> FormattedUnsignedDecimal<'l> {
 
 /// The digits in groups with their parts: `1,234.5` in English.
 impl<'l> Writeable for FormattedUnsignedDecimal<'l> {
-    ghost use Rattle.std.specs.Prelude.{◌≤◌, length};
+    ghost use Rattle.std.specs.Prelude.{◌≡◌, ◌+◌, ◌-◌, length};
     ghost use Rattle.writeable.specs.AnnotatedText.{text_of};
     ghost use Rattle.writeable.specs.LengthHint.{IsWithinHint};
     ghost use Rattle.icu_decimal_text.specs.PlainText.{unsigned_events};
@@ -70,7 +70,8 @@ impl<'l> Writeable for FormattedUnsignedDecimal<'l> {
 
     #[tactic(auto, using(crate::proofs::HintLemmas::unsigned_is_long))]
     fn writeable_length_hint(&self) -> LengthHint
-        ensures { IsWithinHint result (length (text_of (unsigned_events self.now))) }
+        ensures within { IsWithinHint result (length (text_of (unsigned_events self.now))) }
+        ensures low { result.low ≡ (self.now.number.high - 32767) + (32768 - self.now.number.low) }
     {
         LengthHint::at_least(digits_shown(self.number))
     }

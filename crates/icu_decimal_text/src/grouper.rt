@@ -1,9 +1,13 @@
 //! Where grouping separators stand.
 ghost use Rattle.std.specs.Prelude.{◌≡◌, ℕ, ◌+◌, ◌<◌, ◌≤◌, false, pos, ◌<ℤ◌};
-ghost use Rattle.icu_decimal_text.specs.Grouper.{ends_at, group_sizes, least_front, may_group, middle_size, separates, separates_at};
+ghost use Rattle.std.specs.Iterator.{YieldsFirst, item_count};
+ghost use Rattle.icu_decimal_text.specs.Grouper.{cut_sizes, ends_at, group_sizes, is_grouped, least_front, may_group, middle_size, separates, separates_at};
 
 use icu_decimal_provider::options::GroupingStrategy;
 use icu_decimal_provider::provider::GroupingSizes;
+use std::iter::FusedIterator;
+use std::marker::Model;
+use std::mem;
 
 /// Whether a grouping separator follows the digit at `magnitude`.
 ///
@@ -29,7 +33,7 @@ pub fn check(
 }
 
 // The test at whole magnitudes.
-pub(crate) fn is_group_end(
+fn is_group_end(
     upper: u16,
     magnitude: u16,
     strategy: GroupingStrategy,
@@ -39,13 +43,20 @@ pub(crate) fn is_group_end(
     ensures value { result ≡ separates strategy sizes (upper + 1) magnitude }
 {
     let primary = sizes.primary as u16;
-    if primary == 0 || magnitude < primary || !may_separate(strategy) {
-        return false;
-    }
-    if upper + 1 < primary + least_before(strategy, sizes.min_grouping) as u16 {
+    if !has_groups(upper + 1, strategy, sizes) || magnitude < primary {
         return false;
     }
     (magnitude - primary) % size_before(sizes) as u16 == 0
+}
+
+// Whether so many digits have more than one group.
+fn has_groups(digits: u16, strategy: GroupingStrategy, sizes: GroupingSizes) -> bool
+    ensures { result ≡ is_grouped strategy sizes digits }
+{
+    if sizes.primary == 0 || !may_separate(strategy) {
+        return false;
+    }
+    sizes.primary as u16 + least_before(strategy, sizes.min_grouping) as u16 <= digits
 }
 
 // Whether the strategy allows separators at all.
@@ -75,3 +86,79 @@ fn size_before(sizes: GroupingSizes) -> u8
         sizes.secondary
     }
 }
+
+// How many digits each group has, from the first to the last.
+#[derive(Debug, Drop)]
+pub(crate) struct GroupSizes {
+    first: u16,
+    middles: u16,
+    middle: u8,
+    last: u8,
+}
+
+impl Model for GroupSizes {
+    ghost use Rattle.std.specs.Prelude.{ℕ, List};
+    ghost use Rattle.icu_decimal_text.specs.HeldSizes.{sizes_held};
+
+    ghost Value = { List ℕ };
+
+    ghost view = { λ s. sizes_held s.first s.middles s.middle s.last };
+}
+
+impl GroupSizes {
+    // The groups of so many digits.
+    pub(crate) fn of(digits: u16, strategy: GroupingStrategy, sizes: GroupingSizes) -> Self
+        requires { 0 < digits }
+        ensures { result ≡ group_sizes strategy sizes digits }
+    {
+        if !has_groups(digits, strategy, sizes) {
+            return GroupSizes {
+                first: digits,
+                middles: 0,
+                middle: 0,
+                last: 0,
+            };
+        }
+        cut(digits, sizes.primary, size_before(sizes))
+    }
+}
+
+// So many digits cut from the right: the last group has `last`, each before it `middle`, the first what is left.
+fn cut(digits: u16, last: u8, middle: u8) -> GroupSizes
+    requires enough { last < digits }
+    requires some { 0 < last }
+    requires turns { 0 < middle }
+    ensures { result ≡ cut_sizes last middle digits }
+{
+    let middles = (digits - last as u16 - 1) / middle as u16;
+    GroupSizes {
+        first: digits - last as u16 - middles * middle as u16,
+        middles,
+        middle,
+        last,
+    }
+}
+
+impl Iterator for GroupSizes {
+    type Item = usize;
+
+    ghost next_gives = { YieldsFirst (λ sizes. sizes) };
+
+    ghost remaining = { item_count (λ sizes. sizes) };
+
+    fn next(&mut self) -> Option<usize> {
+        if self.first > 0 {
+            return Some(mem::take(&mut self.first) as usize);
+        }
+        if self.middles > 0 {
+            self.middles -= 1;
+            return Some(self.middle as usize);
+        }
+        if self.last > 0 {
+            return Some(mem::take(&mut self.last) as usize);
+        }
+        None
+    }
+}
+
+impl FusedIterator for GroupSizes {}

@@ -1,5 +1,5 @@
 ghost use Rattle.icu_decimal_text.specs.GroupLaws.{GroupsAreCut, GroupsAreSeparated};
-ghost use Rattle.std.specs.Prelude.{IsTrue};
+ghost use Rattle.std.specs.Prelude.{◌≡◌, ◌↔◌, IsTrue};
 ghost use Rattle.icu_decimal_text.specs.TextLaws.{DecimalIsText, FindTheSameTables, UnsignedIsText};
 
 use icu_decimal_provider::laws::same_preferences;
@@ -18,9 +18,10 @@ pub fn text_law()
     ensures decimal { DecimalIsText }
 {}
 
-/// A law: equal preferences find the same tables of every provider, with the same options.
+/// A law: true exactly of equal preferences, which find the same tables of every provider, with the same options.
 pub fn same_tables(one: &DecimalFormatterPreferences, other: &DecimalFormatterPreferences) -> bool
-    ensures { IsTrue result → FindTheSameTables one.now other.now }
+    ensures same { IsTrue result ↔ (one.now ≡ other.now) }
+    ensures tables { IsTrue result → FindTheSameTables one.now other.now }
 {
     same_preferences(one, other)
 }

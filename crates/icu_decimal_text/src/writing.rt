@@ -1,18 +1,22 @@
 //! Writing digits to a sink, each text in its part.
 
-ghost use Rattle.std.specs.Prelude.{◌≡◌, ℕ, ◌+◌, ◌-◌, ◌<◌, ◌≤◌, ◌++◌, [], codes, cond, encode_utf8, false, is_err, OnOk, OnErr, map, slice_index};
+ghost use Rattle.std.specs.Prelude.{◌≡◌, ℕ, ◌+◌, ◌-◌, ◌<◌, ◌≤◌, ◌++◌, codes, drop, false, is_err, OnOk, OnErr, map, take};
+ghost use Rattle.std.specs.Int.Digits.{AllBelowBase};
 ghost use Rattle.writeable.specs.AnnotatedText.{bytes, opening, closing};
 ghost use Rattle.writeable.specs.PartName.{name_of};
 ghost use Rattle.writeable.specs.Taking.{HasBegun};
-ghost use Rattle.fixed_decimal.specs.Number.{digit, whole_digits, fraction_digits};
+ghost use Rattle.fixed_decimal.specs.Number.{whole_digits, fraction_digits};
 ghost use Rattle.icu_decimal_text.specs.Affixes.{as_part, decimal_part};
-ghost use Rattle.icu_decimal_text.specs.PlainText.{chained, digit_events, fraction_events, integer_events, unsigned_events, whole_events};
+ghost use Rattle.icu_decimal_text.specs.PlainText.{chained, digit_events, digit_text, fraction_events, integer_events, unsigned_events, whole_events};
 ghost use Rattle.icu_decimal_text.specs.HeldTables.{tables_of};
+ghost use Rattle.icu_decimal_text.specs.LaterGroups.{later_events};
 
 use crate::formatter::DecimalFormatter;
-use crate::grouper;
-use fixed_decimal::UnsignedDecimal;
+use crate::grouper::GroupSizes;
+use arrayvec::ArrayString;
+use fixed_decimal::{ShownDigits, UnsignedDecimal};
 use icu_decimal_provider::parts;
+use std::iter::ExactSizeIterator;
 use writeable::{Error, Part, Sink};
 
 // Writes a text as a part.
@@ -27,34 +31,114 @@ pub(crate) fn write_part<S: Sink>(part: Part, text: &str, sink: &mut S) -> Resul
     sink.close_part()
 }
 
-// Writes a grouping separator, where one follows.
-fn write_separator<S: Sink>(follows: bool, separator: &str, sink: &mut S) -> Result<(), Error>
-    requires { S.refused sink.old ≡ false }
-    ensures ok { OnOk result (S.takes sink.old (cond follows (as_part (decimal_part (codes "group")) separator.now) []) sink.new) }
-    ensures refused { S.refused sink.new ≡ is_err result }
-    ensures begun { OnErr result (HasBegun S.takes S.lacks_room sink.old (cond follows (as_part (decimal_part (codes "group")) separator.now) []) sink.new) }
+// How many digits are written by one call of the sink at most, and the bytes that they may have.
+const PIECE: usize = 16;
+
+const PIECE_BYTES: usize = 64;
+
+// The characters of the next digits, so many.
+fn spelled(
+    digits: &mut ShownDigits<'_>,
+    count: usize,
+    table: &[char; 10],
+) -> ArrayString<PIECE_BYTES>
+    requires few { count ≤ 16 }
+    requires tens { AllBelowBase 10 digits.old }
+    ensures digits { digits.new ≡ drop count digits.old }
+    ensures text { result.bytes ≡ chained (map (digit_text table.now) (take count digits.old)) }
 {
-    if follows {
-        write_part(parts::GROUP, separator, sink)
-    } else {
-        Ok(())
+    let mut text = ArrayString::new();
+    let mut left = count;
+    while left > 0 {
+        left -= 1;
+        let Some(digit) = digits.next() else {
+            return text;
+        };
+        text.push(table[digit as usize]);
     }
+    text
 }
 
-// Writes a digit, and the separator behind it, where one follows.
-fn write_digit<S: Sink>(
-    digit: char,
-    follows: bool,
-    separator: &str,
+// Writes the next digits by one call of the sink.
+#[tactic(auto, using(crate::proofs::PlainTextLemmas::bytes_chained))]
+fn write_piece<S: Sink>(
+    digits: &mut ShownDigits<'_>,
+    count: usize,
+    table: &[char; 10],
     sink: &mut S,
 ) -> Result<(), Error>
-    requires { S.refused sink.old ≡ false }
-    ensures ok { OnOk result (S.takes sink.old (bytes (encode_utf8 digit) ++ cond follows (as_part (decimal_part (codes "group")) separator.now) []) sink.new) }
+    requires fine { S.refused sink.old ≡ false }
+    requires few { count ≤ 16 }
+    requires tens { AllBelowBase 10 digits.old }
+    ensures digits { digits.new ≡ drop count digits.old }
+    ensures ok { OnOk result (S.takes sink.old (chained (map (digit_events table.now) (take count digits.old))) sink.new) }
     ensures refused { S.refused sink.new ≡ is_err result }
-    ensures begun { OnErr result (HasBegun S.takes S.lacks_room sink.old (bytes (encode_utf8 digit) ++ cond follows (as_part (decimal_part (codes "group")) separator.now) []) sink.new) }
+    ensures begun { OnErr result (HasBegun S.takes S.lacks_room sink.old (chained (map (digit_events table.now) (take count digits.old))) sink.new) }
 {
-    sink.write_char(digit)?;
-    write_separator(follows, separator, sink)
+    let text = spelled(digits, count, table);
+    sink.write_str(text.as_str())
+}
+
+// Writes the next digits, so many.
+fn write_digits<S: Sink>(
+    digits: &mut ShownDigits<'_>,
+    count: usize,
+    table: &[char; 10],
+    sink: &mut S,
+) -> Result<(), Error>
+    requires fine { S.refused sink.old ≡ false }
+    requires tens { AllBelowBase 10 digits.old }
+    ensures digits { OnOk result (digits.new ≡ drop count digits.old) }
+    ensures ok { OnOk result (S.takes sink.old (chained (map (digit_events table.now) (take count digits.old))) sink.new) }
+    ensures refused { S.refused sink.new ≡ is_err result }
+    ensures begun { OnErr result (HasBegun S.takes S.lacks_room sink.old (chained (map (digit_events table.now) (take count digits.old))) sink.new) }
+{
+    let mut left = count;
+    while left > 0 {
+        let size = left.min(PIECE);
+        left -= size;
+        write_piece(digits, size, table, sink)?;
+    }
+    Ok(())
+}
+
+// Writes the grouping separator, and the group behind it.
+fn write_group<S: Sink>(
+    separator: &str,
+    digits: &mut ShownDigits<'_>,
+    count: usize,
+    table: &[char; 10],
+    sink: &mut S,
+) -> Result<(), Error>
+    requires fine { S.refused sink.old ≡ false }
+    requires tens { AllBelowBase 10 digits.old }
+    ensures digits { OnOk result (digits.new ≡ drop count digits.old) }
+    ensures ok { OnOk result (S.takes sink.old (as_part (decimal_part (codes "group")) separator.now ++ chained (map (digit_events table.now) (take count digits.old))) sink.new) }
+    ensures refused { S.refused sink.new ≡ is_err result }
+    ensures begun { OnErr result (HasBegun S.takes S.lacks_room sink.old (as_part (decimal_part (codes "group")) separator.now ++ chained (map (digit_events table.now) (take count digits.old))) sink.new) }
+{
+    write_part(parts::GROUP, separator, sink)?;
+    write_digits(digits, count, table, sink)
+}
+
+// Writes the groups behind the first.
+fn write_groups<S: Sink>(
+    separator: &str,
+    digits: &mut ShownDigits<'_>,
+    sizes: &mut GroupSizes,
+    table: &[char; 10],
+    sink: &mut S,
+) -> Result<(), Error>
+    requires fine { S.refused sink.old ≡ false }
+    requires tens { AllBelowBase 10 digits.old }
+    ensures ok { OnOk result (S.takes sink.old (later_events separator.now table.now sizes.old digits.old) sink.new) }
+    ensures refused { S.refused sink.new ≡ is_err result }
+    ensures begun { OnErr result (HasBegun S.takes S.lacks_room sink.old (later_events separator.now table.now sizes.old digits.old) sink.new) }
+{
+    while let Some(size) = sizes.next() {
+        write_group(separator, digits, size, table, sink)?;
+    }
+    Ok(())
 }
 
 // The highest magnitude that is shown.
@@ -63,15 +147,6 @@ fn highest(number: &UnsignedDecimal) -> u16
     ensures bound { result < 32768 }
 {
     *number.magnitude_range().end() as u16
-}
-
-// The digit at a whole magnitude.
-fn whole_digit(number: &UnsignedDecimal, magnitude: u16) -> u8
-    requires { magnitude < 32768 }
-    ensures value { result ≡ digit number.now.count (32768 + magnitude) }
-    ensures ten { result < 10 }
-{
-    number.digit_at(magnitude as i16)
 }
 
 // Writes the integer digits in their groups.
@@ -86,18 +161,18 @@ fn write_whole<S: Sink>(
     ensures begun { OnErr result (HasBegun S.takes S.lacks_room sink.old (whole_events (tables_of tables.entry) (whole_digits number.now)) sink.new) }
 {
     let symbols = tables.symbols;
-    let digits = tables.digits;
-    let separator = symbols.grouping_separator();
-    let sizes = symbols.grouping_sizes;
-    let upper = highest(number);
-    let mut left = upper + 1;
-    while left > 0 {
-        left -= 1;
-        let digit = digits[whole_digit(number, left) as usize];
-        let follows = grouper::is_group_end(upper, left, tables.strategy, sizes);
-        write_digit(digit, follows, separator, sink)?;
-    }
-    Ok(())
+    let table = tables.digits;
+    let mut sizes = GroupSizes::of(highest(number) + 1, tables.strategy, symbols.grouping_sizes);
+    let mut digits = number.whole_digits();
+    let first = sizes.next().unwrap_or(0);
+    write_digits(&mut digits, first, table, sink)?;
+    write_groups(
+        symbols.grouping_separator(),
+        &mut digits,
+        &mut sizes,
+        table,
+        sink,
+    )
 }
 
 // How many fraction digits are shown.
@@ -105,16 +180,6 @@ fn fraction_len(number: &UnsignedDecimal) -> u16
     ensures value { number.now.low + result ≡ 32768 }
 {
     (0 - *number.magnitude_range().start() as i32) as u16
-}
-
-// Of so many fraction digits the one that has `left` behind it.
-fn fraction_digit(number: &UnsignedDecimal, places: u16, left: u16) -> u8
-    requires within { left < places }
-    requires bound { places ≤ 32768 }
-    ensures value { result ≡ digit number.now.count (32768 - places + left) }
-    ensures ten { result < 10 }
-{
-    number.digit_at((left as i32 - places as i32) as i16)
 }
 
 // How many digits are shown.
@@ -126,22 +191,18 @@ pub(crate) fn digits_shown(number: &UnsignedDecimal) -> usize
 
 // Writes the fraction digits.
 fn write_fraction_digits<S: Sink>(
-    digits: &[char; 10],
+    table: &[char; 10],
     number: &UnsignedDecimal,
     sink: &mut S,
 ) -> Result<(), Error>
     requires { S.refused sink.old ≡ false }
-    ensures ok { OnOk result (S.takes sink.old (chained (map (digit_events digits.now) (fraction_digits number.now))) sink.new) }
+    ensures ok { OnOk result (S.takes sink.old (chained (map (digit_events table.now) (fraction_digits number.now))) sink.new) }
     ensures refused { S.refused sink.new ≡ is_err result }
-    ensures begun { OnErr result (HasBegun S.takes S.lacks_room sink.old (chained (map (digit_events digits.now) (fraction_digits number.now))) sink.new) }
+    ensures begun { OnErr result (HasBegun S.takes S.lacks_room sink.old (chained (map (digit_events table.now) (fraction_digits number.now))) sink.new) }
 {
-    let places = fraction_len(number);
-    let mut left = places;
-    while left > 0 {
-        left -= 1;
-        sink.write_char(digits[fraction_digit(number, places, left) as usize])?;
-    }
-    Ok(())
+    let mut shown = number.fraction_digits();
+    let count = shown.len();
+    write_digits(&mut shown, count, table, sink)
 }
 
 // Writes the integer digits as their part.

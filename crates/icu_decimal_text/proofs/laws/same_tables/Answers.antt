@@ -3,4 +3,7 @@ use Rattle.icu_decimal_text.specs.FoundTables.{found_tables}
 use Rattle.icu_decimal_text.proofs.laws.same_tables.Goals as goal
 
 pub returns : goal.returns
-returns c = λ same symbols digits option. ap (λ p. found_tables symbols digits p option) (c.same_preferences.ensures.same.0 same)
+returns c = record {
+  same = c.same_preferences.ensures.same;
+  tables = λ same symbols digits option. ap (λ p. found_tables symbols digits p option) (c.same_preferences.ensures.same.0 same);
+}

@@ -1,53 +1,57 @@
-use Rattle.std.proofs.Common.{◌≡◌, ◌+◌, ◌-◌, ◌++◌, [], cond, codes, ap, ◌∙◌, arith, slice_index}
-use Rattle.std.specs.Char.{encode_utf8}
-use Rattle.writeable.specs.AnnotatedText.{bytes}
-use Rattle.writeable.specs.Taking.{on_err}
-use Rattle.writeable.proofs.WritingLemmas.{writing_goes_on, writing_stops, writing_ends}
-use Rattle.icu_decimal_text.specs.Affixes.{as_part, decimal_part}
-use Rattle.icu_decimal_text.specs.Grouper.{separates}
+use Rattle.std.proofs.Common.{◌≡◌, ◌+◌, ◌-◌, ◌∙◌, ap, arith, drop, refl, subst, sym}
+use Rattle.std.specs.Int.Digits.{AllBelowBase}
+use Rattle.std.proofs.lemmas.Result.{on_ok_weaker}
+use Rattle.writeable.specs.Taking.{begun_first, on_err}
+use Rattle.icu_decimal_text.specs.Grouper.{group_sizes}
 use Rattle.icu_decimal_text.specs.HeldTables.{tables_of}
-use Rattle.icu_decimal_text.proofs.PlainTextLemmas.{whole_left, whole_next, whole_starts, whole_done}
+use Rattle.icu_decimal_text.proofs.PlainTextLemmas.{tens_down, tens_dropped, whole_groups}
 use Rattle.icu_decimal_text.proofs.writing.write_whole.Goals as goal
 
-pub loop-left-preserved : goal.loop-left-preserved
-loop-left-preserved g c =
-    let left = c.loop-left.left in
+pub returns-in_err-write_digits-clause-begun : goal.returns-in_err-write_digits-clause-begun
+returns-in_err-write_digits-clause-begun g c =
     let t = tables_of c.args.tables in
-    let n = c.highest-upper.result + 1 in
-    let separator = c.grouping_separator-separator.result.now in
-    let follows = c.is_group_end-follows.result in
-    let char = slice_index t.digits c.whole_digit.result in
-    let tested : follows ≡ separates t.strategy t.symbols.grouping_sizes n (left - 1) = rw (← c.symbols.view_is) c.is_group_end-follows.ensures.value in
-    let written : separator ≡ t.symbols.strings.grouping_separator = c.grouping_separator-separator.ensures ∙ ap (λ s. s.grouping_separator) c.deref.ensures in
-    let next = whole_next t c.args.number.now.count n left (left - 1) char separator follows (omega arith) (omega arith) (ap (λ d. slice_index t.digits d) c.whole_digit.ensures.value) written tested in
-    record {
-      left = omega arith;
-      writing = writing_goes_on g.S.Sink.takes g.S.Sink.refused g.met.S.Sink.joins _ _ _ _ (bytes (encode_utf8 char) ++ cond follows (as_part (decimal_part (codes "group")) separator) []) (whole_left t c.args.number.now.count n (left - 1))
-          (rw next at c.loop-left.invariant.writing) c.in_ok-write_digit.ensures.ok c.in_ok-write_digit.ensures.refused;
-    }
+    let v = c.args.number.now in
+    let digits = c.highest.result + 1 in
+    let ds = c.whole_digits-digits.result in
+    let size = c.unwrap_or-first.result in
+    let cut : c.of-sizes.result ≡ group_sizes t.strategy t.symbols.grouping_sizes digits = rw (← c.symbols.view_is) c.of-sizes.ensures in
+    let whole = whole_groups t v digits size c.of-sizes.result c.next.new.self ds (drop size ds) t.symbols.strings.grouping_separator c.next.result (omega (arith, c.highest.ensures.value)) cut c.next.ensures.steps c.unwrap_or-first.ensures c.whole_digits-digits.ensures refl refl in
+    on_err c.from_residual.result
+    (rw whole (begun_first g.S.Sink.takes g.S.Sink.lacks_room g.met.S.Sink.lacks_more _ _ _ _ c.in_err-write_digits.ensures.begun))
 
-pub returns-in_err-write_digit-clause-begun : goal.returns-in_err-write_digit-clause-begun
-returns-in_err-write_digit-clause-begun g c =
-    let left = c.loop-left.left in
-    let t = tables_of c.args.tables in
-    let n = c.highest-upper.result + 1 in
-    let separator = c.grouping_separator-separator.result.now in
-    let follows = c.is_group_end-follows.result in
-    let char = slice_index t.digits c.whole_digit.result in
-    let tested : follows ≡ separates t.strategy t.symbols.grouping_sizes n (left - 1) = rw (← c.symbols.view_is) c.is_group_end-follows.ensures.value in
-    let written : separator ≡ t.symbols.strings.grouping_separator = c.grouping_separator-separator.ensures ∙ ap (λ s. s.grouping_separator) c.deref.ensures in
-    let next = whole_next t c.args.number.now.count n left (left - 1) char separator follows (omega arith) (omega arith) (ap (λ d. slice_index t.digits d) c.whole_digit.ensures.value) written tested in
-    let size : c.args.number.now.high - 32767 ≡ n = omega arith in
-    rw (whole_starts t c.args.number.now n size (omega arith))
-    (on_err c.from_residual.result
-    (writing_stops g.S.Sink.takes g.S.Sink.refused g.met.S.Sink.joins g.S.Sink.lacks_room g.met.S.Sink.lacks_more _ _ _ _ (bytes (encode_utf8 char) ++ cond follows (as_part (decimal_part (codes "group")) separator) []) (whole_left t c.args.number.now.count n (left - 1))
-    (rw next at c.loop-left.invariant.writing) c.in_err-write_digit.ensures.begun))
+pub write_digits-requires-clause-tens : goal.write_digits-requires-clause-tens
+write_digits-requires-clause-tens g c =
+    let v = c.args.number.now in
+    subst (AllBelowBase 10) (sym c.whole_digits-digits.ensures) (tens_down v.count 32768 (v.high - 32767))
+
+pub write_groups-requires-clause-tens : goal.write_groups-requires-clause-tens
+write_groups-requires-clause-tens g c =
+    let v = c.args.number.now in
+    let shown = tens_down v.count 32768 (v.high - 32767) in
+    subst (AllBelowBase 10) (sym c.in_ok-write_digits.ensures.digits)
+    (tens_dropped c.unwrap_or-first.result c.whole_digits-digits.result (subst (AllBelowBase 10) (sym c.whole_digits-digits.ensures) shown))
 
 pub returns-clause-ok : goal.returns-clause-ok
 returns-clause-ok g c =
     let t = tables_of c.args.tables in
-    let n = c.highest-upper.result + 1 in
-    let size : c.args.number.now.high - 32767 ≡ n = omega arith in
-    rw (whole_starts t c.args.number.now n size (omega arith))
-    (writing_ends g.S.Sink.takes g.S.Sink.refused _ _ _
-    (rw (whole_done t c.args.number.now.count n c.loop-left.left (omega arith)) at c.loop-left.invariant.writing))
+    let v = c.args.number.now in
+    let digits = c.highest.result + 1 in
+    let ds = c.whole_digits-digits.result in
+    let size = c.unwrap_or-first.result in
+    let cut : c.of-sizes.result ≡ group_sizes t.strategy t.symbols.grouping_sizes digits = rw (← c.symbols.view_is) c.of-sizes.ensures in
+    let written : c.grouping_separator.result.now ≡ t.symbols.strings.grouping_separator = c.grouping_separator.ensures ∙ ap (λ s. s.grouping_separator) c.deref.ensures in
+    let whole = whole_groups t v digits size c.of-sizes.result c.next.new.self ds c.write_digits.new.digits c.grouping_separator.result.now c.next.result (omega (arith, c.highest.ensures.value)) cut c.next.ensures.steps c.unwrap_or-first.ensures c.whole_digits-digits.ensures c.in_ok-write_digits.ensures.digits written in
+    rw whole
+    (on_ok_weaker c.write_groups.result (λ taken. g.met.S.Sink.joins _ _ _ _ _ c.in_ok-write_digits.ensures.ok c.in_ok-write_digits.ensures.refused taken) c.write_groups.ensures.ok)
+
+pub returns-clause-begun : goal.returns-clause-begun
+returns-clause-begun g c =
+    let t = tables_of c.args.tables in
+    let v = c.args.number.now in
+    let digits = c.highest.result + 1 in
+    let ds = c.whole_digits-digits.result in
+    let size = c.unwrap_or-first.result in
+    let cut : c.of-sizes.result ≡ group_sizes t.strategy t.symbols.grouping_sizes digits = rw (← c.symbols.view_is) c.of-sizes.ensures in
+    let written : c.grouping_separator.result.now ≡ t.symbols.strings.grouping_separator = c.grouping_separator.ensures ∙ ap (λ s. s.grouping_separator) c.deref.ensures in
+    let whole = whole_groups t v digits size c.of-sizes.result c.next.new.self ds c.write_digits.new.digits c.grouping_separator.result.now c.next.result (omega (arith, c.highest.ensures.value)) cut c.next.ensures.steps c.unwrap_or-first.ensures c.whole_digits-digits.ensures c.in_ok-write_digits.ensures.digits written in
+    rw whole (g.met.S.Sink.stops_in_second _ _ _ _ _ _ c.in_ok-write_digits.ensures.ok c.in_ok-write_digits.ensures.refused c.write_groups.ensures.begun)

@@ -1,0 +1,11 @@
+-- The sizes of groups as the writer holds them: the first, so many middle ones, and the last; none where a size is 0.
+-- Defined in docs/plain-text.md, "Groups".
+-- Cited by the view of the sizes that a writer goes over, and by no public clause.
+use Rattle.std.specs.Prelude.{ℕ, ◌==◌, cond, List, [], ◌∷◌, ◌++◌, replicate}
+
+-- one size, or none where it is 0
+abbrev pub size_if : ℕ → List ℕ
+size_if n = cond (n == 0) [] (n ∷ [])
+
+abbrev pub sizes_held : ℕ → ℕ → ℕ → ℕ → List ℕ
+sizes_held first middles middle last = size_if first ++ (replicate middles middle ++ size_if last)
