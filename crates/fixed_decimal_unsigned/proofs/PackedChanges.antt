@@ -27,6 +27,10 @@ upper_pushed bytes new count d p t even e =
     (e ∙ ap (λ b. b ++ (d * 16) ∷ []) p.packed_are ∙ sym (pushed_upper (count / 2) ds d (omega (arith, p.all))))
     (omega (arith, length_push ds d, p.all))
 
+pub below_two : (ds : List ℕ) (d f : ℕ) → AllBelowBase 10 ds → d < 10 → f < 10 → AllBelowBase 10 (ds ++ d ∷ f ∷ [])
+below_two [] d f h t u = (t, (u, tt))
+below_two (x ∷ xs) d f h t u = (h.0, below_two xs d f h.1 t u)
+
 pub both_pushed : (bytes new : List ℕ) (count d f : ℕ) → IsPacked bytes count → d < 10 → f < 10 → count % 2 ≡ 0 → new ≡ bytes ++ (d * 16 + f) ∷ []
     → IsPacked new (count + 2) × (digits_in new (count + 2) ≡ digits_in bytes count ++ d ∷ f ∷ [])
 both_pushed bytes new count d f p t u even e =
@@ -34,10 +38,6 @@ both_pushed bytes new count d f p t u even e =
     kept_so new (ds ++ d ∷ f ∷ []) (count + 2) (below_two ds d f p.tens t u)
     (e ∙ ap (λ b. b ++ (d * 16 + f) ∷ []) p.packed_are ∙ sym (pushed_both (count / 2) ds d f (omega (arith, p.all))))
     (omega (arith, length-append ds (d ∷ f ∷ []), p.all))
-  where
-    below_two : (ds : List ℕ) (d f : ℕ) → AllBelowBase 10 ds → d < 10 → f < 10 → AllBelowBase 10 (ds ++ d ∷ f ∷ [])
-    below_two [] d f h t u = (t, (u, tt))
-    below_two (x ∷ xs) d f h t u = (h.0, below_two xs d f h.1 t u)
 
 pub lower_pushed : (bytes new : List ℕ) (count d : ℕ) → IsPacked bytes count → d < 10 → count % 2 ≡ 1 → new ≡ set bytes (count / 2) (get_or bytes (count / 2) 0 + d)
     → IsPacked new (count + 1) × (digits_in new (count + 1) ≡ digits_in bytes count ++ d ∷ [])
