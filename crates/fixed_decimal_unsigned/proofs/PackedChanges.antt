@@ -1,5 +1,5 @@
 -- Bytes after a change are packed, and hold the digits wanted.
-use Rattle.std.proofs.Common.{◌≡◌, ℕ, zero, suc, min, ◌+◌, ◌-◌, ◌*◌, ◌/◌, ◌%◌, ◌<◌, ◌≤◌, List, [], ◌∷◌, ◌++◌, length, get_or, set, take, drop, refl, sym, ap, ◌∙◌, subst, arith, length-drop, length-append, drop-cons, add-one}
+use Rattle.std.proofs.Common.{◌≡◌, ℕ, zero, suc, min, ◌+◌, ◌-◌, ◌*◌, ◌/◌, ◌%◌, ◌<◌, ◌≤◌, ◌↔◌, List, [], ◌∷◌, ◌++◌, length, get_or, set, take, drop, refl, sym, ap, ◌∙◌, subst, arith, length-drop, length-append, drop-cons, add-one}
 use Rattle.std.proofs.lemmas.List.{length_push, length-take-le, drop-drop}
 use Rattle.std.specs.Int.Digits.{AllBelowBase}
 use Rattle.fixed_decimal_unsigned.specs.Packed.{packed, digits_in, IsPacked, shifted}
@@ -18,6 +18,16 @@ pub lower_digit : (bytes : List ℕ) (count i : ℕ) → IsPacked bytes count �
 lower_digit bytes count i p l e =
     ap (λ b. get_or b (i / 2) 0 % 16) p.packed_are
     ∙ lower_packed (digits_in bytes count) i (i / 2) p.tens (omega (arith, p.all)) (omega arith)
+
+-- a byte whose halves are one digit
+pub both_digits : (bytes : List ℕ) (count i d : ℕ) → IsPacked bytes count → i + 1 < count → i % 2 ≡ 0 → d < 10
+    → (get_or bytes (i / 2) 0 ≡ d * 17) ↔ ((get_or (digits_in bytes count) i 0 ≡ d) × (get_or (digits_in bytes count) (i + 1) 0 ≡ d))
+both_digits bytes count i d p l e t =
+    let upper : get_or bytes (i / 2) 0 / 16 ≡ get_or (digits_in bytes count) i 0 = upper_digit bytes count i p (omega arith) e in
+    let same : (i + 1) / 2 ≡ i / 2 = omega arith in
+    let lower : get_or bytes (i / 2) 0 % 16 ≡ get_or (digits_in bytes count) (i + 1) 0 =
+    ap (λ k. get_or bytes k 0 % 16) (sym same) ∙ lower_digit bytes count (i + 1) p l (omega arith) in
+    (λ h. ((omega (arith, upper, h)), (omega (arith, lower, h))), λ h. omega (arith, upper, lower, h.0, h.1))
 
 pub upper_pushed : (bytes new : List ℕ) (count d : ℕ) → IsPacked bytes count → d < 10 → count % 2 ≡ 0 → new ≡ bytes ++ (d * 16) ∷ []
     → IsPacked new (count + 1) × (digits_in new (count + 1) ≡ digits_in bytes count ++ d ∷ [])

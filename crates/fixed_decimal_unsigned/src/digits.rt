@@ -1,6 +1,6 @@
 // The digits of a number: this file alone knows how they lie in memory.
 ghost use Rattle.std.specs.Prelude.{◌≡◌, ◌==◌, ◌+◌, ◌%◌, ◌<◌, ◌≤◌, [], ◌∷◌, ◌++◌, length, slice_index, take, drop, IsOk, IfOk, OnOk, OnErr};
-ghost use Rattle.std.specs.Prelude.{◌^◌};
+ghost use Rattle.std.specs.Prelude.{◌^◌, ◌↔◌, IsTrue};
 ghost use Rattle.std.specs.Bool.{Decides};
 ghost use Rattle.std.specs.Iterator.{YieldsFirst, item_count};
 
@@ -82,6 +82,21 @@ impl Digits {
     {
         let byte = self.kept.as_slice()[index / 2];
         if index % 2 == 0 { byte / 16 } else { byte % 16 }
+    }
+
+    // Whether two digits that stand side by side, the first at an index, are both this one.
+    #[tactic(auto, using(crate::proofs::PackedChanges::bytes_length, crate::proofs::PackedChanges::both_digits))]
+    pub fn are_both(&self, index: usize, digit: u8) -> bool
+        requires within { index + 1 < length self.now.items }
+        requires ten { digit < 10 }
+        ensures { IsTrue result ↔ ((slice_index self.now.items index ≡ digit) × (slice_index self.now.items (index + 1) ≡ digit)) }
+    {
+        let _count = self.len();
+        if index % 2 == 0 {
+            self.kept.as_slice()[index / 2] == digit * 17
+        } else {
+            self.get(index) == digit && self.get(index + 1) == digit
+        }
     }
 
     // The digits from an index on, so many at most.
