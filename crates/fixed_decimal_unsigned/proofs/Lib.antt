@@ -1,5 +1,7 @@
 pub mod TenLemmas
 pub mod DigitsLemmas
+pub mod PackedLemmas
+pub mod PackedChanges
 pub mod StoredLemmas
 pub mod TextPartsLemmas
 pub mod SpelledLemmas

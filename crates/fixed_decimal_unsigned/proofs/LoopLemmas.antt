@@ -36,6 +36,15 @@ nines_more value ds n p l z h =
     shifted (number_from_digits 10 (take n ds) + 1) (number_from_digits 10 (take (n - 1) ds) + 1) (10 ^ (length ds - n)) (10 ^ (length ds - (n - 1))) value 0
     (ap (λ d. d + 1) (front_more ds n p l ∙ ap (λ d. number_from_digits 10 (take (n - 1) ds) * 10 + d) z) ∙ carried (number_from_digits 10 (take (n - 1) ds))) (ap (λ k. 10 ^ k) (sym e) ∙ tens_next (length ds - n)) h
 
+pub nines_two : (value : ℕ) (ds : List ℕ) (n : ℕ) → 1 < n → n ≤ length ds → get_or ds (n - 2) 0 ≡ 9 → get_or ds (n - 2 + 1) 0 ≡ 9
+    → value ≡ (number_from_digits 10 (take n ds) + 1) * 10 ^ (length ds - n) → value ≡ (number_from_digits 10 (take (n - 2) ds) + 1) * 10 ^ (length ds - (n - 2))
+nines_two value ds n p l y z h =
+    let last : n - 2 + 1 ≡ n - 1 = omega arith in
+    let before : n - 1 - 1 ≡ n - 2 = omega arith in
+    let one = nines_more value ds n (omega arith) l (ap (λ k. get_or ds k 0) (sym last) ∙ z) h in
+    let two = nines_more value ds (n - 1) (omega arith) (omega arith) (ap (λ k. get_or ds k 0) before ∙ y) one in
+    subst (λ k. value ≡ (number_from_digits 10 (take k ds) + 1) * 10 ^ (length ds - k)) before two
+
 pub front_last : (ds : List ℕ) (n : ℕ) → AllBelowBase 10 ds → 0 < n → n ≤ length ds → number_from_digits 10 (take n ds) % 10 ≡ get_or ds (n - 1) 0
 front_last ds n h p l =
     ap (λ k. k % 10) (front_more ds n p l) ∙ mod-mul-add (number_from_digits 10 (take (n - 1) ds)) 10 (get_or ds (n - 1) 0) (below_at ds (n - 1) h)

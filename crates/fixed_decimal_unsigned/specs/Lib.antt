@@ -7,6 +7,7 @@ pub mod Laws
 pub mod Number
 pub mod NonzeroPlaces
 pub mod NumberText
+pub mod Packed
 pub mod Range
 pub mod Rounding
 pub mod RoundingSteps

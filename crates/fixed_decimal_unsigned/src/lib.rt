@@ -8,6 +8,7 @@
 mod comparing;
 mod concatenation;
 mod cutting;
+mod digit_bytes;
 mod digits;
 mod error;
 mod integers;

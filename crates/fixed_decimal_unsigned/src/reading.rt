@@ -93,8 +93,26 @@ fn push_digit(digits: &mut Digits, digit: u8)
     digits.push_reserved(digit);
 }
 
+// Adds two digits, for which there is room, behind those that are there.
+#[tactic(auto, using(crate::proofs::SpelledLemmas::two_pushed, crate::proofs::SpelledLemmas::first_of_two, crate::proofs::PackedChanges::below_two))]
+fn push_two_digits(digits: &mut Digits, upper: u8, lower: u8)
+    requires upper_ten { upper < 10 }
+    requires lower_ten { lower < 10 }
+    requires tens { AllBelowBase 10 digits.old.items }
+    requires first { 0 < length digits.old.items → 0 < slice_index digits.old.items 0 }
+    requires start { length digits.old.items ≡ 0 → 0 < upper }
+    requires room { length digits.old.items + 2 ≤ digits.old.capacity }
+    ensures value { number_from_digits 10 digits.new.items ≡ (number_from_digits 10 digits.old.items * 10 + upper) * 10 + lower }
+    ensures tens { AllBelowBase 10 digits.new.items }
+    ensures first { 0 < slice_index digits.new.items 0 }
+    ensures length { length digits.new.items ≡ length digits.old.items + 2 }
+    ensures capacity { digits.new.capacity ≡ digits.old.capacity }
+{
+    digits.push_two(upper, lower);
+}
+
 // Adds the digits of a text, for which there is room, behind those that are there.
-#[tactic(auto, using(crate::proofs::SpelledLemmas::digits_at, crate::proofs::SpelledLemmas::value_after_drop, crate::proofs::SpelledLemmas::begins_at))]
+#[tactic(auto, using(crate::proofs::SpelledLemmas::digits_at, crate::proofs::SpelledLemmas::value_after_drop, crate::proofs::SpelledLemmas::value_after_two, crate::proofs::SpelledLemmas::value_after_all, crate::proofs::SpelledLemmas::begins_at))]
 fn push_digits(digits: &mut Digits, text: &[u8])
     requires text_digits { AreDigits text.now }
     requires text_first { length digits.old.items ≡ 0 → 0 < length text.now → 0 < digit_value (slice_index text.now 0) }
@@ -107,8 +125,13 @@ fn push_digits(digits: &mut Digits, text: &[u8])
     ensures length { length digits.new.items ≡ length digits.old.items + length text.now }
     ensures capacity { digits.new.capacity ≡ digits.old.capacity }
 {
-    for c in text {
-        push_digit(digits, digit_of(*c));
+    let mut at = 0;
+    while at + 1 < text.len() {
+        push_two_digits(digits, digit_of(text[at]), digit_of(text[at + 1]));
+        at += 2;
+    }
+    if at < text.len() {
+        push_digit(digits, digit_of(text[at]));
     }
 }
 

@@ -28,6 +28,22 @@ pub fn drop_zeros<L: Ledger>(digits: &mut Digits, turns: &mut Turns<L>)
     digits.truncate(count);
 }
 
+// How many digits stand before the pairs of nines that the digits end in. A turn that takes two digits counts as two.
+#[tactic(auto, using(crate::proofs::LoopLemmas::nines_two))]
+fn count_before_nine_pairs<L: Ledger>(digits: &Digits, turns: &mut Turns<L>) -> usize
+    ensures within { result ≤ length digits.now.items }
+    ensures value { number_from_digits 10 digits.now.items + 1 ≡ (number_from_digits 10 (take result digits.now.items) + 1) * 10 ^ (length digits.now.items - result) }
+    ensures turns { turns.new + result ≡ turns.old + length digits.now.items }
+{
+    let mut count = digits.len();
+    while count > 1 && digits.are_both(count - 2, 9) {
+        turns.turn();
+        turns.turn();
+        count -= 2;
+    }
+    count
+}
+
 // How many digits stand before the nines that the digits end in.
 #[tactic(auto, using(crate::proofs::LoopLemmas::nines_more))]
 fn count_before_nines<L: Ledger>(digits: &Digits, turns: &mut Turns<L>) -> usize
@@ -37,7 +53,7 @@ fn count_before_nines<L: Ledger>(digits: &Digits, turns: &mut Turns<L>) -> usize
     ensures turns { 0 < result → turns.new + result ≡ turns.old + length digits.now.items + 1 }
     ensures all { result ≡ 0 → turns.new ≡ turns.old + length digits.now.items }
 {
-    let mut count = digits.len();
+    let mut count = count_before_nine_pairs(digits, turns);
     while count > 0 {
         turns.turn();
         if digits.get(count - 1) != 9 {

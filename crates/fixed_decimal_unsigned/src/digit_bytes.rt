@@ -1,0 +1,51 @@
+// Changes of the bytes that hold two digits each.
+ghost use Rattle.std.specs.Prelude.{◌≡◌, ◌<◌, ◌≤◌, length, slice_set, drop};
+ghost use Rattle.fixed_decimal_unsigned.specs.Packed.{shifted};
+
+use crate::digits::INLINE;
+use smallvec::SmallVec;
+
+// Puts a byte in the place of another.
+pub fn set_byte(kept: &mut SmallVec<u8, INLINE>, index: usize, byte: u8)
+    requires { index < length kept.old.items }
+    ensures items { kept.new.items ≡ slice_set kept.old.items index byte }
+    ensures capacity { kept.new.capacity ≡ kept.old.capacity }
+{
+    kept.as_mut_slice()[index] = byte;
+}
+
+// Takes the first bytes away.
+pub fn drop_bytes(kept: &mut SmallVec<u8, INLINE>, count: usize)
+    requires { count ≤ length kept.old.items }
+    ensures items { kept.new.items ≡ drop count kept.old.items }
+    ensures capacity { kept.new.capacity ≡ kept.old.capacity }
+{
+    let left = kept.len() - count;
+    kept.as_mut_slice().rotate_left(count);
+    kept.truncate(left);
+}
+
+// Moves each half up by one: the first is gone, and 0 comes in behind the last.
+#[tactic(auto, using(crate::proofs::PackedLemmas::shifted_more))]
+fn shift_bytes(bytes: &mut [u8])
+    ensures { bytes.new ≡ shifted bytes.old }
+{
+    let mut index = 0;
+    while index < bytes.len() {
+        let next = if index + 1 < bytes.len() {
+            bytes[index + 1] / 16
+        } else {
+            0
+        };
+        bytes[index] = bytes[index] % 16 * 16 + next;
+        index += 1;
+    }
+}
+
+// Moves each half of the bytes up by one.
+pub fn shift_half(kept: &mut SmallVec<u8, INLINE>)
+    ensures items { kept.new.items ≡ shifted kept.old.items }
+    ensures capacity { kept.new.capacity ≡ kept.old.capacity }
+{
+    shift_bytes(kept.as_mut_slice());
+}
