@@ -3,3 +3,7 @@ pub mod Operands
 pub mod Conditions
 pub mod ExactNumbers
 pub mod Rules
+pub mod Tokens
+pub mod ConditionGrammar
+-- What serves proofs alone.
+pub mod PieceSteps

@@ -6,10 +6,17 @@
 
 mod category;
 mod condition;
+mod cut;
+mod error;
+mod grammar;
 mod interval;
 mod operand;
 mod operands;
+mod piece;
 mod rules;
+mod separator;
+mod token;
+mod tokens;
 
 pub use category::PluralCategory;
 pub use operands::PluralOperands;
