@@ -1,3 +1,5 @@
 pub mod CutLemmas
 pub mod NumberLemmas
+pub mod OperandsLemmas
 pub mod PieceLemmas
+pub mod RulesLemmas

@@ -5,5 +5,6 @@ pub mod ExactNumbers
 pub mod Rules
 pub mod Tokens
 pub mod ConditionGrammar
+pub mod Reading
 -- What serves proofs alone.
 pub mod PieceSteps

@@ -13,6 +13,7 @@ mod interval;
 mod operand;
 mod operands;
 mod piece;
+mod reading;
 mod rules;
 mod separator;
 mod token;

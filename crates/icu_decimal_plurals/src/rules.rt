@@ -13,11 +13,11 @@ use std::marker::Model;
 /// The rules of English have `i = 1 and v = 0` for `one` and no other condition.
 #[derive(Debug, Drop)]
 pub struct PluralRules {
-    zero: Option<Condition>,
-    one: Option<Condition>,
-    two: Option<Condition>,
-    few: Option<Condition>,
-    many: Option<Condition>,
+    pub(crate) zero: Option<Condition>,
+    pub(crate) one: Option<Condition>,
+    pub(crate) two: Option<Condition>,
+    pub(crate) few: Option<Condition>,
+    pub(crate) many: Option<Condition>,
 }
 
 impl Model for PluralRules {
