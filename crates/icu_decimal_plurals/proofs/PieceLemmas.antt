@@ -1,5 +1,5 @@
 -- The first piece of a text, and what stands behind it.
-use Rattle.std.proofs.Common.{rules, refl, ◌≡◌, ℕ, zero, suc, ◌+◌, ◌<◌, Bool, true, false, cond, List, [], ◌∷◌, length, get_or, take, drop, sym, ap, ◌∙◌, arith}
+use Rattle.std.proofs.Common.{refl, ◌≡◌, ℕ, zero, suc, ◌+◌, ◌<◌, Bool, true, false, cond, List, [], ◌∷◌, length, get_or, take, drop, ap, ◌∙◌, arith}
 use Rattle.std.specs.List.{onto_first}
 use Rattle.icu_decimal_plurals.specs.Tokens.{is_joined, joins_next, pieces}
 use Rattle.icu_decimal_plurals.specs.PieceSteps.{piece_len}

@@ -1,5 +1,5 @@
 -- What is read of the texts that are given for a category.
-use Rattle.std.proofs.Common.{refl, ◌≡◌, ◌<◌, arith, ℕ, length, Option, None, false, List, [], ◌∷◌, sym, ap, ◌∙◌, cond}
+use Rattle.std.proofs.Common.{refl, ◌≡◌, ◌<◌, arith, ℕ, length, None, false, List, [], ◌∷◌, ap, ◌∙◌, cond}
 use Rattle.icu_decimal_plurals.specs.declared.category.PluralCategory.{PluralCategory}
 use Rattle.icu_decimal_plurals.specs.declared.category.PluralCategory.TheVariants.{Other}
 use Rattle.icu_decimal_plurals.specs.Reading.{NamesOther, condition_by, is_free, is_same, texts_for}

@@ -1,4 +1,5 @@
 -- What a reader must believe.
+pub mod Categories
 pub mod Operands
 pub mod Conditions
 pub mod ExactNumbers

@@ -10,6 +10,7 @@ mod cut;
 mod error;
 mod grammar;
 mod interval;
+mod marker;
 mod operand;
 mod operands;
 mod piece;
@@ -20,5 +21,6 @@ mod token;
 mod tokens;
 
 pub use category::PluralCategory;
+pub use marker::PluralsCardinalV1;
 pub use operands::PluralOperands;
 pub use rules::PluralRules;

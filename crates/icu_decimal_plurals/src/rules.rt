@@ -1,11 +1,15 @@
 //! The rules of a language.
 
-ghost use Rattle.std.specs.Prelude.{◌≡◌};
+ghost use Rattle.std.specs.Prelude.{◌≡◌, ◌≢◌, ◌⊎◌, Some, None, Err, IfOk, IfErr, IsErrOf};
 ghost use Rattle.icu_decimal_plurals.specs.Rules.{is_met};
 
 use crate::category::PluralCategory;
 use crate::condition::Condition;
+use crate::error::ConditionError;
 use crate::operands::PluralOperands;
+use crate::reading::read_rules;
+use icu_decimal_provider::error::DataError;
+use std::alloc::Global;
 use std::marker::Model;
 
 /// The plural rules of a language: a condition for each category but `other`, or none.
@@ -39,7 +43,26 @@ fn applies(condition: &Option<Condition>, operands: &PluralOperands) -> bool
 }
 
 impl PluralRules {
+    ghost use Rattle.icu_decimal_plurals.specs.Reading.{NamesOther, pairs_of, rules_of};
     ghost use Rattle.icu_decimal_plurals.specs.Rules.{category_of};
+
+    /// The rules of these categories and conditions, as CLDR writes them: of `one` and `i = 1 and v = 0 @integer 1` those of English.
+    /// What stands from the first `@` on is ignored. For `other` nothing but spaces may stand before it.
+    ///
+    /// `Custom`: a text is no condition, or a category is given twice. `Memory`: a request for memory was refused; without a condition
+    /// none is made. After UTS 35, part 3, section 5.1; ICU4X reads rules from its data.
+    pub fn new(alloc: Global, given: &[(PluralCategory, &str)]) -> Result<PluralRules, DataError>
+        ensures ok { IfOk result (λ rules. rules_of (pairs_of given.now) ≡ Some rules) }
+        ensures custom { IsErrOf result DataError.Custom → rules_of (pairs_of given.now) ≡ None }
+        ensures errors { IfErr result (λ error. (error ≡ DataError.Custom) ⊎ (error ≡ DataError.Memory)) }
+        ensures room { NamesOther (pairs_of given.now) → result ≢ Err DataError.Memory }
+    {
+        match read_rules(alloc, given) {
+            Ok(rules) => Ok(rules),
+            Err(ConditionError::Syntax) => Err(DataError::Custom),
+            Err(ConditionError::Memory) => Err(DataError::Memory),
+        }
+    }
 
     /// The category of a number of these operands: the first of `zero`, `one`, `two`, `few`, `many` whose condition holds, or else
     /// `other`. By the rules of English `1` is of `one`, `1.0` of `other`. It takes no memory.

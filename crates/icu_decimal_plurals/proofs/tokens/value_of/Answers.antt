@@ -1,4 +1,4 @@
-use Rattle.std.proofs.Common.{rules, arith}
+use Rattle.std.proofs.Common.{arith}
 use Rattle.icu_decimal_plurals.proofs.NumberLemmas.{next_fits}
 use Rattle.icu_decimal_plurals.proofs.tokens.value_of.Goals as goal
 

@@ -1,4 +1,4 @@
-use Rattle.std.proofs.Common.{rules, ◌≡◌, ◌+◌, ◌-◌, min, arith}
+use Rattle.std.proofs.Common.{rules, ◌≡◌, ◌-◌, min, arith}
 use Rattle.icu_decimal_plurals.specs.Operands.{part_of}
 use Rattle.icu_decimal_plurals.proofs.OperandsLemmas.{operands_are}
 use Rattle.icu_decimal_plurals.proofs.operands.PluralOperands.from_significand_and_exponent.Goals as goal
