@@ -1,4 +1,5 @@
 pub mod CutLemmas
+pub mod KnownValues
 pub mod NumberLemmas
 pub mod OperandsLemmas
 pub mod PieceLemmas

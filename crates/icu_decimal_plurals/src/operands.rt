@@ -90,7 +90,7 @@ impl PluralOperands {
     /// digits 50, of `1.2` and 3, which is 1200, the integer digits 1200 and no fraction digit.
     ///
     /// Of the number written out at most the last 18 integer digits and the first 18 fraction digits are kept. It takes no memory.
-    /// After ICU4X's call of this name, which takes a `CompactDecimal`; UTS 35, part 3, section 5.1.1.
+    /// The name is ICU4X's; the source is UTS 35, part 3, section 5.1.1.
     pub fn from_significand_and_exponent(significand: &UnsignedDecimal, exponent: u8) -> Self
         ensures { result ≡ operands_of significand.now exponent }
     {

@@ -50,7 +50,7 @@ impl PluralRules {
     /// What stands from the first `@` on is ignored. For `other` nothing but spaces may stand before it.
     ///
     /// `Custom`: a text is no condition, or a category is given twice. `Memory`: a request for memory was refused; without a condition
-    /// none is made. After UTS 35, part 3, section 5.1; ICU4X reads rules from its data.
+    /// none is made. The source is UTS 35, part 3, section 5.1.
     pub fn new(alloc: Global, given: &[(PluralCategory, &str)]) -> Result<PluralRules, DataError>
         ensures ok { IfOk result (λ rules. rules_of (pairs_of given.now) ≡ Some rules) }
         ensures custom { IsErrOf result DataError.Custom → rules_of (pairs_of given.now) ≡ None }
