@@ -32,13 +32,12 @@ equal_texts_law one other = record {
   order = subst (λ r. Decides r (one ≡ other)) (texts_ties one other) (same_texts one other);
 }
 
--- the forms of two texts are the same bytes exactly where the texts are
-pub same_forms : (n : ℕ) (one other : List ℕ) → IsSmall n one → IsSmall n other
-    → pointwise nat_eq (padded n one) (padded n other) ≡ pointwise nat_eq one other
-same_forms n one other first second =
-    let forms = pointwise nat_eq (padded n one) (padded n other) in
-    same_from_decides forms (pointwise nat_eq one other)
-    (Decides-like forms (one_form_law n one other first second) (ap (padded n)) (same_texts (padded n one) (padded n other)))
+-- what decides whether the forms of two texts are the same bytes decides whether the texts are one
+pub decided_by_forms : (n : ℕ) (one other first second : List ℕ) (r : Bool) → IsSmall n one → IsSmall n other
+    → first ≡ padded n one → second ≡ padded n other → Decides r (first ≡ second) → r ≡ pointwise nat_eq one other
+decided_by_forms n one other first second r small also is of decided =
+    same_from_decides r (pointwise nat_eq one other)
+    (Decides-like r (λ e. one_form_law n one other small also (sym is ∙ e ∙ of)) (λ e. is ∙ ap (padded n) e ∙ sym of) decided)
     (same_texts one other)
 
 pub niche_law : NicheIsNoForm

@@ -3,6 +3,7 @@ pub mod ClassesLemmas
 pub mod FaultsLemmas
 pub mod DecimalLemmas
 pub mod FormsLemmas
+pub mod FormWords
 pub mod KnownValues
 pub mod LawLemmas
 pub mod LossyLemmas

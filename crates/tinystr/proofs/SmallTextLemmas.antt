@@ -1,12 +1,11 @@
 -- Texts and their forms: what stands before the first NUL of a text and NULs is the text.
-use Rattle.std.proofs.Common.{◌≡◌, ℕ, suc, zero, ◌+◌, ◌-◌, ◌<◌, ◌≤◌, min, true, false, not, List, [], ◌∷◌, ◌++◌, length, take, drop, get_or, replicate, refl, sym, ap, arith, one-add, ◌∙◌}
+use Rattle.std.proofs.Common.{◌≡◌, ℕ, suc, zero, ◌+◌, ◌-◌, ◌<◌, ◌≤◌, min, true, false, not, List, [], ◌∷◌, ◌++◌, length, take, drop, replicate, refl, sym, ap, arith, one-add, ◌∙◌}
 use Rattle.std.specs.List.{list_all, position_or_len}
 use Rattle.std.specs.Str.{IsAscii}
 use Rattle.std.proofs.lemmas.Bool.{and_parts, and_from}
 use Rattle.std.proofs.lemmas.Bool.Decides.{nat_tests}
 use Rattle.std.proofs.lemmas.List.{append_assoc, length-append, length-take, drop-replicate, drop-drop, drop_at, take_at, take_min}
 use Rattle.std.proofs.lemmas.List.Folds.{length-prefix_len, list_all-append}
-use Rattle.std.proofs.lemmas.List.Sums.{position_or_len_is}
 use Rattle.std.proofs.lemmas.Str.Ascii.{IsAscii-cons, IsAscii-nil}
 use Rattle.tinystr.specs.SmallText.{NUL, is_nul, is_text_byte, IsSmall, IsForm, padded, text_of}
 
@@ -62,12 +61,6 @@ IsAscii-text (b ∷ bs) ascii =
     let both = and_parts (is_text_byte b) (list_all is_text_byte bs) ascii in
     let below : b < 128 = grind (arith, nat_tests, both.0) in
     IsAscii-cons b bs below (IsAscii-text bs both.1)
-
--- where all before i is no NUL, and at i stands one or the end, the text has i bytes
-pub text_ends : (bytes : List ℕ) (i : ℕ) → i ≤ length bytes → ((k : ℕ) → k < i → is_nul (get_or bytes k 0) ≡ false)
-    → (i < length bytes → is_nul (get_or bytes i 0) ≡ true) → i ≡ length (text_of bytes)
-text_ends bytes i within before at =
-    sym (length-text_of bytes ∙ position_or_len_is is_nul bytes i 0 within before at)
 
 -- a text that is written over NULs behind another text gives the form of both joined
 pub put_gives_form : (n : ℕ) (front text bytes : List ℕ) → length front + length text ≤ n

@@ -2,9 +2,9 @@
 use Rattle.std.proofs.Common.{◌≡◌, ℕ, suc, zero, ◌+◌, ◌-◌, ◌<◌, ◌≤◌, List, ◌++◌, length, drop, get_or, replicate, ap, arith, ◌∙◌}
 use Rattle.std.specs.List.{All}
 use Rattle.std.specs.Str.{IsAscii}
-use Rattle.std.specs.Int.{w32, w64, to_le_bytes, from_le_bytes}
+use Rattle.std.specs.Int.{w64, to_le_bytes, from_le_bytes}
 use Rattle.std.proofs.lemmas.List.{append_assoc, drop-replicate, replicate-append-replicate}
-use Rattle.std.proofs.lemmas.Nat.{le_bytes_4, le_bytes_8}
+use Rattle.std.proofs.lemmas.Nat.{le_bytes_8}
 use Rattle.std.proofs.lemmas.Str.{IsAscii-append}
 use Rattle.std.proofs.lemmas.Str.Ascii.{IsAscii-cons, IsAscii-nil, All-from_ascii}
 use Rattle.tinystr.specs.SmallText.{NUL, IsSmall, IsForm, padded, text_of}
@@ -47,8 +47,5 @@ below_256 n text bytes small e i =
     omega arith
 
 -- the bytes of the word that a form makes are the form
-pub word_of_4 : (text bytes : List ℕ) (word : ℕ) → IsSmall 4 text → bytes ≡ padded 4 text → word ≡ from_le_bytes w32 bytes → to_le_bytes w32 word ≡ bytes
-word_of_4 text bytes word small e made = le_bytes_4 bytes word (ap length e ∙ length-padded 4 text small.short) (below_256 4 text bytes small e) made
-
 pub word_of_8 : (text bytes : List ℕ) (word : ℕ) → IsSmall 8 text → bytes ≡ padded 8 text → word ≡ from_le_bytes w64 bytes → to_le_bytes w64 word ≡ bytes
 word_of_8 text bytes word small e made = le_bytes_8 bytes word (ap length e ∙ length-padded 8 text small.short) (below_256 8 text bytes small e) made

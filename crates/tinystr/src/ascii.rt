@@ -4,9 +4,10 @@ ghost use Rattle.std.specs.Prelude.{◌≡◌, ◌≤◌, ◌<◌, length, ◌==
 ghost use Rattle.std.specs.List.{All};
 ghost use Rattle.tinystr.specs.SmallText.{IsSmall, IsForm, padded, text_of};
 
-use crate::bytes::{put_at, text_len};
+use crate::bytes::text_len;
 use std::marker::Model;
 use std::str;
+use tinystr_words::put_at;
 
 /// A text of at most N bytes, each 1 to 127, held in the value itself.
 #[derive(Clone, Copy)]

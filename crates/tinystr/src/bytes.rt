@@ -1,139 +1,62 @@
 //! What is computed from the bytes of a form or of a text.
 
-ghost use Rattle.std.specs.Prelude.{◌≡◌, ◌≤◌, ◌+◌, ◌++◌, length, take, drop, map, true, nat_eq};
-ghost use Rattle.std.specs.Cmp.Lexicographic.{pointwise};
-ghost use Rattle.std.specs.List.{list_all};
-ghost use Rattle.std.specs.Char.{is_ascii_alphabetic, is_ascii_alphanumeric, is_ascii_digit, is_ascii_uppercase, is_ascii_lowercase, to_ascii_lowercase, to_ascii_uppercase};
-ghost use Rattle.tinystr.specs.SmallText.{text_of, is_text_byte};
+ghost use Rattle.std.specs.Prelude.{◌≡◌, ◌≤◌, ◌++◌, length, drop, map};
+ghost use Rattle.std.specs.Char.{is_ascii_uppercase, is_ascii_lowercase};
+ghost use Rattle.std.specs.Str.{IsAscii};
+ghost use Rattle.tinystr_words.specs.Words.{or_nul};
+ghost use Rattle.tinystr.specs.SmallText.{IsForm, text_of};
 ghost use Rattle.tinystr.specs.Lossy.{kept_or_replacement};
 ghost use Rattle.tinystr.specs.Classes.{is_in_class, is_not_uppercase, is_not_lowercase};
-ghost use Rattle.tinystr.specs.Case.{lowercase, uppercase, titlecase};
+ghost use Rattle.tinystr.specs.Case.{titlecase};
 
 use crate::AsciiByte;
+use tinystr_words::{Lowercase, ToLowercase, Uppercase};
 
-/// How many bytes stand before the first NUL; all of them where there is none.
+/// How many bytes the text of a form has.
 pub(crate) fn text_len(bytes: &[u8]) -> usize
+    requires { IsForm (length bytes.now) bytes.now }
     ensures value { result ≡ length (text_of bytes.now) }
     ensures bound { result ≤ length bytes.now }
 {
-    for (i, b) in bytes.iter().enumerate() {
-        if *b == 0 {
-            return i;
-        }
-    }
-    bytes.len()
-}
-
-/// Whether the bytes are the same.
-pub(crate) fn are_same(one: &[u8], other: &[u8]) -> bool
-    ensures { result ≡ pointwise nat_eq one.now other.now }
-{
-    one == other
-}
-
-/// Writes a text over the bytes from a place on.
-pub(crate) fn put_at(bytes: &mut [u8], place: usize, text: &[u8])
-    requires { place + length text.now ≤ length bytes.old }
-    ensures { bytes.new ≡ take place bytes.old ++ (text.now ++ drop (place + length text.now) bytes.old) }
-{
-    bytes[place..place + text.len()].copy_from_slice(text);
-}
-
-/// Whether every byte is a letter.
-pub(crate) fn are_letters(text: &[u8]) -> bool
-    ensures { result ≡ list_all is_ascii_alphabetic text.now }
-{
-    text.iter().all(|b| b.is_ascii_alphabetic())
-}
-
-/// Whether every byte is a letter or a digit.
-pub(crate) fn are_letters_and_digits(text: &[u8]) -> bool
-    ensures { result ≡ list_all is_ascii_alphanumeric text.now }
-{
-    text.iter().all(|b| b.is_ascii_alphanumeric())
-}
-
-/// Whether every byte is a digit.
-pub(crate) fn are_digits(text: &[u8]) -> bool
-    ensures { result ≡ list_all is_ascii_digit text.now }
-{
-    text.iter().all(|b| b.is_ascii_digit())
-}
-
-/// Whether no byte is an upper-case letter.
-pub(crate) fn has_no_uppercase(text: &[u8]) -> bool
-    ensures { result ≡ list_all is_not_uppercase text.now }
-{
-    text.iter().all(|b| !b.is_ascii_uppercase())
-}
-
-/// Whether no byte is a lower-case letter.
-pub(crate) fn has_no_lowercase(text: &[u8]) -> bool
-    ensures { result ≡ list_all is_not_lowercase text.now }
-{
-    text.iter().all(|b| !b.is_ascii_lowercase())
+    tinystr_words::text_len(bytes)
 }
 
 /// Whether the first byte is no lower-case letter, and the rest are no upper-case ones.
-pub(crate) fn is_title(text: &[u8]) -> bool
-    ensures { result ≡ is_in_class is_not_lowercase is_not_uppercase text.now }
+pub(crate) fn is_title(bytes: &[u8]) -> bool
+    requires { IsAscii bytes.now }
+    ensures { result ≡ is_in_class is_not_lowercase is_not_uppercase bytes.now }
 {
-    match text.split_first() {
+    match bytes.split_first() {
         None => true,
-        Some((first, rest)) => !first.is_ascii_lowercase() && has_no_uppercase(rest),
+        Some((first, rest)) => !first.is_ascii_lowercase()
+            && tinystr_words::none::<Uppercase>(rest),
     }
 }
 
-/// Whether every byte is a lower-case letter.
-pub(crate) fn are_lowercase(text: &[u8]) -> bool
-    ensures { result ≡ list_all is_ascii_lowercase text.now }
+/// Whether the first byte is an upper-case letter, and the rest are lower-case ones; each may be NUL.
+pub(crate) fn is_title_of_letters(bytes: &[u8]) -> bool
+    requires { IsAscii bytes.now }
+    ensures { result ≡ is_in_class (or_nul is_ascii_uppercase) (or_nul is_ascii_lowercase) bytes.now }
 {
-    text.iter().all(|b| b.is_ascii_lowercase())
-}
-
-/// Whether every byte is an upper-case letter.
-pub(crate) fn are_uppercase(text: &[u8]) -> bool
-    ensures { result ≡ list_all is_ascii_uppercase text.now }
-{
-    text.iter().all(|b| b.is_ascii_uppercase())
-}
-
-/// Whether the first byte is an upper-case letter, and the rest are lower-case ones.
-pub(crate) fn are_titlecase(text: &[u8]) -> bool
-    ensures { result ≡ is_in_class is_ascii_uppercase is_ascii_lowercase text.now }
-{
-    match text.split_first() {
+    match bytes.split_first() {
         None => true,
-        Some((first, rest)) => first.is_ascii_uppercase() && are_lowercase(rest),
-    }
-}
-
-/// Lowers every letter.
-pub(crate) fn lower(bytes: &mut [u8])
-    ensures { bytes.new ≡ lowercase bytes.old }
-{
-    for b in bytes.iter_mut() {
-        *b = b.to_ascii_lowercase();
-    }
-}
-
-/// Raises every letter.
-pub(crate) fn raise(bytes: &mut [u8])
-    ensures { bytes.new ≡ uppercase bytes.old }
-{
-    for b in bytes.iter_mut() {
-        *b = b.to_ascii_uppercase();
+        Some((first, rest)) => {
+            (*first == 0 || first.is_ascii_uppercase()) && tinystr_words::all::<Lowercase>(rest)
+        }
     }
 }
 
 /// Raises the first byte and lowers the rest.
 pub(crate) fn make_title(bytes: &mut [u8])
+    requires { IsAscii bytes.old }
     ensures { bytes.new ≡ titlecase bytes.old }
 {
-    if let Some((first, rest)) = bytes.split_first_mut() {
-        *first = first.to_ascii_uppercase();
-        lower(rest);
+    if bytes.is_empty() {
+        return;
     }
+    let first = bytes[0].to_ascii_uppercase();
+    tinystr_words::change::<ToLowercase>(bytes);
+    bytes[0] = first;
 }
 
 /// The unit as a byte, or the replacement where it may not stand in a text.

@@ -4,7 +4,8 @@ ghost use Rattle.std.specs.Prelude.{◌≡◌};
 ghost use Rattle.tinystr.specs.Case.{lowercase, uppercase, titlecase};
 
 use crate::TinyAsciiStr;
-use crate::bytes::{lower, make_title, raise};
+use crate::bytes::make_title;
+use tinystr_words::{ToLowercase, ToUppercase, change};
 
 impl<const N: usize> TinyAsciiStr<N> {
     /// The text with every letter in lower case: `tEsT` gives `test`.
@@ -12,7 +13,7 @@ impl<const N: usize> TinyAsciiStr<N> {
         ensures { result ≡ lowercase self.entry }
     {
         let mut bytes = *self.all_bytes();
-        lower(&mut bytes);
+        change::<ToLowercase>(&mut bytes);
         Self::from_utf8_unchecked(bytes)
     }
 
@@ -21,7 +22,7 @@ impl<const N: usize> TinyAsciiStr<N> {
         ensures { result ≡ uppercase self.entry }
     {
         let mut bytes = *self.all_bytes();
-        raise(&mut bytes);
+        change::<ToUppercase>(&mut bytes);
         Self::from_utf8_unchecked(bytes)
     }
 

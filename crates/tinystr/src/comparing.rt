@@ -9,11 +9,11 @@ ghost use Rattle.std.specs.Hash as fed;
 ghost use Rattle.std.proofs.Common.{rules};
 
 use crate::TinyAsciiStr;
-use crate::bytes::are_same;
 use std::cmp::Ordering;
 use std::convert::AsStr;
 use std::fmt;
 use std::hash::{Hash, Hasher};
+use tinystr_words::are_same;
 
 impl<const N: usize> PartialEq for TinyAsciiStr<N> {
     ghost eq = { λ s t. pointwise nat_eq s t };

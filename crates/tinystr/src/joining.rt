@@ -3,7 +3,7 @@
 ghost use Rattle.std.specs.Prelude.{◌≡◌, ◌++◌, take};
 
 use crate::TinyAsciiStr;
-use crate::bytes::put_at;
+use tinystr_words::put_at;
 
 impl<const N: usize> TinyAsciiStr<N> {
     /// The first M characters of the text: `tEsT` at 2 is `tE`, and at 8 it is `tEsT`.

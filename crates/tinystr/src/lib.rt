@@ -27,5 +27,5 @@ mod utf16;
 pub use ascii::{TinyAsciiStr, TinyStr4, TinyStr8, TinyStr16};
 pub use asciibyte::{AsciiByte, to_ascii_byte_array};
 pub use error::{ParseError, UleError};
-pub use int_ops::{Aligned4, Aligned8};
+pub use int_ops::{Aligned, Aligned4, Aligned8};
 pub use unvalidated::UnvalidatedTinyAsciiStr;

@@ -6,9 +6,9 @@ ghost use Rattle.tinystr.specs.Faults.{IsFault};
 ghost use Rattle.tinystr.specs.declared.error.ParseError.{ParseError};
 ghost use Rattle.tinystr.specs.declared.error.UleError.{UleError};
 
-use crate::bytes::put_at;
 use crate::{ParseError, TinyAsciiStr, UleError};
 use std::marker::Model;
+use tinystr_words::put_at;
 
 /// N bytes that may be the form of a text.
 #[derive(Clone, Copy, Debug, PartialEq, Eq, PartialOrd, Ord)]

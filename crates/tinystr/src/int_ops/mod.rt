@@ -1,7 +1,6 @@
 //! Texts of at most four and eight bytes, each in one word.
 
-mod aligned4;
-mod aligned8;
+mod aligned;
+mod making;
 
-pub use aligned4::Aligned4;
-pub use aligned8::Aligned8;
+pub use aligned::{Aligned, Aligned4, Aligned8};

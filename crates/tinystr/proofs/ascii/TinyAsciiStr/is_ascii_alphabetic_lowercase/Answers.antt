@@ -2,4 +2,4 @@ use Rattle.tinystr.proofs.ClassesLemmas.{lower_letters}
 use Rattle.tinystr.proofs.ascii.TinyAsciiStr.is_ascii_alphabetic_lowercase.Goals as goal
 
 pub returns-clause-both : goal.returns-clause-both
-returns-clause-both g c = rw (c.are_lowercase.ensures, c.as_utf8.ensures.value) (lower_letters c.args.self.now)
+returns-clause-both g c = rw c.all.ensures (lower_letters c.args.self.now)

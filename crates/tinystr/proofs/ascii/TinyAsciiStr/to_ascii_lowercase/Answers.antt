@@ -7,15 +7,15 @@ use Rattle.tinystr.proofs.ascii.TinyAsciiStr.to_ascii_lowercase.Goals as goal
 
 pub from_utf8_unchecked-requires : goal.from_utf8_unchecked-requires
 from_utf8_unchecked-requires g c =
-    let same : c.lower.new.bytes ≡ padded g.row.N (lowercase c.args.self) =
-    c.lower.ensures ∙ ap lowercase c.all_bytes.ensures.value ∙ lower_padded g.row.N c.args.self in
+    let same : c.change.new.bytes ≡ padded g.row.N (lowercase c.args.self) =
+    c.change.ensures ∙ ap lowercase c.all_bytes.ensures.value ∙ lower_padded g.row.N c.args.self in
     let small = IsSmall-lowercase g.row.N c.args.self c.all_bytes.ensures.small in
-    let form : IsForm g.row.N c.lower.new.bytes = IsForm-of g.row.N (lowercase c.args.self) c.lower.new.bytes small same in
+    let form : IsForm g.row.N c.change.new.bytes = IsForm-of g.row.N (lowercase c.args.self) c.change.new.bytes small same in
     search rules
 
 pub returns : goal.returns
 returns g c =
-    let same : c.lower.new.bytes ≡ padded g.row.N (lowercase c.args.self) =
-    c.lower.ensures ∙ ap lowercase c.all_bytes.ensures.value ∙ lower_padded g.row.N c.args.self in
+    let same : c.change.new.bytes ≡ padded g.row.N (lowercase c.args.self) =
+    c.change.ensures ∙ ap lowercase c.all_bytes.ensures.value ∙ lower_padded g.row.N c.args.self in
     let small = IsSmall-lowercase g.row.N c.args.self c.all_bytes.ensures.small in
-    c.from_utf8_unchecked.ensures ∙ text_of-of g.row.N (lowercase c.args.self) c.lower.new.bytes small same
+    c.from_utf8_unchecked.ensures ∙ text_of-of g.row.N (lowercase c.args.self) c.change.new.bytes small same

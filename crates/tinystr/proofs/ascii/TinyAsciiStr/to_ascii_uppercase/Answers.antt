@@ -7,15 +7,15 @@ use Rattle.tinystr.proofs.ascii.TinyAsciiStr.to_ascii_uppercase.Goals as goal
 
 pub from_utf8_unchecked-requires : goal.from_utf8_unchecked-requires
 from_utf8_unchecked-requires g c =
-    let same : c.raise.new.bytes ≡ padded g.row.N (uppercase c.args.self) =
-    c.raise.ensures ∙ ap uppercase c.all_bytes.ensures.value ∙ upper_padded g.row.N c.args.self in
+    let same : c.change.new.bytes ≡ padded g.row.N (uppercase c.args.self) =
+    c.change.ensures ∙ ap uppercase c.all_bytes.ensures.value ∙ upper_padded g.row.N c.args.self in
     let small = IsSmall-uppercase g.row.N c.args.self c.all_bytes.ensures.small in
-    let form : IsForm g.row.N c.raise.new.bytes = IsForm-of g.row.N (uppercase c.args.self) c.raise.new.bytes small same in
+    let form : IsForm g.row.N c.change.new.bytes = IsForm-of g.row.N (uppercase c.args.self) c.change.new.bytes small same in
     search rules
 
 pub returns : goal.returns
 returns g c =
-    let same : c.raise.new.bytes ≡ padded g.row.N (uppercase c.args.self) =
-    c.raise.ensures ∙ ap uppercase c.all_bytes.ensures.value ∙ upper_padded g.row.N c.args.self in
+    let same : c.change.new.bytes ≡ padded g.row.N (uppercase c.args.self) =
+    c.change.ensures ∙ ap uppercase c.all_bytes.ensures.value ∙ upper_padded g.row.N c.args.self in
     let small = IsSmall-uppercase g.row.N c.args.self c.all_bytes.ensures.small in
-    c.from_utf8_unchecked.ensures ∙ text_of-of g.row.N (uppercase c.args.self) c.raise.new.bytes small same
+    c.from_utf8_unchecked.ensures ∙ text_of-of g.row.N (uppercase c.args.self) c.change.new.bytes small same

@@ -1,0 +1,5 @@
+use Rattle.tinystr.proofs.FormWords.{rest_ascii}
+use Rattle.tinystr.proofs.bytes.is_title.Goals as goal
+
+pub none-requires : goal.none-requires
+none-requires c = rest_ascii c.args.bytes.now c.in-Some.first.now c.in-Some.rest.now c.in-Some.ensures.cases.0 c.requires

@@ -1,0 +1,4 @@
+pub mod Lanes
+pub mod FlagLaws
+pub mod LengthLaws
+pub mod CutLaws

@@ -1,0 +1,40 @@
+//! Case changes of one word.
+
+ghost use Rattle.std.specs.Prelude.{◌≡◌, ℕ, map};
+ghost use Rattle.std.specs.Char.{to_ascii_lowercase, to_ascii_uppercase};
+ghost use Rattle.std.specs.Str.{IsAscii};
+ghost use Rattle.tinystr_words.specs.Words.{word_bytes};
+
+use crate::classes::{Lowercase, Uppercase, WordClass};
+
+/// A change of each byte of a word by itself.
+pub trait WordChange {
+    ghost change: { ℕ → ℕ };
+
+    /// The word with each byte changed.
+    fn changed(word: u64) -> u64
+        requires ascii { IsAscii (word_bytes word) }
+        ensures { word_bytes result ≡ map change (word_bytes word) };
+}
+
+/// Each letter in lower case.
+pub struct ToLowercase;
+
+/// Each letter in upper case.
+pub struct ToUppercase;
+
+impl WordChange for ToLowercase {
+    ghost change = { to_ascii_lowercase };
+
+    fn changed(word: u64) -> u64 {
+        word ^ (Uppercase::flags(word) >> 2)
+    }
+}
+
+impl WordChange for ToUppercase {
+    ghost change = { to_ascii_uppercase };
+
+    fn changed(word: u64) -> u64 {
+        word ^ (Lowercase::flags(word) >> 2)
+    }
+}

@@ -1,0 +1,111 @@
+//! Slices of bytes, word by word.
+
+ghost use Rattle.std.specs.Prelude.{◌≡◌, ◌≤◌, ◌+◌, ◌++◌, true, not, length, take, drop, map};
+ghost use Rattle.std.specs.Bool.{Decides};
+ghost use Rattle.std.specs.List.{list_all};
+ghost use Rattle.std.specs.Str.{IsAscii};
+ghost use Rattle.tinystr_words.specs.Words.{nuls_last, or_nul, text_bytes};
+
+use crate::changes::WordChange;
+use crate::classes::{WordClass, is_all, is_none};
+use crate::words::{word_at, word_len};
+
+/// Writes a text over the bytes from a place on.
+pub fn put_at(bytes: &mut [u8], place: usize, text: &[u8])
+    requires { place + length text.now ≤ length bytes.old }
+    ensures { bytes.new ≡ take place bytes.old ++ (text.now ++ drop (place + length text.now) bytes.old) }
+{
+    bytes[place..place + text.len()].copy_from_slice(text);
+}
+
+/// Whether every byte is in the class, or NUL.
+pub fn all<C: WordClass>(bytes: &[u8]) -> bool
+    requires { IsAscii bytes.now }
+    ensures { result ≡ list_all (or_nul C.test) bytes.now }
+{
+    let mut rest = bytes;
+    while !rest.is_empty() {
+        let (front, back) = rest.split_at(rest.len().min(8));
+        if !is_all::<C>(word_at(front)) {
+            return false;
+        }
+        rest = back;
+    }
+    true
+}
+
+/// Whether no byte is in the class.
+pub fn none<C: WordClass>(bytes: &[u8]) -> bool
+    requires { IsAscii bytes.now }
+    ensures { result ≡ list_all (λ b. not (C.test b)) bytes.now }
+{
+    let mut rest = bytes;
+    while !rest.is_empty() {
+        let (front, back) = rest.split_at(rest.len().min(8));
+        if !is_none::<C>(word_at(front)) {
+            return false;
+        }
+        rest = back;
+    }
+    true
+}
+
+/// How many bytes stand before the NULs, which are the last.
+pub fn text_len(bytes: &[u8]) -> usize
+    requires ascii { IsAscii bytes.now }
+    requires last { nuls_last bytes.now ≡ true }
+    ensures { result ≡ text_bytes bytes.now }
+{
+    let mut len = 0;
+    let mut rest = bytes;
+    while !rest.is_empty() {
+        let (front, back) = rest.split_at(rest.len().min(8));
+        len += word_len(word_at(front));
+        rest = back;
+    }
+    len
+}
+
+/// Whether two slices of one length have the same bytes.
+pub fn are_same(one: &[u8], other: &[u8]) -> bool
+    requires { length one.now ≡ length other.now }
+    ensures { Decides result (one.now ≡ other.now) }
+{
+    let mut left = one;
+    let mut right = other;
+    while !left.is_empty() {
+        let count = left.len().min(8);
+        let (front, back) = left.split_at(count);
+        let (other_front, other_back) = right.split_at(count);
+        if word_at(front) != word_at(other_front) {
+            return false;
+        }
+        left = back;
+        right = other_back;
+    }
+    true
+}
+
+/// Changes at most eight bytes from a place on.
+fn change_at<C: WordChange>(bytes: &mut [u8], from: usize, count: usize)
+    requires within { from + count ≤ length bytes.old }
+    requires short { count ≤ 8 }
+    requires ascii { IsAscii (take count (drop from bytes.old)) }
+    ensures { bytes.new ≡ take from bytes.old ++ (map C.change (take count (drop from bytes.old)) ++ drop (from + count) bytes.old) }
+{
+    let word = C::changed(word_at(&bytes[from..from + count]));
+    put_at(bytes, from, &word.to_le_bytes()[..count]);
+}
+
+/// Changes every byte.
+pub fn change<C: WordChange>(bytes: &mut [u8])
+    requires { IsAscii bytes.old }
+    ensures { bytes.new ≡ map C.change bytes.old }
+{
+    let mut from = 0;
+    while from < bytes.len() {
+        let count = (bytes.len() - from).min(8);
+        change_at::<C>(bytes, from, count);
+        from += count;
+    }
+}
