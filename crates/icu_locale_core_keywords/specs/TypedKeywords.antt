@@ -23,6 +23,12 @@ keyword_answer true None = Err InvalidKeywordValue
 
 -- ---- words
 
+-- a keyword of words: its key, its cases in their order, and the word of each
+pub record Words (A : Type 0) : Type 0 where
+  pub key : Text
+  pub cases : List A
+  pub word : A → Text
+
 -- the word that a value is: `true` where it has no piece, and none where it has more than one
 abbrev pub word_in : List Text → Option Text
 word_in [] = Some true_text
@@ -38,8 +44,8 @@ abbrev pub case_of : {A : Type 0} → (A → Text) → List A → Text → Optio
 case_of word cases text = find (λ c. same_text (word c) text) cases
 
 -- the case that a value states
-abbrev pub stated_case : {A : Type 0} → (A → Text) → List A → List Text → Option A
-stated_case word cases vs = option_and_then (case_of word cases) (word_in vs)
+abbrev pub stated_case : {A : Type 0} → Words A → List Text → Option A
+stated_case words vs = option_and_then (case_of words.word words.cases) (word_in vs)
 
 -- ---- one piece
 
