@@ -81,13 +81,11 @@ impl<K: PieceKey, P: OnePiece> PreferenceKey for PieceKeyword<K, P> {
     }
 
     fn try_from_value(value: &Value) -> Result<Self, PreferencesParseError> {
-        match P::stated_in(value) {
-            Some(own) => Ok(PieceKeyword {
-                own,
-                key: PhantomData,
-            }),
-            None => Err(PreferencesParseError::InvalidKeywordValue),
-        }
+        let own = P::stated_in(value).ok_or(PreferencesParseError::InvalidKeywordValue)?;
+        Ok(PieceKeyword {
+            own,
+            key: PhantomData,
+        })
     }
 }
 

@@ -35,12 +35,8 @@ fn read_at(code_units: &[u8], n: usize) -> Option<SubdivisionId>
     ensures { MatchOption result (subdivision_at n code_units.now ≡ None) (λ s. subdivision_at n code_units.now ≡ Some s) }
 {
     let (first, second) = code_units.split_at_checked(n)?;
-    let Ok(region) = Region::try_from_utf8(first) else {
-        return None;
-    };
-    let Ok(suffix) = SubdivisionSuffix::try_from_utf8(second) else {
-        return None;
-    };
+    let region = Region::try_from_utf8(first).ok()?;
+    let suffix = SubdivisionSuffix::try_from_utf8(second).ok()?;
     Some(SubdivisionId { region, suffix })
 }
 

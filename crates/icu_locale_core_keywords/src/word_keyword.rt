@@ -97,9 +97,6 @@ impl<W: WordKeyword + 'static> PreferenceKey for W {
     }
 
     fn try_from_value(value: &Value) -> Result<Self, PreferencesParseError> {
-        match case_in::<Self>(value) {
-            Some(case) => Ok(case),
-            None => Err(PreferencesParseError::InvalidKeywordValue),
-        }
+        case_in::<Self>(value).ok_or(PreferencesParseError::InvalidKeywordValue)
     }
 }
