@@ -12,8 +12,7 @@ use Rattle.icu_locale_core_grammar.specs.TagPreferences.{Subdivision, subdivisio
 use Rattle.icu_locale_core_grammar.proofs.CaseLemmas.{lower-upper}
 use Rattle.icu_locale_core_grammar.proofs.PlainSubtags.{language_plain}
 use Rattle.icu_locale_core_grammar.proofs.PreferenceLemmas.{subdivision_spells}
-use Rattle.icu_locale_core_keywords.specs.OwnPieces.{IsOwnPiece}
-use Rattle.icu_locale_core_keywords.specs.TypedKeywords.{is_currency, stated_currency, stated_subdivision}
+use Rattle.icu_locale_core_keywords.specs.TypedKeywords.{IsOwnPiece, is_currency, stated_currency, stated_subdivision}
 
 -- ---- subdivisions
 

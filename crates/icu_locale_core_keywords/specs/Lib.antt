@@ -2,6 +2,5 @@
 pub mod TypedKeywords
 pub mod KeywordWords
 pub mod OwnWords
-pub mod OwnPieces
 -- What the impls of this crate prove.
 pub mod WordLaws

@@ -4,7 +4,7 @@
 use Rattle.std.specs.Prelude.{◌≡◌, Bool, true, false, Option, None, Some, List, [], ◌∷◌, Result, Ok, Err, MatchResult, option_and_then, ◌&&◌, ◌==◌, length, codes, if◌then◌else◌}
 use Rattle.std.specs.List.{find, list_all}
 use Rattle.std.specs.Char.{is_ascii_alphabetic}
-use Rattle.icu_locale_core_grammar.specs.Subtags.{Text, same_text, true_text}
+use Rattle.icu_locale_core_grammar.specs.Subtags.{Text, is_true, lower, same_text, true_text}
 use Rattle.icu_locale_core_grammar.specs.TagPreferences.{one_piece, Subdivision, subdivision_of}
 use Rattle.icu_locale_core_entries.specs.Values.{without_true}
 use Rattle.icu_locale_core_keywords.specs.declared.error.PreferencesParseError.{PreferencesParseError}
@@ -48,6 +48,12 @@ abbrev pub stated_case : {A : Type 0} → Words A → List Text → Option A
 stated_case words vs = option_and_then (case_of words.word words.cases) (word_in vs)
 
 -- ---- one piece
+
+-- what a keyword of one subtag holds: its subtag is in lower case and not `true`, and as a value it states what is held
+pub record IsOwnPiece {A : Type 0} (stated : List Text → Option A) (piece : A → Text) (own : A) : Type 0 where
+  pub lowered : lower (piece own) ≡ piece own
+  pub other : is_true (piece own) ≡ false
+  pub states : stated (piece own ∷ []) ≡ Some own
 
 -- the subdivision that a value states
 abbrev pub stated_subdivision : List Text → Option Subdivision

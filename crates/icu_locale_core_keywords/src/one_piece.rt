@@ -14,7 +14,7 @@ use tinystr::TinyAsciiStr;
 /// What the one subtag of a value may spell.
 pub trait OnePiece: Copy {
     ghost use Rattle.std.specs.Prelude.{◌≡◌, ℕ, List, Option, None, Some, MatchOption};
-    ghost use Rattle.icu_locale_core_keywords.specs.OwnPieces.{IsOwnPiece};
+    ghost use Rattle.icu_locale_core_keywords.specs.TypedKeywords.{IsOwnPiece};
 
     // what a value states
     ghost stated: { List (List ℕ) → Option Self };

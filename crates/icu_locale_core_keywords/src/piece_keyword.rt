@@ -1,7 +1,6 @@
 //! Keywords whose values are one subtag: a numbering system, a subdivision, a currency.
 
 ghost use Rattle.std.specs.Prelude.{◌≡◌, ⊤, [], ◌∷◌};
-ghost use Rattle.icu_locale_core_keywords.specs.OwnPieces.{IsOwnPiece};
 ghost use Rattle.icu_locale_core_keywords.specs.TypedKeywords.{IsReading};
 
 use crate::error::PreferencesParseError;
@@ -39,7 +38,7 @@ pub struct PieceKeyword<K: PieceKey, P: OnePiece> {
 }
 
 impl<K: PieceKey, P: OnePiece> Model for PieceKeyword<K, P> {
-    ghost use Rattle.icu_locale_core_keywords.specs.OwnPieces.{IsOwnPiece};
+    ghost use Rattle.icu_locale_core_keywords.specs.TypedKeywords.{IsOwnPiece};
 
     ghost Value = { P };
 

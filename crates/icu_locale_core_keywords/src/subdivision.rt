@@ -55,12 +55,9 @@ impl SubdivisionId {
     pub fn try_from_utf8(code_units: &[u8]) -> Result<Self, ParseError>
         ensures { MatchResult result (λ s. subdivision_of code_units.now ≡ Some s) (λ e. (subdivision_of code_units.now ≡ None) × (e ≡ ParseError.InvalidExtension)) }
     {
-        if let Some(found) = read_at(code_units, 2) {
-            return Ok(found);
-        }
-        match read_at(code_units, 3) {
+        match read_at(code_units, 2) {
             Some(found) => Ok(found),
-            None => Err(ParseError::InvalidExtension),
+            None => read_at(code_units, 3).ok_or(ParseError::InvalidExtension),
         }
     }
 
