@@ -1,6 +1,6 @@
 //! The two kinds of entries: keywords of `u`, fields of `t`.
 
-ghost use Rattle.std.specs.Prelude.{◌≡◌, true, false};
+ghost use Rattle.std.specs.Prelude.{true, false};
 
 use icu_locale_core_subtags::{SubtagRule, transform, unicode};
 
@@ -29,9 +29,7 @@ impl EntryKind for unicode::KeyRule {
 
     ghost keys = { keyword_kind };
 
-    fn needs_value() -> bool
-        ensures { result ≡ false }
-    {
+    fn needs_value() -> bool {
         false
     }
 }
@@ -43,9 +41,7 @@ impl EntryKind for transform::KeyRule {
 
     ghost keys = { field_kind };
 
-    fn needs_value() -> bool
-        ensures { result ≡ true }
-    {
+    fn needs_value() -> bool {
         true
     }
 }

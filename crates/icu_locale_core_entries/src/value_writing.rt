@@ -1,15 +1,13 @@
 //! Writing values: their subtags between hyphens, without parts.
 
-ghost use Rattle.std.specs.Prelude.{◌≡◌, ◌++◌, ◌<◌, ◌^◌, false, is_err, length, flat_map, OnOk, OnErr, SomeIff, IsTrue, ◌↔◌};
+ghost use Rattle.std.specs.Prelude.{◌≡◌, ◌<◌, ◌^◌, false, is_err, length, OnOk, OnErr, SomeIff, IsTrue, ◌↔◌};
 ghost use Rattle.writeable.specs.AnnotatedText.{bytes};
 ghost use Rattle.writeable.specs.Taking.{HasBegun};
-ghost use Rattle.icu_locale_core_grammar.specs.Pieces.{hyphened};
 ghost use Rattle.icu_locale_core_entries.specs.EntryText.{value_text, hyphened_value};
 
 use crate::kind::EntryKind;
 use crate::value::ValueOf;
-use icu_locale_core_sets::{pieces_length, write_pieces};
-use icu_locale_core_subtags::Subtag;
+use icu_locale_core_sets::{joined_length, pieces_length, write_joined, write_pieces};
 use std::fmt;
 use writeable::{Error, LengthHint, Sink, Writeable, display, strict_cmp};
 
@@ -47,24 +45,6 @@ impl<K: EntryKind> ValueOf<K> {
     }
 }
 
-// Writes the first subtag, and the others with a hyphen before each.
-fn write_subtags<S: Sink>(first: &Subtag, others: &[Subtag], sink: &mut S) -> Result<(), Error>
-    requires { S.refused sink.old ≡ false }
-    ensures ok { OnOk result (S.takes sink.old (bytes first.now ++ bytes (flat_map hyphened others.now)) sink.new) }
-    ensures refused { S.refused sink.new ≡ is_err result }
-    ensures begun { OnErr result (HasBegun S.takes S.lacks_room sink.old (bytes first.now ++ bytes (flat_map hyphened others.now)) sink.new) }
-{
-    first.write_to(sink)?;
-    write_pieces(others, sink)
-}
-
-// How many bytes `write_subtags` writes, where a `usize` holds it.
-fn subtags_length(first: &Subtag, others: &[Subtag]) -> Option<usize>
-    ensures { SomeIff result (length (first.now ++ flat_map hyphened others.now) < 2 ^ 64) (length (first.now ++ flat_map hyphened others.now)) }
-{
-    pieces_length(others)?.checked_add(first.as_str().len())
-}
-
 impl<K: EntryKind> Writeable for ValueOf<K> {
     ghost use Rattle.std.specs.Prelude.{◌≡◌, ◌<◌, ◌^◌, Some, length};
     ghost use Rattle.writeable.specs.AnnotatedText.{bytes, text_of};
@@ -75,7 +55,7 @@ impl<K: EntryKind> Writeable for ValueOf<K> {
 
     fn write_to<S: Sink>(&self, sink: &mut S) -> Result<(), Error> {
         match self.as_subtags_slice().split_first() {
-            Some((first, others)) => write_subtags(first, others, sink),
+            Some((first, others)) => write_joined(first, others, sink),
             None => {
                 if K::needs_value() {
                     sink.write_str("true")
@@ -104,7 +84,7 @@ fn value_length<K: EntryKind>(value: &ValueOf<K>) -> Option<usize>
     ensures { SomeIff result (length (value_text K.needs value.now) < 2 ^ 64) (length (value_text K.needs value.now)) }
 {
     match value.as_subtags_slice().split_first() {
-        Some((first, others)) => subtags_length(first, others),
+        Some((first, others)) => joined_length(first, others),
         None => Some(if K::needs_value() { 4 } else { 0 }),
     }
 }

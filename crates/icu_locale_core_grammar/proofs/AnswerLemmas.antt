@@ -10,7 +10,7 @@ use Rattle.icu_locale_core_grammar.specs.FaultyPiece.{HasFault}
 use Rattle.icu_locale_core_grammar.specs.Stepping.{run, IsReader}
 use Rattle.icu_locale_core_grammar.specs.SingleVariant.{MeansSingle, HasSingleFault, InLanguage, single_after, single_ends, single_fault}
 use Rattle.icu_locale_core_grammar.specs.TagStages.{language_after, language_ends, language_fault, tag_start, tag_after, tag_ends, tag_fault}
-use Rattle.icu_locale_core_grammar.specs.KnownRows.{end_answer, answer_from, shown_by, answer_to, language_text, language_answer, single_text, single_answer, language_first_text, language_first_answer, region_first_text, region_first_answer}
+use Rattle.icu_locale_core_grammar.specs.KnownRows.{end_answer, answer_from, shown_by, tag_answer, answer_to, language_text, language_answer, single_text, single_answer, language_first_text, language_first_answer, region_first_text, region_first_answer}
 use Rattle.icu_locale_core_grammar.specs.TagLaws.{IsShown, IsPrinted, IsRefused, AnswersAreRight}
 use Rattle.icu_locale_core_grammar.proofs.Runs.{run_joined, stops_at_piece, stops_at_end, Stop}
 use Rattle.icu_locale_core_grammar.proofs.TagReader.{tag_reader, tag_named}
@@ -46,6 +46,9 @@ module _ {S M : Type 0} (step : S → Text → Option S) (start : S) (ends : S �
     pub answer_is_right : (text : Text) → MatchResult (shown_by show (answer_from step ends fault start (pieces text))) (IsShown Means show text) (Faulty (pieces text))
     answer_is_right text = shown_right (pieces text) (answer_from step ends fault start (pieces text)) (right_from (pieces text) [] start refl)
 
+  pub meaning_right : (text : Text) → IsAnswer (pieces text) (answer_from step ends fault start (pieces text))
+  meaning_right text = right_from (pieces text) [] start refl
+
 tag_faulty : (ps : List Text) (s : Stop tag_reader ps) → HasFault MeansTag ps (tag_fault s.stage s.place)
 tag_faulty ps s = record { front = s.front; place = s.place; stops = s.stops; named = tag_named s.front s.stage s.place s.reached s.stuck }
 
@@ -66,6 +69,11 @@ answer_right text = tag_shown normal_text text
 -- a row of an answer that is right
 row : (P : Text → Type 0) (Q : ParseError → Type 0) (r s : Result Text ParseError) → MatchResult r P Q → r ≡ s → MatchResult s P Q
 row P Q r s right e = subst (λ x. MatchResult x P Q) e right
+
+pub meaning_row : (text : Text) (m : TagMeaning) → tag_answer text ≡ Ok m → MeansTag (pieces text) m
+meaning_row text m e =
+    subst (λ r. MatchResult r (MeansTag (pieces text)) (HasFault MeansTag (pieces text))) e
+    (meaning_right tag_after tag_start tag_ends tag_fault MeansTag (HasFault MeansTag) tag_reader tag_faulty text)
 
 pub printed_row : (text printed : Text) → answer_to text ≡ Ok printed → IsPrinted text printed
 printed_row text printed e = row (IsPrinted text) (IsRefused text) (answer_to text) (Ok printed) (answer_right text) e

@@ -1,5 +1,6 @@
 pub mod KnownValues
 pub mod KnownParts
+pub mod KnownReadings
 pub mod ListLemmas
 pub mod Runs
 pub mod FaultyPieceLemmas

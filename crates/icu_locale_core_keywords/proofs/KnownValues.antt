@@ -3,48 +3,48 @@ use Rattle.std.proofs.Common.{◌≡◌, true, false, [], ◌∷◌, None, Some,
 use Rattle.icu_locale_core_grammar.specs.Subtags.{upper}
 use Rattle.icu_locale_core_grammar.specs.TagPreferences.{one_piece, subdivision_text}
 use Rattle.icu_locale_core_keywords.specs.TypedKeywords.{keyword_answer, stated_case, word_value, stated_subdivision, stated_currency}
-use Rattle.icu_locale_core_keywords.specs.KeywordWords.{first_day_cases, first_day_word, measurement_cases, measurement_word, word_handling_cases, word_handling_word, case_first_cases, case_first_word, numeric_ordering_cases, numeric_ordering_word}
+use Rattle.icu_locale_core_keywords.specs.KeywordWords.{first_day, measurement, word_handling, case_first, numeric_ordering, numeric_ordering_word}
 use Rattle.icu_locale_core_keywords.specs.declared.error.PreferencesParseError.{PreferencesParseError}
 use Rattle.icu_locale_core_keywords.specs.declared.keywords.first_day.FirstDay.{FirstDay}
 use Rattle.icu_locale_core_keywords.specs.declared.keywords.measurement_system.MeasurementSystem.{MeasurementSystem}
-use Rattle.icu_locale_core_keywords.specs.declared.keywords.line_break_word.LineBreakWordHandling.{LineBreakWordHandling}
-use Rattle.icu_locale_core_keywords.specs.declared.keywords.collation_case_first.CollationCaseFirst.{CollationCaseFirst}
-use Rattle.icu_locale_core_keywords.specs.declared.keywords.collation_numeric_ordering.CollationNumericOrdering.{CollationNumericOrdering}
+use Rattle.icu_locale_core_keywords.specs.declared.keywords.line_break.LineBreakWordHandling.{LineBreakWordHandling}
+use Rattle.icu_locale_core_keywords.specs.declared.keywords.collation.CollationCaseFirst.{CollationCaseFirst}
+use Rattle.icu_locale_core_keywords.specs.declared.keywords.collation.CollationNumericOrdering.{CollationNumericOrdering}
 
 -- ---- words
 
-pub monday : stated_case first_day_word first_day_cases (codes "mon" ∷ []) ≡ Some FirstDay.Mon
+pub monday : stated_case first_day (codes "mon" ∷ []) ≡ Some FirstDay.Mon
 monday = refl
 
-pub no_day : stated_case first_day_word first_day_cases (codes "abc" ∷ []) ≡ None
+pub no_day : stated_case first_day (codes "abc" ∷ []) ≡ None
 no_day = refl
 
-pub two_days : stated_case first_day_word first_day_cases (codes "mon" ∷ codes "tue" ∷ []) ≡ None
+pub two_days : stated_case first_day (codes "mon" ∷ codes "tue" ∷ []) ≡ None
 two_days = refl
 
 -- the empty value is the word `true`, which names no day
-pub no_word : stated_case first_day_word first_day_cases [] ≡ None
+pub no_word : stated_case first_day [] ≡ None
 no_word = refl
 
-pub british : stated_case measurement_word measurement_cases (codes "uksystem" ∷ []) ≡ Some MeasurementSystem.Uksystem
+pub british : stated_case measurement (codes "uksystem" ∷ []) ≡ Some MeasurementSystem.Uksystem
 british = refl
 
-pub within_words : stated_case word_handling_word word_handling_cases (codes "breakall" ∷ []) ≡ Some LineBreakWordHandling.BreakAll
+pub within_words : stated_case word_handling (codes "breakall" ∷ []) ≡ Some LineBreakWordHandling.BreakAll
 within_words = refl
 
-pub neither_first : stated_case case_first_word case_first_cases (codes "false" ∷ []) ≡ Some CollationCaseFirst.False
+pub neither_first : stated_case case_first (codes "false" ∷ []) ≡ Some CollationCaseFirst.False
 neither_first = refl
 
 -- a case that is not the word `true` has no empty value
-pub no_case_first : stated_case case_first_word case_first_cases [] ≡ None
+pub no_case_first : stated_case case_first [] ≡ None
 no_case_first = refl
 
 -- ---- the word `true`
 
-pub numeric : stated_case numeric_ordering_word numeric_ordering_cases [] ≡ Some CollationNumericOrdering.True
+pub numeric : stated_case numeric_ordering [] ≡ Some CollationNumericOrdering.True
 numeric = refl
 
-pub not_numeric : stated_case numeric_ordering_word numeric_ordering_cases (codes "false" ∷ []) ≡ Some CollationNumericOrdering.False
+pub not_numeric : stated_case numeric_ordering (codes "false" ∷ []) ≡ Some CollationNumericOrdering.False
 not_numeric = refl
 
 pub numeric_written : word_value (numeric_ordering_word CollationNumericOrdering.True) ≡ []

@@ -4,7 +4,7 @@
 use Rattle.std.specs.Prelude.{◌≡◌, Bool, true, false, Option, None, Some, List, [], ◌∷◌, Result, Ok, Err, MatchResult, option_and_then, ◌&&◌, ◌==◌, length, codes, if◌then◌else◌}
 use Rattle.std.specs.List.{find, list_all}
 use Rattle.std.specs.Char.{is_ascii_alphabetic}
-use Rattle.icu_locale_core_grammar.specs.Subtags.{Text, same_text, true_text}
+use Rattle.icu_locale_core_grammar.specs.Subtags.{Text, is_true, lower, same_text, true_text}
 use Rattle.icu_locale_core_grammar.specs.TagPreferences.{one_piece, Subdivision, subdivision_of}
 use Rattle.icu_locale_core_entries.specs.Values.{without_true}
 use Rattle.icu_locale_core_keywords.specs.declared.error.PreferencesParseError.{PreferencesParseError}
@@ -23,6 +23,12 @@ keyword_answer true None = Err InvalidKeywordValue
 
 -- ---- words
 
+-- a keyword of words: its key, its cases in their order, and the word of each
+pub record Words (A : Type 0) : Type 0 where
+  pub key : Text
+  pub cases : List A
+  pub word : A → Text
+
 -- the word that a value is: `true` where it has no piece, and none where it has more than one
 abbrev pub word_in : List Text → Option Text
 word_in [] = Some true_text
@@ -38,10 +44,16 @@ abbrev pub case_of : {A : Type 0} → (A → Text) → List A → Text → Optio
 case_of word cases text = find (λ c. same_text (word c) text) cases
 
 -- the case that a value states
-abbrev pub stated_case : {A : Type 0} → (A → Text) → List A → List Text → Option A
-stated_case word cases vs = option_and_then (case_of word cases) (word_in vs)
+abbrev pub stated_case : {A : Type 0} → Words A → List Text → Option A
+stated_case words vs = option_and_then (case_of words.word words.cases) (word_in vs)
 
 -- ---- one piece
+
+-- what a keyword of one subtag holds: its subtag is in lower case and not `true`, and as a value it states what is held
+pub record IsOwnPiece {A : Type 0} (stated : List Text → Option A) (piece : A → Text) (own : A) : Type 0 where
+  pub lowered : lower (piece own) ≡ piece own
+  pub other : is_true (piece own) ≡ false
+  pub states : stated (piece own ∷ []) ≡ Some own
 
 -- the subdivision that a value states
 abbrev pub stated_subdivision : List Text → Option Subdivision

@@ -16,9 +16,9 @@ use icu_locale_core_subtags::laws::subtags_are_words;
 
 /// The word of a case is a piece in lower case, and as a value it states the case.
 pub fn words_state_cases<W: WordKeyword>(case: &W)
-    ensures taken { is_other_piece (W.word case.now) ≡ true }
-    ensures lowered { lower (W.word case.now) ≡ W.word case.now }
-    ensures stated { stated_case W.word W.cases (word_value (W.word case.now)) ≡ Some case.now }
+    ensures taken { is_other_piece (W.words.word case.now) ≡ true }
+    ensures lowered { lower (W.words.word case.now) ≡ W.words.word case.now }
+    ensures stated { stated_case W.words (word_value (W.words.word case.now)) ≡ Some case.now }
 {}
 
 /// The text of a subdivision reads back as it.
@@ -55,5 +55,5 @@ pub fn currencies_read_back(currency: &CurrencyType)
     ensures lowered { lower currency.now ≡ currency.now }
     ensures stated { ⟦<CurrencyType as PreferenceKey>⟧.stated (⟦<CurrencyType as PreferenceKey>⟧.written currency.now) ≡ Some currency.now }
 {
-    let _code = currency.code;
+    let _code = currency.own;
 }

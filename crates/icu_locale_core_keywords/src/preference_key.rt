@@ -50,10 +50,7 @@ pub trait PreferenceKey: Sized {
         ensures { result ≡ keyword_answer (same_text keyword key.now) (stated value.now) }
     {
         match Self::unicode_extension_key() {
-            Some(own) if own == *key => match Self::try_from_value(value) {
-                Ok(preference) => Ok(Some(preference)),
-                Err(error) => Err(error),
-            },
+            Some(own) if own == *key => Self::try_from_value(value).map(Some),
             _ => Ok(None),
         }
     }

@@ -35,12 +35,8 @@ fn read_at(code_units: &[u8], n: usize) -> Option<SubdivisionId>
     ensures { MatchOption result (subdivision_at n code_units.now ≡ None) (λ s. subdivision_at n code_units.now ≡ Some s) }
 {
     let (first, second) = code_units.split_at_checked(n)?;
-    let Ok(region) = Region::try_from_utf8(first) else {
-        return None;
-    };
-    let Ok(suffix) = SubdivisionSuffix::try_from_utf8(second) else {
-        return None;
-    };
+    let region = Region::try_from_utf8(first).ok()?;
+    let suffix = SubdivisionSuffix::try_from_utf8(second).ok()?;
     Some(SubdivisionId { region, suffix })
 }
 
@@ -59,12 +55,9 @@ impl SubdivisionId {
     pub fn try_from_utf8(code_units: &[u8]) -> Result<Self, ParseError>
         ensures { MatchResult result (λ s. subdivision_of code_units.now ≡ Some s) (λ e. (subdivision_of code_units.now ≡ None) × (e ≡ ParseError.InvalidExtension)) }
     {
-        if let Some(found) = read_at(code_units, 2) {
-            return Ok(found);
-        }
-        match read_at(code_units, 3) {
+        match read_at(code_units, 2) {
             Some(found) => Ok(found),
-            None => Err(ParseError::InvalidExtension),
+            None => read_at(code_units, 3).ok_or(ParseError::InvalidExtension),
         }
     }
 

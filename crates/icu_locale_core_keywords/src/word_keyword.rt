@@ -16,42 +16,34 @@ use std::alloc::{AllocError, Global};
 ///
 /// A type that has this is a `PreferenceKey`. Source: UTS 35, section 3.6.1.
 pub trait WordKeyword: Copy {
-    ghost use Rattle.std.specs.Prelude.{◌≡◌, ℕ, List};
-    ghost use Rattle.icu_locale_core_keywords.specs.OwnWords.{IsOwnKey, IsOwnWord};
+    ghost use Rattle.std.specs.Prelude.{◌≡◌};
+    ghost use Rattle.icu_locale_core_keywords.specs.OwnWords.{OwnsWords};
+    ghost use Rattle.icu_locale_core_keywords.specs.TypedKeywords.{Words};
 
-    // the key of the keyword
-    ghost key: { List ℕ };
-
-    // the cases, in their order
-    ghost cases: { List Self };
-
-    // the word of a case
-    ghost word: { Self → List ℕ };
+    // the key, the cases in their order, the word of each
+    ghost words: { Words Self };
 
     /// The key: `fw` of `FirstDay`. It takes no memory.
     fn key() -> &'static str
-        ensures { result.now ≡ key };
+        ensures { result.now ≡ words.key };
 
     /// The cases, in their order: `Sun` to `Sat` of `FirstDay`. It takes no memory.
     fn cases() -> &'static [Self]
     where
         Self: 'static,
-        ensures { result.now ≡ cases };
+        ensures { result.now ≡ words.cases };
 
     /// The word of the case: `sun` of `FirstDay::Sun`. It takes no memory.
     fn word(&self) -> &'static str
-        ensures { result.now ≡ word self.now };
+        ensures { result.now ≡ words.word self.now };
 
-    // the key is one
-    ghost is_key: { IsOwnKey key };
-
-    // each word states its case
-    ghost are_words: { (c : Self) → IsOwnWord word cases c };
+    // the key is one, and each word states its case
+    ghost owns: { OwnsWords words };
 }
 
 // The case of which this is the word.
 fn case_of<W: WordKeyword + 'static>(text: &str) -> Option<W>
-    ensures { result ≡ case_of W.word W.cases text.now }
+    ensures { result ≡ case_of W.words.word W.words.cases text.now }
 {
     for case in W::cases() {
         if case.word() == text {
@@ -63,7 +55,7 @@ fn case_of<W: WordKeyword + 'static>(text: &str) -> Option<W>
 
 // The word that the value is, handed to the search for its case.
 fn case_in<W: WordKeyword + 'static>(value: &Value) -> Option<W>
-    ensures { result ≡ stated_case W.word W.cases value.now }
+    ensures { result ≡ stated_case W.words value.now }
 {
     match value.as_subtags_slice() {
         [] => case_of::<W>("true"),
@@ -89,11 +81,11 @@ fn value_of(alloc: Global, word: &str) -> Result<Value, AllocError>
 impl<W: WordKeyword + 'static> PreferenceKey for W {
     ghost use Rattle.icu_locale_core_keywords.specs.TypedKeywords.{stated_case, word_value};
 
-    ghost keyword = { W.key };
+    ghost keyword = { W.words.key };
 
-    ghost stated = { stated_case W.word W.cases };
+    ghost stated = { stated_case W.words };
 
-    ghost written = { λ c. word_value (W.word c) };
+    ghost written = { λ c. word_value (W.words.word c) };
 
     fn unicode_extension_key() -> Option<Key> {
         Key::try_from_str(W::key()).ok()
@@ -101,16 +93,10 @@ impl<W: WordKeyword + 'static> PreferenceKey for W {
 
     fn unicode_extension_value(&self, alloc: Global) -> Result<Option<Value>, AllocError> {
         words_state_cases(self);
-        match value_of(alloc, self.word()) {
-            Ok(value) => Ok(Some(value)),
-            Err(error) => Err(error),
-        }
+        Ok(Some(value_of(alloc, self.word())?))
     }
 
     fn try_from_value(value: &Value) -> Result<Self, PreferencesParseError> {
-        match case_in::<Self>(value) {
-            Some(case) => Ok(case),
-            None => Err(PreferencesParseError::InvalidKeywordValue),
-        }
+        case_in::<Self>(value).ok_or(PreferencesParseError::InvalidKeywordValue)
     }
 }

@@ -27,10 +27,7 @@ fn stated_in<P: PreferenceKey>(keywords: &Keywords) -> Option<P>
     ensures { result ≡ option_and_then P.stated (value_at P.keyword keywords.now) }
 {
     let value = keywords.get(&key_of::<P>())?;
-    match P::try_from_value(value) {
-        Ok(preference) => Some(preference),
-        Err(_) => None,
-    }
+    P::try_from_value(value).ok()
 }
 
 // Whether the key is there, and its value states no preference.

@@ -1,7 +1,6 @@
 //! Laws of preferences and of data locales, beside the clauses of their calls.
 
 ghost use Rattle.std.specs.Prelude.{◌≡◌, ◌↔◌, IfSome, IsTrue};
-ghost use Rattle.icu_locale_core_grammar.specs.Subtags.{is_script, is_region, is_variant, title, upper, lower};
 ghost use Rattle.icu_locale_core_grammar.specs.WellFormed.{IsNormalPiece};
 ghost use Rattle.icu_locale_core_grammar.specs.PreferenceLaws.{IsNormalSubdivision};
 ghost use Rattle.icu_locale_core_preferences.specs.Laws.{IsNormalData, IsNormalPreferences, ReadDataReadsBack, NormalDataReadsBack, PreferencesAreHeld, DataIsHeld, AcceptedTextsPreferAlike, DataLocaleIsOfItsTag, TagsHoldNoTrue};
@@ -10,29 +9,13 @@ use crate::data_locale::DataLocale;
 use crate::locale_preferences::LocalePreferences;
 use icu_locale_core_keywords::SubdivisionId;
 use icu_locale_core_subtags::laws::subtags_are_words;
-use icu_locale_core_subtags::{Region, Script, Variant};
+use icu_locale_core_subtags::{SubtagOf, SubtagRule};
 
-fn scripts_are_normal(script: Option<Script>)
-    ensures { IfSome script (IsNormalPiece is_script title) }
+fn parts_are_normal<R: SubtagRule<N>, const N: usize>(part: Option<SubtagOf<R, N>>)
+    ensures { IfSome part (IsNormalPiece R.accepts R.normal) }
 {
-    if let Some(script) = script {
-        subtags_are_words(&script);
-    }
-}
-
-fn regions_are_normal(region: Option<Region>)
-    ensures { IfSome region (IsNormalPiece is_region upper) }
-{
-    if let Some(region) = region {
-        subtags_are_words(&region);
-    }
-}
-
-fn variants_are_normal(variant: Option<Variant>)
-    ensures { IfSome variant (IsNormalPiece is_variant lower) }
-{
-    if let Some(variant) = variant {
-        subtags_are_words(&variant);
+    if let Some(part) = part {
+        subtags_are_words(&part);
     }
 }
 
@@ -50,9 +33,9 @@ pub fn data_locales_are_normal(data_locale: &DataLocale)
     ensures { IsNormalData data_locale.now }
 {
     subtags_are_words(&data_locale.language);
-    scripts_are_normal(data_locale.script);
-    regions_are_normal(data_locale.region);
-    variants_are_normal(data_locale.variant);
+    parts_are_normal(data_locale.script);
+    parts_are_normal(data_locale.region);
+    parts_are_normal(data_locale.variant);
     subdivisions_are_normal(data_locale.subdivision);
 }
 

@@ -27,10 +27,7 @@ fn subdivision_under(key: &Key, keyword: &Option<(Key, Option<Subtag>)>) -> Opti
     ensures { result ≡ keyword_subdivision key.now (keyword_entries keyword.now) }
 {
     let piece = piece_under(key, keyword)?;
-    match SubdivisionId::try_from_str(piece.as_str()) {
-        Ok(subdivision) => Some(subdivision),
-        Err(_) => None,
-    }
+    SubdivisionId::try_from_str(piece.as_str()).ok()
 }
 
 impl LocalePreferences {

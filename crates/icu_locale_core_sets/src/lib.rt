@@ -20,7 +20,7 @@ mod variants;
 
 pub use crate::attributes::Attributes;
 pub use crate::growing_set::GrowingSet;
-pub use crate::printing::{pieces_length, write_pieces};
+pub use crate::printing::{joined_length, pieces_length, write_joined, write_piece, write_pieces};
 pub use crate::private::Private;
 pub use crate::subtag_set::SubtagSet;
 pub use crate::variants::Variants;

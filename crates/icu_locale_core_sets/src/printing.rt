@@ -1,4 +1,4 @@
-//! Printing the pieces of a list, each behind a hyphen.
+//! Printing the pieces of a list, with hyphens before or between them.
 
 ghost use Rattle.std.specs.Prelude.{◌≡◌, ◌++◌, ◌<◌, ◌^◌, false, [], ◌∷◌, is_err, length, flat_map, OnOk, OnErr, SomeIff};
 ghost use Rattle.writeable.specs.AnnotatedText.{bytes};
@@ -8,8 +8,11 @@ ghost use Rattle.icu_locale_core_grammar.specs.Pieces.{hyphen, hyphened};
 use icu_locale_core_subtags::{SubtagOf, SubtagRule};
 use writeable::{Error, Sink, Writeable};
 
-// Writes a hyphen, and the piece.
-fn write_piece<R: SubtagRule<8>, S: Sink>(piece: &SubtagOf<R, 8>, sink: &mut S) -> Result<(), Error>
+/// Writes a hyphen and the piece: `-1996`. `Error`, only where the sink refused: it took a beginning.
+pub fn write_piece<R: SubtagRule<N>, const N: usize, S: Sink>(
+    piece: &SubtagOf<R, N>,
+    sink: &mut S,
+) -> Result<(), Error>
     requires { S.refused sink.old ≡ false }
     ensures ok { OnOk result (S.takes sink.old (bytes (hyphen ∷ []) ++ bytes piece.now) sink.new) }
     ensures refused { S.refused sink.new ≡ is_err result }
@@ -47,4 +50,31 @@ pub fn pieces_length<R: SubtagRule<8>>(pieces: &[SubtagOf<R, 8>]) -> Option<usiz
         length = length.checked_add(piece.as_str().len() + 1)?;
     }
     Some(length)
+}
+
+/// Writes the first piece, and the others with a hyphen before each: `1996-valencia`.
+///
+/// `Error`, only where the sink refused: it took a beginning. It takes no memory but the sink's.
+pub fn write_joined<R: SubtagRule<8>, S: Sink>(
+    first: &SubtagOf<R, 8>,
+    others: &[SubtagOf<R, 8>],
+    sink: &mut S,
+) -> Result<(), Error>
+    requires { S.refused sink.old ≡ false }
+    ensures ok { OnOk result (S.takes sink.old (bytes first.now ++ bytes (flat_map hyphened others.now)) sink.new) }
+    ensures refused { S.refused sink.new ≡ is_err result }
+    ensures begun { OnErr result (HasBegun S.takes S.lacks_room sink.old (bytes first.now ++ bytes (flat_map hyphened others.now)) sink.new) }
+{
+    first.write_to(sink)?;
+    write_pieces(others, sink)
+}
+
+/// How many bytes `write_joined` writes: for `1996` and `valencia` it is 13. `None` where a `usize` does not hold it.
+pub fn joined_length<R: SubtagRule<8>>(
+    first: &SubtagOf<R, 8>,
+    others: &[SubtagOf<R, 8>],
+) -> Option<usize>
+    ensures { SomeIff result (length (first.now ++ flat_map hyphened others.now) < 2 ^ 64) (length (first.now ++ flat_map hyphened others.now)) }
+{
+    pieces_length(others)?.checked_add(first.as_str().len())
 }

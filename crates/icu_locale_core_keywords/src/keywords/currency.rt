@@ -1,40 +1,37 @@
-//! The currency.
+//! The currency, and how amounts of money are written.
 
 ghost use Rattle.std.specs.Prelude.{◌≡◌};
 ghost use Rattle.icu_locale_core_grammar.specs.Subtags.{upper};
+ghost use Rattle.icu_locale_core_keywords.specs.KeywordWords.{currency_format, currency_format_word};
+ghost use Rattle.icu_locale_core_keywords.specs.TypedKeywords.{currency_key, IsReading, stated_case};
+ghost use Rattle.icu_locale_core_keywords.specs.WordLaws.{currency_format_owns};
 
 use crate::error::PreferencesParseError;
-use crate::one_piece::{piece_of, value_of};
+use crate::piece_keyword::{PieceKey, PieceKeyword};
 use crate::preference_key::PreferenceKey;
+use crate::word_keyword::WordKeyword;
 use icu_locale_core_entries::unicode::Value;
-use icu_locale_core_subtags::Subtag;
-use icu_locale_core_subtags::laws::subtags_are_words;
 use icu_locale_core_subtags::unicode::Key;
-use std::alloc::{AllocError, Global};
-use std::marker::Model;
-use std::ops::Deref;
 use tinystr::TinyAsciiStr;
+
+/// The key `cu`.
+pub struct CurrencyKey;
 
 /// The currency, key `cu`: three letters in lower case, as `usd`. Whether ISO 4217 has the code is not asked.
 ///
-/// Source: UTS 35, section 3.6.1.
-#[derive(Clone, Copy, Debug, PartialEq, Eq, Hash)]
-pub struct CurrencyType {
-    pub(crate) code: TinyAsciiStr<3>,
-}
+/// Values that are no three letters, as `us1` and `usd-eur`, are `InvalidKeywordValue`. Source: UTS 35, section 3.6.1.
+pub type CurrencyType = PieceKeyword<CurrencyKey, TinyAsciiStr<3>>;
 
-impl Model for CurrencyType {
-    ghost use Rattle.std.specs.Prelude.{◌≡◌, ℕ, List, true};
-    ghost use Rattle.icu_locale_core_grammar.specs.Subtags.{lower};
-    ghost use Rattle.icu_locale_core_keywords.specs.TypedKeywords.{is_currency};
+impl PieceKey for CurrencyKey {
+    ghost keyword = { currency_key };
 
-    ghost Value = { List ℕ };
+    fn key() -> Option<Key> {
+        Key::try_from_str("cu").ok()
+    }
 
-    ghost view = { λ c. c.code };
-
-    ghost invariant = { λ c. (is_currency c.code ≡ true) × (lower c.code ≡ c.code) };
-
-    ghost inverse = { λ text. record { code = text } };
+    fn names() -> (&'static str, &'static str) {
+        ("CurrencyType", "code")
+    }
 }
 
 impl CurrencyType {
@@ -42,72 +39,58 @@ impl CurrencyType {
     pub fn iso_code(self) -> TinyAsciiStr<3>
         ensures { result ≡ upper self }
     {
-        self.code.to_ascii_uppercase()
+        self.own.to_ascii_uppercase()
     }
 }
 
-/// The keyword `cu`: a value of one subtag, three letters, states a currency.
-impl PreferenceKey for CurrencyType {
-    ghost use Rattle.std.specs.Prelude.{[], ◌∷◌};
-    ghost use Rattle.icu_locale_core_keywords.specs.TypedKeywords.{currency_key, stated_currency};
+/// How amounts of money are written, key `cf`: `standard` or `account`.
+///
+/// Source: UTS 35, section 3.6.1.
+#[derive(Clone, Copy, Debug, PartialEq, Eq, Hash)]
+pub enum CurrencyFormatStyle {
+    /// With a minus sign before a negative amount.
+    Standard,
+    /// As in accounts, with a negative amount in parentheses.
+    Account,
+}
 
-    ghost keyword = { currency_key };
-
-    ghost stated = { stated_currency };
-
-    ghost written = { λ code. code ∷ [] };
-
-    fn unicode_extension_key() -> Option<Key> {
-        Key::try_from_str("cu").ok()
-    }
-
-    #[tactic(auto, using(crate::proofs::OnePieceLemmas::currency_is_piece))]
-    fn unicode_extension_value(&self, alloc: Global) -> Result<Option<Value>, AllocError> {
-        match Subtag::try_from_str(self.code.as_str()) {
-            Ok(subtag) => value_of(alloc, subtag),
-            Err(_) => unreachable!(),
-        }
-    }
-
-    fn try_from_value(value: &Value) -> Result<Self, PreferencesParseError> {
-        let Some(subtag) = piece_of(value) else {
-            return Err(PreferencesParseError::InvalidKeywordValue);
-        };
-        subtags_are_words(&subtag);
-        let text = subtag.as_tinystr();
-        if text.len() == 3 && text.is_ascii_alphabetic() {
-            Ok(CurrencyType {
-                code: text.resize::<3>(),
-            })
-        } else {
-            Err(PreferencesParseError::InvalidKeywordValue)
+impl CurrencyFormatStyle {
+    /// The word of the style: `standard` of `Standard`. It takes no memory.
+    pub const fn as_str(&self) -> &'static str
+        ensures { result.now ≡ currency_format_word self.now }
+    {
+        match self {
+            CurrencyFormatStyle::Standard => "standard",
+            CurrencyFormatStyle::Account => "account",
         }
     }
 }
 
-/// The currency of a value of three letters: of `usd` it is `usd`. Other values, as `us1` and `usd-eur`, are
-/// `InvalidKeywordValue`. It takes no memory.
-impl TryFrom<&Value> for CurrencyType {
+impl WordKeyword for CurrencyFormatStyle {
+    ghost words = { currency_format };
+
+    ghost owns = { currency_format_owns };
+
+    fn key() -> &'static str {
+        "cf"
+    }
+
+    fn cases() -> &'static [Self] {
+        &[Self::Standard, Self::Account]
+    }
+
+    fn word(&self) -> &'static str {
+        self.as_str()
+    }
+}
+
+/// The style whose word the value is: `account` is `Account`. Other values are `InvalidKeywordValue`. It takes no memory.
+impl TryFrom<&Value> for CurrencyFormatStyle {
     type Error = PreferencesParseError;
 
-    ghost use Rattle.icu_locale_core_keywords.specs.TypedKeywords.{IsReading, stated_currency};
-
-    ghost try_from_gives = { λ value r. IsReading (stated_currency value.now) r };
+    ghost try_from_gives = { λ value r. IsReading (stated_case currency_format value.now) r };
 
     fn try_from(value: &Value) -> Result<Self, PreferencesParseError> {
         Self::try_from_value(value)
-    }
-}
-
-/// The code in lower case: `usd`. It takes no memory.
-impl Deref for CurrencyType {
-    type Target = TinyAsciiStr<3>;
-
-    ghost use Rattle.std.specs.Prelude.{◌≡◌};
-
-    ghost deref_gives = { λ c code. code ≡ c };
-
-    fn deref(&self) -> &TinyAsciiStr<3> {
-        &self.code
     }
 }

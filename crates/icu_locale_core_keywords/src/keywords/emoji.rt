@@ -1,7 +1,9 @@
 //! How emoji are shown.
 
 ghost use Rattle.std.specs.Prelude.{◌≡◌};
-ghost use Rattle.icu_locale_core_keywords.specs.KeywordWords.{emoji_word};
+ghost use Rattle.icu_locale_core_keywords.specs.KeywordWords.{emoji, emoji_word};
+ghost use Rattle.icu_locale_core_keywords.specs.TypedKeywords.{IsReading, stated_case};
+ghost use Rattle.icu_locale_core_keywords.specs.WordLaws.{emoji_owns};
 
 use crate::error::PreferencesParseError;
 use crate::preference_key::PreferenceKey;
@@ -35,29 +37,16 @@ impl EmojiPresentationStyle {
 }
 
 impl WordKeyword for EmojiPresentationStyle {
-    ghost use Rattle.icu_locale_core_keywords.specs.KeywordWords.{emoji_key, emoji_cases, emoji_word};
-    ghost use Rattle.icu_locale_core_keywords.specs.WordLaws.{emoji_is_key, emoji_words};
+    ghost words = { emoji };
 
-    ghost key = { emoji_key };
-
-    ghost cases = { emoji_cases };
-
-    ghost word = { emoji_word };
-
-    ghost is_key = { emoji_is_key };
-
-    ghost are_words = { emoji_words };
+    ghost owns = { emoji_owns };
 
     fn key() -> &'static str {
         "em"
     }
 
     fn cases() -> &'static [Self] {
-        &[
-            EmojiPresentationStyle::Emoji,
-            EmojiPresentationStyle::Text,
-            EmojiPresentationStyle::Default,
-        ]
+        &[Self::Emoji, Self::Text, Self::Default]
     }
 
     fn word(&self) -> &'static str {
@@ -69,10 +58,7 @@ impl WordKeyword for EmojiPresentationStyle {
 impl TryFrom<&Value> for EmojiPresentationStyle {
     type Error = PreferencesParseError;
 
-    ghost use Rattle.icu_locale_core_keywords.specs.TypedKeywords.{IsReading, stated_case};
-    ghost use Rattle.icu_locale_core_keywords.specs.KeywordWords.{emoji_cases, emoji_word};
-
-    ghost try_from_gives = { λ value r. IsReading (stated_case emoji_word emoji_cases value.now) r };
+    ghost try_from_gives = { λ value r. IsReading (stated_case emoji value.now) r };
 
     fn try_from(value: &Value) -> Result<Self, PreferencesParseError> {
         Self::try_from_value(value)

@@ -1,7 +1,9 @@
 //! The first day of a week.
 
 ghost use Rattle.std.specs.Prelude.{◌≡◌};
-ghost use Rattle.icu_locale_core_keywords.specs.KeywordWords.{first_day_word};
+ghost use Rattle.icu_locale_core_keywords.specs.KeywordWords.{first_day, first_day_word};
+ghost use Rattle.icu_locale_core_keywords.specs.TypedKeywords.{IsReading, stated_case};
+ghost use Rattle.icu_locale_core_keywords.specs.WordLaws.{first_day_owns};
 
 use crate::error::PreferencesParseError;
 use crate::preference_key::PreferenceKey;
@@ -47,18 +49,9 @@ impl FirstDay {
 }
 
 impl WordKeyword for FirstDay {
-    ghost use Rattle.icu_locale_core_keywords.specs.KeywordWords.{first_day_key, first_day_cases, first_day_word};
-    ghost use Rattle.icu_locale_core_keywords.specs.WordLaws.{first_day_is_key, first_day_words};
+    ghost words = { first_day };
 
-    ghost key = { first_day_key };
-
-    ghost cases = { first_day_cases };
-
-    ghost word = { first_day_word };
-
-    ghost is_key = { first_day_is_key };
-
-    ghost are_words = { first_day_words };
+    ghost owns = { first_day_owns };
 
     fn key() -> &'static str {
         "fw"
@@ -66,13 +59,13 @@ impl WordKeyword for FirstDay {
 
     fn cases() -> &'static [Self] {
         &[
-            FirstDay::Sun,
-            FirstDay::Mon,
-            FirstDay::Tue,
-            FirstDay::Wed,
-            FirstDay::Thu,
-            FirstDay::Fri,
-            FirstDay::Sat,
+            Self::Sun,
+            Self::Mon,
+            Self::Tue,
+            Self::Wed,
+            Self::Thu,
+            Self::Fri,
+            Self::Sat,
         ]
     }
 
@@ -85,10 +78,7 @@ impl WordKeyword for FirstDay {
 impl TryFrom<&Value> for FirstDay {
     type Error = PreferencesParseError;
 
-    ghost use Rattle.icu_locale_core_keywords.specs.TypedKeywords.{IsReading, stated_case};
-    ghost use Rattle.icu_locale_core_keywords.specs.KeywordWords.{first_day_cases, first_day_word};
-
-    ghost try_from_gives = { λ value r. IsReading (stated_case first_day_word first_day_cases value.now) r };
+    ghost try_from_gives = { λ value r. IsReading (stated_case first_day value.now) r };
 
     fn try_from(value: &Value) -> Result<Self, PreferencesParseError> {
         Self::try_from_value(value)

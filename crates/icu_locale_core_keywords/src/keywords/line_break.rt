@@ -1,7 +1,9 @@
-//! How strictly lines are broken.
+//! Where lines are broken: how strictly, and within words.
 
 ghost use Rattle.std.specs.Prelude.{◌≡◌};
-ghost use Rattle.icu_locale_core_keywords.specs.KeywordWords.{line_break_word};
+ghost use Rattle.icu_locale_core_keywords.specs.KeywordWords.{line_break, line_break_word, word_handling, word_handling_word};
+ghost use Rattle.icu_locale_core_keywords.specs.TypedKeywords.{IsReading, stated_case};
+ghost use Rattle.icu_locale_core_keywords.specs.WordLaws.{line_break_owns, word_handling_owns};
 
 use crate::error::PreferencesParseError;
 use crate::preference_key::PreferenceKey;
@@ -35,29 +37,16 @@ impl LineBreakStyle {
 }
 
 impl WordKeyword for LineBreakStyle {
-    ghost use Rattle.icu_locale_core_keywords.specs.KeywordWords.{line_break_key, line_break_cases, line_break_word};
-    ghost use Rattle.icu_locale_core_keywords.specs.WordLaws.{line_break_is_key, line_break_words};
+    ghost words = { line_break };
 
-    ghost key = { line_break_key };
-
-    ghost cases = { line_break_cases };
-
-    ghost word = { line_break_word };
-
-    ghost is_key = { line_break_is_key };
-
-    ghost are_words = { line_break_words };
+    ghost owns = { line_break_owns };
 
     fn key() -> &'static str {
         "lb"
     }
 
     fn cases() -> &'static [Self] {
-        &[
-            LineBreakStyle::Strict,
-            LineBreakStyle::Normal,
-            LineBreakStyle::Loose,
-        ]
+        &[Self::Strict, Self::Normal, Self::Loose]
     }
 
     fn word(&self) -> &'static str {
@@ -69,10 +58,65 @@ impl WordKeyword for LineBreakStyle {
 impl TryFrom<&Value> for LineBreakStyle {
     type Error = PreferencesParseError;
 
-    ghost use Rattle.icu_locale_core_keywords.specs.TypedKeywords.{IsReading, stated_case};
-    ghost use Rattle.icu_locale_core_keywords.specs.KeywordWords.{line_break_cases, line_break_word};
+    ghost try_from_gives = { λ value r. IsReading (stated_case line_break value.now) r };
 
-    ghost try_from_gives = { λ value r. IsReading (stated_case line_break_word line_break_cases value.now) r };
+    fn try_from(value: &Value) -> Result<Self, PreferencesParseError> {
+        Self::try_from_value(value)
+    }
+}
+
+/// Where lines are broken within words, key `lw`: `normal`, `breakall`, `keepall` or `phrase`.
+///
+/// Source: UTS 35, section 3.6.1.
+#[derive(Clone, Copy, Debug, PartialEq, Eq, Hash)]
+pub enum LineBreakWordHandling {
+    /// As each script does.
+    Normal,
+    /// Within any word.
+    BreakAll,
+    /// Never within a word.
+    KeepAll,
+    /// Between phrases, where it can be so.
+    Phrase,
+}
+
+impl LineBreakWordHandling {
+    /// The word of the handling: `normal` of `Normal`. It takes no memory.
+    pub const fn as_str(&self) -> &'static str
+        ensures { result.now ≡ word_handling_word self.now }
+    {
+        match self {
+            LineBreakWordHandling::Normal => "normal",
+            LineBreakWordHandling::BreakAll => "breakall",
+            LineBreakWordHandling::KeepAll => "keepall",
+            LineBreakWordHandling::Phrase => "phrase",
+        }
+    }
+}
+
+impl WordKeyword for LineBreakWordHandling {
+    ghost words = { word_handling };
+
+    ghost owns = { word_handling_owns };
+
+    fn key() -> &'static str {
+        "lw"
+    }
+
+    fn cases() -> &'static [Self] {
+        &[Self::Normal, Self::BreakAll, Self::KeepAll, Self::Phrase]
+    }
+
+    fn word(&self) -> &'static str {
+        self.as_str()
+    }
+}
+
+/// The handling whose word the value is: `keepall` is `KeepAll`. Other values are `InvalidKeywordValue`. It takes no memory.
+impl TryFrom<&Value> for LineBreakWordHandling {
+    type Error = PreferencesParseError;
+
+    ghost try_from_gives = { λ value r. IsReading (stated_case word_handling value.now) r };
 
     fn try_from(value: &Value) -> Result<Self, PreferencesParseError> {
         Self::try_from_value(value)

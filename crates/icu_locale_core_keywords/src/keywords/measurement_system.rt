@@ -1,7 +1,9 @@
 //! The system of measurement.
 
 ghost use Rattle.std.specs.Prelude.{◌≡◌};
-ghost use Rattle.icu_locale_core_keywords.specs.KeywordWords.{measurement_word};
+ghost use Rattle.icu_locale_core_keywords.specs.KeywordWords.{measurement, measurement_word};
+ghost use Rattle.icu_locale_core_keywords.specs.TypedKeywords.{IsReading, stated_case};
+ghost use Rattle.icu_locale_core_keywords.specs.WordLaws.{measurement_owns};
 
 use crate::error::PreferencesParseError;
 use crate::preference_key::PreferenceKey;
@@ -35,29 +37,16 @@ impl MeasurementSystem {
 }
 
 impl WordKeyword for MeasurementSystem {
-    ghost use Rattle.icu_locale_core_keywords.specs.KeywordWords.{measurement_key, measurement_cases, measurement_word};
-    ghost use Rattle.icu_locale_core_keywords.specs.WordLaws.{measurement_is_key, measurement_words};
+    ghost words = { measurement };
 
-    ghost key = { measurement_key };
-
-    ghost cases = { measurement_cases };
-
-    ghost word = { measurement_word };
-
-    ghost is_key = { measurement_is_key };
-
-    ghost are_words = { measurement_words };
+    ghost owns = { measurement_owns };
 
     fn key() -> &'static str {
         "ms"
     }
 
     fn cases() -> &'static [Self] {
-        &[
-            MeasurementSystem::Metric,
-            MeasurementSystem::Ussystem,
-            MeasurementSystem::Uksystem,
-        ]
+        &[Self::Metric, Self::Ussystem, Self::Uksystem]
     }
 
     fn word(&self) -> &'static str {
@@ -69,10 +58,7 @@ impl WordKeyword for MeasurementSystem {
 impl TryFrom<&Value> for MeasurementSystem {
     type Error = PreferencesParseError;
 
-    ghost use Rattle.icu_locale_core_keywords.specs.TypedKeywords.{IsReading, stated_case};
-    ghost use Rattle.icu_locale_core_keywords.specs.KeywordWords.{measurement_cases, measurement_word};
-
-    ghost try_from_gives = { λ value r. IsReading (stated_case measurement_word measurement_cases value.now) r };
+    ghost try_from_gives = { λ value r. IsReading (stated_case measurement value.now) r };
 
     fn try_from(value: &Value) -> Result<Self, PreferencesParseError> {
         Self::try_from_value(value)

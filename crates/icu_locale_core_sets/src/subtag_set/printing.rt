@@ -1,40 +1,13 @@
 //! Printing a set: its subtags between hyphens, without parts.
 
-ghost use Rattle.std.specs.Prelude.{◌≡◌, ◌++◌, ◌<◌, ◌^◌, false, is_err, length, flat_map, OnOk, OnErr, SomeIff};
-ghost use Rattle.writeable.specs.AnnotatedText.{bytes};
-ghost use Rattle.writeable.specs.Taking.{HasBegun};
-ghost use Rattle.icu_locale_core_grammar.specs.Pieces.{hyphened, joined_text};
+ghost use Rattle.std.specs.Prelude.{◌<◌, ◌^◌, length, SomeIff};
+ghost use Rattle.icu_locale_core_grammar.specs.Pieces.{joined_text};
 
-use crate::printing::{pieces_length, write_pieces};
+use crate::printing::{joined_length, write_joined};
 use crate::subtag_set::SubtagSet;
-use icu_locale_core_subtags::{SubtagOf, SubtagRule};
+use icu_locale_core_subtags::SubtagRule;
 use std::fmt;
 use writeable::{Error, LengthHint, Sink, Writeable, display};
-
-// Writes the first subtag, and the others with a hyphen before each.
-fn write_joined<R: SubtagRule<8>, S: Sink>(
-    first: &SubtagOf<R, 8>,
-    others: &[SubtagOf<R, 8>],
-    sink: &mut S,
-) -> Result<(), Error>
-    requires { S.refused sink.old ≡ false }
-    ensures ok { OnOk result (S.takes sink.old (bytes first.now ++ bytes (flat_map hyphened others.now)) sink.new) }
-    ensures refused { S.refused sink.new ≡ is_err result }
-    ensures begun { OnErr result (HasBegun S.takes S.lacks_room sink.old (bytes first.now ++ bytes (flat_map hyphened others.now)) sink.new) }
-{
-    first.write_to(sink)?;
-    write_pieces(others, sink)
-}
-
-// How many bytes `write_joined` writes, where a `usize` holds it.
-fn joined_length<R: SubtagRule<8>>(
-    first: &SubtagOf<R, 8>,
-    others: &[SubtagOf<R, 8>],
-) -> Option<usize>
-    ensures { SomeIff result (length (first.now ++ flat_map hyphened others.now) < 2 ^ 64) (length (first.now ++ flat_map hyphened others.now)) }
-{
-    pieces_length(others)?.checked_add(first.as_str().len())
-}
 
 // How many bytes the text of a set has, where a `usize` holds it.
 fn text_length<R: SubtagRule<8>>(set: &SubtagSet<R>) -> Option<usize>

@@ -28,9 +28,7 @@ impl SubtagRule<8> for AttributeRule {
 
     ghost laws = { attribute_rule };
 
-    fn accepts(text: &[u8]) -> bool
-        ensures { result ≡ is_attribute text.now }
-    {
+    fn accepts(text: &[u8]) -> bool {
         is_word(text, 3, 8)
     }
 
@@ -40,9 +38,7 @@ impl SubtagRule<8> for AttributeRule {
         text.to_ascii_lowercase()
     }
 
-    fn fault() -> ParseError
-        ensures { result ≡ ParseError.InvalidExtension }
-    {
+    fn fault() -> ParseError {
         ParseError::InvalidExtension
     }
 }

@@ -29,9 +29,7 @@ impl SubtagRule<3> for LanguageRule {
 
     ghost laws = { language_rule };
 
-    fn accepts(text: &[u8]) -> bool
-        ensures { result ≡ is_language text.now }
-    {
+    fn accepts(text: &[u8]) -> bool {
         2 <= text.len() && text.len() <= 3 && are_letters(text)
     }
 
@@ -41,9 +39,7 @@ impl SubtagRule<3> for LanguageRule {
         text.to_ascii_lowercase()
     }
 
-    fn fault() -> ParseError
-        ensures { result ≡ ParseError.InvalidLanguage }
-    {
+    fn fault() -> ParseError {
         ParseError::InvalidLanguage
     }
 }

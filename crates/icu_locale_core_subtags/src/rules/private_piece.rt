@@ -28,9 +28,7 @@ impl SubtagRule<8> for PieceRule {
 
     ghost laws = { private_piece_rule };
 
-    fn accepts(text: &[u8]) -> bool
-        ensures { result ≡ is_private_piece text.now }
-    {
+    fn accepts(text: &[u8]) -> bool {
         is_word(text, 1, 8)
     }
 
@@ -40,9 +38,7 @@ impl SubtagRule<8> for PieceRule {
         text.to_ascii_lowercase()
     }
 
-    fn fault() -> ParseError
-        ensures { result ≡ ParseError.InvalidExtension }
-    {
+    fn fault() -> ParseError {
         ParseError::InvalidExtension
     }
 }

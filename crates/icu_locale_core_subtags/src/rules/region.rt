@@ -30,9 +30,7 @@ impl SubtagRule<3> for RegionRule {
 
     ghost laws = { region_rule };
 
-    fn accepts(text: &[u8]) -> bool
-        ensures { result ≡ is_region text.now }
-    {
+    fn accepts(text: &[u8]) -> bool {
         (text.len() == 2 && are_letters(text)) || (text.len() == 3 && are_digits(text))
     }
 
@@ -42,9 +40,7 @@ impl SubtagRule<3> for RegionRule {
         text.to_ascii_uppercase()
     }
 
-    fn fault() -> ParseError
-        ensures { result ≡ ParseError.InvalidSubtag }
-    {
+    fn fault() -> ParseError {
         ParseError::InvalidSubtag
     }
 }

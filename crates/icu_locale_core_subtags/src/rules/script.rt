@@ -28,9 +28,7 @@ impl SubtagRule<4> for ScriptRule {
 
     ghost laws = { script_rule };
 
-    fn accepts(text: &[u8]) -> bool
-        ensures { result ≡ is_script text.now }
-    {
+    fn accepts(text: &[u8]) -> bool {
         text.len() == 4 && are_letters(text)
     }
 
@@ -40,9 +38,7 @@ impl SubtagRule<4> for ScriptRule {
         text.to_ascii_titlecase()
     }
 
-    fn fault() -> ParseError
-        ensures { result ≡ ParseError.InvalidSubtag }
-    {
+    fn fault() -> ParseError {
         ParseError::InvalidSubtag
     }
 }

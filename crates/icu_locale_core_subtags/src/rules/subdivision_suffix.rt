@@ -30,9 +30,7 @@ impl SubtagRule<4> for SubdivisionSuffixRule {
 
     ghost laws = { suffix_rule };
 
-    fn accepts(text: &[u8]) -> bool
-        ensures { result ≡ is_suffix text.now }
-    {
+    fn accepts(text: &[u8]) -> bool {
         is_word(text, 1, 4)
     }
 
@@ -42,9 +40,7 @@ impl SubtagRule<4> for SubdivisionSuffixRule {
         text.to_ascii_lowercase()
     }
 
-    fn fault() -> ParseError
-        ensures { result ≡ ParseError.InvalidExtension }
-    {
+    fn fault() -> ParseError {
         ParseError::InvalidExtension
     }
 }

@@ -30,9 +30,7 @@ impl SubtagRule<8> for WordRule {
 
     ghost laws = { other_piece_rule };
 
-    fn accepts(text: &[u8]) -> bool
-        ensures { result ≡ is_other_piece text.now }
-    {
+    fn accepts(text: &[u8]) -> bool {
         is_word(text, 2, 8)
     }
 
@@ -42,9 +40,7 @@ impl SubtagRule<8> for WordRule {
         text.to_ascii_lowercase()
     }
 
-    fn fault() -> ParseError
-        ensures { result ≡ ParseError.InvalidSubtag }
-    {
+    fn fault() -> ParseError {
         ParseError::InvalidSubtag
     }
 }

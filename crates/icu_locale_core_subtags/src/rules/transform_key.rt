@@ -27,9 +27,7 @@ impl SubtagRule<2> for KeyRule {
 
     ghost laws = { field_key_rule };
 
-    fn accepts(text: &[u8]) -> bool
-        ensures { result ≡ is_field_key text.now }
-    {
+    fn accepts(text: &[u8]) -> bool {
         match text {
             [first, second] => first.is_ascii_alphabetic() && second.is_ascii_digit(),
             _ => false,
@@ -42,9 +40,7 @@ impl SubtagRule<2> for KeyRule {
         text.to_ascii_lowercase()
     }
 
-    fn fault() -> ParseError
-        ensures { result ≡ ParseError.InvalidExtension }
-    {
+    fn fault() -> ParseError {
         ParseError::InvalidExtension
     }
 }

@@ -27,9 +27,7 @@ impl SubtagRule<2> for KeyRule {
 
     ghost laws = { key_rule };
 
-    fn accepts(text: &[u8]) -> bool
-        ensures { result ≡ is_key text.now }
-    {
+    fn accepts(text: &[u8]) -> bool {
         match text {
             [first, second] => first.is_ascii_alphanumeric() && second.is_ascii_alphabetic(),
             _ => false,
@@ -42,9 +40,7 @@ impl SubtagRule<2> for KeyRule {
         text.to_ascii_lowercase()
     }
 
-    fn fault() -> ParseError
-        ensures { result ≡ ParseError.InvalidExtension }
-    {
+    fn fault() -> ParseError {
         ParseError::InvalidExtension
     }
 }

@@ -29,9 +29,7 @@ impl SubtagRule<8> for VariantRule {
 
     ghost laws = { variant_rule };
 
-    fn accepts(text: &[u8]) -> bool
-        ensures { result ≡ is_variant text.now }
-    {
+    fn accepts(text: &[u8]) -> bool {
         is_word(text, 5, 8) || (is_word(text, 4, 4) && text[0].is_ascii_digit())
     }
 
@@ -41,9 +39,7 @@ impl SubtagRule<8> for VariantRule {
         text.to_ascii_lowercase()
     }
 
-    fn fault() -> ParseError
-        ensures { result ≡ ParseError.InvalidSubtag }
-    {
+    fn fault() -> ParseError {
         ParseError::InvalidSubtag
     }
 }

@@ -4,4 +4,4 @@ use Rattle.icu_locale_core_keywords.proofs.word_keyword.case_of.Given as goal
 
 -- the words passed over are others
 abbrev pub invariant-loop-case : goal.invariant-loop-case
-invariant-loop-case g l = case_of g.W.WordKeyword.word l.case-items l.fn.text ≡ case_of g.W.WordKeyword.word (drop l.case-index l.case-items) l.fn.text
+invariant-loop-case g l = case_of g.W.WordKeyword.words.word l.case-items l.fn.text ≡ case_of g.W.WordKeyword.words.word (drop l.case-index l.case-items) l.fn.text

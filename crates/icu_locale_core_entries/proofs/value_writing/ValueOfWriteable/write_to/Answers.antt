@@ -6,13 +6,13 @@ pub returns-in-Some-clause-ok : goal.returns-in-Some-clause-ok
 returns-in-Some-clause-ok g c =
     let cut = c.in-Some.ensures.cases in
     let written = value_written g.K.EntryKind.needs _ _ _ _ c.as_subtags_slice.ensures.value cut.0 in
-    rw written c.write_subtags.ensures.ok
+    rw written c.write_joined.ensures.ok
 
 pub returns-in-Some-clause-begun : goal.returns-in-Some-clause-begun
 returns-in-Some-clause-begun g c =
     let cut = c.in-Some.ensures.cases in
     let written = value_written g.K.EntryKind.needs _ _ _ _ c.as_subtags_slice.ensures.value cut.0 in
-    rw written c.write_subtags.ensures.begun
+    rw written c.write_joined.ensures.begun
 
 pub returns-else-needs_value-clause-ok : goal.returns-else-needs_value-clause-ok
 returns-else-needs_value-clause-ok g c =
