@@ -59,10 +59,10 @@ pub use Rattle.icu_locale_core_keywords.specs.WordLaws
 pub use Rattle.icu_locale_core_extensions.specs.ExtensionText
 pub use Rattle.icu_locale_core_extensions.specs.SameExtension
 pub use Rattle.icu_locale_core_extensions.specs.SameExtensionLaws
-pub use Rattle.icu_locale_core_locale.specs.ExtensionsValue
-pub use Rattle.icu_locale_core_locale.specs.ExtensionsOrder
-pub use Rattle.icu_locale_core_locale.specs.ExtensionsText
-pub use Rattle.icu_locale_core_locale.specs.RetainedByType
+pub use Rattle.icu_locale_core_extensions.specs.ExtensionsValue
+pub use Rattle.icu_locale_core_extensions.specs.ExtensionsOrder
+pub use Rattle.icu_locale_core_extensions.specs.ExtensionsText
+pub use Rattle.icu_locale_core_extensions.specs.RetainedByType
 -- Which texts ask a reader for memory.
 pub use Rattle.icu_locale_core_langid.specs.Room as LanguageRoom
 pub use Rattle.icu_locale_core_entries.specs.Room as EntryRoom
@@ -76,5 +76,6 @@ pub use Rattle.icu_locale_core_preferences.specs.HeldTag
 pub use Rattle.icu_locale_core_grammar.specs.Stepping
 pub use Rattle.icu_locale_core_grammar.specs.TagStages
 -- When two locales are one.
+pub use Rattle.icu_locale_core_locale.specs.LocaleOrders
 pub use Rattle.icu_locale_core_locale.specs.LocaleValue
 pub use Rattle.icu_locale_core_locale.specs.SameLocale

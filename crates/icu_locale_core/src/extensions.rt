@@ -3,8 +3,7 @@
 //! `en-a-foo-t-de-u-nu-thai-x-bar` has the extensions `a`, `t` and `u`, and the private piece `bar`. [`Extensions`] has those of a
 //! locale, and [`ExtensionType`] names one of them.
 
-pub use icu_locale_core_extensions::ExtensionType;
-pub use icu_locale_core_locale::Extensions;
+pub use icu_locale_core_extensions::{ExtensionType, Extensions};
 
 /// The extension `u`: attributes and keywords, as in `u-foo-nu-thai`.
 pub mod unicode {

@@ -1,5 +1,5 @@
--- The text of one extension: as it is written, and how long it is.
-use Rattle.std.proofs.Common.{◌≡◌, Bool, true, false, ◌&&◌, eqb, ◌+◌, List, [], ◌∷◌, ◌++◌, Option, None, Some, length, refl, sym, ap, ◌∙◌, append-nil, arith, length-append}
+-- The text of one extension, as it is written.
+use Rattle.std.proofs.Common.{◌≡◌, Bool, true, false, ◌&&◌, eqb, List, [], ◌∷◌, ◌++◌, Option, None, Some, length, refl, ap, ◌∙◌, append-nil, arith}
 use Rattle.std.specs.Prelude.{flat_map}
 use Rattle.std.proofs.lemmas.Bool.{eqb-true}
 use Rattle.std.proofs.lemmas.List.Concat.{flat_map-append}
@@ -9,59 +9,36 @@ use Rattle.icu_locale_core_grammar.specs.Collections.{Entry}
 use Rattle.icu_locale_core_grammar.specs.LanguagePart.{LanguageId}
 use Rattle.icu_locale_core_grammar.specs.Meaning.{Part, UnicodeMeaning, TransformMeaning}
 use Rattle.icu_locale_core_grammar.specs.Meaning as meaning
-use Rattle.icu_locale_core_grammar.specs.NormalText.{inner_pieces, entry_pieces, unicode_pieces, transform_pieces, one_block, block_pieces, private_pieces}
-use Rattle.icu_locale_core_grammar.specs.Pieces.{hyphen, hyphened, joined_text}
+use Rattle.icu_locale_core_grammar.specs.NormalText.{inner_pieces, entry_pieces, unicode_pieces, transform_pieces, private_pieces}
+use Rattle.icu_locale_core_grammar.specs.Pieces.{hyphen, hyphened}
 use Rattle.icu_locale_core_grammar.specs.TagStages.{has_none}
 use Rattle.icu_locale_core_sets.proofs.PrintingLemmas.{bytes_joined, no_bytes}
 use Rattle.icu_locale_core_entries.specs.EntryText.{hyphened_entries}
-use Rattle.icu_locale_core_extensions.specs.ExtensionText.{is_empty_unicode, is_empty_transform, block_text, hyphened_block}
+use Rattle.icu_locale_core_extensions.specs.ExtensionText.{own_pieces, placed}
+use Rattle.icu_locale_core_extensions.specs.ExtensionsValue.{is_empty_unicode, is_empty_transform}
 
 -- ---- any extension
 
 -- its pieces, where there are some behind the singleton
-shown : (s : Text) (ps : List Text) (v : Part) → has_none ps ≡ false → block_pieces (one_block s ps v) ≡ s ∷ ps
+pub shown : (s : Text) (ps : List Text) (v : Part) → has_none ps ≡ false → own_pieces s ps v ≡ s ∷ ps
 shown s [] v some = cc
 shown s (p ∷ ps) v some = append-nil (s ∷ p ∷ ps)
 
 -- and where there are none
-unshown : (s : Text) (ps : List Text) (v : Part) → has_none ps ≡ true → block_pieces (one_block s ps v) ≡ []
+pub unshown : (s : Text) (ps : List Text) (v : Part) → has_none ps ≡ true → own_pieces s ps v ≡ []
 unshown s [] v none = refl
 unshown s (p ∷ ps) v none = cc
 
-module _ (s : Text) (ps : List Text) (v : Part) where
-  module _ (some : has_none ps ≡ false) where
-    alone_text : block_text s ps v ≡ s ++ flat_map hyphened ps
-    alone_text = ap (λ l. joined_text l) (shown s ps v some)
+module _ (s : Text) (ps : List Text) where
+  pub beginning_events : bytes (placed true (s ∷ ps)) ≡ bytes s ++ bytes (flat_map hyphened ps)
+  beginning_events = bytes_joined s (flat_map hyphened ps)
 
-    hyphened_text : hyphened_block s ps v ≡ hyphen ∷ block_text s ps v
-    hyphened_text = ap (flat_map hyphened) (shown s ps v some) ∙ ap (λ l. hyphen ∷ l) (sym alone_text)
+  pub hyphened_events : bytes (placed false (s ∷ ps)) ≡ bytes (hyphen ∷ []) ++ (bytes s ++ bytes (flat_map hyphened ps))
+  hyphened_events = bytes_joined (hyphen ∷ []) (s ++ flat_map hyphened ps) ∙ ap (λ l. bytes (hyphen ∷ []) ++ l) beginning_events
 
-    pub alone_events : bytes (block_text s ps v) ≡ bytes s ++ bytes (flat_map hyphened ps)
-    alone_events = ap bytes alone_text ∙ bytes_joined s (flat_map hyphened ps)
-
-    pub hyphened_events : bytes (hyphened_block s ps v) ≡ bytes (hyphen ∷ []) ++ bytes (block_text s ps v)
-    hyphened_events = ap bytes hyphened_text ∙ bytes_joined (hyphen ∷ []) (block_text s ps v)
-
-    pub alone_length : length (block_text s ps v) ≡ length (flat_map hyphened ps) + length s
-    alone_length =
-        let parts : length (block_text s ps v) ≡ length s + length (flat_map hyphened ps) = ap length alone_text ∙ length-append s (flat_map hyphened ps) in
-        omega (arith, parts)
-
-    pub hyphened_length : length (hyphened_block s ps v) ≡ length (block_text s ps v) + 1
-    hyphened_length = ap length hyphened_text ∙ (let e : length (hyphen ∷ block_text s ps v) ≡ length (block_text s ps v) + 1 = omega arith in e)
-
-  module _ (none : has_none ps ≡ true) where
-    pub no_alone_events : bytes (block_text s ps v) ≡ []
-    no_alone_events = ap (λ l. bytes (joined_text l)) (unshown s ps v none) ∙ no_bytes
-
-    pub no_hyphened_events : bytes (hyphened_block s ps v) ≡ []
-    no_hyphened_events = ap (λ l. bytes (flat_map hyphened l)) (unshown s ps v none) ∙ no_bytes
-
-    pub no_alone_length : length (block_text s ps v) ≡ 0
-    no_alone_length = ap (λ l. length (joined_text l)) (unshown s ps v none)
-
-    pub no_hyphened_length : length (hyphened_block s ps v) ≡ 0
-    no_hyphened_length = ap (λ l. length (flat_map hyphened l)) (unshown s ps v none)
+pub nothing_placed : (b : Bool) → bytes (placed b []) ≡ []
+nothing_placed true = no_bytes
+nothing_placed false = no_bytes
 
 -- ---- whether there are pieces
 
@@ -102,24 +79,15 @@ pub unicode_tail_events : (u : UnicodeMeaning) → bytes (flat_map hyphened (uni
 unicode_tail_events u =
     ap bytes (flat_map-append hyphened u.head (entry_pieces false u.entries)) ∙ bytes_joined (flat_map hyphened u.head) (hyphened_entries false u.entries)
 
-pub unicode_tail_length : (u : UnicodeMeaning) → length (flat_map hyphened (unicode_pieces u)) ≡ length (flat_map hyphened u.head) + length (hyphened_entries false u.entries)
-unicode_tail_length u =
-    ap length (flat_map-append hyphened u.head (entry_pieces false u.entries)) ∙ length-append (flat_map hyphened u.head) (hyphened_entries false u.entries)
-
 pub transform_tail_events : (t : TransformMeaning)
     → bytes (flat_map hyphened (transform_pieces t)) ≡ bytes (flat_map hyphened (inner_pieces t.head)) ++ bytes (hyphened_entries true t.entries)
 transform_tail_events t =
     ap bytes (flat_map-append hyphened (inner_pieces t.head) (entry_pieces true t.entries)) ∙ bytes_joined (flat_map hyphened (inner_pieces t.head)) (hyphened_entries true t.entries)
 
-pub transform_tail_length : (t : TransformMeaning)
-    → length (flat_map hyphened (transform_pieces t)) ≡ length (flat_map hyphened (inner_pieces t.head)) + length (hyphened_entries true t.entries)
-transform_tail_length t =
-    ap length (flat_map-append hyphened (inner_pieces t.head) (entry_pieces true t.entries)) ∙ length-append (flat_map hyphened (inner_pieces t.head)) (hyphened_entries true t.entries)
-
 pub no_language_events : bytes (flat_map hyphened (inner_pieces None)) ≡ []
 no_language_events = no_bytes
 
 -- private pieces are like those of an extension
-pub private_block : (own : List Text) → private_pieces own ≡ block_pieces (one_block private_text own (meaning.Part.other own))
+pub private_block : (own : List Text) → own_pieces private_text own (meaning.Part.other own) ≡ private_pieces own
 private_block [] = refl
-private_block (w ∷ ws) = sym (append-nil (private_text ∷ w ∷ ws))
+private_block (w ∷ ws) = append-nil (private_text ∷ w ∷ ws)

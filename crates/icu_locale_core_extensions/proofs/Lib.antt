@@ -1,5 +1,7 @@
 pub mod BlockLemmas
-pub mod CountingLemmas
+pub mod ExtensionsLemmas
 pub mod OpeningLemmas
+pub mod OrderLemmas
 pub mod PlacedLemmas
+pub mod RetainingLemmas
 pub mod RoomLemmas

@@ -8,6 +8,7 @@ use Rattle.icu_locale_core_grammar.specs.TagStages as stages
 use Rattle.icu_locale_core_subtags.specs.declared.step.Step.{Step}
 use Rattle.icu_locale_core_subtags.specs.declared.step.Step.TheVariants.{Taken, Refused}
 use Rattle.icu_locale_core_entries.specs.HeadedView.{headed_view}
+use Rattle.icu_locale_core_extensions.specs.ExtensionsValue.{ExtensionsValue}
 use Rattle.icu_locale_core_extensions.specs.declared.body.BodyStage.{BodyStage}
 use Rattle.icu_locale_core_extensions.specs.declared.body.BodyStage.TheVariants.{InUnicode, InTransform, InOther}
 use Rattle.icu_locale_core_extensions.specs.declared.body.Part.{Part}
@@ -39,3 +40,7 @@ abbrev pub HasKey : Text → Part → Type 0
 HasKey key (Unicode u) = Unit {0}
 HasKey key (Transform t) = Unit {0}
 HasKey key (Other own) = own.0 ≡ key
+
+-- the extensions with one more, of this singleton
+abbrev pub put_extension : Text → Part → ExtensionsValue → ExtensionsValue
+put_extension key part e = record { blocks = meaning.put_part key (part_view part) e.blocks; own = e.own }

@@ -4,5 +4,9 @@ pub mod BodyView
 pub mod OtherSingleton
 pub mod Others
 pub mod ExtensionText
+pub mod ExtensionsOrder
+pub mod ExtensionsText
+pub mod ExtensionsValue
+pub mod RetainedByType
 pub mod SameExtension
 pub mod SameExtensionLaws

@@ -1,4 +1,4 @@
--- When two extensions are one: part by part.
+-- When two extensions, or all of two tags, are one: part by part.
 -- Defined in docs/tags.md, "Extensions as values".
 -- Cited by `==` and `hash` of extensions.
 use Rattle.std.specs.Prelude.{Bool, ◌&&◌, ◌++◌}
@@ -11,6 +11,7 @@ use Rattle.icu_locale_core_grammar.specs.Meaning.{UnicodeMeaning, TransformMeani
 use Rattle.icu_locale_core_langid.specs.SameLanguage.{same_language}
 use Rattle.icu_locale_core_langid.specs.SameLanguageLaws.{language_fed}
 use Rattle.icu_locale_core_entries.specs.Orders.{same_entries, same_value}
+use Rattle.icu_locale_core_extensions.specs.ExtensionsValue.{ExtensionsValue}
 
 -- attributes and keywords
 abbrev pub same_unicode : UnicodeMeaning → UnicodeMeaning → Bool
@@ -19,6 +20,12 @@ same_unicode a b = pointwise same_text a.head b.head && same_entries a.entries b
 -- the language part and the fields
 abbrev pub same_transform : TransformMeaning → TransformMeaning → Bool
 same_transform a b = option_eq same_language a.head b.head && same_entries a.entries b.entries
+
+-- `u`, `t`, the private pieces, and all others in the order held
+abbrev pub same_extensions : ExtensionsValue → ExtensionsValue → Bool
+same_extensions a b =
+    same_unicode a.blocks.unicode b.blocks.unicode
+    && (same_transform a.blocks.transform b.blocks.transform && (pointwise same_text a.own b.own && same_entries a.blocks.others b.blocks.others))
 
 -- the singleton and the pieces
 abbrev pub same_other : Entry → Entry → Bool
@@ -33,3 +40,7 @@ transform_fed t = fed.option language_fed t.head ++ fed.slice (λ e. fed.str e.0
 
 abbrev pub other_fed : Entry → fed.HashWrites
 other_fed o = fed.str o.0 ++ fed.slice fed.str o.1
+
+abbrev pub extensions_fed : ExtensionsValue → fed.HashWrites
+extensions_fed e =
+    unicode_fed e.blocks.unicode ++ (transform_fed e.blocks.transform ++ (fed.slice fed.str e.own ++ fed.slice other_fed e.blocks.others))

@@ -3,10 +3,12 @@
 ghost use Rattle.std.specs.Prelude.{◌≡◌};
 ghost use Rattle.std.specs.Cmp.{partial_equiv_from_equiv};
 ghost use Rattle.std.specs.Option.{option_cmp};
-ghost use Rattle.icu_locale_core_grammar.specs.TagOrder.{language_cmp, unicode_cmp, transform_cmp, entry_cmp};
-ghost use Rattle.icu_locale_core_extensions.specs.SameExtension.{same_unicode, same_transform, same_other, unicode_fed, transform_fed, other_fed};
-ghost use Rattle.icu_locale_core_extensions.specs.SameExtensionLaws.{unicode_equiv, transform_equiv, other_equiv, unicode_alike, transform_alike, other_alike};
+ghost use Rattle.icu_locale_core_grammar.specs.TagOrder.{language_cmp, unicode_cmp, transform_cmp, entry_cmp, entries_cmp};
+ghost use Rattle.icu_locale_core_extensions.specs.ExtensionsOrder.{extensions_cmp};
+ghost use Rattle.icu_locale_core_extensions.specs.SameExtension.{same_unicode, same_transform, same_other, same_extensions, unicode_fed, transform_fed, other_fed, extensions_fed};
+ghost use Rattle.icu_locale_core_extensions.specs.SameExtensionLaws.{unicode_equiv, transform_equiv, other_equiv, extensions_equiv, unicode_alike, transform_alike, other_alike, extensions_alike};
 
+use crate::extensions::Extensions;
 use crate::other::Other;
 use crate::transform::Transform;
 use crate::unicode::Unicode;
@@ -135,5 +137,63 @@ impl Other {
         self.get_ext_str()
             .cmp(other.get_ext_str())
             .then(self.as_slice().cmp(other.as_slice()))
+    }
+}
+
+impl PartialEq for Extensions {
+    ghost eq = { same_extensions };
+
+    ghost laws = { partial_equiv_from_equiv extensions_equiv };
+
+    fn eq(&self, other: &Self) -> bool {
+        self.unicode == other.unicode
+            && self.transform == other.transform
+            && self.private == other.private
+            && self.other.as_slice() == other.other.as_slice()
+    }
+}
+
+impl Eq for Extensions {
+    ghost laws = { extensions_equiv };
+}
+
+impl Hash for Extensions {
+    ghost hash_input = { extensions_fed };
+
+    ghost respects_eq = { extensions_alike };
+
+    fn hash<H: Hasher>(&self, state: &mut H) {
+        self.unicode.hash(state);
+        self.transform.hash(state);
+        self.private.hash(state);
+        self.other.as_slice().hash(state);
+    }
+}
+
+// The order of two lists of extensions: by their first difference; where one begins the other, the shorter is less.
+fn others_order(others: &[Other], against: &[Other]) -> Ordering
+    ensures { result ≡ entries_cmp others.now against.now }
+{
+    for (one, other) in others.iter().zip(against) {
+        let order = one.total_cmp(other);
+        if order.is_ne() {
+            return order;
+        }
+    }
+    others.len().cmp(&against.len())
+}
+
+impl Extensions {
+    /// The order of two values, part by part: `u`, `t`, the private pieces, all others. It takes no memory.
+    ///
+    /// `u-nu-latn` before `u-nu-thai`, and `t-de` before `u-foo`, which has an attribute. `Equal` exactly where they are equal.
+    pub fn total_cmp(&self, other: &Self) -> Ordering
+        ensures { result ≡ extensions_cmp self.now other.now }
+    {
+        self.unicode
+            .total_cmp(&other.unicode)
+            .then(self.transform.total_cmp(&other.transform))
+            .then(self.private.cmp(&other.private))
+            .then(others_order(self.other.as_slice(), other.other.as_slice()))
     }
 }

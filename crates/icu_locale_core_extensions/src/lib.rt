@@ -11,26 +11,27 @@
 #![tactic(auto)]
 
 mod block_writing;
-mod blocks;
-mod blocks_writing;
 mod body;
 mod comparing;
 mod extension_type;
+mod extensions;
+mod extensions_writing;
 mod head;
 pub mod laws;
 mod opening;
 mod other;
 mod other_writing;
+mod retaining;
 mod singleton;
 mod transform;
 mod transform_writing;
 mod unicode;
 mod unicode_writing;
 
-pub use crate::blocks::Blocks;
-pub use crate::blocks_writing::{extensions_length, write_extensions};
 pub use crate::body::{BodyStage, Part, body_after, body_finish, opened_body};
 pub use crate::extension_type::ExtensionType;
+pub use crate::extensions::{Extensions, put_part};
+pub use crate::extensions_writing::write_extensions;
 pub use crate::opening::is_letter;
 pub use crate::other::Other;
 pub use crate::singleton::is_one_character;

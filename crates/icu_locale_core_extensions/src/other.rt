@@ -13,8 +13,8 @@ ghost use Rattle.icu_locale_core_grammar.specs.TagStages.{other_after as pieces_
 ghost use Rattle.icu_locale_core_grammar.specs.Meaning.{MeansOther};
 ghost use Rattle.icu_locale_core_entries.specs.Steps.{IsStep};
 ghost use Rattle.icu_locale_core_sets.specs.Reading.{IsRefused, begins, begins_behind};
-ghost use Rattle.icu_locale_core_extensions.specs.declared.extension_type.ExtensionType.{ExtensionType};
 ghost use Rattle.icu_locale_core_extensions.specs.Others.{IsPlaceOf, IsThere, KeepsSingleton};
+ghost use Rattle.icu_locale_core_extensions.specs.RetainedByType.{other_type};
 
 use crate::extension_type::ExtensionType;
 use crate::opening::other_behind;
@@ -89,7 +89,7 @@ impl Other {
 
     /// The type of the extension: of `A-Foo-bar` it is `Other(b'a')`.
     pub fn get_ext(&self) -> ExtensionType
-        ensures { (singleton : ℕ) → self.now.0 ≡ singleton ∷ [] → result ≡ ExtensionType.Other singleton }
+        ensures { result ≡ other_type self.now.0 }
     {
         ExtensionType::Other(self.get_ext_byte())
     }

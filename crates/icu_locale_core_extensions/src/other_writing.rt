@@ -1,14 +1,8 @@
 //! Printing extensions that have no rule of their own, and the private pieces.
 
-ghost use Rattle.std.specs.Prelude.{◌≡◌, ◌<◌, ◌^◌, false, is_err, length, OnOk, OnErr, SomeIff};
-ghost use Rattle.writeable.specs.AnnotatedText.{bytes};
-ghost use Rattle.writeable.specs.Taking.{HasBegun};
-ghost use Rattle.icu_locale_core_grammar.specs.NormalText.{other_block};
-ghost use Rattle.icu_locale_core_extensions.specs.ExtensionText.{hyphened_blocks};
-
-use crate::block_writing::{Block, hyphened_length, length_hint, write_alone, write_hyphened};
+use crate::block_writing::{Block, length_hint, write_alone};
 use crate::other::Other;
-use icu_locale_core_sets::{Private, pieces_length, write_pieces};
+use icu_locale_core_sets::{Private, write_pieces};
 use std::fmt;
 use writeable::{Error, LengthHint, Sink, Writeable, display};
 
@@ -33,10 +27,6 @@ impl Block for Other {
     fn write_pieces<S: Sink>(&self, sink: &mut S) -> Result<(), Error> {
         write_pieces(self.as_slice(), sink)
     }
-
-    fn pieces_length(&self) -> Option<usize> {
-        pieces_length(self.as_slice())
-    }
 }
 
 impl Block for Private {
@@ -60,31 +50,6 @@ impl Block for Private {
 
     fn write_pieces<S: Sink>(&self, sink: &mut S) -> Result<(), Error> {
         write_pieces(self.as_slice(), sink)
-    }
-
-    fn pieces_length(&self) -> Option<usize> {
-        pieces_length(self.as_slice())
-    }
-}
-
-impl Other {
-    /// Writes the text with a hyphen before it, `-a-foo-bar`; nothing where there is no piece.
-    ///
-    /// `Error`, only where the sink refused: it took a beginning. It takes no memory but the sink's.
-    pub fn write_hyphened<S: Sink>(&self, sink: &mut S) -> Result<(), Error>
-        requires { S.refused sink.old ≡ false }
-        ensures ok { OnOk result (S.takes sink.old (bytes (hyphened_blocks (other_block self.now))) sink.new) }
-        ensures refused { S.refused sink.new ≡ is_err result }
-        ensures begun { OnErr result (HasBegun S.takes S.lacks_room sink.old (bytes (hyphened_blocks (other_block self.now))) sink.new) }
-    {
-        write_hyphened(self, sink)
-    }
-
-    /// How many bytes `write_hyphened` writes: 10 of `a-foo-bar`. `None` where a `usize` does not hold it.
-    pub fn hyphened_length(&self) -> Option<usize>
-        ensures { SomeIff result (length (hyphened_blocks (other_block self.now)) < 2 ^ 64) (length (hyphened_blocks (other_block self.now))) }
-    {
-        hyphened_length(self)
     }
 }
 

@@ -8,7 +8,7 @@ ghost use Rattle.icu_locale_core_grammar.specs.Pieces.{pieces};
 ghost use Rattle.icu_locale_core_grammar.specs.Meaning.{MeansTransform, no_transform};
 ghost use Rattle.icu_locale_core_grammar.specs.PartReaders.{ReadsTransform};
 ghost use Rattle.icu_locale_core_sets.specs.Reading.{IsRefused, begins, begins_behind};
-ghost use Rattle.icu_locale_core_extensions.specs.ExtensionText.{is_empty_transform};
+ghost use Rattle.icu_locale_core_extensions.specs.ExtensionsValue.{is_empty_transform};
 ghost use Rattle.icu_locale_core_extensions.specs.Room.{begins_transform};
 
 use crate::head::{LanguageHead, settled_language};

@@ -1,14 +1,13 @@
 //! Printing the extension `t`.
 
-ghost use Rattle.std.specs.Prelude.{◌≡◌, ◌++◌, ◌<◌, ◌^◌, true, false, is_err, length, flat_map, OnOk, OnErr, SomeIff};
+ghost use Rattle.std.specs.Prelude.{◌≡◌, ◌++◌, true, false, is_err, flat_map, OnOk, OnErr};
 ghost use Rattle.writeable.specs.AnnotatedText.{bytes};
 ghost use Rattle.writeable.specs.Taking.{HasBegun};
-ghost use Rattle.icu_locale_core_grammar.specs.NormalText.{inner_pieces, transform_block};
+ghost use Rattle.icu_locale_core_grammar.specs.NormalText.{inner_pieces};
 ghost use Rattle.icu_locale_core_grammar.specs.Pieces.{hyphened};
 ghost use Rattle.icu_locale_core_entries.specs.EntryText.{hyphened_entries};
-ghost use Rattle.icu_locale_core_extensions.specs.ExtensionText.{hyphened_blocks};
 
-use crate::block_writing::{Block, hyphened_length, length_hint, write_alone, write_hyphened};
+use crate::block_writing::{Block, length_hint, write_alone};
 use crate::transform::Transform;
 use icu_locale_core_langid::LanguageIdentifier;
 use std::fmt;
@@ -25,16 +24,6 @@ fn write_language<S: Sink>(lang: &Option<LanguageIdentifier>, sink: &mut S) -> R
     match lang {
         Some(lang) => lang.write_inner_to(sink),
         None => Ok(()),
-    }
-}
-
-// How many bytes `write_language` writes, where a `usize` holds it.
-fn language_length(lang: &Option<LanguageIdentifier>) -> Option<usize>
-    ensures { SomeIff result (length (flat_map hyphened (inner_pieces lang.now)) < 2 ^ 64) (length (flat_map hyphened (inner_pieces lang.now))) }
-{
-    match lang {
-        Some(lang) => lang.inner_length(),
-        None => Some(0),
     }
 }
 
@@ -72,33 +61,6 @@ impl Block for Transform {
     #[tactic(auto, using(crate::proofs::BlockLemmas::transform_tail_events))]
     fn write_pieces<S: Sink>(&self, sink: &mut S) -> Result<(), Error> {
         write_tail(self, sink)
-    }
-
-    #[tactic(auto, using(crate::proofs::BlockLemmas::transform_tail_length))]
-    fn pieces_length(&self) -> Option<usize> {
-        let language = language_length(&self.lang)?;
-        self.fields.hyphened_length()?.checked_add(language)
-    }
-}
-
-impl Transform {
-    /// Writes the text with a hyphen before it, `-t-de-latn-m0-true`; nothing where it is empty.
-    ///
-    /// `Error`, only where the sink refused: it took a beginning. It takes no memory but the sink's.
-    pub fn write_hyphened<S: Sink>(&self, sink: &mut S) -> Result<(), Error>
-        requires { S.refused sink.old ≡ false }
-        ensures ok { OnOk result (S.takes sink.old (bytes (hyphened_blocks (transform_block self.now))) sink.new) }
-        ensures refused { S.refused sink.new ≡ is_err result }
-        ensures begun { OnErr result (HasBegun S.takes S.lacks_room sink.old (bytes (hyphened_blocks (transform_block self.now))) sink.new) }
-    {
-        write_hyphened(self, sink)
-    }
-
-    /// How many bytes `write_hyphened` writes: 18 of `t-de-latn-m0-true`. `None` where a `usize` does not hold it.
-    pub fn hyphened_length(&self) -> Option<usize>
-        ensures { SomeIff result (length (hyphened_blocks (transform_block self.now)) < 2 ^ 64) (length (hyphened_blocks (transform_block self.now))) }
-    {
-        hyphened_length(self)
     }
 }
 

@@ -10,7 +10,7 @@ ghost use Rattle.icu_locale_core_grammar.specs.Collections.{set_of};
 ghost use Rattle.icu_locale_core_entries.specs.EntryChanges.{joined_maps};
 ghost use Rattle.icu_locale_core_grammar.specs.PartReaders.{ReadsUnicode};
 ghost use Rattle.icu_locale_core_sets.specs.Reading.{IsRefused, begins, begins_behind};
-ghost use Rattle.icu_locale_core_extensions.specs.ExtensionText.{is_empty_unicode};
+ghost use Rattle.icu_locale_core_extensions.specs.ExtensionsValue.{is_empty_unicode};
 ghost use Rattle.icu_locale_core_extensions.specs.Room.{begins_unicode};
 
 use crate::head::AttributesHead;

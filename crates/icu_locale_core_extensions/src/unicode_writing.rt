@@ -1,16 +1,14 @@
 //! Printing the extension `u`.
 
-ghost use Rattle.std.specs.Prelude.{◌≡◌, ◌++◌, ◌<◌, ◌^◌, false, is_err, length, flat_map, OnOk, OnErr, SomeIff};
+ghost use Rattle.std.specs.Prelude.{◌≡◌, ◌++◌, false, is_err, flat_map, OnOk, OnErr};
 ghost use Rattle.writeable.specs.AnnotatedText.{bytes};
 ghost use Rattle.writeable.specs.Taking.{HasBegun};
-ghost use Rattle.icu_locale_core_grammar.specs.NormalText.{unicode_block};
 ghost use Rattle.icu_locale_core_grammar.specs.Pieces.{hyphened};
 ghost use Rattle.icu_locale_core_entries.specs.EntryText.{hyphened_entries};
-ghost use Rattle.icu_locale_core_extensions.specs.ExtensionText.{hyphened_blocks};
 
-use crate::block_writing::{Block, hyphened_length, length_hint, write_alone, write_hyphened};
+use crate::block_writing::{Block, length_hint, write_alone};
 use crate::unicode::Unicode;
-use icu_locale_core_sets::{pieces_length, write_pieces};
+use icu_locale_core_sets::write_pieces;
 use std::fmt;
 use writeable::{Error, LengthHint, Sink, Writeable, display};
 
@@ -48,33 +46,6 @@ impl Block for Unicode {
     #[tactic(auto, using(crate::proofs::BlockLemmas::unicode_tail_events))]
     fn write_pieces<S: Sink>(&self, sink: &mut S) -> Result<(), Error> {
         write_tail(self, sink)
-    }
-
-    #[tactic(auto, using(crate::proofs::BlockLemmas::unicode_tail_length))]
-    fn pieces_length(&self) -> Option<usize> {
-        let attributes = pieces_length(self.attributes.as_slice())?;
-        self.keywords.hyphened_length()?.checked_add(attributes)
-    }
-}
-
-impl Unicode {
-    /// Writes the text with a hyphen before it, `-u-foo-nu-thai`; nothing where it is empty.
-    ///
-    /// `Error`, only where the sink refused: it took a beginning. It takes no memory but the sink's.
-    pub fn write_hyphened<S: Sink>(&self, sink: &mut S) -> Result<(), Error>
-        requires { S.refused sink.old ≡ false }
-        ensures ok { OnOk result (S.takes sink.old (bytes (hyphened_blocks (unicode_block self.now))) sink.new) }
-        ensures refused { S.refused sink.new ≡ is_err result }
-        ensures begun { OnErr result (HasBegun S.takes S.lacks_room sink.old (bytes (hyphened_blocks (unicode_block self.now))) sink.new) }
-    {
-        write_hyphened(self, sink)
-    }
-
-    /// How many bytes `write_hyphened` writes: 14 of `u-foo-nu-thai`. `None` where a `usize` does not hold it.
-    pub fn hyphened_length(&self) -> Option<usize>
-        ensures { SomeIff result (length (hyphened_blocks (unicode_block self.now)) < 2 ^ 64) (length (hyphened_blocks (unicode_block self.now))) }
-    {
-        hyphened_length(self)
     }
 }
 

@@ -1,3 +1,4 @@
+pub mod CountingLemmas
 pub mod KnownValues
 pub mod LanguageTextLemmas
 pub mod NormalizingLemmas

@@ -1,6 +1,8 @@
 -- A text compared with a normal text, and that a text of letters, digits and hyphens is UTF-8.
-use Rattle.std.proofs.Common.{◌≡◌, ℕ, zero, suc, ◌<◌, Bool, true, false, List, [], ◌∷◌, flat_map, sym, ap, ◌∙◌, subst, lit<, arith}
-use Rattle.std.specs.Prelude.{IsTrue, ◌↔◌}
+use Rattle.std.proofs.Common.{◌≡◌, ℕ, zero, suc, ◌<◌, Bool, true, false, List, [], ◌∷◌, Result, Ok, Err, IsOk, IfOk, IsErrOf, flat_map, sym, ap, ◌∙◌, subst, lit<, arith}
+use Rattle.std.specs.Prelude.{IsTrue, ◌↔◌, ◌≢◌}
+use Rattle.std.specs.declared.borrow.CowStr.{CowStr}
+use Rattle.std.proofs.lemmas.Result.{IfOk-weaker}
 use Rattle.std.specs.Ordering.{is_eq}
 use Rattle.std.specs.declared.cmp.Ordering.{Ordering}
 use Rattle.std.specs.Cmp.Lexicographic.{texts_ties}
@@ -10,7 +12,12 @@ use Rattle.std.specs.Str.{IsAscii, IsUtf8}
 use Rattle.std.proofs.lemmas.Bool.{and_parts}
 use Rattle.std.proofs.lemmas.Bool.Decides.{nat_tests}
 use Rattle.std.proofs.lemmas.Str.{IsUtf8-nil, IsUtf8-append, IsUtf8-from_ascii}
+use Rattle.writeable.specs.AnnotatedText.{bytes, text_of}
 use Rattle.writeable.specs.Order.{byte_order}
+use Rattle.writeable.proofs.AnnotatedTextLemmas.{text_of_bytes}
+use Rattle.icu_locale_core_grammar.specs.declared.error.ParseError.{ParseError}
+use Rattle.icu_locale_core_grammar.specs.declared.error.ParseError.TheVariants.{Memory}
+use Rattle.icu_locale_core_langid.specs.NormalizedText.{IsNormalized}
 use Rattle.icu_locale_core_grammar.specs.Subtags.{Text, is_plain, same_text}
 use Rattle.icu_locale_core_grammar.specs.Pieces.{pieces, hyphened, joined_text}
 use Rattle.icu_locale_core_grammar.specs.Collections.{Each}
@@ -25,6 +32,22 @@ tied_are_same r o normal text order is =
 
 pub not_same : (r : Bool) (normal text : Text) → IsTrue r ↔ (text ≡ normal) → r ≡ false → text ≡ normal → ⊥
 not_same r normal text both denied e = false≢true (sym denied ∙ both.1 e)
+
+-- ---- the text of a value that was read
+
+module _ {A M : Type 0} (Means : M → Type 0) (normal : M → Text) (input : Text) (m : M) (meant : Means m) (r : Result (CowStr A) ParseError) where
+  pub normalized : IfOk r (IsNormalized input (text_of (bytes (normal m)))) → IfOk r (λ text. (n : M) × Means n × IsNormalized input (normal n) text)
+  normalized is =
+      IfOk-weaker r (IsNormalized input (normal m)) (λ text. (n : M) × Means n × IsNormalized input (normal n) text) (λ text same. (m, meant, same))
+      (subst (λ t. IfOk r (IsNormalized input t)) (text_of_bytes (normal m)) is)
+
+  -- memory is wanted for a new text alone
+  pub wanted : IsUtf8 input → (IsUtf8 input → input ≡ text_of (bytes (normal m)) → IsOk r) → IsErrOf r Memory → (n : M) × Means n × (input ≢ normal n)
+  wanted utf8 succeeds memory = (m, meant, λ e. never r (succeeds utf8 (e ∙ sym (text_of_bytes (normal m)))) memory)
+    where
+      never : (s : Result (CowStr A) ParseError) → IsOk s → IsErrOf s Memory → ⊥
+      never (Ok text) ok memory = cc
+      never (Err error) ok memory = absurd (false≢true ok)
 
 -- ---- letters, digits and hyphens are UTF-8
 

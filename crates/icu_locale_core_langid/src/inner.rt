@@ -11,33 +11,22 @@ use crate::language_identifier::LanguageIdentifier;
 use crate::laws::identifiers_read_back;
 use crate::writing::{text_length, write_piece};
 use icu_locale_core_sets::write_pieces;
-use icu_locale_core_subtags::{Region, Script};
+use icu_locale_core_subtags::{SubtagOf, SubtagRule};
 use writeable::{Error, Sink};
 
-// Writes a hyphen and the script in lower case, where there is one.
+// Writes a hyphen and the subtag in lower case, where there is one.
 #[tactic(auto, using(crate::proofs::LanguageTextLemmas::one_piece_events, crate::proofs::LanguageTextLemmas::no_piece_events))]
-fn write_script_lower<S: Sink>(script: Option<Script>, sink: &mut S) -> Result<(), Error>
+fn write_optional_lower<R: SubtagRule<N>, const N: usize, S: Sink>(
+    subtag: Option<SubtagOf<R, N>>,
+    sink: &mut S,
+) -> Result<(), Error>
     requires { S.refused sink.old ≡ false }
-    ensures ok { OnOk result (S.takes sink.old (bytes (flat_map hyphened (map lower (option_to_list script)))) sink.new) }
+    ensures ok { OnOk result (S.takes sink.old (bytes (flat_map hyphened (map lower (option_to_list subtag)))) sink.new) }
     ensures refused { S.refused sink.new ≡ is_err result }
-    ensures begun { OnErr result (HasBegun S.takes S.lacks_room sink.old (bytes (flat_map hyphened (map lower (option_to_list script)))) sink.new) }
+    ensures begun { OnErr result (HasBegun S.takes S.lacks_room sink.old (bytes (flat_map hyphened (map lower (option_to_list subtag)))) sink.new) }
 {
-    match script {
-        Some(script) => write_piece(script.to_tinystr().to_ascii_lowercase().as_str(), sink),
-        None => Ok(()),
-    }
-}
-
-// Writes a hyphen and the region in lower case, where there is one.
-#[tactic(auto, using(crate::proofs::LanguageTextLemmas::one_piece_events, crate::proofs::LanguageTextLemmas::no_piece_events))]
-fn write_region_lower<S: Sink>(region: Option<Region>, sink: &mut S) -> Result<(), Error>
-    requires { S.refused sink.old ≡ false }
-    ensures ok { OnOk result (S.takes sink.old (bytes (flat_map hyphened (map lower (option_to_list region)))) sink.new) }
-    ensures refused { S.refused sink.new ≡ is_err result }
-    ensures begun { OnErr result (HasBegun S.takes S.lacks_room sink.old (bytes (flat_map hyphened (map lower (option_to_list region)))) sink.new) }
-{
-    match region {
-        Some(region) => write_piece(region.to_tinystr().to_ascii_lowercase().as_str(), sink),
+    match subtag {
+        Some(subtag) => write_piece(subtag.to_tinystr().to_ascii_lowercase().as_str(), sink),
         None => Ok(()),
     }
 }
@@ -50,8 +39,8 @@ fn write_inner_parts<S: Sink>(id: &LanguageIdentifier, sink: &mut S) -> Result<(
     ensures begun { OnErr result (HasBegun S.takes S.lacks_room sink.old (inner_events id.now) sink.new) }
 {
     write_piece(id.language.as_str(), sink)?;
-    write_script_lower(id.script, sink)?;
-    write_region_lower(id.region, sink)?;
+    write_optional_lower(id.script, sink)?;
+    write_optional_lower(id.region, sink)?;
     write_pieces(id.variants.as_slice(), sink)
 }
 

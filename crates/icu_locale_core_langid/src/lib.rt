@@ -17,9 +17,11 @@ mod spelling;
 mod stepping;
 mod writing;
 
+pub use crate::json::json_of;
 pub use crate::language_identifier::LanguageIdentifier;
 pub use crate::language_stage::LanguageStage;
 pub use crate::modes::ParserMode;
+pub use crate::normalizing::text_or_input;
 pub use crate::one_variant::{OneVariantParts, one_variant_step};
 pub use crate::parser::{parse_language_identifier, parse_language_identifier_from_iter};
 pub use crate::stepping::language_after;

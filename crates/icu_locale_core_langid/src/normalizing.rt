@@ -1,7 +1,8 @@
 //! The normal text of a text that is a language identifier.
 
-ghost use Rattle.std.specs.Prelude.{◌≡◌, ◌≢◌, ◌↔◌, ◌⊎◌, false, IsTrue, IfOk, IfErr, IsOk};
+ghost use Rattle.std.specs.Prelude.{◌≡◌, ◌≢◌, ◌⊎◌, false, IfOk, IfErr, IsOk, IsUtf8};
 ghost use Rattle.std.specs.Result.{IsErrOf};
+ghost use Rattle.writeable.specs.AnnotatedText.{text_of};
 ghost use Rattle.icu_locale_core_grammar.specs.declared.error.ParseError.{ParseError};
 ghost use Rattle.icu_locale_core_grammar.specs.Pieces.{pieces};
 ghost use Rattle.icu_locale_core_grammar.specs.LanguagePart.{LanguageId, MeansLanguage};
@@ -11,32 +12,33 @@ ghost use Rattle.icu_locale_core_langid.specs.NormalizedText.{IsNormalized};
 ghost use Rattle.icu_locale_core_langid.specs.Room.{may_grow};
 
 use crate::language_identifier::LanguageIdentifier;
-use crate::writing::built_text;
 use icu_locale_core_grammar::ParseError;
-use std::alloc::{AllocError, Global};
+use std::alloc::Global;
 use std::borrow::CowStr;
 use std::str;
+use writeable::{Writeable, strict_cmp};
 
-// Whether this is the text of the identifier.
-fn is_text_of(id: &LanguageIdentifier, text: &[u8]) -> bool
-    ensures { IsTrue result ↔ (text.now ≡ language_text id.now) }
-{
-    id.strict_cmp(text).is_eq()
-}
-
-// The text of the identifier, which is `input` itself or not.
-fn text_or_input<'a>(
+/// The text of the value: these bytes themselves where they are it, else a new text.
+///
+/// The value `en-US` gives a new text for `EN-us`, and borrows `en-US`. `Memory`, the only refusal: a growth was refused, and
+/// memory is taken for a new text alone.
+pub fn text_or_input<'a, T: Writeable>(
     alloc: Global,
-    id: &LanguageIdentifier,
-    input: &'a str,
-) -> Result<CowStr<'a, Global>, AllocError>
-    ensures text { IfOk result (IsNormalized input.now (language_text id.now)) }
-    ensures room { input.now ≡ language_text id.now → IsOk result }
+    value: &T,
+    input: &'a [u8],
+) -> Result<CowStr<'a, Global>, ParseError>
+    ensures text { IfOk result (IsNormalized input.now (text_of (T.events value.now))) }
+    ensures fault { IfErr result (λ e. e ≡ ParseError.Memory) }
+    ensures room { IsUtf8 input.now → input.now ≡ text_of (T.events value.now) → IsOk result }
 {
-    if is_text_of(id, input.as_bytes()) {
-        Ok(CowStr::Borrowed(input))
-    } else {
-        Ok(CowStr::Owned(built_text(alloc, id)?))
+    if strict_cmp(value, input).is_eq() {
+        if let Ok(text) = str::from_utf8(input) {
+            return Ok(CowStr::Borrowed(text));
+        }
+    }
+    match value.write_to_string(alloc) {
+        Ok(text) => Ok(CowStr::Owned(text)),
+        Err(_) => Err(ParseError::Memory),
     }
 }
 
@@ -50,13 +52,7 @@ impl LanguageIdentifier {
         ensures fault { IfErr result (λ e. (e ≡ ParseError.Memory) ⊎ HasFault MeansLanguage (pieces input.now) e) }
         ensures room { may_grow (pieces input.now) ≡ false → IsErrOf result ParseError.Memory → (id : LanguageId) × MeansLanguage (pieces input.now) id × (input.now ≢ language_text id) }
     {
-        match Self::try_from_str(alloc, input) {
-            Ok(id) => match text_or_input(alloc, &id, input) {
-                Ok(text) => Ok(text),
-                Err(_) => Err(ParseError::Memory),
-            },
-            Err(error) => Err(error),
-        }
+        Self::normalize_utf8(alloc, input.as_bytes())
     }
 
     /// The normal text of the bytes of a text, as `normalize`.
@@ -65,13 +61,7 @@ impl LanguageIdentifier {
         ensures fault { IfErr result (λ e. (e ≡ ParseError.Memory) ⊎ HasFault MeansLanguage (pieces input.now) e) }
         ensures room { may_grow (pieces input.now) ≡ false → IsErrOf result ParseError.Memory → (id : LanguageId) × MeansLanguage (pieces input.now) id × (input.now ≢ language_text id) }
     {
-        match str::from_utf8(input) {
-            Ok(text) => Self::normalize(alloc, text),
-            Err(_) => match Self::try_from_utf8(alloc, input) {
-                // letters, digits and hyphens are UTF-8
-                Ok(_) => unreachable!(),
-                Err(error) => Err(error),
-            },
-        }
+        let id = Self::try_from_utf8(alloc, input)?;
+        text_or_input(alloc, &id, input)
     }
 }

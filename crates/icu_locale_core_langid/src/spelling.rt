@@ -11,7 +11,7 @@ ghost use Rattle.icu_locale_core_langid.specs.Spelling.{Takes, SpellsSet, is_amo
 use crate::language_identifier::LanguageIdentifier;
 use crate::laws::identifiers_read_back;
 use icu_locale_core_sets::Variants;
-use icu_locale_core_subtags::{Language, Region, Script, SubtagIterator, Variant};
+use icu_locale_core_subtags::{SubtagIterator, SubtagOf, SubtagRule, Variant};
 
 // Whether the next piece is this text but for case; it is then taken.
 fn takes(iter: &mut SubtagIterator<'_>, text: &str) -> bool
@@ -23,29 +23,15 @@ fn takes(iter: &mut SubtagIterator<'_>, text: &str) -> bool
     }
 }
 
-// Whether the next piece is the language.
-fn takes_language(iter: &mut SubtagIterator<'_>, language: Language) -> bool
-    ensures { Takes result (language ∷ []) iter.old iter.new }
+// Whether the next piece is the subtag, where there is one.
+fn takes_optional<R: SubtagRule<N>, const N: usize>(
+    iter: &mut SubtagIterator<'_>,
+    subtag: Option<SubtagOf<R, N>>,
+) -> bool
+    ensures { Takes result (option_to_list subtag) iter.old iter.new }
 {
-    takes(iter, language.as_str())
-}
-
-// Whether the next piece is the script, where there is one.
-fn takes_script(iter: &mut SubtagIterator<'_>, script: Option<Script>) -> bool
-    ensures { Takes result (option_to_list script) iter.old iter.new }
-{
-    match script {
-        Some(script) => takes(iter, script.as_str()),
-        None => true,
-    }
-}
-
-// Whether the next piece is the region, where there is one.
-fn takes_region(iter: &mut SubtagIterator<'_>, region: Option<Region>) -> bool
-    ensures { Takes result (option_to_list region) iter.old iter.new }
-{
-    match region {
-        Some(region) => takes(iter, region.as_str()),
+    match subtag {
+        Some(subtag) => takes(iter, subtag.as_str()),
         None => true,
     }
 }
@@ -126,13 +112,13 @@ impl LanguageIdentifier {
     {
         identifiers_read_back(self);
         let mut iter = SubtagIterator::new(other.as_bytes());
-        if !takes_language(&mut iter, self.language) {
+        if !takes_optional(&mut iter, Some(self.language)) {
             return false;
         }
-        if !takes_script(&mut iter, self.script) {
+        if !takes_optional(&mut iter, self.script) {
             return false;
         }
-        if !takes_region(&mut iter, self.region) {
+        if !takes_optional(&mut iter, self.region) {
             return false;
         }
         spell_set(&iter, &self.variants)

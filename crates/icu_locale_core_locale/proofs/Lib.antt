@@ -1,8 +1,6 @@
-pub mod ExtensionsLemmas
 pub mod LocaleTextLemmas
 pub mod NormalizingLemmas
 pub mod OrderLemmas
-pub mod RetainingLemmas
 pub mod RoomLemmas
 pub mod SingletonLemmas
 pub mod StageLemmas

@@ -1,5 +1,5 @@
 -- The text of a locale, part by part.
-use Rattle.std.proofs.Common.{◌≡◌, List, ◌++◌, length, sym, ap, ◌∙◌, append_assoc, length-append}
+use Rattle.std.proofs.Common.{◌≡◌, List, ◌++◌, sym, ap, ◌∙◌, append_assoc}
 use Rattle.std.specs.Prelude.{flat_map, option_to_list}
 use Rattle.std.proofs.lemmas.List.Concat.{flat_map-append}
 use Rattle.writeable.specs.AnnotatedText.{bytes}
@@ -10,7 +10,7 @@ use Rattle.icu_locale_core_grammar.specs.NormalText.{normal_text}
 use Rattle.icu_locale_core_langid.specs.LanguageText.{language_text}
 use Rattle.icu_locale_core_extensions.specs.ExtensionText.{extension_pieces}
 use Rattle.icu_locale_core_sets.proofs.PrintingLemmas.{bytes_joined}
-use Rattle.icu_locale_core_locale.specs.LocaleText.{locale_tail, locale_events, locale_length}
+use Rattle.icu_locale_core_locale.specs.LocaleText.{locale_tail, locale_events}
 
 module _ (m : TagMeaning) where
   abbrev behind_language : List Text
@@ -23,6 +23,3 @@ module _ (m : TagMeaning) where
 
   pub locale_joined : bytes (normal_text m) ≡ locale_events m
   locale_joined = ap bytes text_joined ∙ bytes_joined (language_text m.front) (locale_tail m)
-
-  pub length_joined : length (normal_text m) ≡ locale_length m
-  length_joined = ap length text_joined ∙ length-append (language_text m.front) (locale_tail m)

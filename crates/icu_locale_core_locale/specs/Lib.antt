@@ -1,10 +1,7 @@
-pub mod ExtensionsOrder
-pub mod ExtensionsText
-pub mod ExtensionsValue
+pub mod LocaleOrders
 pub mod LocaleText
 pub mod LocaleValue
 pub mod ReadsBack
-pub mod RetainedByType
 pub mod SameLocale
 pub mod SameLocaleLaws
 pub mod Room

@@ -1,7 +1,7 @@
 -- The text of a locale as it is written: the language part, and the extensions with the private pieces.
 -- UTS 35, section 3.2.1, "Canonical Unicode Locale Identifiers"; docs/tags.md, "Normal text".
--- Cited by all that writes or measures the text of a locale.
-use Rattle.std.specs.Prelude.{ℕ, List, ◌++◌, ◌+◌, flat_map, length}
+-- Cited by all that writes the text of a locale.
+use Rattle.std.specs.Prelude.{List, ◌++◌, flat_map}
 use Rattle.writeable.specs.AnnotatedText.{Event, bytes}
 use Rattle.icu_locale_core_grammar.specs.Subtags.{Text}
 use Rattle.icu_locale_core_grammar.specs.Pieces.{hyphened}
@@ -16,7 +16,3 @@ locale_tail m = flat_map hyphened (extension_pieces m.blocks m.own)
 -- the text, a part at a time
 abbrev pub locale_events : TagMeaning → List Event
 locale_events m = bytes (language_text m.front) ++ bytes (locale_tail m)
-
--- and how many bytes the parts are
-abbrev pub locale_length : TagMeaning → ℕ
-locale_length m = length (language_text m.front) + length (locale_tail m)

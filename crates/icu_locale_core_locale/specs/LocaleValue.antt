@@ -1,13 +1,12 @@
--- The locale of a language part alone, and extensions without anything in them.
+-- The locale of a language part alone.
 -- Defined in docs/tags.md, "Meaning".
--- Cited by the makers of locales, and by the tests for nothing. When two locales are one, `SameLocale.antt` says.
-use Rattle.std.specs.Prelude.{Bool, ◌&&◌, ◌==◌, [], None, length}
+-- Cited by the makers of locales, and by the test for `und`. When two locales are one, `SameLocale.antt` says.
+use Rattle.std.specs.Prelude.{[], None}
 use Rattle.icu_locale_core_grammar.specs.LanguagePart.{LanguageId}
 use Rattle.icu_locale_core_grammar.specs.Meaning.{TagMeaning, no_extensions}
 use Rattle.icu_locale_core_langid.specs.Parts.{with_parts, und_text}
-use Rattle.icu_locale_core_extensions.specs.ExtensionText.{is_empty_unicode, is_empty_transform}
-use Rattle.icu_locale_core_locale.specs.ExtensionsValue.{ExtensionsValue}
-pub use Rattle.icu_locale_core_locale.specs.SameLocale.{same_extensions, extensions_of, same_locale, SameIsEqual}
+pub use Rattle.icu_locale_core_extensions.specs.SameExtension.{same_extensions}
+pub use Rattle.icu_locale_core_locale.specs.SameLocale.{extensions_of, same_locale, SameIsEqual}
 pub use Rattle.icu_locale_core_locale.specs.SameLocaleLaws.{locale_decides}
 
 -- a language part without extensions
@@ -17,7 +16,3 @@ language_alone id = record { front = id; blocks = no_extensions; own = [] }
 -- the language `und` alone
 abbrev pub unknown_locale : TagMeaning
 unknown_locale = language_alone (with_parts und_text None None [])
-
--- neither `u`, `t`, private pieces nor others
-abbrev pub is_empty_extensions : ExtensionsValue → Bool
-is_empty_extensions e = is_empty_unicode e.blocks.unicode && (is_empty_transform e.blocks.transform && ((length e.own == 0) && (length e.blocks.others == 0)))

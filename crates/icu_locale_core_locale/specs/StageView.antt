@@ -26,8 +26,8 @@ block_view id seen e b false = AtBlock id (singletons seen) e (body_key b) (body
 
 abbrev pub stage_view : LocaleStage → TagStage
 stage_view (code.InLanguage l) = InFront l
-stage_view (code.InExtension s) = block_view s.id s.seen.items s.blocks s.body s.filled
-stage_view (code.InPrivate id e own) = InPrivate id e own
+stage_view (code.InExtension s) = block_view s.id s.seen.items s.extensions.blocks s.body s.filled
+stage_view (code.InPrivate id e own) = InPrivate id e.blocks own
 
 -- what comes behind a part that may end: `x`, or a singleton that has not come yet
 abbrev pub opened_at : LanguageId → List Text → ExtensionMeanings → Text → Option stages.BodyStage → Option TagStage

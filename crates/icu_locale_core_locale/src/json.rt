@@ -13,18 +13,19 @@ ghost use Rattle.icu_locale_core_subtags.specs.JsonText.{json_text};
 ghost use Rattle.icu_locale_core_locale.specs.Room.{tag_may_grow};
 
 use crate::locale::Locale;
-use crate::normalizing::built_text;
 use icu_locale_core_grammar::ParseError;
+use icu_locale_core_langid::json_of;
 use icu_locale_core_subtags::text_of_json;
 use serde_json::Value;
 use std::alloc::{AllocError, Global};
 
 impl Locale {
     /// The text as a JSON value: `en-u-nu-thai` gives `"en-u-nu-thai"`. `AllocError` is answered for memory alone.
+    #[tactic(auto, using(writeable::proofs::AnnotatedTextLemmas::text_of_bytes))]
     pub fn to_json(&self, alloc: Global) -> Result<Value, AllocError>
         ensures { IfOk result (λ value. view value ≡ string (normal_text self.now)) }
     {
-        Ok(Value::String(built_text(alloc, self)?))
+        json_of(alloc, self)
     }
 
     /// The locale of the text in a JSON value, as `try_from_str`: `"EN-u-NU-Thai"` gives `en-u-nu-thai`.

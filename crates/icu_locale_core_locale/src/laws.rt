@@ -1,6 +1,6 @@
 //! Laws of locales: each is the contract of a function that computes nothing.
 
-ghost use Rattle.icu_locale_core_locale.specs.ExtensionsOrder.{OrdersAreTotal};
+ghost use Rattle.icu_locale_core_locale.specs.LocaleOrders.{OrdersAreTotal};
 ghost use Rattle.icu_locale_core_locale.specs.SameLocale.{SameIsEqual};
 ghost use Rattle.icu_locale_core_locale.specs.ReadsBack.{LocalesReadBack};
 

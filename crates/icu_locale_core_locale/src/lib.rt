@@ -11,7 +11,6 @@
 #![tactic(auto)]
 
 mod comparing;
-mod extensions;
 mod json;
 pub mod laws;
 mod locale;
@@ -22,7 +21,6 @@ mod parser;
 mod printing;
 mod well_formed;
 
-pub use crate::extensions::Extensions;
 pub use crate::locale::Locale;
 pub use crate::locale_bytes::TryFromLocaleBytes;
 pub use crate::parser::parse_locale;

@@ -9,11 +9,11 @@ ghost use Rattle.icu_locale_core_grammar.specs.FaultyPiece.{HasFault};
 ghost use Rattle.icu_locale_core_langid.specs.Parts.{with_parts, und_text};
 ghost use Rattle.icu_locale_core_locale.specs.LocaleValue.{language_alone, unknown_locale};
 ghost use Rattle.icu_locale_core_locale.specs.SameLocale.{extensions_of};
-ghost use Rattle.icu_locale_core_locale.specs.ExtensionsValue.{nothing};
+ghost use Rattle.icu_locale_core_extensions.specs.ExtensionsValue.{nothing};
 ghost use Rattle.icu_locale_core_locale.specs.Room.{tag_may_grow};
 
-use crate::extensions::Extensions;
 use crate::parser::parse_locale;
+use icu_locale_core_extensions::Extensions;
 use icu_locale_core_grammar::ParseError;
 use icu_locale_core_langid::LanguageIdentifier;
 use icu_locale_core_subtags::{Language, Region, Script};

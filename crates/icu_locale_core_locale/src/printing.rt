@@ -3,13 +3,12 @@
 ghost use Rattle.std.specs.Prelude.{◌≡◌, ◌<◌, ◌^◌, false, is_err, length, OnOk, OnErr, SomeIff};
 ghost use Rattle.writeable.specs.Taking.{HasBegun};
 ghost use Rattle.icu_locale_core_grammar.specs.NormalText.{normal_text};
-ghost use Rattle.icu_locale_core_langid.specs.LanguageText.{language_text};
 ghost use Rattle.icu_locale_core_locale.specs.LocaleText.{locale_events};
 
 use crate::locale::Locale;
-use icu_locale_core_langid::LanguageIdentifier;
+use icu_locale_core_extensions::write_extensions;
 use std::fmt;
-use writeable::{Error, LengthHint, Sink, Writeable, display};
+use writeable::{CountSink, Error, LengthHint, Sink, Writeable, display};
 
 // Writes the text, part by part.
 fn write_parts<S: Sink>(locale: &Locale, sink: &mut S) -> Result<(), Error>
@@ -19,27 +18,18 @@ fn write_parts<S: Sink>(locale: &Locale, sink: &mut S) -> Result<(), Error>
     ensures begun { OnErr result (HasBegun S.takes S.lacks_room sink.old (locale_events locale.now) sink.new) }
 {
     locale.id.write_to(sink)?;
-    locale.extensions.write_placed(false, sink)
-}
-
-// How many bytes the language part has, where a `usize` holds it.
-#[tactic(auto, using(writeable::proofs::AnnotatedTextLemmas::text_of_bytes))]
-fn language_length(id: &LanguageIdentifier) -> Option<usize>
-    ensures { SomeIff result (length (language_text id.now) < 2 ^ 64) (length (language_text id.now)) }
-{
-    id.writeable_length_hint().high
+    write_extensions(&locale.extensions, false, sink)
 }
 
 // How many bytes the text has, where a `usize` holds it.
-#[tactic(auto, using(crate::proofs::LocaleTextLemmas::length_joined))]
 fn text_length(locale: &Locale) -> Option<usize>
     ensures { SomeIff result (length (normal_text locale.now) < 2 ^ 64) (length (normal_text locale.now)) }
 {
-    let language = language_length(&locale.id)?;
-    locale
-        .extensions
-        .placed_length(false)?
-        .checked_add(language)
+    let mut sink = CountSink::new();
+    match locale.write_to(&mut sink) {
+        Ok(()) => Some(sink.count() as usize),
+        Err(_) => None,
+    }
 }
 
 /// The language part, the extensions in byte order of their singletons, and the private pieces: `en-Latn-US-u-nu-thai-x-foo`.

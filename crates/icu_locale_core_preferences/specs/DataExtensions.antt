@@ -4,7 +4,7 @@
 use Rattle.std.specs.Prelude.{[], Option}
 use Rattle.icu_locale_core_grammar.specs.Meaning.{UnicodeMeaning, no_transform}
 use Rattle.icu_locale_core_grammar.specs.TagPreferences.{Subdivision, subdivision_entries}
-use Rattle.icu_locale_core_locale.specs.ExtensionsValue.{ExtensionsValue}
+use Rattle.icu_locale_core_extensions.specs.ExtensionsValue.{ExtensionsValue}
 
 -- the extension `u`
 abbrev pub data_unicode : Option Subdivision → UnicodeMeaning

@@ -12,10 +12,10 @@ ghost use Rattle.icu_locale_core_preferences.specs.DataExtensions.{data_extensio
 use crate::data_locale::DataLocale;
 use crate::keywords::key_of;
 use icu_locale_core_entries::unicode::{Keywords, Value};
-use icu_locale_core_extensions::Unicode;
+use icu_locale_core_extensions::{Extensions, Unicode};
 use icu_locale_core_grammar::ParseError;
 use icu_locale_core_keywords::{RegionalSubdivision, SubdivisionId};
-use icu_locale_core_locale::{Extensions, Locale};
+use icu_locale_core_locale::Locale;
 use icu_locale_core_subtags::Subtag;
 use icu_locale_core_subtags::unicode::Key;
 use std::alloc::Global;

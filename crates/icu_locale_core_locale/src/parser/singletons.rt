@@ -7,6 +7,10 @@ ghost use Rattle.icu_locale_core_extensions.specs.BodyView.{body_key};
 ghost use Rattle.icu_locale_core_locale.specs.StageView.{singletons};
 
 use icu_locale_core_extensions::{BodyStage, is_letter};
+use smallvec::SmallVec;
+
+/// The singletons that have come, each once: at most 36, which need no memory of their own.
+pub(crate) type Singletons = SmallVec<u8, 36>;
 
 /// Whether the piece is `x`, in either case.
 pub(crate) fn opens_private(piece: &[u8]) -> bool

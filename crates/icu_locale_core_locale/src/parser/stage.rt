@@ -3,19 +3,18 @@
 ghost use Rattle.std.specs.Prelude.{◌≡◌, ℕ, List, [], false, None, Some, IfOk, IsOk, MatchOption};
 ghost use Rattle.icu_locale_core_grammar.specs.Stepping.{InFront, InBlock};
 ghost use Rattle.icu_locale_core_grammar.specs.TagStages.{body_after as body_stage_after, language_after as language_stage_after};
-ghost use Rattle.icu_locale_core_grammar.specs.Meaning.{put_part};
+ghost use Rattle.icu_locale_core_grammar.specs.Meaning.{put_part as put_meaning};
 ghost use Rattle.icu_locale_core_extensions.specs.BodyView.{body_key, body_view, part_view, HasKey};
 ghost use Rattle.icu_locale_core_langid.specs.Room.{grows_at};
 ghost use Rattle.icu_locale_core_locale.specs.Room.{tag_grows_at};
 ghost use Rattle.icu_locale_core_locale.specs.StageView.{singletons, stage_view, block_view, stage_behind, GoesOn, Ends};
 
-use crate::extensions::Extensions;
 use crate::locale::Locale;
 use crate::parser::attempt::Attempt;
-use crate::parser::singletons::{has_come, key_of, opens_private};
+use crate::parser::singletons::{Singletons, has_come, key_of, opens_private};
 use icu_locale_core_entries::Step;
 use icu_locale_core_extensions::{
-    Blocks, BodyStage, Part, body_after, body_finish, is_one_character, opened_body,
+    BodyStage, Extensions, Part, body_after, body_finish, is_one_character, opened_body, put_part,
 };
 use icu_locale_core_grammar::ParseError;
 use icu_locale_core_langid::{
@@ -31,9 +30,9 @@ pub struct ExtensionStage {
     /// The language part.
     pub id: LanguageIdentifier,
     /// The singletons of the extensions before, in lower case.
-    pub seen: Vec<u8>,
-    /// The extensions before.
-    pub blocks: Blocks,
+    pub seen: Singletons,
+    /// The extensions before; their private pieces are not looked at.
+    pub extensions: Extensions,
     /// The pieces so far.
     pub body: BodyStage,
     /// Whether there is a piece behind the singleton.
@@ -47,22 +46,22 @@ pub enum LocaleStage {
     InLanguage(Option<LanguageStage>),
     /// In an extension.
     InExtension(ExtensionStage),
-    /// Behind `x`.
-    InPrivate(LanguageIdentifier, Blocks, Private),
+    /// Behind `x`, the private pieces by themselves.
+    InPrivate(LanguageIdentifier, Extensions, Private),
 }
 
 // Behind a part that may end: `x`, or a singleton that has not come yet.
 fn stage_after_part(
     alloc: Global,
     id: LanguageIdentifier,
-    seen: Vec<u8>,
-    blocks: Blocks,
+    seen: Singletons,
+    extensions: Extensions,
     piece: &[u8],
 ) -> Option<LocaleStage>
-    ensures { MatchOption result (stage_behind id (singletons seen.items) blocks piece.now ≡ None) (λ s. stage_behind id (singletons seen.items) blocks piece.now ≡ Some (stage_view s)) }
+    ensures { MatchOption result (stage_behind id (singletons seen.items) extensions.blocks piece.now ≡ None) (λ s. stage_behind id (singletons seen.items) extensions.blocks piece.now ≡ Some (stage_view s)) }
 {
     if opens_private(piece) {
-        return Some(LocaleStage::InPrivate(id, blocks, Private::new(alloc)));
+        return Some(LocaleStage::InPrivate(id, extensions, Private::new(alloc)));
     }
     if has_come(seen.as_slice(), piece) {
         return None;
@@ -71,7 +70,7 @@ fn stage_after_part(
         Some(body) => Some(LocaleStage::InExtension(ExtensionStage {
             id,
             seen,
-            blocks,
+            extensions,
             body,
             filled: false,
         })),
@@ -84,7 +83,13 @@ fn stage_after_part(
 fn after_identifier(alloc: Global, id: LanguageIdentifier, piece: &[u8]) -> Attempt<LocaleStage>
     ensures { language_stage_after (Some id) piece.now ≡ None → GoesOn (InFront (Some id)) piece.now result }
 {
-    match stage_after_part(alloc, id, Vec::new(alloc), Blocks::new(alloc), piece) {
+    match stage_after_part(
+        alloc,
+        id,
+        Singletons::new(alloc),
+        Extensions::new(alloc),
+        piece,
+    ) {
         Some(stage) => Attempt::Goes(stage),
         None => Attempt::Stops(ParseError::InvalidSubtag),
     }
@@ -112,12 +117,12 @@ fn after_language(
 fn after_ended(
     alloc: Global,
     id: LanguageIdentifier,
-    mut seen: Vec<u8>,
-    mut blocks: Blocks,
+    mut seen: Singletons,
+    mut extensions: Extensions,
     body: BodyStage,
     piece: &[u8],
 ) -> Result<Attempt<LocaleStage>, AllocError>
-    ensures { body_stage_after (body_view body) piece.now ≡ None → IfOk result (GoesOn (InBlock id (singletons seen.items) blocks (body_key body) (body_view body)) piece.now) }
+    ensures { body_stage_after (body_view body) piece.now ≡ None → IfOk result (GoesOn (InBlock id (singletons seen.items) extensions.blocks (body_key body) (body_view body)) piece.now) }
 {
     let key = key_of(&body);
     let Some(part) = body_finish(alloc, body)? else {
@@ -126,9 +131,9 @@ fn after_ended(
     let Ok(()) = seen.push(key) else {
         return Err(AllocError);
     };
-    blocks.put(part)?;
+    put_part(&mut extensions, part)?;
     let repeated = is_one_character(piece) && has_come(seen.as_slice(), piece);
-    match stage_after_part(alloc, id, seen, blocks, piece) {
+    match stage_after_part(alloc, id, seen, extensions, piece) {
         Some(stage) => Ok(Attempt::Goes(stage)),
         None if repeated => Ok(Attempt::Stops(ParseError::DuplicatedExtension)),
         None => Ok(Attempt::Stops(ParseError::InvalidExtension)),
@@ -142,12 +147,12 @@ fn after_extension(
     stage: ExtensionStage,
     piece: &[u8],
 ) -> Result<Attempt<LocaleStage>, AllocError>
-    ensures { IfOk result (GoesOn (block_view stage.id stage.seen.items stage.blocks stage.body stage.filled) piece.now) }
+    ensures { IfOk result (GoesOn (block_view stage.id stage.seen.items stage.extensions.blocks stage.body stage.filled) piece.now) }
 {
     let ExtensionStage {
         id,
         seen,
-        blocks,
+        extensions,
         body,
         filled,
     } = stage;
@@ -155,13 +160,13 @@ fn after_extension(
         Step::Taken(body) => Ok(Attempt::Goes(LocaleStage::InExtension(ExtensionStage {
             id,
             seen,
-            blocks,
+            extensions,
             body,
             filled: true,
         }))),
         Step::Refused(body) => {
             if filled {
-                after_ended(alloc, id, seen, blocks, body, piece)
+                after_ended(alloc, id, seen, extensions, body, piece)
             } else {
                 Ok(Attempt::Stops(ParseError::InvalidExtension))
             }
@@ -173,16 +178,16 @@ fn after_extension(
 #[tactic(auto, unfolding(icu_locale_core_grammar::specs::Stepping::whole_after))]
 fn after_private(
     id: LanguageIdentifier,
-    blocks: Blocks,
+    extensions: Extensions,
     mut private: Private,
     piece: &[u8],
 ) -> Result<Attempt<LocaleStage>, AllocError>
-    ensures { IfOk result (GoesOn (stage_view (LocaleStage.InPrivate id blocks private)) piece.now) }
+    ensures { IfOk result (GoesOn (stage_view (LocaleStage.InPrivate id extensions private)) piece.now) }
 {
     match Subtag::try_from_utf8(piece) {
         Ok(subtag) => {
             private.push(subtag)?;
-            Ok(Attempt::Goes(LocaleStage::InPrivate(id, blocks, private)))
+            Ok(Attempt::Goes(LocaleStage::InPrivate(id, extensions, private)))
         }
         Err(_) => Ok(Attempt::Stops(ParseError::InvalidExtension)),
     }
@@ -201,32 +206,44 @@ pub fn next_stage(
     match stage {
         LocaleStage::InLanguage(language) => after_language(alloc, language, piece),
         LocaleStage::InExtension(stage) => after_extension(alloc, stage, piece),
-        LocaleStage::InPrivate(id, blocks, private) => after_private(id, blocks, private, piece),
+        LocaleStage::InPrivate(id, extensions, private) => after_private(
+            id, extensions, private, piece,
+        ),
     }
 }
 
-// The extensions, with the last one.
-fn with_last(alloc: Global, mut blocks: Blocks, last: Part) -> Result<Extensions, AllocError>
-    ensures { IfOk result (λ e. (key : List ℕ) → HasKey key last → e ≡ record { blocks = put_part key (part_view last) blocks; own = [] }) }
+// The extensions with these private pieces.
+fn with_private(mut extensions: Extensions, private: Private) -> Extensions
+    ensures { result ≡ record { blocks = extensions.blocks; own = private } }
 {
-    match blocks.put(last) {
-        Ok(()) => Ok(Extensions::from_blocks(blocks, Private::new(alloc))),
-        Err(error) => Err(error),
-    }
+    extensions.private = private;
+    extensions
+}
+
+// The extensions, with the last one.
+fn with_last(
+    alloc: Global,
+    mut extensions: Extensions,
+    last: Part,
+) -> Result<Extensions, AllocError>
+    ensures { IfOk result (λ e. (key : List ℕ) → HasKey key last → e ≡ record { blocks = put_meaning key (part_view last) extensions.blocks; own = [] }) }
+{
+    put_part(&mut extensions, last)?;
+    Ok(with_private(extensions, Private::new(alloc)))
 }
 
 // The locale of an extension that is read last, and has a piece.
 fn ended_body(
     alloc: Global,
     id: LanguageIdentifier,
-    blocks: Blocks,
+    extensions: Extensions,
     body: BodyStage,
 ) -> Result<Attempt<Locale>, AllocError>
-    ensures { (seen : List (List ℕ)) → IfOk result (Ends (InBlock id seen blocks (body_key body) (body_view body))) }
+    ensures { (seen : List (List ℕ)) → IfOk result (Ends (InBlock id seen extensions.blocks (body_key body) (body_view body))) }
 {
     match body_finish(alloc, body)? {
         Some(last) => {
-            let extensions = with_last(alloc, blocks, last)?;
+            let extensions = with_last(alloc, extensions, last)?;
             Ok(Attempt::Goes(Locale { id, extensions }))
         }
         None => Ok(Attempt::Stops(ParseError::InvalidExtension)),
@@ -235,17 +252,17 @@ fn ended_body(
 
 // The locale of an extension that is read last.
 fn ended_extension(alloc: Global, stage: ExtensionStage) -> Result<Attempt<Locale>, AllocError>
-    ensures { IfOk result (Ends (block_view stage.id stage.seen.items stage.blocks stage.body stage.filled)) }
+    ensures { IfOk result (Ends (block_view stage.id stage.seen.items stage.extensions.blocks stage.body stage.filled)) }
 {
     let ExtensionStage {
         id,
         seen: _,
-        blocks,
+        extensions,
         body,
         filled,
     } = stage;
     if filled {
-        ended_body(alloc, id, blocks, body)
+        ended_body(alloc, id, extensions, body)
     } else {
         Ok(Attempt::Stops(ParseError::InvalidExtension))
     }
@@ -264,13 +281,13 @@ pub fn finished(alloc: Global, stage: LocaleStage) -> Result<Attempt<Locale>, Al
             extensions: Extensions::new(alloc),
         })),
         LocaleStage::InExtension(stage) => ended_extension(alloc, stage),
-        LocaleStage::InPrivate(id, blocks, private) => {
+        LocaleStage::InPrivate(id, extensions, private) => {
             if private.is_empty() {
                 return Ok(Attempt::Stops(ParseError::InvalidExtension));
             }
             Ok(Attempt::Goes(Locale {
                 id,
-                extensions: Extensions::from_blocks(blocks, private),
+                extensions: with_private(extensions, private),
             }))
         }
     }

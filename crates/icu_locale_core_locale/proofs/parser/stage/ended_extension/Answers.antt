@@ -5,4 +5,4 @@ use Rattle.icu_locale_core_locale.proofs.parser.stage.ended_extension.Goals as g
 pub returns-then-filled : goal.returns-then-filled
 returns-then-filled c =
     let stage = c.args.stage in
-    subst (λ (filled : Bool). IfOk c.ended_body.result (Ends (block_view stage.id stage.seen.items stage.blocks stage.body filled))) (sym c.if-filled.true) (c.ended_body.ensures (singletons stage.seen.items))
+    subst (λ (filled : Bool). IfOk c.ended_body.result (Ends (block_view stage.id stage.seen.items stage.extensions.blocks stage.body filled))) (sym c.if-filled.true) (c.ended_body.ensures (singletons stage.seen.items))

@@ -1,0 +1,147 @@
+//! All extensions of a locale.
+
+ghost use Rattle.std.specs.Prelude.{◌≡◌, ◌↔◌, [], ◌∷◌, ◌++◌, ℕ, List, IsOk, IfOk, IsTrue, OnOk, OnErr};
+ghost use Rattle.icu_locale_core_extensions.specs.BodyView.{HasKey, put_extension};
+ghost use Rattle.icu_locale_core_extensions.specs.ExtensionsValue.{nothing, only_unicode, is_empty_extensions};
+
+use crate::body::Part;
+use crate::other::{Other, put_other};
+use crate::transform::Transform;
+use crate::unicode::Unicode;
+use icu_locale_core_sets::Private;
+use std::alloc::{AllocError, Global};
+use std::marker::Model;
+
+/// The extensions of a locale: `u`, `t`, the private pieces, and all others in the order held.
+#[derive(Drop)]
+pub struct Extensions {
+    /// The extension `u`.
+    pub unicode: Unicode,
+    /// The extension `t`.
+    pub transform: Transform,
+    /// The private pieces.
+    pub private: Private,
+    /// All others; a reader lists them in byte order of their singletons.
+    pub other: Vec<Other>,
+}
+
+impl Model for Extensions {
+    ghost use Rattle.icu_locale_core_extensions.specs.ExtensionsValue.{ExtensionsValue};
+
+    ghost Value = { ExtensionsValue };
+
+    ghost view = { λ e. record {
+      blocks = record { unicode = e.unicode; transform = e.transform; others = e.other.items };
+      own = e.private;
+    } };
+}
+
+// Puts an equal extension behind the others.
+fn push_copy(others: &mut Vec<Other>, other: &Other) -> Result<(), AllocError>
+    ensures { OnOk result (others.new.items ≡ others.old.items ++ other.now ∷ []) }
+{
+    let copy = other.try_clone()?;
+    match others.push(copy) {
+        Ok(()) => Ok(()),
+        Err(_) => Err(AllocError),
+    }
+}
+
+// The same extensions, in the same order.
+fn copied(alloc: Global, others: &[Other]) -> Result<Vec<Other>, AllocError>
+    ensures succeeds { others.now ≡ [] → IsOk result }
+    ensures items { IfOk result (λ copy. copy.items ≡ others.now) }
+{
+    let mut copy = Vec::new(alloc);
+    for other in others {
+        push_copy(&mut copy, other)?;
+    }
+    Ok(copy)
+}
+
+impl Extensions {
+    /// No extension. It takes no memory.
+    pub fn new(alloc: Global) -> Self
+        ensures { result ≡ nothing }
+    {
+        Extensions {
+            unicode: Unicode::new(alloc),
+            transform: Transform::new(alloc),
+            private: Private::new(alloc),
+            other: Vec::new(alloc),
+        }
+    }
+
+    /// The extension `u` alone: of `u-nu-thai` they print `u-nu-thai`. It takes no memory.
+    pub fn from_unicode(alloc: Global, unicode: Unicode) -> Self
+        ensures { result ≡ only_unicode unicode }
+    {
+        let mut extensions = Self::new(alloc);
+        extensions.unicode = unicode;
+        extensions
+    }
+
+    /// Takes all extensions away, so that they print nothing. It takes no memory.
+    pub fn clear(&mut self)
+        ensures { self.new ≡ nothing }
+    {
+        self.unicode.clear();
+        self.transform.clear();
+        self.private.clear();
+        self.other.clear();
+    }
+
+    // Whether no part has anything.
+    fn has_none(&self) -> bool
+        ensures { result ≡ is_empty_extensions self.now }
+    {
+        self.unicode.is_empty()
+            && self.transform.is_empty()
+            && self.private.is_empty()
+            && self.other.is_empty()
+    }
+
+    /// Whether there is no extension: true of those of `en`, and false of those of `en-x-a`.
+    ///
+    /// False also where another extension stands without a piece. It takes no memory.
+    pub fn is_empty(&self) -> bool
+        ensures { IsTrue result ↔ (self.now ≡ nothing) }
+    {
+        self.has_none()
+    }
+
+    /// Equal extensions. `AllocError` is answered for memory alone, which is taken only where there is an extension.
+    pub fn try_clone(&self) -> Result<Self, AllocError>
+        ensures succeeds { self.now ≡ nothing → IsOk result }
+        ensures value { IfOk result (λ extensions. extensions ≡ self.now) }
+    {
+        let unicode = self.unicode.try_clone()?;
+        let transform = self.transform.try_clone()?;
+        let private = self.private.try_clone()?;
+        let other = copied(*self.other.allocator(), self.other.as_slice())?;
+        Ok(Extensions {
+            unicode,
+            transform,
+            private,
+            other,
+        })
+    }
+}
+
+/// Puts one more extension that was read to the extensions. `AllocError` is answered for memory alone, and nothing is put then.
+pub fn put_part(extensions: &mut Extensions, part: Part) -> Result<(), AllocError>
+    ensures ok { OnOk result ((key : List ℕ) → HasKey key part → extensions.new ≡ put_extension key part extensions.old) }
+    ensures err { OnErr result (extensions.new ≡ extensions.old) }
+{
+    match part {
+        Part::Unicode(unicode) => {
+            extensions.unicode = unicode;
+            Ok(())
+        }
+        Part::Transform(transform) => {
+            extensions.transform = transform;
+            Ok(())
+        }
+        Part::Other(other) => put_other(&mut extensions.other, other),
+    }
+}

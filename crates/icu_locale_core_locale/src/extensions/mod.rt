@@ -1,7 +1,0 @@
-//! All extensions of a locale.
-
-mod printing;
-mod retaining;
-mod whole;
-
-pub use crate::extensions::whole::Extensions;
