@@ -49,8 +49,8 @@ impl PluralRules {
     /// The rules of these categories and conditions, as CLDR writes them: of `one` and `i = 1 and v = 0 @integer 1` those of English.
     /// What stands from the first `@` on is ignored. For `other` nothing but spaces may stand before it.
     ///
-    /// `Custom`: a text is no condition, or a category is given twice. `Memory`: a request for memory was refused; without a condition
-    /// none is made. The source is UTS 35, part 3, section 5.1.
+    /// `Custom`: a text is no condition, one for `other` has a condition, or a category is given twice. `Memory`: a request for memory
+    /// was refused; where no category but `other` is given none is made. The source is UTS 35, part 3, section 5.1.
     pub fn new(alloc: Global, given: &[(PluralCategory, &str)]) -> Result<PluralRules, DataError>
         ensures ok { IfOk result (λ rules. rules_of (pairs_of given.now) ≡ Some rules) }
         ensures custom { IsErrOf result DataError.Custom → rules_of (pairs_of given.now) ≡ None }
