@@ -1,0 +1,3 @@
+mod KnownValues
+pub mod MagnitudeLemmas
+pub mod TableLemmas

@@ -1,1 +1,5 @@
+pub mod Choice
 pub mod Entries
+pub mod ExactForms
+pub mod Significand
+pub mod ShownValue

@@ -5,5 +5,11 @@
 #![tactic(auto)]
 
 mod entry;
+mod error;
+mod exact;
+mod table;
 
 pub use entry::CompactEntry;
+pub use error::CompactExponentError;
+pub use exact::{exact_entry, exponent_in_range};
+pub use table::exponent_for_magnitude;
