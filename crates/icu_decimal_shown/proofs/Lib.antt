@@ -1,3 +1,7 @@
 mod KnownValues
+pub mod CarriedLemmas
 pub mod MagnitudeLemmas
+pub mod RoundingLemmas
+pub mod ShowLemmas
 pub mod TableLemmas
+pub mod UnitLemmas

@@ -1,6 +1,6 @@
 -- Which entry of a table a number is shown under, with which significand and exponent; which entry an exact form has.
 -- Defined in docs/compact-text.md, "The entry".
--- Cited by `shown`, `can_show`, `exponent_for_magnitude`, `exact_entry` and by the functions of the module `laws`.
+-- Cited by `show`, `can_show`, `exponent_for_magnitude`, `exact_entry` and by the functions of the module `laws`.
 use Rattle.std.specs.Prelude.{◌≡◌, ℕ, zero, suc, ◌+◌, ◌-◌, ◌*◌, ◌/◌, ◌^◌, ◌<◌, ◌≤◌, ◌==◌, Bool, true, false, ◌&&◌, cond, nat_lt, nat_le, List, [], ◌∷◌, Option, None, Some}
 use Rattle.std.specs.List.{find, slice_get}
 use Rattle.std.specs.Option.{option_or, option_and_then}
@@ -35,11 +35,13 @@ abbrev pub has_exponent_at : ℕ → ℕ → Option CompactEntry → Bool
 has_exponent_at ones k None = false
 has_exponent_at ones k (Some x) = ones + x.exponent == k
 
--- the shown value is ten to the next magnitude, and the next entry has this magnitude as its exponent
+-- a shown value is ten to the magnitude after place k, and the next entry has this magnitude as its exponent
+abbrev pub is_carried_to : ℕ → List CompactEntry → ℕ → ℕ → Bool
+is_carried_to ones entries k value = (value == 10 ^ suc k) && has_exponent_at ones (suc k) (next_at ones entries k)
+
+-- the shown value of a number is so
 abbrev pub is_carried : ℕ → List CompactEntry → ℕ → Bool
-is_carried ones entries n =
-    let k = magnitude ones n in
-    (shown_under ones entries n == 10 ^ suc k) && has_exponent_at ones (suc k) (next_at ones entries k)
+is_carried ones entries n = is_carried_to ones entries (magnitude ones n) (shown_under ones entries n)
 
 -- what is shown: the count of a significand, its exponent, and the entry whose patterns stand round it
 pub record Choice : Type 0 where

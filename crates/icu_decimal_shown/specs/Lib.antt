@@ -3,3 +3,4 @@ pub mod Entries
 pub mod ExactForms
 pub mod Significand
 pub mod ShownValue
+pub mod Steps

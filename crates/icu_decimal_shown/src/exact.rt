@@ -5,15 +5,15 @@ ghost use Rattle.icu_decimal_shown.specs.ExactForms.{IsInRange, IsRefused, exact
 
 use crate::entry::CompactEntry;
 use crate::error::CompactExponentError;
-use crate::table::{entry_index, exponent_at, magnitude_of, place_of};
+use crate::places::{magnitude_of, magnitude_place};
+use crate::table::{entry_index, exponent_at};
 use fixed_decimal::UnsignedDecimal;
 
 // The place of the magnitude of a significand and an exponent together, whether a decimal has it or not.
-#[tactic(auto, using(crate::proofs::MagnitudeLemmas::start_is))]
 fn place_with(significand: &UnsignedDecimal, exponent: u8) -> u32
     ensures { result ≡ exact_place significand.now.count exponent }
 {
-    place_of(significand.nonzero_magnitude_start()) as u32 + exponent as u32
+    magnitude_place(significand) as u32 + exponent as u32
 }
 
 /// Whether the magnitude of a significand and an exponent together is at most 32767: true of 1.2 and 6, false of 10^32767 and 1.

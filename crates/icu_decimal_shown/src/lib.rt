@@ -7,9 +7,12 @@
 mod entry;
 mod error;
 mod exact;
+mod places;
+mod shown;
 mod table;
 
 pub use entry::CompactEntry;
 pub use error::CompactExponentError;
 pub use exact::{exact_entry, exponent_in_range};
+pub use shown::{Shown, show};
 pub use table::exponent_for_magnitude;

@@ -5,23 +5,7 @@ ghost use Rattle.fixed_decimal.specs.Number.{place as place_is};
 ghost use Rattle.icu_decimal_shown.specs.Choice.{entry_at, entry_of, exponent_of};
 
 use crate::entry::CompactEntry;
-
-// The place of the ones.
-pub const ONES: u16 = 32768;
-
-// The place of a magnitude.
-pub fn place_of(magnitude: i16) -> u16
-    ensures { result ≡ place_is magnitude }
-{
-    (magnitude as i32 + 32768) as u16
-}
-
-// The magnitude at a place.
-pub fn magnitude_of(place: u16) -> i16
-    ensures { place_is result ≡ place }
-{
-    (place as i32 - 32768) as i16
-}
+use crate::places::{ONES, place_of};
 
 // The index of the last entry whose type a magnitude reaches.
 pub fn entry_index(entries: &[CompactEntry], place: u16) -> Option<usize>
