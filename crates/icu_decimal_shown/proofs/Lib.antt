@@ -1,7 +1,10 @@
 mod KnownValues
 pub mod CarriedLemmas
 pub mod MagnitudeLemmas
+pub mod NearestLemmas
+pub mod NinesLemmas
 pub mod RoundingLemmas
+pub mod ShowableLemmas
 pub mod ShowLemmas
 pub mod TableLemmas
 pub mod UnitLemmas

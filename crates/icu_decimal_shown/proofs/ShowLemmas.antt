@@ -15,13 +15,13 @@ use Rattle.icu_decimal_shown.specs.Steps.{IsDivided, IsRoundedTo}
 use Rattle.icu_decimal_shown.proofs.MagnitudeLemmas.{tens_apart, tens_positive}
 use Rattle.icu_decimal_shown.proofs.UnitLemmas.{entry_from_ones}
 
-tens_sum : (i j : ℕ) → 10 ^ (i + j) ≡ 10 ^ i * 10 ^ j
+pub tens_sum : (i j : ℕ) → 10 ^ (i + j) ≡ 10 ^ i * 10 ^ j
 tens_sum i j = pow-add 10 i j
 
-cancel_less : (a b t : ℕ) → a * t < b * t → a < b
+pub cancel_less : (a b t : ℕ) → a * t < b * t → a < b
 cancel_less a b t h = ⊎_elim (λ l. l) (λ l. let m = mul-le-mul_right {m = b} {n = a} t l in absurd (omega arith)) (cases_lt a b)
 
-cancel_same : (a b t : ℕ) → 0 < t → a * t ≡ b * t → a ≡ b
+pub cancel_same : (a b t : ℕ) → 0 < t → a * t ≡ b * t → a ≡ b
 cancel_same a b t p h = ⊎_elim (λ l. let m = mul-lt-mul_of_pos_right {m = a} {n = b} l p in absurd (omega arith))
     (λ l. ⊎_elim (λ k. let m = mul-lt-mul_of_pos_right {m = b} {n = a} k p in absurd (omega arith)) (λ k. omega arith) (cases_lt b a)) (cases_lt a b)
 

@@ -14,5 +14,5 @@ mod table;
 pub use entry::CompactEntry;
 pub use error::CompactExponentError;
 pub use exact::{exact_entry, exponent_in_range};
-pub use shown::{Shown, show};
+pub use shown::{Shown, can_show, show};
 pub use table::exponent_for_magnitude;

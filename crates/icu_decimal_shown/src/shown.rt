@@ -1,10 +1,11 @@
 // The value that compact text shows for a number.
 ghost use Rattle.std.specs.Prelude.{◌≡◌, ◌+◌, ◌-◌, ◌<◌, ◌≤◌, ◌↔◌, false, true, min, length, IfOk, IfSome, IfNone, OnErr, IsTrue};
+ghost use Rattle.fixed_decimal.specs.Number.{digit};
 ghost use Rattle.fixed_decimal.specs.Range.{IsLong, Rounds};
 ghost use Rattle.fixed_decimal.specs.Shifts.{fall, rise};
 ghost use Rattle.icu_decimal_shown.specs.Choice.{CanShow, entry_of, is_carried_to, next_at};
 ghost use Rattle.icu_decimal_shown.specs.Significand.{Shows};
-ghost use Rattle.icu_decimal_shown.specs.Steps.{IsDivided, IsRoundedTo, StaysNear};
+ghost use Rattle.icu_decimal_shown.specs.Steps.{IsDivided, IsNines, IsRoundedTo, StaysNear};
 
 use crate::entry::CompactEntry;
 use crate::places::{ONES, magnitude_of, magnitude_place};
@@ -47,6 +48,43 @@ fn rounded_at(number: UnsignedDecimal, place: u16) -> UnsignedDecimal
     ensures { Rounds UnsignedRoundingMode.HalfEven RoundingIncrement.MultiplesOf1 place number result }
 {
     number.rounded(magnitude_of(place))
+}
+
+// The digit of a number at a place.
+fn digit_of(number: &UnsignedDecimal, place: u16) -> u8
+    ensures { result ≡ digit number.now.count place }
+{
+    number.digit_at(magnitude_of(place))
+}
+
+// Whether the digits from a place up to the highest are all 9, and the one below is at least 5.
+fn are_nines(number: &UnsignedDecimal, from: u16) -> bool
+    requires { 0 < from }
+    ensures { IsTrue result ↔ IsNines from 65535 number.now.count }
+{
+    if digit_of(number, from - 1) < 5 {
+        return false;
+    }
+    for place in from as u32..65536 {
+        if digit_of(number, place as u16) != 9 {
+            return false;
+        }
+    }
+    true
+}
+
+/// Whether what a number is shown as is a decimal: false of 32,768 nines under no entry, which are rounded to 10^32768.
+///
+/// It is true exactly where the number rounded to its unit stays below 10^32768. It takes no memory.
+pub fn can_show(number: &UnsignedDecimal, entries: &[CompactEntry]) -> bool
+    ensures { IsTrue result ↔ CanShow entries.now number.now.count }
+{
+    let place = magnitude_place(number);
+    if place < u16::MAX {
+        return true;
+    }
+    let exponent = exponent_at(entries, entry_index(entries, place));
+    !are_nines(number, rounding_place(place, exponent))
 }
 
 // The shift that divides by ten to an exponent.
