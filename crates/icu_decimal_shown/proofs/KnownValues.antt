@@ -1,8 +1,8 @@
 -- Rows of docs/compact-text.md, with the ones at place 2 or 3, so that a wrong definition does not pass.
-use Rattle.std.proofs.Common.{◌≡◌, ℕ, ◌-◌, List, [], ◌∷◌, Option, None, Some, true, false, refl}
+use Rattle.std.proofs.Common.{◌≡◌, ℕ, List, [], ◌∷◌, refl}
 use Rattle.icu_decimal_shown.specs.declared.entry.CompactEntry.{CompactEntry}
-use Rattle.icu_decimal_shown.specs.Choice.{Choice, chosen, exact_entry, is_carried, shown_under}
-use Rattle.icu_decimal_shown.specs.ShownValue.{magnitude, top, shown_value}
+use Rattle.icu_decimal_shown.specs.Choice.{shown_under}
+use Rattle.icu_decimal_shown.specs.ShownValue.{magnitude, top}
 
 entry : ℕ → ℕ → CompactEntry
 entry t x = record { log10_type = t; exponent = x }

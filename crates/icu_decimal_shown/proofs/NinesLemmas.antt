@@ -1,12 +1,11 @@
 -- A number is rounded up to the next power of ten exactly where its digits down to the unit are all 9, and the next one is at least 5.
-use Rattle.std.proofs.Common.{◌≡◌, ℕ, zero, suc, ◌+◌, ◌-◌, ◌*◌, ◌/◌, ◌%◌, ◌^◌, ◌<◌, ◌≤◌, ◌⊎◌, refl, sym, ap, ◌∙◌, subst, arith, inl, inr, ⊎_elim}
-use Rattle.std.proofs.Math.Nat.{div-add-mod', mul-add-div_right, div-div-eq-div-mul, mod-lt, mul-le-mul_right, mul-lt-mul_of_pos_right, pow-suc, div-eq_of_lt, mod-eq_of_lt}
-use Rattle.std.proofs.lemmas.Bool.{cases_lt}
-use Rattle.std.proofs.lemmas.Nat.{pow-add, div-mul-add}
+use Rattle.std.proofs.Common.{◌≡◌, ℕ, zero, suc, ◌+◌, ◌-◌, ◌*◌, ◌/◌, ◌%◌, ◌^◌, ◌<◌, ◌≤◌, sym, ap, ◌∙◌, arith}
+use Rattle.std.proofs.Math.Nat.{div-add-mod', mul-add-div_right, div-div-eq-div-mul, mod-lt, mul-le-mul_right}
+use Rattle.std.proofs.lemmas.Nat.{pow-add}
 use Rattle.fixed_decimal.specs.Number.{digit}
 use Rattle.icu_decimal_shown.specs.ShownValue.{even_count}
 use Rattle.icu_decimal_shown.specs.Steps.{IsNines}
-use Rattle.icu_decimal_shown.proofs.MagnitudeLemmas.{tens_apart, tens_positive}
+use Rattle.icu_decimal_shown.proofs.MagnitudeLemmas.{tens_positive}
 use Rattle.icu_decimal_shown.proofs.RoundingLemmas.{CountedBy, under, over, tie, counted}
 use Rattle.icu_decimal_shown.proofs.ShowLemmas.{cancel_less, cancel_same}
 

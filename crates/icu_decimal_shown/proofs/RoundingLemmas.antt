@@ -1,5 +1,5 @@
 -- Rounding half to even has one result, that of the quotient; it stays between the powers of ten round the number.
-use Rattle.std.proofs.Common.{◌≡◌, ◌≢◌, ℕ, zero, suc, ◌+◌, ◌-◌, ◌*◌, ◌/◌, ◌%◌, ◌^◌, ◌<◌, ◌≤◌, ◌⊎◌, Bool, true, false, cond, nat_lt, min, refl, sym, ap, ◌∙◌, subst, arith, inl, inr, ⊎_elim}
+use Rattle.std.proofs.Common.{◌≡◌, ℕ, suc, ◌+◌, ◌-◌, ◌*◌, ◌/◌, ◌%◌, ◌^◌, ◌<◌, ◌≤◌, ◌⊎◌, Bool, true, false, cond, nat_lt, refl, sym, ap, ◌∙◌, arith, inl, inr, ⊎_elim}
 use Rattle.std.proofs.Math.Nat.{mul-le-mul_right, div-add-mod', mod-lt}
 use Rattle.std.proofs.lemmas.Bool.{cases_lt}
 use Rattle.std.proofs.lemmas.Bool.Decides.{nat_tests}
@@ -93,7 +93,7 @@ module _ (u n v : ℕ) (p : 0 < u) (h : IsNearest u n v (λ _. IsMultiple (2 * u
   pub even_is : v ≡ even_count u n * u
   even_is = at_count (even_count u n) (counted u n)
 
-power_multiple : (i j : ℕ) → i ≤ j → IsMultiple (10 ^ i) (10 ^ j)
+pub power_multiple : (i j : ℕ) → i ≤ j → IsMultiple (10 ^ i) (10 ^ j)
 power_multiple i j l = let e : j ≡ (j - i) + i = omega arith in (10 ^ (j - i), ap (λ x. 10 ^ x) e ∙ pow-add 10 (j - i) i)
 
 -- the powers round a number are multiples of a unit below it, so the nearest multiple stands between them

@@ -1,6 +1,6 @@
 -- From the rounded number to what is shown: the choice, and the range of the significand.
 use Rattle.std.proofs.Common.{◌≡◌, ℕ, suc, ◌+◌, ◌-◌, ◌*◌, ◌/◌, ◌%◌, ◌^◌, ◌<◌, ◌≤◌, ◌==◌, ◌&&◌, max, min, Bool, true, false, cond, List, Option, None, Some, refl, sym, ap, ◌∙◌, subst, arith, ◌⊎◌, inl, inr, ⊎_elim}
-use Rattle.std.proofs.Math.Nat.{mul-div_cancel, mul-le-mul_right, mul-lt-mul_of_pos_right, zero-mod, mod_self, pow-suc}
+use Rattle.std.proofs.Math.Nat.{mul-div_cancel, mul-le-mul_right, mul-lt-mul_of_pos_right, mod_self}
 use Rattle.std.proofs.lemmas.Bool.{cases_lt}
 use Rattle.std.proofs.lemmas.Bool.Decides.{nat_tests}
 use Rattle.std.proofs.lemmas.Nat.{pow-add}
@@ -10,7 +10,7 @@ use Rattle.fixed_decimal.specs.Shifts.{TrimsStart}
 use Rattle.icu_decimal_shown.specs.declared.entry.CompactEntry.{CompactEntry}
 use Rattle.icu_decimal_shown.specs.Choice.{Choice, chosen, entry_at, entry_of, exponent_of, exponent_place, has_exponent_at, is_carried, is_carried_to, next_at, shown_under, under}
 use Rattle.icu_decimal_shown.specs.ShownValue.{magnitude, unit_place}
-use Rattle.icu_decimal_shown.specs.Significand.{IsPadded, ShownNumber, Shows, plain_one}
+use Rattle.icu_decimal_shown.specs.Significand.{Shows}
 use Rattle.icu_decimal_shown.specs.Steps.{IsDivided, IsRoundedTo}
 use Rattle.icu_decimal_shown.proofs.MagnitudeLemmas.{tens_apart, tens_positive}
 use Rattle.icu_decimal_shown.proofs.UnitLemmas.{entry_from_ones}
@@ -68,14 +68,14 @@ module _ (o count low : ℕ) (is : count ≡ 10 ^ o) where
       omega arith
 
 -- what a carried value is
-carried_value : (ones k v : ℕ) (next : Option CompactEntry) → ((v == 10 ^ suc k) && has_exponent_at ones (suc k) next) ≡ true → v ≡ 10 ^ suc k
+pub carried_value : (ones k v : ℕ) (next : Option CompactEntry) → ((v == 10 ^ suc k) && has_exponent_at ones (suc k) next) ≡ true → v ≡ 10 ^ suc k
 carried_value ones k v next e = go (v == 10 ^ suc k) refl e
   where
     go : (b : Bool) → (v == 10 ^ suc k) ≡ b → (b && has_exponent_at ones (suc k) next) ≡ true → v ≡ 10 ^ suc k
     go true f g = grind (arith, nat_tests, f)
     go false f g = absurd (grind (arith, g))
 
-carried_exponent : (ones k v : ℕ) (next : Option CompactEntry) → ((v == 10 ^ suc k) && has_exponent_at ones (suc k) next) ≡ true → ones + exponent_of next ≡ suc k
+pub carried_exponent : (ones k v : ℕ) (next : Option CompactEntry) → ((v == 10 ^ suc k) && has_exponent_at ones (suc k) next) ≡ true → ones + exponent_of next ≡ suc k
 carried_exponent ones k v next e = go (v == 10 ^ suc k) next e
   where
     go : (b : Bool) (o : Option CompactEntry) → (b && has_exponent_at ones (suc k) o) ≡ true → ones + exponent_of o ≡ suc k

@@ -1,8 +1,8 @@
 -- When the shown value stays below the limit of decimals.
-use Rattle.std.proofs.Common.{◌≡◌, ℕ, suc, ◌+◌, ◌-◌, ◌*◌, ◌^◌, ◌<◌, ◌≤◌, ◌⊎◌, Bool, true, false, not, IsTrue, min, List, refl, sym, ap, ◌∙◌, subst, arith, inl, inr, ⊎_elim}
+use Rattle.std.proofs.Common.{◌≡◌, ℕ, suc, ◌+◌, ◌-◌, ◌*◌, ◌^◌, ◌<◌, ◌≤◌, ◌⊎◌, Bool, true, false, not, IsTrue, List, refl, sym, ap, ◌∙◌, subst, arith, inl, inr, ⊎_elim}
 use Rattle.std.proofs.Math.Nat.{eq-zero-or-pos, zero-mul}
 use Rattle.std.proofs.lemmas.Bool.{cases_lt}
-use Rattle.fixed_decimal.specs.Rounding.{IsMultiple, IsNearest, count_limit, distance}
+use Rattle.fixed_decimal.specs.Rounding.{IsMultiple, count_limit}
 use Rattle.icu_decimal_shown.specs.declared.entry.CompactEntry.{CompactEntry}
 use Rattle.icu_decimal_shown.specs.Choice.{CanShow, exponent_place, shown_under}
 use Rattle.icu_decimal_shown.specs.ShownValue.{even_count, magnitude, shown_value, unit_place}

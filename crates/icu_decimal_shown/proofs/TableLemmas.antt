@@ -1,7 +1,7 @@
 -- The entry of a magnitude, found from the front of a table on.
 use Rattle.std.proofs.Common.{◌≡◌, ℕ, suc, ◌+◌, ◌<◌, ◌≤◌, Bool, true, false, cond, nat_lt, nat_le, List, length, drop, drop-cons, get_or, Option, None, Some, refl, sym, ap, ◌∙◌, arith, add-one}
-use Rattle.std.specs.List.{find, position, position_or_len, slice_get}
-use Rattle.std.specs.Option.{option_or, option_and_then}
+use Rattle.std.specs.List.{find, position, position_or_len}
+use Rattle.std.specs.Option.{option_or}
 use Rattle.std.proofs.lemmas.Bool.Decides.{nat_tests}
 use Rattle.std.proofs.lemmas.List.Folds.{find_at}
 use Rattle.std.proofs.lemmas.Option.{slice_get-get_or, slice_get_past}

@@ -1,14 +1,14 @@
 -- What a number is after its rounding half to even at the place of its unit.
-use Rattle.std.proofs.Common.{◌≡◌, ℕ, zero, suc, ◌+◌, ◌-◌, ◌*◌, ◌/◌, ◌%◌, ◌^◌, ◌<◌, ◌≤◌, ◌⊎◌, Bool, true, false, cond, nat_le, min, List, [], ◌∷◌, Option, None, Some, refl, sym, ap, ◌∙◌, subst, arith, inl, inr, ⊎_elim}
+use Rattle.std.proofs.Common.{◌≡◌, ℕ, ◌+◌, ◌*◌, ◌^◌, ◌≤◌, ◌⊎◌, Bool, true, false, cond, nat_le, min, List, [], ◌∷◌, None, Some, refl, sym, ap, ◌∙◌, subst, arith, inl, inr, ⊎_elim}
 use Rattle.std.specs.Option.{option_or}
 use Rattle.std.proofs.Math.Nat.{eq-zero-or-pos, one-mul, zero-mul}
 use Rattle.std.proofs.lemmas.Bool.Decides.{nat_tests}
 use Rattle.fixed_decimal.specs.Number.{Number}
 use Rattle.fixed_decimal.specs.Range.{IsHighest}
-use Rattle.fixed_decimal.specs.Rounding.{IsLimited, IsMultiple, IsNearest, count_limit, distance}
+use Rattle.fixed_decimal.specs.Rounding.{IsLimited, IsMultiple, IsNearest}
 use Rattle.icu_decimal_shown.specs.declared.entry.CompactEntry.{CompactEntry}
-use Rattle.icu_decimal_shown.specs.Choice.{CanShow, entry_at, exponent_of, exponent_place, shown_under}
-use Rattle.icu_decimal_shown.specs.ShownValue.{even_count, magnitude, unit, unit_place}
+use Rattle.icu_decimal_shown.specs.Choice.{CanShow, entry_at, exponent_place, shown_under}
+use Rattle.icu_decimal_shown.specs.ShownValue.{magnitude, unit_place}
 use Rattle.icu_decimal_shown.specs.Steps.{IsRoundedTo, StaysNear}
 use Rattle.icu_decimal_shown.proofs.MagnitudeLemmas.{magnitude_top, tens_positive}
 use Rattle.icu_decimal_shown.proofs.RoundingLemmas.{even_is, stays_between}

@@ -1,7 +1,7 @@
 -- Which entry of a table a number is shown under, with which significand and exponent; which entry an exact form has.
 -- Defined in docs/compact-text.md, "The entry".
 -- Cited by `show`, `can_show`, `exponent_for_magnitude`, `exact_entry` and by the functions of the module `laws`.
-use Rattle.std.specs.Prelude.{◌≡◌, ℕ, zero, suc, ◌+◌, ◌-◌, ◌*◌, ◌/◌, ◌^◌, ◌<◌, ◌≤◌, ◌==◌, Bool, true, false, ◌&&◌, cond, nat_lt, nat_le, List, [], ◌∷◌, Option, None, Some}
+use Rattle.std.specs.Prelude.{ℕ, suc, ◌+◌, ◌/◌, ◌^◌, ◌<◌, ◌==◌, Bool, false, ◌&&◌, cond, nat_lt, nat_le, List, [], ◌∷◌, Option, None, Some}
 use Rattle.std.specs.List.{find, slice_get}
 use Rattle.std.specs.Option.{option_or, option_and_then}
 use Rattle.fixed_decimal.specs.Rounding.{count_limit}

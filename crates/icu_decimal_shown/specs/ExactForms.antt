@@ -2,7 +2,7 @@
 -- Defined in docs/compact-text.md, "Exact forms".
 -- Cited by `exponent_in_range`, `exact_entry` and `CompactExponentError`.
 use Rattle.std.specs.Prelude.{◌≡◌, ℕ, ◌+◌, ◌<◌, List}
-use Rattle.fixed_decimal.specs.Number.{Number, place}
+use Rattle.fixed_decimal.specs.Number.{place}
 use Rattle.icu_decimal_shown.specs.declared.entry.CompactEntry.{CompactEntry}
 use Rattle.icu_decimal_shown.specs.declared.error.CompactExponentError.{CompactExponentError}
 use Rattle.icu_decimal_shown.specs.Choice.{entry_at, exponent_of}

@@ -2,7 +2,7 @@
 -- Defined in docs/compact-text.md, "The value shown".
 -- Cited by `can_show`, by `show` and by the functions of the module `laws`.
 -- A number is a count of units, and place k is the power 10 ^ k; the ones stand at the place `ones`.
-use Rattle.std.specs.Prelude.{◌≡◌, ◌≢◌, ℕ, zero, suc, ◌+◌, ◌-◌, ◌*◌, ◌/◌, ◌%◌, ◌^◌, ◌<◌, ◌≤◌, ◌==◌, true, false, cond, nat_lt, min}
+use Rattle.std.specs.Prelude.{◌≡◌, ◌≢◌, ℕ, zero, suc, ◌+◌, ◌-◌, ◌*◌, ◌/◌, ◌%◌, ◌^◌, ◌≤◌, ◌==◌, true, false, cond, nat_lt, min}
 use Rattle.fixed_decimal.specs.Rounding.{IsMultiple, distance}
 
 -- how often n can be divided by ten before it is below ten, in so many turns at most

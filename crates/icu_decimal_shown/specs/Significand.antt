@@ -1,7 +1,7 @@
 -- What a call answers for a number: its significand with the range of places that is shown, the exponent, the index of the entry.
 -- Defined in docs/compact-text.md, "The digits shown".
 -- Cited by `show`, and by the view of `Shown`.
-use Rattle.std.specs.Prelude.{◌≡◌, ℕ, ◌+◌, ◌-◌, ◌^◌, max, Option, List, true, false}
+use Rattle.std.specs.Prelude.{◌≡◌, ℕ, ◌-◌, ◌^◌, max, Option, List, true, false}
 use Rattle.fixed_decimal.specs.Number.{Number}
 use Rattle.fixed_decimal.specs.Range.{IsHighest, IsLowest}
 use Rattle.icu_decimal_shown.specs.declared.entry.CompactEntry.{CompactEntry}

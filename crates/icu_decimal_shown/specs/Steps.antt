@@ -1,7 +1,7 @@
 -- The steps by which a number becomes what is shown: rounded to its unit, then divided.
 -- Defined in docs/compact-text.md, "The value shown".
 -- Cited by the private functions of `show` and `can_show`, and by no public clause.
-use Rattle.std.specs.Prelude.{◌≡◌, ℕ, suc, ◌+◌, ◌-◌, ◌*◌, ◌^◌, ◌<◌, ◌≤◌, ◌⊎◌, max, min, List}
+use Rattle.std.specs.Prelude.{◌≡◌, ℕ, suc, ◌-◌, ◌*◌, ◌^◌, ◌≤◌, ◌⊎◌, max, min, List}
 use Rattle.fixed_decimal.specs.Number.{Number, digit}
 use Rattle.fixed_decimal.specs.Range.{IsHighest, IsLowest}
 use Rattle.icu_decimal_shown.specs.declared.entry.CompactEntry.{CompactEntry}

@@ -7,6 +7,7 @@
 mod entry;
 mod error;
 mod exact;
+pub mod laws;
 mod places;
 mod shown;
 mod table;

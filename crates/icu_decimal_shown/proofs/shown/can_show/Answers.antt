@@ -1,4 +1,4 @@
-use Rattle.std.proofs.Common.{◌≡◌, ℕ, suc, ◌+◌, ◌-◌, min, ap, sym, ◌∙◌, subst, refl, arith, IsTrue}
+use Rattle.std.proofs.Common.{◌≡◌, ◌+◌, ◌-◌, min, ap, ◌∙◌, subst, refl, arith, IsTrue}
 use Rattle.icu_decimal_shown.specs.Choice.{entry_at, exponent_of, exponent_place}
 use Rattle.icu_decimal_shown.specs.ShownValue.{unit_place}
 use Rattle.icu_decimal_shown.specs.Steps.{IsNines}

@@ -1,6 +1,5 @@
-use Rattle.std.proofs.Common.{◌≡◌, ◌<◌, ◌≤◌, ◌+◌, nat_lt, ap, sym, ◌∙◌, subst}
+use Rattle.std.proofs.Common.{◌+◌, nat_lt, sym, ◌∙◌}
 use Rattle.std.proofs.lemmas.List.Quantifiers.{position-Some}
-use Rattle.icu_decimal_shown.specs.ShownValue.{magnitude}
 use Rattle.icu_decimal_shown.proofs.CarriedLemmas.{carried, kept, next_entry, no_next, stays}
 use Rattle.icu_decimal_shown.proofs.shown.carried_index.Goals as goal
 

@@ -1,10 +1,8 @@
-use Rattle.std.proofs.Common.{◌≡◌, ◌<◌, ◌-◌, ◌+◌, ◌*◌, ◌^◌, ap, sym, ◌∙◌, subst, min}
-use Rattle.fixed_decimal.specs.Number.{Number}
+use Rattle.std.proofs.Common.{◌≡◌, ◌-◌, ◌+◌, ◌*◌, ◌^◌, ap, ◌∙◌, subst, min}
 use Rattle.fixed_decimal.specs.Range.{IsHighest}
 use Rattle.fixed_decimal.specs.Rounding.{IsMultiple, IsNearest}
 use Rattle.icu_decimal_shown.specs.Choice.{entry_at, exponent_of, exponent_place}
 use Rattle.icu_decimal_shown.specs.ShownValue.{magnitude, unit_place}
-use Rattle.icu_decimal_shown.specs.Steps.{IsRoundedTo}
 use Rattle.icu_decimal_shown.proofs.UnitLemmas.{rounded_to}
 use Rattle.icu_decimal_shown.proofs.shown.rounded_to_unit.Goals as goal
 

@@ -1,6 +1,6 @@
-use Rattle.std.proofs.Common.{◌≡◌, ◌<◌, ◌≤◌, ap, sym, ◌∙◌, subst, min, arith, Some}
+use Rattle.std.proofs.Common.{ap, sym, ◌∙◌}
 use Rattle.std.proofs.lemmas.Option.{slice_get-get_or}
-use Rattle.icu_decimal_shown.specs.Choice.{entry_of, exponent_of}
+use Rattle.icu_decimal_shown.specs.Choice.{exponent_of}
 use Rattle.icu_decimal_shown.proofs.ShowLemmas.{carried_room, plain_room, shows_carried, shows_plain}
 use Rattle.icu_decimal_shown.proofs.shown.show.Goals as goal
 

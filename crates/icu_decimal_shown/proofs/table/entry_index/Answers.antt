@@ -1,6 +1,5 @@
-use Rattle.std.proofs.Common.{ap, sym, ◌∙◌, IfSome, length, ◌<◌, subst, rules}
-use Rattle.std.specs.Option.{option_or}
-use Rattle.icu_decimal_shown.specs.Choice.{entry_at, entry_of}
+use Rattle.std.proofs.Common.{sym, ◌∙◌}
+use Rattle.icu_decimal_shown.specs.Choice.{entry_of}
 use Rattle.icu_decimal_shown.proofs.TableLemmas.{passed, reached}
 use Rattle.icu_decimal_shown.proofs.table.entry_index.Goals as goal
 use Rattle.icu_decimal_shown.proofs.table.entry_index.Goals.{then-entries-index, else-entries-index}
