@@ -40,6 +40,9 @@ parity u q c p e = ⊎_elim (λ l. let m = mul-le-mul_right {m = suc q} {n = c *
     (λ l. ⊎_elim (λ k. let m = mul-le-mul_right {m = suc (c * 2)} {n = q} u k in let r : c * 2 * u ≡ c * (2 * u) = omega arith in absurd (omega arith)) (λ k. let same : q ≡ c * 2 = omega arith in omega arith) (cases_lt (c * 2) q))
     (cases_lt q (c * 2))
 
+parity_of : (u q c v : ℕ) → 0 < u → v ≡ q * u → v ≡ c * (2 * u) → q % 2 ≡ 0
+parity_of u q c v p a b = parity u q c p (sym a ∙ b)
+
 upper_count : (q u : ℕ) → q * u + u ≡ (q + 1) * u
 upper_count q u = omega arith
 
@@ -74,12 +77,12 @@ module _ (u n v : ℕ) (p : 0 < u) (h : IsNearest u n v (λ _. IsMultiple (2 * u
   tie_low : 2 * (n % u) ≡ u → v ≡ n / u * u → n / u % 2 ≡ 0
   tie_low t e =
       let m : IsMultiple (2 * u) v = h.tied (n / u * u + u) (n / u + 1, upper_count (n / u) u) (λ same. absurd (omega (arith, e, same, p))) (omega (arith, e, t, whole)) in
-      parity u (n / u) m.0 p (sym e ∙ m.1)
+      parity_of u (n / u) m.0 v p e m.1
 
   tie_high : 2 * (n % u) ≡ u → v ≡ n / u * u + u → (n / u + 1) % 2 ≡ 0
   tie_high t e =
       let m : IsMultiple (2 * u) v = h.tied (n / u * u) (n / u, refl) (λ same. absurd (omega (arith, e, same, p))) (omega (arith, e, t, whole)) in
-      parity u (n / u + 1) m.0 p (sym (upper_count (n / u) u) ∙ sym e ∙ m.1)
+      parity_of u (n / u + 1) m.0 v p (e ∙ upper_count (n / u) u) m.1
 
   at_count : (count : ℕ) → CountedBy u (n / u) (n % u) count → v ≡ count * u
   at_count count (under l e) = near_low n v u (n / u * u) (n % u) whole l low_near stands ∙ ap (λ c. c * u) (sym e)
