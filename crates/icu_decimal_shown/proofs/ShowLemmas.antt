@@ -25,7 +25,7 @@ pub cancel_same : (a b t : ℕ) → 0 < t → a * t ≡ b * t → a ≡ b
 cancel_same a b t p h = ⊎_elim (λ l. let m = mul-lt-mul_of_pos_right {m = a} {n = b} l p in absurd (omega arith))
     (λ l. ⊎_elim (λ k. let m = mul-lt-mul_of_pos_right {m = b} {n = a} k p in absurd (omega arith)) (λ k. omega arith) (cases_lt b a)) (cases_lt a b)
 
-module _ (oh place e v count high : ℕ) (h : IsHighest oh place v high) (whole : count * 10 ^ e ≡ v) where
+module _ (oh place e v count high : ℕ) (h : IsHighest oh place v high) (whole : count * 10 ^ e ≡ v) (room : place ≤ 32768 + e) where
   scaled : (a : ℕ) → count < 10 ^ (a + 1) → v < 10 ^ (a + e + 1)
   scaled a l =
       let m : count * 10 ^ e < 10 ^ (a + 1) * 10 ^ e = mul-lt-mul_of_pos_right {m = count} {n = 10 ^ (a + 1)} l (tens_positive e) in
@@ -42,10 +42,10 @@ module _ (oh place e v count high : ℕ) (h : IsHighest oh place v high) (whole 
       cancel_less count (10 ^ (a + 1)) (10 ^ e) (omega arith)
 
   -- the range of a number divided by ten to e
-  pub divided_high : IsHighest (max 32768 (oh - e)) (place - e) count (max 32768 (high - e))
+  pub divided_high : IsHighest (max 32768 (oh - e)) 0 count (max 32768 (high - e))
   divided_high = record {
     keeps = let k = h.keeps in omega arith;
-    position = let p = h.position in omega arith;
+    position = omega arith;
     holds = unscaled (max 32768 (high - e)) (omega arith);
     lowest = λ a k p b. let l = h.lowest (a + e) (omega arith) (omega arith) (scaled a b) in omega arith;
   }
@@ -114,8 +114,9 @@ module _ (entries : List CompactEntry) (number rounded : Number) (r : IsRoundedT
         carried = λ t. absurd (grind (arith, t, plain));
         padded = λ t. record {
           low = d.low;
-          high = subst (IsHighest (max 32768 (number.high - x)) (unit_place (exponent_place 32768 entries) (magnitude 32768 number.count) - x) divided.count) (sym d.high)
-              (divided_high number.high (unit_place (exponent_place 32768 entries) (magnitude 32768 number.count)) x rounded.count divided.count rounded.high r.high d.count);
+          high = subst (IsHighest (max 32768 (number.high - x)) 0 divided.count) (sym d.high)
+              (divided_high number.high (unit_place (exponent_place 32768 entries) (magnitude 32768 number.count)) x rounded.count divided.count rounded.high r.high d.count
+              (let same : x ≡ exponent_of (entry_at 32768 entries (magnitude 32768 number.count)) = f ∙ ap exponent_of (e ∙ ap (entry_at 32768 entries) at) in omega arith));
         };
       }
 
