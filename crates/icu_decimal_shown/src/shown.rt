@@ -73,7 +73,8 @@ fn are_nines(number: &UnsignedDecimal, from: u16) -> bool
     true
 }
 
-/// Whether what a number is shown as is a decimal: false of 32,768 nines under no entry, which are rounded to 10^32768.
+/// Whether what a number is shown as is a decimal: false of 32,768 nines under an entry of the exponent 6, as they are rounded to
+/// 10^32768.
 ///
 /// It is true exactly where the number rounded to its unit stays below 10^32768. It takes no memory.
 pub fn can_show(number: &UnsignedDecimal, entries: &[CompactEntry]) -> bool

@@ -1,0 +1,79 @@
+-- Digits as numbers: one digit more, a shift by a power of ten, and zeros at the end.
+use Rattle.std.proofs.Common.{refl, ◌≡◌, ℕ, zero, suc, ◌+◌, ◌-◌, ◌*◌, ◌/◌, ◌%◌, ◌^◌, ◌<◌, ◌≤◌, ◌==◌, true, false, cond, min, sym, ap, ◌∙◌, arith}
+use Rattle.std.proofs.Math.Arith.{mod-mul}
+use Rattle.std.proofs.Math.Nat.{div-div-eq-div-mul, mod-lt, mul-div_cancel, one-le-pow, pow-le-pow_right, pow-suc}
+use Rattle.std.proofs.lemmas.Bool.Decides.{nat_tests}
+use Rattle.std.proofs.lemmas.Nat.{pow-add}
+use Rattle.fixed_decimal.specs.Number.{digit}
+use Rattle.icu_decimal_plurals.specs.Operands.{Operands, operands_with, part_of, trimmed}
+
+tens_positive : (k : ℕ) → 0 < 10 ^ k
+tens_positive k = let h : 1 ≤ 10 ^ k = one-le-pow k 10 (omega arith) in omega arith
+
+tens_next : (k : ℕ) → 10 ^ (k + 1) ≡ 10 ^ k * 10
+tens_next k = let e : k + 1 ≡ suc k = omega arith in ap (λ n. 10 ^ n) e ∙ pow-suc 10 k
+
+-- one digit more behind
+part_more : (n a j : ℕ) → part_of n a (j + 1) ≡ part_of n (a + 1) j * 10 + digit n a
+part_more n a j =
+    ap (λ m. n / 10 ^ a % m) (tens_next j) ∙ mod-mul (n / 10 ^ a) {m = 10 ^ j} {c = 10} (tens_positive j) (omega arith)
+    ∙ ap (λ q. q % 10 ^ j * 10 + digit n a) (div-div-eq-div-mul n (10 ^ a) 10 ∙ ap (λ m. n / m) (sym (tens_next a)))
+
+pub next_digit : (n base places left part : ℕ) → 0 < left → left ≤ places → part ≡ part_of n (base + left) (places - left)
+    → part * 10 + digit n (base + (left - 1)) ≡ part_of n (base + (left - 1)) (places - (left - 1))
+next_digit n base places left part some within h =
+    let above : base + left ≡ base + (left - 1) + 1 = omega arith in
+    let more : (places - left) + 1 ≡ places - (left - 1) = omega arith in
+    ap (λ x. x * 10 + digit n (base + (left - 1))) (h ∙ ap (λ a. part_of n a (places - left)) above)
+    ∙ sym (part_more n (base + (left - 1)) (places - left)) ∙ ap (part_of n (base + (left - 1))) more
+
+pub part_below : (n a k : ℕ) → k ≤ 18 → part_of n a k < 10 ^ 18
+part_below n a k h =
+    let small = mod-lt (n / 10 ^ a) {m = 10 ^ k} (tens_positive k) in
+    let bound : 10 ^ k ≤ 10 ^ 18 = pow-le-pow_right {n = 10} (omega arith) {i = k} {j = 18} h in
+    omega arith
+
+-- a number times a power of ten has the same digits, so many places up
+pub part_shifted : (n c a k : ℕ) → c ≤ a → part_of (n * 10 ^ c) a k ≡ part_of n (a - c) k
+part_shifted n c a k h =
+    let split : c + (a - c) ≡ a = omega arith in
+    let power : 10 ^ a ≡ 10 ^ c * 10 ^ (a - c) = ap (λ e. 10 ^ e) (sym split) ∙ pow-add 10 c (a - c) in
+    ap (λ q. q % 10 ^ k)
+    (ap (λ m. n * 10 ^ c / m) power ∙ sym (div-div-eq-div-mul (n * 10 ^ c) (10 ^ c) (10 ^ (a - c))) ∙ ap (λ m. m / 10 ^ (a - c)) (mul-div_cancel n (tens_positive c)))
+
+by_zero : (k digits : ℕ) → digits % 10 ≡ 0 → (digits % 10 == 0) ≡ true
+by_zero k digits h = grind (arith, nat_tests)
+
+by_other : (k digits : ℕ) → ¬ (digits % 10 ≡ 0) → (digits % 10 == 0) ≡ false
+by_other k digits h = grind (arith, nat_tests)
+
+pub trim_goes_on : (left digits : ℕ) → 0 < left → digits % 10 ≡ 0 → trimmed left digits ≡ trimmed (left - 1) (digits / 10)
+trim_goes_on zero digits some h = absurd (omega arith)
+trim_goes_on (suc k) digits some h =
+    let fewer : k ≡ suc k - 1 = omega arith in
+    ap (λ b. cond b (trimmed k (digits / 10)) (digits, suc k)) (by_zero k digits h) ∙ ap (λ j. trimmed j (digits / 10)) fewer
+
+pub trim_stops : (left digits : ℕ) → ¬ (digits % 10 ≡ 0) → trimmed left digits ≡ (digits, left)
+trim_stops zero digits h = refl
+trim_stops (suc k) digits h = ap (λ b. cond b (trimmed k (digits / 10)) (digits, suc k)) (by_other k digits h)
+
+pub trim_ends : (left digits : ℕ) → left ≡ 0 → trimmed left digits ≡ (digits, left)
+trim_ends zero digits h = refl
+trim_ends (suc k) digits h = absurd (omega arith)
+
+abbrev pub made : ℕ → ℕ → ℕ → ℕ → ℕ → ℕ → Operands
+made i v f t w c = record { i = i; v = v; f = f; t = t; w = w; c = c }
+
+-- operands by their parts
+pub operands_are : (ones count low c places v i f t w : ℕ) → low + places ≡ ones → c + 18 ≤ ones → v ≡ min (places - c) 18
+    → i ≡ part_of count (ones - c) 18 → f ≡ part_of count (ones - c - v) v → t ≡ (trimmed v f).0 → w ≡ (trimmed v f).1
+    → made i v f t w c ≡ operands_with ones (count * 10 ^ c) (min (ones - (low + c)) 18) c
+operands_are ones count low c places v i f t w shown room v_is i_is f_is t_is w_is =
+    let value = count * 10 ^ c in
+    let i_same : i ≡ part_of value ones 18 = i_is ∙ sym (part_shifted count c ones 18 (omega arith)) in
+    let moved : ones - c - v ≡ ones - v - c = omega arith in
+    let f_same : f ≡ part_of value (ones - v) v = f_is ∙ ap (λ a. part_of count a v) moved ∙ sym (part_shifted count c (ones - v) v (omega arith)) in
+    let t_same : t ≡ (trimmed v (part_of value (ones - v) v)).0 = t_is ∙ ap (λ x. (trimmed v x).0) f_same in
+    let w_same : w ≡ (trimmed v (part_of value (ones - v) v)).1 = w_is ∙ ap (λ x. (trimmed v x).1) f_same in
+    let kept : v ≡ min (ones - (low + c)) 18 = omega arith in
+    (λ k. record { i = i_same k; v = v; f = f_same k; t = t_same k; w = w_same k; c = c }) ∙ ap (λ n. operands_with ones value n c) kept

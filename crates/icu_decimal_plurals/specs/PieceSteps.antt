@@ -1,0 +1,8 @@
+-- How long the first piece of a text is.
+-- Serves the proofs of the private `piece_len` and `first_piece`; no clause for callers cites it.
+use Rattle.std.specs.Prelude.{ℕ, suc, cond, List, [], ◌∷◌}
+use Rattle.icu_decimal_plurals.specs.Tokens.{joins_next}
+
+abbrev pub piece_len : List ℕ → ℕ
+piece_len [] = 0
+piece_len (c ∷ cs) = suc (cond (joins_next c cs) (piece_len cs) 0)
