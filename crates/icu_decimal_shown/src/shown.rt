@@ -146,9 +146,9 @@ fn divided(rounded: UnsignedDecimal, exponent: u8) -> UnsignedDecimal
 /// What a number is shown as under the entries of a table: 1650 under entries of the types 3 and 6 with the exponents 3 and 6 as
 /// 1.6, the exponent 3 and the first entry; 999500 as 1, the exponent 6 and the second entry; 843 as itself with no entry.
 ///
-/// The number is rounded half to even to two digits, or to the exponent's magnitude where it has more digits before it; its
-/// trailing zeros in the fraction go, and zeros before it stay. The condition is `can_show`. Memory is taken where the number has
-/// more than eight digits, from the first to the last one that is not zero; it is refused (`AllocError`) only there.
+/// The number is rounded half to even, at the magnitude of the exponent where its first digit stands above it, else to two digits.
+/// Zeros that end the fraction go, and zeros before the number stay. The condition is `can_show`. Memory is taken where the number
+/// has more than eight digits, from the first to the last one that is not zero; it is refused (`AllocError`) only there.
 pub fn show(number: &UnsignedDecimal, entries: &[CompactEntry]) -> Result<Shown, AllocError>
     requires { CanShow entries.now number.now.count }
     ensures value { IfOk result (Shows entries.now number.now) }
