@@ -1,0 +1,46 @@
+//! Laws of what compact text shows. No call is made: each clause is the law.
+ghost use Rattle.icu_decimal_shown.specs.ExactLaws.{ChoiceIsShownValue, ExactFormAnswers, ExactFormWritesSame, FlatTableUsesShownEntry, KeptMagnitudeUsesShownEntry};
+ghost use Rattle.icu_decimal_shown.specs.ShownLaws.{CarriedAtNines, OneIsShown, RoundedIsShown, RuleShowsNearest, ShowableShowsItself, ShownIsNear, ShownKeepsOrder, ZeroShowsZero};
+
+/// Each number shows one value: the number rounded half to even to its unit.
+pub fn one_value_is_shown()
+    ensures rule { RuleShowsNearest }
+    ensures one { OneIsShown }
+    ensures rounded { RoundedIsShown }
+{}
+
+/// Of two numbers the smaller never shows a larger value.
+pub fn shown_values_keep_order()
+    ensures { ShownKeepsOrder }
+{}
+
+/// A number that can be shown as it is shows itself.
+pub fn showable_numbers_show_themselves()
+    ensures { ShowableShowsItself }
+{}
+
+/// A shown value is off by at most a twentieth of its number, and zero is shown for zero alone.
+pub fn shown_values_are_near()
+    ensures near { ShownIsNear }
+    ensures zero_value { ZeroShowsZero }
+{}
+
+/// A number is rounded up to the next power of ten exactly where its digits down to the unit are all 9, and the next one is at
+/// least 5.
+pub fn carried_at_nines()
+    ensures { CarriedAtNines }
+{}
+
+/// The exact form of what is shown for a number: where it is refused, and where it writes the same.
+///
+/// Under rising types: the significand and the exponent shown make the shown value (`value`). Sent as an exact form they are
+/// refused exactly where the entry of the shown value's magnitude has another exponent (`answer`); they are written under the
+/// entry shown where it is that entry (`same`), as it is where the shown value has the number's magnitude (`kept`) and wherever
+/// all types of the table are its exponents (`flat`).
+pub fn exact_forms_of_shown_values()
+    ensures value { ChoiceIsShownValue }
+    ensures answer { ExactFormAnswers }
+    ensures same { ExactFormWritesSame }
+    ensures kept { KeptMagnitudeUsesShownEntry }
+    ensures flat { FlatTableUsesShownEntry }
+{}
