@@ -1,0 +1,3 @@
+pub mod HeldPattern
+pub mod Pattern
+pub mod SamePattern
