@@ -1,0 +1,16 @@
+//! Plural rules: the category of a number, by conditions on the digits that are shown.
+//!
+//! English has the rule `one: i = 1 and v = 0`, so `1` is of the category `one`, and `2` and `1.0` are of `other`. The rules of this
+//! crate are in docs/plurals.md, after UTS 35, part 3, section 5 (plural rules).
+#![tactic(auto)]
+
+mod category;
+mod condition;
+mod interval;
+mod operand;
+mod operands;
+mod rules;
+
+pub use category::PluralCategory;
+pub use operands::PluralOperands;
+pub use rules::PluralRules;
