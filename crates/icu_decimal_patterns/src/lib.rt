@@ -10,5 +10,11 @@
 //! ```
 #![tactic(auto)]
 
+mod compact_patterns;
+mod elements;
 mod interpolated;
+mod kept;
 pub mod pattern;
+
+pub use compact_patterns::CompactPatterns;
+pub use elements::PluralElements;
