@@ -2,7 +2,9 @@
 
 ghost use Rattle.std.specs.Prelude.{◌≡◌, ◌↔◌, ◌<◌, [], IfErr, IfOk, IsErrOf, None, Some, length, map, option_map};
 ghost use Rattle.std.specs.List.{slice_get};
+ghost use Rattle.std.specs.Cmp.{partial_equiv_from_equiv};
 ghost use Rattle.icu_decimal_shown.specs.Entries.{Rises};
+ghost use Rattle.icu_decimal_patterns.specs.SameTable.{same_table, same_table_equiv};
 ghost use Rattle.icu_decimal_patterns.specs.KeptEntries.{IsFaulty, IsTable, IsTableFault, NeverFalls, first_fault, of_type, table_of};
 ghost use Rattle.icu_decimal_patterns.specs.KeptSteps.{TypesRise, base_after, base_of, kept_of};
 ghost use Rattle.icu_decimal_provider.specs.declared.error.DataError.{DataError};
@@ -22,8 +24,8 @@ use std::marker::Model;
 /// After ICU4X's `CompactPatterns`.
 #[derive(Debug, Drop)]
 pub struct CompactPatterns {
-    entries: Vec<CompactEntry>,
-    patterns: Vec<PluralElements<Pattern>>,
+    pub(crate) entries: Vec<CompactEntry>,
+    pub(crate) patterns: Vec<PluralElements<Pattern>>,
 }
 
 impl Model for CompactPatterns {
@@ -128,4 +130,19 @@ impl CompactPatterns {
     {
         &self.patterns[place]
     }
+}
+
+/// Equal where the same entries have equal patterns.
+impl PartialEq for CompactPatterns {
+    ghost eq = { same_table };
+
+    ghost laws = { partial_equiv_from_equiv same_table_equiv };
+
+    fn eq(&self, other: &Self) -> bool {
+        self.entries == other.entries && self.patterns == other.patterns
+    }
+}
+
+impl Eq for CompactPatterns {
+    ghost laws = { same_table_equiv };
 }

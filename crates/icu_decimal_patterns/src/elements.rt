@@ -15,14 +15,14 @@ use std::marker::Model;
 /// After ICU4X's `PluralElements`.
 #[derive(Debug, Drop)]
 pub struct PluralElements<T> {
-    explicit_zero: Option<T>,
-    explicit_one: Option<T>,
-    zero: Option<T>,
-    one: Option<T>,
-    two: Option<T>,
-    few: Option<T>,
-    many: Option<T>,
-    other: T,
+    pub(crate) explicit_zero: Option<T>,
+    pub(crate) explicit_one: Option<T>,
+    pub(crate) zero: Option<T>,
+    pub(crate) one: Option<T>,
+    pub(crate) two: Option<T>,
+    pub(crate) few: Option<T>,
+    pub(crate) many: Option<T>,
+    pub(crate) other: T,
 }
 
 impl<T> Model for PluralElements<T> {

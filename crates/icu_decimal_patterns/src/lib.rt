@@ -11,10 +11,14 @@
 #![tactic(auto)]
 
 mod compact_patterns;
+mod copying;
 mod elements;
 mod interpolated;
+mod json;
 mod kept;
+mod markers;
 pub mod pattern;
 
 pub use compact_patterns::CompactPatterns;
 pub use elements::PluralElements;
+pub use markers::{DecimalCompactLongV1, DecimalCompactShortV1};

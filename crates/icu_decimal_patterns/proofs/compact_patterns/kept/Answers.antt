@@ -1,4 +1,4 @@
-use Rattle.std.proofs.Common.{map, ◌++◌, ◌∷◌, [], ◌≡◌, ◌∙◌, ap, sym, subst, false}
+use Rattle.std.proofs.Common.{map, ◌++◌, ◌≡◌, ◌∙◌, ap, sym, subst, false}
 use Rattle.icu_decimal_patterns.specs.KeptEntries.{TypePatterns, entry_in, of_type}
 use Rattle.icu_decimal_patterns.specs.KeptSteps.{base_after, base_of, kept_of, repeats}
 use Rattle.icu_decimal_patterns.proofs.KeptLemmas.{kept_step, kept_whole}

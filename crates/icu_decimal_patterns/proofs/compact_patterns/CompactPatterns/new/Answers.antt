@@ -1,5 +1,5 @@
-use Rattle.std.proofs.Common.{◌≡◌, ◌∙◌, ap, sym, map, subst}
-use Rattle.icu_decimal_patterns.specs.KeptEntries.{IsTable, NeverFalls, of_type}
+use Rattle.std.proofs.Common.{◌∙◌, sym, map, subst}
+use Rattle.icu_decimal_patterns.specs.KeptEntries.{IsTable, of_type}
 use Rattle.icu_decimal_patterns.specs.KeptSteps.{base_of, kept_of}
 use Rattle.icu_decimal_patterns.proofs.KeptLemmas.{first_of_table, is_table, told_error, told_falling, told_memory, told_ok}
 use Rattle.icu_decimal_patterns.proofs.compact_patterns.CompactPatterns.new.Goals as goal
