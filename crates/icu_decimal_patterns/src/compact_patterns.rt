@@ -66,7 +66,7 @@ fn kept(alloc: Global, given: GivenTypes, zero: Base<'_>) -> Result<CompactPatte
     requires rising { TypesRise 0 (map of_type given.entries) }
     ensures { IfOk result (λ table. table ≡ table_of (kept_of (base_of zero.entry) (map of_type given.entries))) }
 {
-    let mut entries = Vec::new(alloc);
+    let mut entries: Vec<CompactEntry> = Vec::new(alloc);
     let mut patterns: Vec<PluralElements<Pattern>> = Vec::new(alloc);
     for (log10_type, (exponent, typed)) in given {
         if base_after(zero, patterns.as_slice()).is_repeated_by(&typed) {
