@@ -1,0 +1,4 @@
+pub mod HintLemmas
+pub mod KeptLemmas
+pub mod KnownValues
+pub mod SlotsLemmas

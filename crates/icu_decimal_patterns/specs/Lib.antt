@@ -1,0 +1,10 @@
+pub mod Elements
+pub mod HeldPattern
+pub mod HeldTexts
+pub mod KeptEntries
+pub mod KeptSteps
+pub mod Pattern
+pub mod SameElements
+pub mod SamePattern
+pub mod SameTable
+pub mod SlotsJson

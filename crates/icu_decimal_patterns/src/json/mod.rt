@@ -1,0 +1,3 @@
+//! Patterns and tables as JSON.
+
+mod slots;

@@ -1,0 +1,154 @@
+//! Patterns: what stands before and behind one placeholder.
+
+ghost use Rattle.std.specs.Prelude.{◌≡◌, ◌++◌, IfOk, Some, string_bytes, false, is_err, OnOk, OnErr};
+ghost use Rattle.std.specs.Cmp.{partial_equiv_from_equiv};
+ghost use Rattle.writeable.specs.AnnotatedText.{bytes};
+ghost use Rattle.writeable.specs.Taking.{HasBegun};
+ghost use Rattle.icu_decimal_patterns.specs.Pattern.{literal, around, pattern_events};
+ghost use Rattle.icu_decimal_patterns.specs.HeldPattern.{least_length, pattern_of};
+ghost use Rattle.icu_decimal_patterns.specs.SamePattern.{same_pattern, same_pattern_equiv};
+
+pub use crate::interpolated::Interpolated;
+use std::alloc::AllocError;
+use std::marker::Model;
+use writeable::{Error, Sink, Writeable};
+
+// The texts of a pattern.
+#[derive(Debug, Drop)]
+enum Texts {
+    Literal(String),
+    Around(String, String),
+}
+
+/// Two texts round one placeholder, or one text without any: `{0}K`, or `thousand`.
+///
+/// Any text may be empty. The pattern without a placeholder and the one with nothing behind it are different.
+/// After the patterns with a single placeholder of ICU4X.
+#[derive(Debug, Drop)]
+pub struct Pattern {
+    texts: Texts,
+}
+
+impl Model for Pattern {
+    ghost use Rattle.icu_decimal_patterns.specs.Pattern.{PatternText};
+
+    ghost Value = { PatternText };
+
+    ghost use Rattle.icu_decimal_patterns.specs.HeldPattern.{pattern_of};
+
+    ghost view = { λ p. pattern_of p.texts };
+}
+
+impl Pattern {
+    /// The pattern with `before` before its placeholder and `after` behind it: the empty text and `K` make of `1.2` the text
+    /// `1.2K`. It takes no memory.
+    pub fn around(before: String, after: String) -> Self
+        ensures { result ≡ around (string_bytes before) (string_bytes after) }
+    {
+        Pattern {
+            texts: Texts::Around(before, after),
+        }
+    }
+
+    /// The pattern of this text alone, without a placeholder: `thousand` makes of `1` the text `thousand`. It takes no memory.
+    pub fn literal(text: String) -> Self
+        ensures { result ≡ literal (string_bytes text) }
+    {
+        Pattern {
+            texts: Texts::Literal(text),
+        }
+    }
+
+    /// An equal pattern. `AllocError` is answered for memory alone.
+    pub fn try_clone(&self) -> Result<Self, AllocError>
+        ensures { IfOk result (λ copy. copy ≡ self.now) }
+    {
+        match &self.texts {
+            Texts::Literal(text) => {
+                let text = text.clone()?;
+                Ok(Pattern::literal(text))
+            }
+            Texts::Around(before, after) => {
+                let before = before.clone()?;
+                let after = after.clone()?;
+                Ok(Pattern::around(before, after))
+            }
+        }
+    }
+}
+
+impl PartialEq for Pattern {
+    ghost eq = { same_pattern };
+
+    ghost laws = { partial_equiv_from_equiv same_pattern_equiv };
+
+    fn eq(&self, other: &Self) -> bool {
+        match (&self.texts, &other.texts) {
+            (Texts::Literal(one), Texts::Literal(other)) => one == other,
+            (Texts::Around(before, after), Texts::Around(other_before, other_after)) => {
+                before == other_before && after == other_after
+            }
+            _ => false,
+        }
+    }
+}
+
+impl Eq for Pattern {
+    ghost laws = { same_pattern_equiv };
+}
+
+impl Pattern {
+    /// A value in the place of the placeholder: `1.2` in the pattern of thousands is `1.2K`. The pattern is borrowed. It takes no
+    /// memory.
+    pub fn interpolate<T>(&self, value: T) -> Interpolated<'_, T>
+        ensures { result ≡ record { pattern = Some self.now; value = value } }
+    {
+        Interpolated::new(Some(self), value)
+    }
+}
+
+// Writes a value between two texts.
+fn write_between<T: Writeable, S: Sink>(
+    before: &str,
+    value: &T,
+    after: &str,
+    sink: &mut S,
+) -> Result<(), Error>
+    requires { S.refused sink.old ≡ false }
+    ensures ok { OnOk result (S.takes sink.old (bytes before.now ++ (T.events value.now ++ bytes after.now)) sink.new) }
+    ensures refused { S.refused sink.new ≡ is_err result }
+    ensures begun { OnErr result (HasBegun S.takes S.lacks_room sink.old (bytes before.now ++ (T.events value.now ++ bytes after.now)) sink.new) }
+{
+    sink.write_str(before)?;
+    value.write_to(sink)?;
+    sink.write_str(after)
+}
+
+// Writes a value in a pattern.
+pub(crate) fn write_in<T: Writeable, S: Sink>(
+    pattern: &Pattern,
+    value: &T,
+    sink: &mut S,
+) -> Result<(), Error>
+    requires { S.refused sink.old ≡ false }
+    ensures ok { OnOk result (S.takes sink.old (pattern_events pattern.now (T.events value.now)) sink.new) }
+    ensures refused { S.refused sink.new ≡ is_err result }
+    ensures begun { OnErr result (HasBegun S.takes S.lacks_room sink.old (pattern_events pattern.now (T.events value.now)) sink.new) }
+{
+    match &pattern.texts {
+        Texts::Literal(text) => sink.write_str(text.as_str()),
+        Texts::Around(before, after) => {
+            write_between(before.as_str(), value, after.as_str(), sink)
+        }
+    }
+}
+
+// How many bytes a pattern writes at least, where what stands in it has so many.
+pub(crate) fn least_length(pattern: &Pattern, inner: usize) -> usize
+    ensures { result ≡ least_length pattern.now inner }
+{
+    match &pattern.texts {
+        Texts::Literal(text) => text.len(),
+        Texts::Around(_, _) => inner,
+    }
+}
