@@ -40,6 +40,6 @@ module _ (found : Result Tables DataError) (t : Tables) (value : SignedValue Num
       → length begun + length (text_of (decimal_events shown)) ≤ after
   text_fits old begun before after put grows room =
       let whole : length (answer_with found value) ≡ length well + length (text_of (decimal_events shown)) =
-          ap length answer_is ∙ length-append well (text_of (decimal_events shown)) in
+      ap length answer_is ∙ length-append well (text_of (decimal_events shown)) in
       let front : length begun ≡ length old + length well = ap length put ∙ length-append old well in
       omega (arith, whole, front, grows, room)

@@ -3,14 +3,12 @@ use Rattle.std.proofs.Common.{◌≡◌, ℕ, List, [], ◌∷◌, ◌++◌, Opt
 use Rattle.std.specs.Prelude.{option_to_list}
 use Rattle.icu_locale_core.specs.Subtags.{Text}
 use Rattle.icu_locale_core.specs.TagPreferences.{LocalePreferencesMeaning, Preferences, language_priority}
-use Rattle.icu_locale_core.specs.DataLocales.{unknown_data}
 use Rattle.icu_decimal.specs.declared.error.DataError.{DataError}
 use Rattle.icu_decimal.specs.declared.options.GroupingStrategy.{GroupingStrategy}
 use Rattle.icu_decimal.specs.Choice.{first_found, or_next}
 use Rattle.icu_decimal.specs.FoundTables.{found_tables, with_digits, with_symbols}
 use Rattle.icu_decimal.specs.Identifiers.{Identifier, digits_identifiers, of_asked, of_locale, of_system, symbols_identifiers}
 use Rattle.icu_decimal.specs.Options.{strategy_in}
-use Rattle.icu_decimal.specs.PlainText.{Tables}
 use Rattle.icu_decimal.specs.Preferences.{without_system}
 use Rattle.icu_decimal.specs.Symbols.{Symbols}
 use Rattle.locale_numbers.specs.AskedBook.{asked_first}

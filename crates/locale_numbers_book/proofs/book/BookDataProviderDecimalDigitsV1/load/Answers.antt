@@ -8,5 +8,5 @@ use Rattle.locale_numbers_book.proofs.book.BookDataProviderDecimalDigitsV1.load.
 pub returns : goal.returns
 returns c =
     let same : same_data_locale c.id.inside.locale unknown_data ≡ true =
-        (same_data_locales c.id.inside.locale unknown_data).1 (c.if-not-is_unknown.ensures.0 refl) in
+    (same_data_locales c.id.inside.locale unknown_data).1 (c.if-not-is_unknown.ensures.0 refl) in
     rw (← c.self.view_is, ← c.id.view_is, same) (c.found.ensures ∙ ap answered c.get.ensures.value)
