@@ -14,20 +14,23 @@ use Rattle.icu_locale_core.specs.Pieces.{hyphen, pieces, hyphened, joined_text}
 use Rattle.icu_locale_core.specs.Collections.{Each}
 use Rattle.icu_locale_core.specs.Meaning.{TagMeaning, MeansTag}
 use Rattle.icu_locale_core.specs.NormalText.{normal_text}
-use Rattle.icu_locale_core.specs.TagPreferences.{preferences_of}
+use Rattle.icu_locale_core.specs.TagPreferences.{Preferences, language_priority, preferences_of}
 use Rattle.icu_locale_core.proofs.PlainPieces.{tag_plain, joined-pieces}
 use Rattle.icu_locale_core.proofs.NormalTags.{read_again}
-use Rattle.locale_numbers_symbols.specs.declared.GroupingStrategy.{GroupingStrategy}
+use Rattle.icu_decimal.specs.declared.options.GroupingStrategy.{GroupingStrategy}
 use Rattle.locale_numbers_book.specs.Book.{BookTables}
-use Rattle.locale_numbers.specs.NumberReading.{reading_of}
+use Rattle.locale_numbers_book.specs.Tables.{symbols_under, digits_under}
+use Rattle.locale_numbers.specs.NumberReading.{Reading, number, beyond, nothing, reading_of}
 use Rattle.locale_numbers.specs.Request.{tab, fields, form_named, grouping_named, sign_named, request_by, request_in, request_of}
 use Rattle.locale_numbers.specs.Cutting.{is_separator}
 use Rattle.locale_numbers.specs.RoundingField.{rounding_named}
 use Rattle.locale_numbers.specs.declared.sign_field.SignAsked.{SignAsked}
 use Rattle.locale_numbers.specs.declared.rounding_field.RoundingAsked.{RoundingAsked}
 use Rattle.locale_numbers.specs.declared.request.Form.{Form}
-use Rattle.locale_numbers.specs.Wanted.{wanted_by, wanted_of}
-use Rattle.locale_numbers.specs.Answer.{answer_tagged, answer_asked}
+use Rattle.locale_numbers.specs.Changing.{changed}
+use Rattle.locale_numbers.specs.Wanted.{wanted_of}
+use Rattle.locale_numbers.specs.Answer.{answer_with, answer_tagged, answer_asked}
+use Rattle.locale_numbers.proofs.FoundLemmas.{found_alike}
 use Rattle.locale_numbers.proofs.WantedLemmas.{asks_of}
 use Rattle.locale_numbers.specs.Laws.{AreAlike, AlikeTagsAreAnsweredAlike, NormalTextIsAnsweredAlike}
 
@@ -98,14 +101,19 @@ request_behind text rest h =
 
 -- ---- fields behind a tag
 
-module _ (book : BookTables) (text other : List ℕ) (alike : wanted_of text ≡ wanted_of other) where
-  known_alike : (number : List ℕ) (form : Option Form) (grouping : Option GroupingStrategy) (sign : Option SignAsked) (rounding : Option RoundingAsked)
-      → answer_asked book (request_by text form grouping sign rounding number) ≡ answer_asked book (request_by other form grouping sign rounding number)
-  known_alike number (Some form) (Some grouping) (Some sign) (Some rounding) = ap (λ w. answer_tagged book w grouping sign rounding (reading_of number)) alike
-  known_alike number (Some form) (Some grouping) (Some sign) None = refl
-  known_alike number (Some form) (Some grouping) None rounding = refl
-  known_alike number (Some form) None sign rounding = refl
-  known_alike number None grouping sign rounding = refl
+-- the answer to the rest of a request by what a tag prefers, the same for both
+abbrev AreAnsweredAlike : BookTables → Option Preferences → Option Preferences → Type 0
+AreAnsweredAlike book one other = (grouping : GroupingStrategy) (sign : SignAsked) (rounding : RoundingAsked) (reading : Reading)
+    → answer_tagged book one grouping sign rounding reading ≡ answer_tagged book other grouping sign rounding reading
+
+module _ (book : BookTables) (text other : List ℕ) (alike : AreAnsweredAlike book (wanted_of text) (wanted_of other)) where
+  known_alike : (digits : List ℕ) (form : Option Form) (grouping : Option GroupingStrategy) (sign : Option SignAsked) (rounding : Option RoundingAsked)
+      → answer_asked book (request_by text form grouping sign rounding digits) ≡ answer_asked book (request_by other form grouping sign rounding digits)
+  known_alike digits (Some form) (Some grouping) (Some sign) (Some rounding) = alike grouping sign rounding (reading_of digits)
+  known_alike digits (Some form) (Some grouping) (Some sign) None = refl
+  known_alike digits (Some form) (Some grouping) None rounding = refl
+  known_alike digits (Some form) None sign rounding = refl
+  known_alike digits None grouping sign rounding = refl
 
   fields_alike : (fs : List (List ℕ)) → answer_asked book (request_in (text ∷ fs)) ≡ answer_asked book (request_in (other ∷ fs))
   fields_alike [] = refl
@@ -113,7 +121,7 @@ module _ (book : BookTables) (text other : List ℕ) (alike : wanted_of text ≡
   fields_alike (a ∷ b ∷ []) = refl
   fields_alike (a ∷ b ∷ c ∷ []) = refl
   fields_alike (a ∷ b ∷ c ∷ d ∷ []) = refl
-  fields_alike (form ∷ grouping ∷ sign ∷ rounding ∷ number ∷ []) = known_alike number (form_named form) (grouping_named grouping) (sign_named sign) (rounding_named rounding)
+  fields_alike (form ∷ grouping ∷ sign ∷ rounding ∷ digits ∷ []) = known_alike digits (form_named form) (grouping_named grouping) (sign_named sign) (rounding_named rounding)
   fields_alike (a ∷ b ∷ c ∷ d ∷ e ∷ f ∷ fs) = refl
 
   read_alike : (rest : List ℕ) (t : Bool)
@@ -123,15 +131,20 @@ module _ (book : BookTables) (text other : List ℕ) (alike : wanted_of text ≡
 
 -- ---- alike tags
 
-asks_alike : (m n : TagMeaning) → AreAlike m n → wanted_by (preferences_of m) ≡ wanted_by (preferences_of n)
-asks_alike m n a = λ i. record {
-  locale = record { language = a.language i; script = a.script i; region = a.region i; variant = a.variant i; subdivision = a.subdivision i };
-  numbering_system = a.numbering_system i;
-}
+-- the preferences of alike tags find the same tables
+asks_alike : (book : BookTables) (m n : TagMeaning) → AreAlike m n → AreAnsweredAlike book (Some (preferences_of m)) (Some (preferences_of n))
+asks_alike book m n a grouping sign rounding nothing = refl
+asks_alike book m n a grouping sign rounding beyond = refl
+asks_alike book m n a grouping sign rounding (number value) =
+    let locales : language_priority (preferences_of m).locale ≡ language_priority (preferences_of n).locale =
+    λ i. record { language = a.language i; script = a.script i; region = a.region i; variant = a.variant i; subdivision = a.subdivision i } in
+    ap (λ tables. answer_with tables (changed rounding sign value))
+    (found_alike (symbols_under book) (digits_under book) grouping (preferences_of m) (preferences_of n) locales a.numbering_system)
 
 pub alike_tags : AlikeTagsAreAnsweredAlike
 alike_tags book text other rest m n first second a =
-    let alike : wanted_of text ≡ wanted_of other = asks_of text m first ∙ ap Some (asks_alike m n a) ∙ sym (asks_of other n second) in
+    let alike : AreAnsweredAlike book (wanted_of text) (wanted_of other) =
+    rw (asks_of text m first, asks_of other n second) (asks_alike book m n a) in
     ap (answer_asked book) (request_behind text rest (tag_bytes text m first))
     ∙ read_alike book text other alike rest (is_utf8 rest)
     ∙ sym (ap (answer_asked book) (request_behind other rest (tag_bytes other n second)))

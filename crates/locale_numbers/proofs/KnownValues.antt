@@ -1,6 +1,6 @@
 -- Known values of the definitions: lines taken apart, roundings, what tags ask for, texts of numbers, lines of the program.
-use Rattle.std.proofs.Common.{◌≡◌, [], ◌∷◌, ◌++◌, codes, ◌*◌, ◌^◌, pos, negsuc, true, false, Some, None, refl}
-use Rattle.locale_numbers_symbols.specs.declared.GroupingStrategy.TheVariants.{Min2}
+use Rattle.std.proofs.Common.{◌≡◌, [], ◌∷◌, ◌++◌, codes, ◌*◌, ◌^◌, pos, negsuc, true, false, Option, option_map, Some, None, refl}
+use Rattle.icu_decimal.specs.declared.options.GroupingStrategy.TheVariants.{Min2}
 use Rattle.locale_numbers_engine.specs.declared.RunError.TheVariants as run
 use Rattle.locale_numbers_book.specs.declared.BookError.TheVariants as book
 use Rattle.locale_numbers.specs.declared.request.Form.TheVariants.{Plain}
@@ -21,6 +21,8 @@ use Rattle.locale_numbers.specs.NumberReading.{reading_of, parts_of, nothing, be
 use Rattle.locale_numbers.specs.Request.{tab, fields, request_in, grouping_named, sign_named}
 use Rattle.icu_locale_core.specs.Stepping.{headed_after, whole_after}
 use Rattle.icu_locale_core.specs.TagStages.{with_piece, body_after}
+use Rattle.icu_locale_core.specs.Subtags.{Text}
+use Rattle.icu_locale_core.specs.TagPreferences.{DataLocaleMeaning, Preferences, language_priority}
 use Rattle.locale_numbers_book.specs.TagReading.{tag_of}
 use Rattle.locale_numbers.specs.Wanted.{wanted_of}
 
@@ -118,17 +120,21 @@ no_such_sign = refl
 
 -- ---- what tags ask for
 
+-- the locale and the system, with which tables are asked for
+abbrev asked_of : Text → Option (DataLocaleMeaning × Option Text)
+asked_of text = option_map {T = Preferences} {U = DataLocaleMeaning × Option Text} (λ p. (language_priority p.locale, p.numbering_system)) (wanted_of text)
+
 -- case, `rg`, attributes, other keywords and extensions, private pieces and later variants say nothing
-all_of_a_tag : wanted_of (codes "DE-at-fonipa-1996-a-foo-u-attr-ca-buddhist-nu-LATN-rg-gbzzzz-sd-at9-x-foo") ≡ Some (record {
-  locale = record {
+all_of_a_tag : asked_of (codes "DE-at-fonipa-1996-a-foo-u-attr-ca-buddhist-nu-LATN-rg-gbzzzz-sd-at9-x-foo") ≡ Some (
+  record {
     language = codes "de";
     script = None;
     region = Some (codes "AT");
     variant = Some (codes "1996");
     subdivision = Some (record { region = codes "AT"; suffix = codes "9" });
-  };
-  numbering_system = Some (codes "latn");
-})
+  },
+  Some (codes "latn"),
+)
 unfolding tag_of whole_after headed_after body_after with_piece
 all_of_a_tag = refl
 
@@ -138,10 +144,10 @@ unfolding tag_of whole_after headed_after body_after with_piece
 nothing_that_reads = refl
 
 -- a region that stands in `sd` alone is none
-no_region : wanted_of (codes "en-u-sd-ustx") ≡ Some (record {
-  locale = record { language = codes "en"; script = None; region = None; variant = None; subdivision = Some (record { region = codes "US"; suffix = codes "tx" }) };
-  numbering_system = None;
-})
+no_region : asked_of (codes "en-u-sd-ustx") ≡ Some (
+  record { language = codes "en"; script = None; region = None; variant = None; subdivision = Some (record { region = codes "US"; suffix = codes "tx" }) },
+  None,
+)
 unfolding tag_of whole_after headed_after body_after with_piece
 no_region = refl
 

@@ -1,5 +1,6 @@
 pub mod AlikeTags
 pub mod AnsweringLemmas
+pub mod FoundLemmas
 pub mod KnownValues
 pub mod LawsLemmas
 pub mod NumberReadingLemmas

@@ -1,18 +1,20 @@
 -- The answer of a book to a line: the number written as the line asks, or the first word that refuses it.
 -- Defined in docs/requests.md, "Answer line".
 -- Cited by `answer` and by `run`.
-use Rattle.std.specs.Prelude.{ℕ, List, ◌∷◌, ◌++◌, codes, encode_utf8_all, Option, Some, None}
+use Rattle.std.specs.Prelude.{ℕ, List, ◌∷◌, ◌++◌, codes, Option, Some, None, Result, Ok, Err}
 use Rattle.fixed_decimal.specs.Number.{Number}
 use Rattle.fixed_decimal.specs.SignedValue.{SignedValue}
-use Rattle.locale_numbers_symbols.specs.Symbols.{marks_of}
-use Rattle.locale_numbers_symbols.specs.declared.GroupingStrategy.{GroupingStrategy}
-use Rattle.locale_numbers_plain.specs.PlainText.{plain_text, shown_of}
+use Rattle.icu_decimal.specs.declared.error.DataError.{DataError}
+use Rattle.icu_decimal.specs.declared.options.GroupingStrategy.{GroupingStrategy}
+use Rattle.icu_decimal.specs.FoundTables.{found_tables}
+use Rattle.icu_decimal.specs.PlainText.{Tables, decimal_text}
+use Rattle.icu_locale_core.specs.TagPreferences.{Preferences}
 use Rattle.locale_numbers_book.specs.Book.{BookTables}
-use Rattle.locale_numbers_book.specs.Choice.{ChosenTables, chosen}
+use Rattle.locale_numbers_book.specs.Tables.{symbols_under, digits_under}
 use Rattle.locale_numbers.specs.Changing.{changed}
 use Rattle.locale_numbers.specs.NumberReading.{Reading, number, beyond, nothing, reading_of}
 use Rattle.locale_numbers.specs.Request.{tab, Asked, request_of}
-use Rattle.locale_numbers.specs.Wanted.{Wanted, wanted_of}
+use Rattle.locale_numbers.specs.Wanted.{wanted_of}
 use Rattle.locale_numbers.specs.Refusal.{word_of}
 use Rattle.locale_numbers.specs.declared.sign_field.SignAsked.{SignAsked}
 use Rattle.locale_numbers.specs.declared.rounding_field.RoundingAsked.{RoundingAsked}
@@ -23,27 +25,30 @@ use Rattle.locale_numbers.specs.declared.refusal.Refusal.TheVariants as refusal
 abbrev pub refused : Refusal → List ℕ
 refused cause = codes "err" ++ tab ∷ word_of cause
 
--- the answer that holds a text of characters
+-- the answer that holds a text
 abbrev pub written : List ℕ → List ℕ
-written text = codes "ok" ++ tab ∷ encode_utf8_all text
+written text = codes "ok" ++ tab ∷ text
+
+-- the tables of a book that preferences find, with a grouping
+abbrev pub found_in : BookTables → Preferences → GroupingStrategy → Result Tables DataError
+found_in book preferences grouping = found_tables (symbols_under book) (digits_under book) preferences (Some grouping)
 
 -- a number written with some tables, where they are found
-abbrev pub answer_with : Option ChosenTables → GroupingStrategy → SignedValue Number → List ℕ
-answer_with None grouping value = refused refusal.Table
-answer_with (Some tables) grouping value =
-    written (plain_text grouping tables.symbols.grouping_sizes (marks_of tables.symbols tables.digits) (shown_of value))
+abbrev pub answer_with : Result Tables DataError → SignedValue Number → List ℕ
+answer_with (Err error) value = refused refusal.Table
+answer_with (Ok tables) value = written (decimal_text tables value)
 
 -- the answer to what a tag and the rest of a request ask for, by what the text says
-abbrev pub answer_to : BookTables → Wanted → GroupingStrategy → SignAsked → RoundingAsked → Reading → List ℕ
-answer_to book wanted grouping sign rounding nothing = refused refusal.Number
-answer_to book wanted grouping sign rounding beyond = refused refusal.Limit
-answer_to book wanted grouping sign rounding (number value) =
-    answer_with (chosen book wanted.locale wanted.numbering_system) grouping (changed rounding sign value)
+abbrev pub answer_to : BookTables → Preferences → GroupingStrategy → SignAsked → RoundingAsked → Reading → List ℕ
+answer_to book preferences grouping sign rounding nothing = refused refusal.Number
+answer_to book preferences grouping sign rounding beyond = refused refusal.Limit
+answer_to book preferences grouping sign rounding (number value) =
+    answer_with (found_in book preferences grouping) (changed rounding sign value)
 
--- the answer by what the tag asks for, where it is a tag
-abbrev pub answer_tagged : BookTables → Option Wanted → GroupingStrategy → SignAsked → RoundingAsked → Reading → List ℕ
+-- the answer by what the tag prefers, where it is a tag
+abbrev pub answer_tagged : BookTables → Option Preferences → GroupingStrategy → SignAsked → RoundingAsked → Reading → List ℕ
 answer_tagged book None grouping sign rounding reading = refused refusal.Tag
-answer_tagged book (Some wanted) grouping sign rounding reading = answer_to book wanted grouping sign rounding reading
+answer_tagged book (Some preferences) grouping sign rounding reading = answer_to book preferences grouping sign rounding reading
 
 -- the answer to a request, or to a line that is none
 abbrev pub answer_asked : BookTables → Option Asked → List ℕ

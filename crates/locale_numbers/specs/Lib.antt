@@ -1,4 +1,7 @@
 pub mod Answer
+pub mod AnswerSink
+pub mod AnswerSinkLaws
+pub mod AskedBook
 pub mod Changing
 pub mod Cutting
 pub mod Fault
@@ -12,9 +15,9 @@ pub mod RoundingField
 pub mod Wanted
 pub use Rattle.locale_numbers_book.specs.Book
 pub use Rattle.locale_numbers_book.specs.BookError
-pub use Rattle.locale_numbers_book.specs.Choice
 pub use Rattle.locale_numbers_book.specs.Json
 pub use Rattle.locale_numbers_book.specs.Laws as BookLaws
+pub use Rattle.locale_numbers_book.specs.Tables
 pub use Rattle.locale_numbers_engine.specs.ByteIo
 pub use Rattle.locale_numbers_engine.specs.Outcomes
 pub use Rattle.locale_numbers_engine.specs.Tracking

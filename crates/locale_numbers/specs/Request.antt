@@ -4,8 +4,8 @@
 use Rattle.std.specs.Prelude.{ℕ, if◌then◌else◌, List, [], ◌∷◌, Option, Some, None, codes}
 use Rattle.std.specs.Str.{bytes_eq, is_utf8}
 use Rattle.fixed_decimal.specs.declared.sign.SignDisplay.TheVariants as display
-use Rattle.locale_numbers_symbols.specs.declared.GroupingStrategy.{GroupingStrategy}
-use Rattle.locale_numbers_symbols.specs.declared.GroupingStrategy.TheVariants.{Auto, Never, Always, Min2}
+use Rattle.icu_decimal.specs.declared.options.GroupingStrategy.{GroupingStrategy}
+use Rattle.icu_decimal.specs.declared.options.GroupingStrategy.TheVariants.{Auto, Never, Always, Min2}
 use Rattle.locale_numbers.specs.Cutting.{cut_at}
 use Rattle.locale_numbers.specs.RoundingField.{rounding_named}
 use Rattle.locale_numbers.specs.declared.sign_field.SignAsked.{SignAsked}

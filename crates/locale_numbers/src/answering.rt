@@ -2,13 +2,14 @@
 ghost use Rattle.std.specs.Prelude.{◌≡◌, ◌++◌, IsOk, IfOk, OnOk, OnErr, IsErrOf, string_bytes};
 ghost use Rattle.fixed_decimal.specs.Number.{Number};
 ghost use Rattle.fixed_decimal.specs.SignedText.{ReadsLongSigned};
-ghost use Rattle.locale_numbers_plain.specs.PlainText.{HasRoom};
 ghost use Rattle.locale_numbers_engine.specs.Growth.{Grows};
-ghost use Rattle.locale_numbers_book.specs.Choice.{chosen};
-ghost use Rattle.locale_numbers.specs.Answer.{refused, answer_with, answer_to, answer_of};
+ghost use Rattle.locale_numbers.specs.Answer.{refused, found_in, answer_with, answer_to, answer_of};
+ghost use Rattle.locale_numbers.specs.AnswerSink.{HasRoom};
 ghost use Rattle.locale_numbers.specs.Changing.{MayGrowRead};
 ghost use Rattle.locale_numbers.specs.NumberReading.{number, beyond, nothing, reading_of};
 
+use crate::answer_sink::push_written;
+use crate::asked_book::AskedBook;
 use crate::changing::change;
 use crate::refusal::Refusal;
 use crate::request::{Form, read_request};
@@ -16,9 +17,8 @@ use crate::rounding_field::RoundingAsked;
 use crate::sign_field::SignAsked;
 use crate::wanted::{Wanted, read_wanted};
 use fixed_decimal::{Decimal, ParseError};
+use icu_decimal::options::GroupingStrategy;
 use locale_numbers_book::Book;
-use locale_numbers_plain::push_plain;
-use locale_numbers_symbols::GroupingStrategy;
 use std::alloc::{AllocError, Global};
 
 // The number that a text says.
@@ -52,15 +52,19 @@ fn push_number(
     out: &mut String,
 ) -> Result<(), AllocError>
     ensures text { OnOk result (string_bytes out.new
-        ≡ string_bytes out.old ++ answer_with (chosen book.now wanted.now.locale wanted.now.numbering_system) grouping value.now) }
+        ≡ string_bytes out.old ++ answer_with (found_in book.now wanted.now grouping) value.now) }
     ensures err { OnErr result (Grows (string_bytes out.old) (string_bytes out.new)) }
-    ensures room { HasRoom out.old (answer_with (chosen book.now wanted.now.locale wanted.now.numbering_system) grouping value.now) → IsOk result }
+    ensures room { HasRoom out.old (answer_with (found_in book.now wanted.now grouping) value.now) → IsOk result }
 {
-    let Some(tables) = book.tables_for(wanted.locale, wanted.numbering_system) else {
+    let asked = AskedBook {
+        book,
+        numbering_system: wanted.numbering_system,
+    };
+    let Ok(formatter) = asked.formatter(wanted.locale, grouping) else {
         return push_refusal(out, Refusal::Table);
     };
     out.push_str("ok\t")?;
-    push_plain(out, value, tables.symbols, tables.digits, grouping)
+    push_written(out, &formatter.format(value))
 }
 
 // Puts the answer to what a tag asks for, the fields of a request and a number's text behind what `out` holds.

@@ -13,7 +13,9 @@
 
 #![tactic(auto)]
 
+mod answer_sink;
 mod answering;
+mod asked_book;
 mod changing;
 mod cutting;
 mod fault;

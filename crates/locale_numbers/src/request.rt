@@ -6,7 +6,7 @@ ghost use Rattle.locale_numbers.specs.Request.{fields, form_named, grouping_name
 use crate::cutting::cut_field;
 use crate::rounding_field::{RoundingAsked, rounding_by};
 use crate::sign_field::{SignAsked, sign_by};
-use locale_numbers_symbols::GroupingStrategy;
+use icu_decimal::options::GroupingStrategy;
 
 const TAB: u8 = b'\t';
 

@@ -2,70 +2,41 @@
 ghost use Rattle.std.specs.Prelude.{◌≡◌, IfOk, IsOk};
 ghost use Rattle.icu_locale_core.specs.Pieces.{pieces};
 ghost use Rattle.icu_locale_core.specs.SingleModes.{single};
-ghost use Rattle.icu_locale_core.specs.SingleVariant.{SingleMeaning, MeansSingle, keyword_entries, single_tag};
-ghost use Rattle.icu_locale_core.specs.TagPreferences.{keyword_piece, keyword_subdivision, preferences_of};
-ghost use Rattle.locale_numbers.specs.Wanted.{wanted_by, wanted_of};
+ghost use Rattle.icu_locale_core.specs.SingleVariant.{SingleMeaning, MeansSingle, single_tag};
+ghost use Rattle.icu_locale_core.specs.TagPreferences.{preferences_of};
+ghost use Rattle.locale_numbers.specs.Wanted.{wanted_of};
 
-use icu_locale_core::extensions::unicode::{Key, SubdivisionId};
 use icu_locale_core::parser::SingleParts;
-use icu_locale_core::preferences::numbering_system;
+use icu_locale_core::preferences::{LocalePreferences, numbering_system};
 use icu_locale_core::subtags::Subtag;
-use icu_locale_core::{DataLocale, Locale, ParseError};
+use icu_locale_core::{Locale, ParseError};
 use std::alloc::{AllocError, Global};
 use std::marker::Model;
 
-/// A locale, and a numbering system or none.
+/// What a tag prefers: of its locale, and a numbering system or none.
 #[derive(Clone, Copy)]
 pub(crate) struct Wanted {
-    /// The language-first form of the tag.
-    pub locale: DataLocale,
+    /// The preferences of its locale.
+    pub locale: LocalePreferences,
     /// The value of `nu`, where it is one piece.
     pub numbering_system: Option<Subtag>,
 }
 
 impl Model for Wanted {
-    ghost use Rattle.locale_numbers.specs.Wanted.{Wanted as Asked};
+    ghost use Rattle.icu_locale_core.specs.TagPreferences.{Preferences};
 
-    ghost Value = { Asked };
+    ghost Value = { Preferences };
 
     ghost view = { λ w. record { locale = w.locale; numbering_system = w.numbering_system } };
 
     ghost inverse = { λ w. record { locale = w.locale; numbering_system = w.numbering_system } };
 }
 
-// The piece of a keyword, where the keyword has this key.
-fn piece_under(key: &str, keyword: &Option<(Key, Option<Subtag>)>) -> Option<Subtag>
-    ensures { result ≡ keyword_piece key.now (keyword_entries keyword.now) }
-{
-    let (found, piece) = (*keyword)?;
-    if key == found.as_str() { piece } else { None }
-}
-
-// The subdivision that a keyword spells, where the keyword has this key.
-fn subdivision_under(key: &str, keyword: &Option<(Key, Option<Subtag>)>) -> Option<SubdivisionId>
-    ensures { result ≡ keyword_subdivision key.now (keyword_entries keyword.now) }
-{
-    let piece = piece_under(key, keyword)?;
-    match SubdivisionId::try_from_str(piece.as_str()) {
-        Ok(subdivision) => Some(subdivision),
-        Err(_) => None,
-    }
-}
-
 // What a tag of one variant and one keyword at most asks for.
 fn wanted_in(parts: SingleParts) -> Wanted
-    ensures { result ≡ wanted_by (preferences_of (single_tag (single parts))) }
+    ensures { result ≡ preferences_of (single_tag (single parts)) }
 {
-    let (language, script, region, variant, keyword) = parts;
-    let subdivision = subdivision_under("sd", &keyword);
-    let numbering_system = piece_under("nu", &keyword);
-    let locale = DataLocale {
-        language,
-        script,
-        region,
-        variant,
-        subdivision,
-    };
+    let (locale, numbering_system) = LocalePreferences::from_single_parts(parts);
     Wanted {
         locale,
         numbering_system,
@@ -74,10 +45,10 @@ fn wanted_in(parts: SingleParts) -> Wanted
 
 // What a locale asks for.
 fn wanted_by(locale: &Locale) -> Wanted
-    ensures { result ≡ wanted_by (preferences_of locale.now) }
+    ensures { result ≡ preferences_of locale.now }
 {
     Wanted {
-        locale: DataLocale::from(locale),
+        locale: LocalePreferences::from(locale),
         numbering_system: numbering_system(locale),
     }
 }

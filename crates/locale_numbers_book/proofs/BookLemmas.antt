@@ -11,7 +11,8 @@ use Rattle.icu_locale_core.specs.TagPreferences.{Subdivision, DataLocaleMeaning}
 use Rattle.serde_json.specs.Data.{Data, Items}
 use Rattle.serde_json.specs.View.{items_view, view}
 use Rattle.serde_json.specs.declared.value.Value.{Value}
-use Rattle.locale_numbers_book.specs.Book.{count_of_items, all_of, table_at, has_no_key_twice, table_in, SymbolsKey, same_subdivision, same_data_locale, same_key, BookTables, IsBook}
+use Rattle.icu_decimal.specs.Identifiers.{Identifier}
+use Rattle.locale_numbers_book.specs.Book.{count_of_items, all_of, table_at, has_no_key_twice, table_in, same_subdivision, same_data_locale, same_key, BookTables, IsBook}
 use Rattle.locale_numbers_book.specs.Room.{begins_with}
 
 pub count-items : (fields : List Value) → count_of_items (items_view fields) ≡ length fields
@@ -141,7 +142,7 @@ same_subdivisions a b = Decides-like (same_subdivision a b)
     (λ h. (ap (λ s. s.region) h, ap (λ s. s.suffix) h))
     (Decides-and _ _ (bytes_eq-Decides a.region b.region) (bytes_eq-Decides a.suffix b.suffix))
 
-same_data_locales : (a b : DataLocaleMeaning) → Decides (same_data_locale a b) (a ≡ b)
+pub same_data_locales : (a b : DataLocaleMeaning) → Decides (same_data_locale a b) (a ≡ b)
 same_data_locales a b = Decides-like (same_data_locale a b)
     (λ h i. record { language = h.0 i; script = h.1.0 i; region = h.1.1.0 i; variant = h.1.1.1.0 i; subdivision = h.1.1.1.1 i })
     (λ h. (ap (λ l. l.language) h, (ap (λ l. l.script) h, (ap (λ l. l.region) h, (ap (λ l. l.variant) h, ap (λ l. l.subdivision) h)))))
@@ -150,13 +151,13 @@ same_data_locales a b = Decides-like (same_data_locale a b)
     (Decides-and _ _ (same_texts a.region b.region)
     (Decides-and _ _ (same_texts a.variant b.variant) (same_options same_subdivision same_subdivisions a.subdivision b.subdivision)))))
 
-pub same_keys : (a b : SymbolsKey) → Decides (same_key a b) (a ≡ b)
+pub same_keys : (a b : Identifier) → Decides (same_key a b) (a ≡ b)
 same_keys a b = Decides-like (same_key a b)
-    (λ h i. record { locale = h.0 i; numbering_system = h.1 i })
-    (λ h. (ap (λ k. k.locale) h, ap (λ k. k.numbering_system) h))
-    (Decides-and _ _ (same_data_locales a.locale b.locale) (same_texts a.numbering_system b.numbering_system))
+    (λ h i. record { locale = h.0 i; attributes = h.1 i })
+    (λ h. (ap (λ k. k.locale) h, ap (λ k. k.attributes) h))
+    (Decides-and _ _ (same_data_locales a.locale b.locale) (bytes_eq-Decides a.attributes b.attributes))
 
-pub same_key_symmetric : (a b : SymbolsKey) → same_key a b ≡ same_key b a
+pub same_key_symmetric : (a b : Identifier) → same_key a b ≡ same_key b a
 same_key_symmetric a b = same_from_decides (same_key a b) (same_key b a) (same_keys a b) (Decides-like (same_key b a) sym sym (same_keys b a))
 
 pub bytes_eq_symmetric : (a b : Text) → bytes_eq a b ≡ bytes_eq b a

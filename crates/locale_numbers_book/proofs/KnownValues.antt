@@ -1,5 +1,5 @@
 -- Worked rows of `specs/TagReading.antt`, `specs/Fields.antt` and `specs/Book.antt`: what known texts and fields say.
-use Rattle.std.proofs.Common.{◌≡◌, ◌∷◌, [], true, codes, Option, Some, None, option_map, refl}
+use Rattle.std.proofs.Common.{◌≡◌, ◌∷◌, [], true, codes, Option, Some, None, Ok, Err, option_map, refl}
 use Rattle.serde_json.specs.Data.{number, string, unsigned, array, no_items}
 use Rattle.icu_locale_core.specs.Subtags.{Text}
 use Rattle.icu_locale_core.specs.Pieces.{pieces}
@@ -8,7 +8,10 @@ use Rattle.icu_locale_core.specs.Stepping.{headed_after, whole_after}
 use Rattle.icu_locale_core.specs.TagStages.{with_piece, body_after}
 use Rattle.locale_numbers_book.specs.TagReading.{tag_of, data_locale_of}
 use Rattle.locale_numbers_book.specs.Fields.{size_in, system_in, system_or_none_in, digits_in, plain_text_in}
-use Rattle.locale_numbers_book.specs.Book.{has_count}
+use Rattle.icu_decimal.specs.declared.error.DataError.{DataError}
+use Rattle.icu_decimal.specs.Identifiers.{of_both, of_system}
+use Rattle.locale_numbers_book.specs.Book.{BookTables, has_count}
+use Rattle.locale_numbers_book.specs.Tables.{digits_under}
 use Rattle.std.specs.Str.{chars}
 
 -- ---- what a tag asks for
@@ -90,7 +93,7 @@ too_large : size_in (number (unsigned 256)) ≡ None
 too_large = refl
 
 -- only the field of the system asked for may be empty
-empty_system : system_or_none_in (string []) ≡ Some None
+empty_system : system_or_none_in (string []) ≡ Some []
 empty_system = refl
 
 not_empty : system_in (string []) ≡ None
@@ -115,3 +118,21 @@ tab_in_symbol = refl
 
 no_fields : has_count 0 (array no_items) ≡ true
 no_fields = refl
+
+-- ---- tables
+
+abbrev latin_alone : BookTables
+latin_alone = record { symbols = []; digits = (codes "latn", codes "0123456789") ∷ [] }
+
+abbrev english : DataLocaleMeaning
+english = record { language = codes "en"; script = None; region = None; variant = None; subdivision = None }
+
+latin_digits : digits_under latin_alone (of_system (codes "latn")) ≡ Ok (codes "0123456789")
+latin_digits = refl
+
+unknown_system : digits_under latin_alone (of_system (codes "wxyz")) ≡ Err DataError.IdentifierNotFound
+unknown_system = refl
+
+-- digits stand under no locale
+digits_of_a_locale : digits_under latin_alone (of_both (codes "latn") english) ≡ Err DataError.IdentifierNotFound
+digits_of_a_locale = refl

@@ -8,16 +8,12 @@ use Rattle.serde_json.specs.Data.{Data, Items, no_items, item}
 use Rattle.serde_json.specs.Find.{at, as_array}
 use Rattle.icu_locale_core.specs.Subtags.{Text}
 use Rattle.icu_locale_core.specs.TagPreferences.{Subdivision, DataLocaleMeaning}
-use Rattle.locale_numbers_symbols.specs.Symbols.{Symbols}
-use Rattle.locale_numbers_symbols.specs.declared.grouping_sizes.GroupingSizes.{GroupingSizes}
+use Rattle.icu_decimal.specs.declared.provider.GroupingSizes.{GroupingSizes}
+use Rattle.icu_decimal.specs.Identifiers.{Identifier, of_both}
+use Rattle.icu_decimal.specs.Symbols.{Symbols}
 use Rattle.locale_numbers_book.specs.Fields.{plain_text_in, system_in, system_or_none_in, locale_in, size_in, digits_in}
 
 -- ---- one entry
-
--- what a table of symbols is looked up by
-pub record SymbolsKey : Type 0 where
-  pub locale : DataLocaleMeaning
-  pub numbering_system : Option Text
 
 -- how many items an array has; a value that is no array has none
 abbrev pub count_of_items : Items → ℕ
@@ -31,10 +27,10 @@ has_count n value = option_map_or (λ ds. count_of_items ds == n) (as_array valu
 abbrev pub field_at : {T : Type 0} → (Data → Option T) → ℕ → Data → Option T
 field_at read place entry = option_and_then read (at place entry)
 
--- places 0 and 1: the locale and the system asked for
-abbrev pub symbols_key : Data → Option SymbolsKey
+-- places 0 and 1: the locale, and the system asked for or the empty text
+abbrev pub symbols_key : Data → Option Identifier
 symbols_key entry = option_and_then
-    (λ locale. option_map (λ system. record { locale = locale; numbering_system = system }) (field_at system_or_none_in 1 entry))
+    (λ locale. option_map (λ system. of_both system locale) (field_at system_or_none_in 1 entry))
     (field_at locale_in 0 entry)
 
 -- places 9 to 11: the sizes of groups
@@ -59,13 +55,15 @@ abbrev pub symbols_with : Text → GroupingSizes → Data → Option Symbols
 symbols_with numsys sizes entry =
     if has_texts entry
     then Some (record {
-      minus_sign_prefix = unwrap_or (field_at plain_text_in 3 entry) [];
-      minus_sign_suffix = unwrap_or (field_at plain_text_in 4 entry) [];
-      plus_sign_prefix = unwrap_or (field_at plain_text_in 5 entry) [];
-      plus_sign_suffix = unwrap_or (field_at plain_text_in 6 entry) [];
-      decimal_separator = unwrap_or (field_at plain_text_in 7 entry) [];
-      grouping_separator = unwrap_or (field_at plain_text_in 8 entry) [];
-      numsys = numsys;
+      strings = record {
+        minus_sign_prefix = unwrap_or (field_at plain_text_in 3 entry) [];
+        minus_sign_suffix = unwrap_or (field_at plain_text_in 4 entry) [];
+        plus_sign_prefix = unwrap_or (field_at plain_text_in 5 entry) [];
+        plus_sign_suffix = unwrap_or (field_at plain_text_in 6 entry) [];
+        decimal_separator = unwrap_or (field_at plain_text_in 7 entry) [];
+        grouping_separator = unwrap_or (field_at plain_text_in 8 entry) [];
+        numsys = numsys;
+      };
       grouping_sizes = sizes;
     })
     else None
@@ -76,10 +74,10 @@ symbols_of entry = option_and_then
     (field_at system_in 2 entry)
 
 -- twelve fields: the key and the symbols
-abbrev pub symbols_entry : Data → Option (SymbolsKey × Symbols)
+abbrev pub symbols_entry : Data → Option (Identifier × Symbols)
 symbols_entry entry =
     if has_count 12 entry
-    then option_and_then (λ key. option_map {T = Symbols} {U = SymbolsKey × Symbols} (λ symbols. (key, symbols)) (symbols_of entry)) (symbols_key entry)
+    then option_and_then (λ key. option_map {T = Symbols} {U = Identifier × Symbols} (λ symbols. (key, symbols)) (symbols_of entry)) (symbols_key entry)
     else None
 
 -- two fields: the system and its digits
@@ -107,8 +105,8 @@ same_data_locale a b =
     && (option_eq bytes_eq a.region b.region
     && (option_eq bytes_eq a.variant b.variant && option_eq same_subdivision a.subdivision b.subdivision)))
 
-abbrev pub same_key : SymbolsKey → SymbolsKey → Bool
-same_key a b = same_data_locale a.locale b.locale && option_eq bytes_eq a.numbering_system b.numbering_system
+abbrev pub same_key : Identifier → Identifier → Bool
+same_key a b = same_data_locale a.locale b.locale && bytes_eq a.attributes b.attributes
 
 -- what stands with a key in a list of pairs
 abbrev pub table_at : {K V : Type 0} → (K → K → Bool) → K → List (K × V) → Option V
@@ -130,7 +128,7 @@ table_in same read items = option_and_then (without_key_twice same) (all_of read
 
 -- the tables of a book
 pub record BookTables : Type 0 where
-  pub symbols : List (SymbolsKey × Symbols)
+  pub symbols : List (Identifier × Symbols)
   pub digits : List (Text × List ℕ)
 
 abbrev pub is_array_at : ℕ → Data → Bool
@@ -142,7 +140,7 @@ has_form value =
     has_count 5 value
     && (is_array_at 0 value && (is_array_at 1 value && (is_array_at 2 value && (is_array_at 3 value && is_array_at 4 value))))
 
-abbrev pub symbols_in : Data → Option (List (SymbolsKey × Symbols))
+abbrev pub symbols_in : Data → Option (List (Identifier × Symbols))
 symbols_in value = option_and_then (table_in same_key symbols_entry) (option_and_then as_array (at 0 value))
 
 abbrev pub digits_tables_in : Data → Option (List (Text × List ℕ))

@@ -1,7 +1,7 @@
 -- One field of an entry of a book: when a JSON value is one, and what it says.
 -- Defined in docs/books.md, "The form"; names of systems after UTS 35, part 3 (numbers).
 -- Cited by the steps of `Book::from_json`, and by `Book.antt`.
-use Rattle.std.specs.Prelude.{ℕ, ◌==◌, Bool, not, ◌&&◌, ◌||◌, List, [], ◌∷◌, length, nat_lt, chars, Option, Some, None, option_map, option_and_then, if◌then◌else◌}
+use Rattle.std.specs.Prelude.{ℕ, ◌==◌, Bool, not, ◌&&◌, ◌||◌, List, [], ◌∷◌, length, nat_lt, chars, Option, Some, None, option_and_then, if◌then◌else◌}
 use Rattle.std.specs.Int.{is_in_range}
 use Rattle.std.specs.List.{list_all}
 use Rattle.std.specs.Char.{is_ascii_lowercase, is_ascii_digit}
@@ -22,9 +22,9 @@ line_feed = 10
 abbrev pub is_plain : ℕ → Bool
 is_plain c = not (c == tab) && not (c == line_feed)
 
--- a text of such characters, as their list
+-- a text of such characters, in UTF-8
 abbrev pub plain_text_in : Data → Option (List ℕ)
-plain_text_in field = option_and_then (λ text. if list_all is_plain (chars text) then Some (chars text) else None) (as_str field)
+plain_text_in field = option_and_then (λ text. if list_all is_plain (chars text) then Some text else None) (as_str field)
 
 abbrev pub is_small_letter_or_digit : ℕ → Bool
 is_small_letter_or_digit b = is_ascii_lowercase b || is_ascii_digit b
@@ -40,11 +40,11 @@ abbrev pub system_in : Data → Option Text
 system_in field = option_and_then system_named (as_str field)
 
 -- a system, or the empty text for none
-abbrev pub named_or_none : Text → Option (Option Text)
-named_or_none [] = Some None
-named_or_none (b ∷ bs) = option_map Some (system_named (b ∷ bs))
+abbrev pub named_or_none : Text → Option Text
+named_or_none [] = Some []
+named_or_none (b ∷ bs) = system_named (b ∷ bs)
 
-abbrev pub system_or_none_in : Data → Option (Option Text)
+abbrev pub system_or_none_in : Data → Option Text
 system_or_none_in field = option_and_then named_or_none (as_str field)
 
 -- a tag that is a data locale
@@ -60,4 +60,4 @@ abbrev pub ten_characters : List ℕ → Option (List ℕ)
 ten_characters characters = if length characters == 10 then Some characters else None
 
 abbrev pub digits_in : Data → Option (List ℕ)
-digits_in field = option_and_then ten_characters (plain_text_in field)
+digits_in field = option_and_then (λ text. ten_characters (chars text)) (plain_text_in field)

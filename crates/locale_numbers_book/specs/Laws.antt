@@ -9,7 +9,8 @@ use Rattle.icu_locale_core.specs.Meaning.{TagMeaning, MeansTag}
 use Rattle.icu_locale_core.specs.TagPreferences.{DataLocaleMeaning}
 use Rattle.icu_locale_core.specs.DataTags.{MeansDataLocale}
 use Rattle.locale_numbers_book.specs.TagReading.{tag_of, data_locale_of}
-use Rattle.locale_numbers_book.specs.Book.{SymbolsKey, BookTables, same_key, IsBook}
+use Rattle.icu_decimal.specs.Identifiers.{Identifier}
+use Rattle.locale_numbers_book.specs.Book.{BookTables, same_key, IsBook}
 
 -- a list of pieces is read as a tag exactly where it means one, and as that one
 abbrev pub TagsAreRead : Type 0
@@ -21,7 +22,7 @@ DataLocalesAreRead = (list : List Text) (locale : DataLocaleMeaning) → MeansDa
 
 -- the test of two keys is true exactly where they are equal
 abbrev pub KeysAreOneWhereEqual : Type 0
-KeysAreOneWhereEqual = (key other : SymbolsKey) → Decides (same_key key other) (key ≡ other)
+KeysAreOneWhereEqual = (key other : Identifier) → Decides (same_key key other) (key ≡ other)
 
 -- a value is one book at most
 abbrev pub IsOneBook : Type 0

@@ -4,5 +4,5 @@ pub mod Json
 pub mod Fields
 pub mod Book
 pub mod Laws
-pub mod Choice
 pub mod Room
+pub mod Tables

@@ -1,31 +1,31 @@
 //! A book of tables.
 ghost use Rattle.std.specs.Prelude.{◌≡◌, true, IfOk, IsErrOf, IfErr, Some, None};
 ghost use Rattle.std.specs.Option.{option_copied};
-ghost use Rattle.std.specs.Str.{bytes_eq};
+ghost use Rattle.std.specs.Result.{result_map_both};
+ghost use Rattle.icu_decimal.specs.Choice.{answered};
 ghost use Rattle.serde_json.specs.View.{view};
 ghost use Rattle.serde_json.specs.Data.{Data};
 ghost use Rattle.locale_numbers_book.specs.Json.{Reads, IsNoJson};
 ghost use Rattle.locale_numbers_book.specs.BookError.{IsShapeOrMemory, IsJsonShapeOrMemory};
-ghost use Rattle.locale_numbers_book.specs.Book.{IsBook, IsNoBook, table_at, same_key};
+ghost use Rattle.locale_numbers_book.specs.Book.{IsBook, IsNoBook};
 ghost use Rattle.locale_numbers_book.specs.Room.{book_may_grow};
 
 use crate::BookError;
 use crate::json::{array_at, digits_table, has_frame, symbols_table, value_of};
-use crate::key::SymbolsKey;
-use crate::system_named::SystemNamed;
-use icu_locale_core::DataLocale;
-use icu_locale_core::subtags::Subtag;
+use icu_decimal::provider::{
+    DataError, DataIdentifier, DataProvider, DecimalDigitsV1, DecimalSymbols, DecimalSymbolsV1,
+};
 use indexmap::IndexMap;
-use locale_numbers_symbols::DecimalSymbols;
 use serde_json::Value;
 use std::alloc::Global;
 use std::marker::Model;
+use tinystr::TinyAsciiStr;
 
 /// Tables of symbols and of digits, as a JSON text names them.
 #[derive(Drop)]
 pub struct Book {
-    symbols: IndexMap<SymbolsKey, DecimalSymbols>,
-    digits: IndexMap<Subtag, [char; 10]>,
+    symbols: IndexMap<DataIdentifier, DecimalSymbols>,
+    digits: IndexMap<TinyAsciiStr<8>, [char; 10]>,
 }
 
 impl Model for Book {
@@ -34,6 +34,13 @@ impl Model for Book {
     ghost Value = { BookTables };
 
     ghost view = { λ b. record { symbols = b.symbols.entries; digits = b.digits.entries } };
+}
+
+// What is there, or that nothing is.
+fn found<T>(there: Option<&T>) -> Result<&T, DataError>
+    ensures { result_map_both (λ table. table.now) (λ error. error) result ≡ answered (option_copied there.entry) }
+{
+    there.ok_or(DataError::IdentifierNotFound)
 }
 
 /// The book that a JSON value is.
@@ -80,33 +87,35 @@ impl Book {
             Err(fault) => Err(fault),
         }
     }
+}
 
-    /// The symbols of the entry with this locale and this numbering system, or with none.
-    ///
-    /// In `SAMPLE_BOOK`, `en` and no system have `.` and `,`; `en` and `thai` have no entry, nor has `en-US`. `None` where the
-    /// book has no such entry. Takes no memory.
-    pub fn symbols(
-        &self,
-        locale: DataLocale,
-        numbering_system: Option<Subtag>,
-    ) -> Option<&DecimalSymbols>
-        ensures { option_copied result
-            ≡ table_at same_key (record { locale = locale; numbering_system = numbering_system }) self.now.symbols }
-    {
-        let key = SymbolsKey::new(locale, numbering_system);
-        self.symbols.get(&key)
+/// The symbols of the entry with this locale and this system, or with none where the attributes are empty.
+///
+/// In `SAMPLE_BOOK`, `en` with no system has `.` and `,`; `en` with `thai` has no entry, nor has `en-US`. `IdentifierNotFound`:
+/// the book has no such entry. It takes no memory.
+impl DataProvider<DecimalSymbolsV1> for Book {
+    ghost use Rattle.locale_numbers_book.specs.Tables.{symbols_under};
+
+    ghost table = { symbols_under };
+
+    fn load(&self, id: &DataIdentifier) -> Result<&DecimalSymbols, DataError> {
+        found(self.symbols.get(id))
     }
+}
 
-    /// The ten digits of the entry with this numbering system, from zero up.
-    ///
-    /// In `SAMPLE_BOOK` those of `thai` are `๐` to `๙`; `deva` has no entry, nor has `THAI`. `None` where the book has no such
-    /// entry. Takes no memory.
-    pub fn digits(&self, numbering_system: &str) -> Option<&[char; 10]>
-        ensures { option_copied result ≡ table_at bytes_eq numbering_system.now self.now.digits }
-    {
-        let named = SystemNamed {
-            name: numbering_system,
-        };
-        self.digits.get(named)
+/// The ten digits of the entry with this system, from zero up.
+///
+/// In `SAMPLE_BOOK` those of `und` with `thai` are `๐` to `๙`; `deva` has no entry, nor has `thai` under a locale other than
+/// `und`. `IdentifierNotFound`: the book has no such entry. It takes no memory.
+impl DataProvider<DecimalDigitsV1> for Book {
+    ghost use Rattle.locale_numbers_book.specs.Tables.{digits_under};
+
+    ghost table = { digits_under };
+
+    fn load(&self, id: &DataIdentifier) -> Result<&[char; 10], DataError> {
+        if !id.locale.is_unknown() {
+            return Err(DataError::IdentifierNotFound);
+        }
+        found(self.digits.get(&id.attributes))
     }
 }

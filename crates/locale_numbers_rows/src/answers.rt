@@ -13,14 +13,19 @@ pub fn book_bytes(alloc: Global, field: &str) -> Result<Vec<u8>, RowError> {
     }
 }
 
-/// The book that a field names, or says.
-pub fn book_of(alloc: Global, field: &str) -> Result<Book, RowError> {
-    let bytes = book_bytes(alloc, field)?;
-    match Book::from_json(alloc, &bytes) {
+/// The book that bytes are.
+pub fn book_of_text(alloc: Global, bytes: &[u8]) -> Result<Book, RowError> {
+    match Book::from_json(alloc, bytes) {
         Ok(book) => Ok(book),
         Err(BookError::Memory) => Err(RowError::Memory),
         Err(_) => Err(RowError::NotUnderstood),
     }
+}
+
+/// The book that a field names, or says.
+pub fn book_of(alloc: Global, field: &str) -> Result<Book, RowError> {
+    let bytes = book_bytes(alloc, field)?;
+    book_of_text(alloc, &bytes)
 }
 
 /// `answer BOOK LINE`: the answer of the book to the line.

@@ -33,6 +33,16 @@ const OTHER_SYSTEM: &str = r#"[[["en","","latn","-","","+","",".",",",3,3,1],
   ["en","beng","deva","-","","+","",".","b",3,3,1]],
  [["latn","0123456789"],["arab","٠١٢٣٤٥٦٧٨٩"],["thai","๐๑๒๓๔๕๖๗๘๙"]],[],[],[]]"#;
 
+// The symbols and digits of the sample book, and symbols of `ar-EG` for `latn`.
+const LATIN_EGYPT: &str = r#"[[["en","","latn","-","","+","",".",",",3,3,1],
+  ["ar-EG","","arab","-","","+","","٫","٬",3,3,1],
+  ["ar-EG","latn","latn","-","","+","",".",",",3,3,1]],
+ [["latn","0123456789"],["arab","٠١٢٣٤٥٦٧٨٩"],["thai","๐๑๒๓๔๕๖๗๘๙"]],[],[],[]]"#;
+
+// Bengali, grouped by three and then by two.
+const BENGALI: &str = r#"[[["bn","","beng","-","","+","",".",",",3,2,1]],
+ [["beng","০১২৩৪৫৬৭৮৯"]],[],[],[]]"#;
+
 /// The text of the book with this name.
 pub fn book_named(name: &str) -> Option<&'static str> {
     match name {
@@ -43,6 +53,8 @@ pub fn book_named(name: &str) -> Option<&'static str> {
         "parts" => Some(PARTS),
         "undetermined" => Some(UNDETERMINED),
         "other-system" => Some(OTHER_SYSTEM),
+        "latin-egypt" => Some(LATIN_EGYPT),
+        "bengali" => Some(BENGALI),
         _ => None,
     }
 }

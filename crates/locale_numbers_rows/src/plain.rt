@@ -1,51 +1,27 @@
-//! The plain text of a number, and where separators stand.
+//! Numbers in the symbols and the sizes of a row, and where separators stand.
+use crate::answers::book_of_text;
+use crate::escapes::escaped;
 use crate::numbers::{magnitude, small};
 use crate::row_error::RowError;
-use fixed_decimal::{Decimal, ParseError};
-use locale_numbers_plain::{grouper, push_plain, push_unsigned};
-use locale_numbers_symbols::{DecimalSymbols, GroupingSizes, GroupingStrategy};
-use std::alloc::{AllocError, Global};
-use tinystr::TinyAsciiStr;
+use icu_decimal::grouper;
+use icu_decimal::options::GroupingStrategy;
+use icu_decimal::provider::GroupingSizes;
+use locale_numbers::answer;
+use std::alloc::Global;
 
-const LATIN: [char; 10] = ['0', '1', '2', '3', '4', '5', '6', '7', '8', '9'];
-
-const BENGALI: [char; 10] = ['০', '১', '২', '৩', '৪', '৫', '৬', '৭', '৮', '৯'];
-
-// What stands round a number with a sign.
-#[derive(Clone, Copy)]
-struct Signs {
-    minus_prefix: &'static str,
-    minus_suffix: &'static str,
-    plus_prefix: &'static str,
-    plus_suffix: &'static str,
-}
-
-const ENGLISH: Signs = Signs {
-    minus_prefix: "-",
-    minus_suffix: "",
-    plus_prefix: "+",
-    plus_suffix: "",
-};
-
-const BRACKETS: Signs = Signs {
-    minus_prefix: "(",
-    minus_suffix: ")",
-    plus_prefix: "+",
-    plus_suffix: "!",
-};
-
-fn signs_named(name: &str) -> Result<Signs, RowError> {
+// The prefix and the suffix of the minus sign, and those of the plus sign, as a book has them.
+fn signs_named(name: &str) -> Result<&'static str, RowError> {
     match name {
-        "english" => Ok(ENGLISH),
-        "brackets" => Ok(BRACKETS),
+        "english" => Ok(r#""-","","+","""#),
+        "brackets" => Ok(r#""(",")","+","!""#),
         _ => Err(RowError::NotUnderstood),
     }
 }
 
-fn digits_named(name: &str) -> Result<&'static [char; 10], RowError> {
+fn digits_named(name: &str) -> Result<&'static str, RowError> {
     match name {
-        "latn" => Ok(&LATIN),
-        "beng" => Ok(&BENGALI),
+        "latn" => Ok("0123456789"),
+        "beng" => Ok("০১২৩৪৫৬৭৮৯"),
         _ => Err(RowError::NotUnderstood),
     }
 }
@@ -73,64 +49,20 @@ fn sizes_of(alloc: Global, field: &str) -> Result<GroupingSizes, RowError> {
     })
 }
 
-// Symbols with the separators of English.
-fn symbols_with(
-    alloc: Global,
-    signs: Signs,
-    grouping_sizes: GroupingSizes,
-) -> Result<DecimalSymbols, AllocError> {
-    Ok(DecimalSymbols {
-        minus_sign_prefix: String::from_str(alloc, signs.minus_prefix)?,
-        minus_sign_suffix: String::from_str(alloc, signs.minus_suffix)?,
-        plus_sign_prefix: String::from_str(alloc, signs.plus_prefix)?,
-        plus_sign_suffix: String::from_str(alloc, signs.plus_suffix)?,
-        decimal_separator: String::from_str(alloc, ".")?,
-        grouping_separator: String::from_str(alloc, ",")?,
-        numsys: TinyAsciiStr::EMPTY,
-        grouping_sizes,
-    })
-}
-
-fn symbols_of(alloc: Global, signs: &str, sizes: &str) -> Result<DecimalSymbols, RowError> {
+/// `answer_sized SIGNS SIZES DIGITS GROUPING NUMBER`: the answer of a book whose entry `en` has these signs and sizes, the
+/// separators of English and these digits.
+pub fn sized_row(alloc: Global, arguments: &[&str]) -> Result<String, RowError> {
+    let [signs, sizes, digits, grouping, number] = arguments else {
+        return Err(RowError::NotUnderstood);
+    };
     let signs = signs_named(signs)?;
-    let sizes = sizes_of(alloc, sizes)?;
-    Ok(symbols_with(alloc, signs, sizes)?)
-}
-
-fn number_of(alloc: Global, field: &str) -> Result<Decimal, RowError> {
-    match Decimal::try_from_str(alloc, field) {
-        Ok(number) => Ok(number),
-        Err(ParseError::Memory) => Err(RowError::Memory),
-        Err(_) => Err(RowError::NotUnderstood),
-    }
-}
-
-/// `push_plain HELD SIGNS SIZES DIGITS GROUPING NUMBER`: what the text then holds.
-pub fn plain_row(alloc: Global, arguments: &[&str]) -> Result<String, RowError> {
-    let [held, signs, sizes, digits, grouping, number] = arguments else {
-        return Err(RowError::NotUnderstood);
-    };
     let digits = digits_named(digits)?;
-    let grouping = grouping_named(grouping)?;
-    let symbols = symbols_of(alloc, signs, sizes)?;
-    let number = number_of(alloc, number)?;
-    let mut out = String::from_str(alloc, held)?;
-    push_plain(&mut out, &number, &symbols, digits, grouping)?;
-    Ok(out)
-}
-
-/// `push_unsigned HELD SIGNS SIZES DIGITS GROUPING NUMBER`: what the text then holds.
-pub fn unsigned_row(alloc: Global, arguments: &[&str]) -> Result<String, RowError> {
-    let [held, signs, sizes, digits, grouping, number] = arguments else {
-        return Err(RowError::NotUnderstood);
-    };
-    let digits = digits_named(digits)?;
-    let grouping = grouping_named(grouping)?;
-    let symbols = symbols_of(alloc, signs, sizes)?;
-    let number = number_of(alloc, number)?;
-    let mut out = String::from_str(alloc, held)?;
-    push_unsigned(&mut out, &number, &symbols, digits, grouping)?;
-    Ok(out)
+    let symbols = format!(in alloc; "\"en\",\"\",\"latn\",{signs},\".\",\",\",{sizes}")?;
+    let text = format!(in alloc; "[[[{symbols}]],[[\"latn\",\"{digits}\"]],[],[],[]]")?;
+    let book = book_of_text(alloc, text.as_bytes())?;
+    let line = format!(in alloc; "en\tplain\t{grouping}\tkeep\t-\t{number}")?;
+    let text = answer(alloc, &book, line.as_bytes())?;
+    escaped(alloc, &text)
 }
 
 /// `check UPPER MAGNITUDE GROUPING SIZES`: whether a separator follows the digit at that magnitude.

@@ -7,13 +7,14 @@ ghost use Rattle.locale_numbers_book.specs.Room.{locale_may_grow, symbols_may_gr
 
 use super::fields::{digits, has_text, locale, size, symbol, system, system_or_none};
 use crate::BookError;
-use crate::key::SymbolsKey;
-use icu_locale_core::subtags::Subtag;
-use locale_numbers_symbols::{DecimalSymbols, GroupingSizes};
+use icu_decimal::provider::{
+    DataIdentifier, DecimalSymbolStrsBuilder, DecimalSymbols, GroupingSizes,
+};
 use serde_json::Value;
 use std::alloc::Global;
+use tinystr::TinyAsciiStr;
 
-fn key(alloc: Global, entry: &Value) -> Result<SymbolsKey, BookError>
+fn key(alloc: Global, entry: &Value) -> Result<DataIdentifier, BookError>
     ensures value { IfOk result (λ key. symbols_key (view entry.now) ≡ Some key) }
     ensures shape { IsErrOf result BookError.Shape → symbols_key (view entry.now) ≡ None }
     ensures room { IsErrOf result BookError.Memory → locale_may_grow 0 (view entry.now) ≡ true }
@@ -23,7 +24,7 @@ fn key(alloc: Global, entry: &Value) -> Result<SymbolsKey, BookError>
     let Some(system) = system_or_none(entry, 1) else {
         return Err(BookError::Shape);
     };
-    Ok(SymbolsKey::new(locale, system))
+    Ok(DataIdentifier::for_marker_attributes_and_locale(system, locale))
 }
 
 fn grouping_sizes(entry: &Value) -> Option<GroupingSizes>
@@ -73,14 +74,17 @@ fn symbols(alloc: Global, entry: &Value) -> Result<DecimalSymbols, BookError>
     let plus_sign_suffix = symbol(alloc, entry, 6)?;
     let decimal_separator = symbol(alloc, entry, 7)?;
     let grouping_separator = symbol(alloc, entry, 8)?;
-    Ok(DecimalSymbols {
+    let strings = DecimalSymbolStrsBuilder {
         minus_sign_prefix,
         minus_sign_suffix,
         plus_sign_prefix,
         plus_sign_suffix,
         decimal_separator,
         grouping_separator,
-        numsys: system.to_tinystr(),
+        numsys: system,
+    };
+    Ok(DecimalSymbols {
+        strings: strings.build(),
         grouping_sizes,
     })
 }
@@ -99,7 +103,7 @@ pub fn has_count(entry: &Value, count: usize) -> bool
 pub fn symbols_entry(
     alloc: Global,
     entry: &Value,
-) -> Result<(SymbolsKey, DecimalSymbols), BookError>
+) -> Result<(DataIdentifier, DecimalSymbols), BookError>
     ensures value { IfOk result (λ pair. symbols_entry (view entry.now) ≡ Some pair) }
     ensures shape { IsErrOf result BookError.Shape → symbols_entry (view entry.now) ≡ None }
 
@@ -116,7 +120,10 @@ pub fn symbols_entry(
 }
 
 /// The digits of an entry, with their system.
-pub fn digits_entry(alloc: Global, entry: &Value) -> Result<(Subtag, [char; 10]), BookError>
+pub fn digits_entry(
+    alloc: Global,
+    entry: &Value,
+) -> Result<(TinyAsciiStr<8>, [char; 10]), BookError>
     ensures value { IfOk result (λ pair. digits_entry (view entry.now) ≡ Some pair) }
     ensures shape { IsErrOf result BookError.Shape → digits_entry (view entry.now) ≡ None }
 

@@ -11,10 +11,10 @@ ghost use Rattle.locale_numbers_book.specs.TagReading.{data_locale_of};
 ghost use Rattle.locale_numbers_book.specs.Fields.{is_plain, is_small_letter_or_digit, is_system_name, plain_text_in, system_named, system_in, system_or_none_in, locale_in, size_in, digits_in, ten_characters};
 
 use crate::BookError;
-use icu_locale_core::subtags::Subtag;
 use icu_locale_core::{DataLocale, ParseError};
 use serde_json::Value;
 use std::alloc::{AllocError, Global};
+use tinystr::TinyAsciiStr;
 
 fn is_plain_text(text: &str) -> bool
     ensures { result ≡ list_all is_plain (chars text.now) }
@@ -31,7 +31,7 @@ fn text_at(entry: &Value, place: usize) -> Option<&str>
 
 /// The text at a place of an entry, where no tab and no line feed stands in it.
 fn plain_text(entry: &Value, place: usize) -> Option<&str>
-    ensures { option_map (λ text. chars text.now) result ≡ field_at plain_text_in place (view entry.now) }
+    ensures { option_map (λ text. text.now) result ≡ field_at plain_text_in place (view entry.now) }
 {
     let text = text_at(entry, place)?;
     if is_plain_text(text) {
@@ -50,7 +50,7 @@ pub fn has_text(entry: &Value, place: usize) -> bool
 
 /// The text at a place of an entry, as a `String`.
 pub fn symbol(alloc: Global, entry: &Value, place: usize) -> Result<String, BookError>
-    ensures value { IfOk result (λ text. field_at plain_text_in place (view entry.now) ≡ Some (chars (string_bytes text))) }
+    ensures value { IfOk result (λ text. field_at plain_text_in place (view entry.now) ≡ Some (string_bytes text)) }
     ensures shape { IsErrOf result BookError.Shape → field_at plain_text_in place (view entry.now) ≡ None }
 
     // A field that is not there, or is no such text, is never told as out of memory.
@@ -125,20 +125,20 @@ fn is_small_alphanumeric(bytes: &[u8]) -> bool
 }
 
 /// The system that a text names.
-fn read_system(text: &str) -> Option<Subtag>
+fn read_system(text: &str) -> Option<TinyAsciiStr<8>>
     ensures { result ≡ system_named text.now }
 {
     if !is_system_name(text) {
         return None;
     }
-    match Subtag::try_from_str(text) {
+    match TinyAsciiStr::try_from_str(text) {
         Ok(system) => Some(system),
         Err(_) => None,
     }
 }
 
 /// The name of a system as a key.
-pub fn system(entry: &Value, place: usize) -> Option<Subtag>
+pub fn system(entry: &Value, place: usize) -> Option<TinyAsciiStr<8>>
     ensures { result ≡ field_at system_in place (view entry.now) }
 {
     let text = text_at(entry, place)?;
@@ -146,15 +146,14 @@ pub fn system(entry: &Value, place: usize) -> Option<Subtag>
 }
 
 /// The system at a place of an entry, which may be empty.
-pub fn system_or_none(entry: &Value, place: usize) -> Option<Option<Subtag>>
+pub fn system_or_none(entry: &Value, place: usize) -> Option<TinyAsciiStr<8>>
     ensures { result ≡ field_at system_or_none_in place (view entry.now) }
 {
     let text = text_at(entry, place)?;
     if text.is_empty() {
-        return Some(None);
+        return Some(TinyAsciiStr::default());
     }
-    let system = read_system(text)?;
-    Some(Some(system))
+    read_system(text)
 }
 
 /// The characters of a text.

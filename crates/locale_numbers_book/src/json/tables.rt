@@ -8,19 +8,18 @@ ghost use Rattle.locale_numbers_book.specs.Room.{begins_with, symbols_may_grow, 
 
 use super::entries::{digits_entry, symbols_entry};
 use crate::BookError;
-use crate::key::SymbolsKey;
 use crate::table::add;
-use icu_locale_core::subtags::Subtag;
+use icu_decimal::provider::{DataIdentifier, DecimalSymbols};
 use indexmap::IndexMap;
-use locale_numbers_symbols::DecimalSymbols;
 use serde_json::Value;
 use std::alloc::Global;
+use tinystr::TinyAsciiStr;
 
 /// The table of symbols that the entries of an array make.
 pub fn symbols_table(
     alloc: Global,
     entries: &[Value],
-) -> Result<IndexMap<SymbolsKey, DecimalSymbols>, BookError>
+) -> Result<IndexMap<DataIdentifier, DecimalSymbols>, BookError>
     ensures value { IfOk result (λ table. table_in same_key symbols_entry (items_view entries.now) ≡ Some table.entries) }
     ensures shape { IsErrOf result BookError.Shape → table_in same_key symbols_entry (items_view entries.now) ≡ None }
 
@@ -28,7 +27,7 @@ pub fn symbols_table(
     ensures room { IsErrOf result BookError.Memory → begins_with symbols_may_grow (items_view entries.now) ≡ true }
     ensures only { IfErr result IsShapeOrMemory }
 {
-    let mut table: IndexMap<SymbolsKey, DecimalSymbols> = IndexMap::new(alloc);
+    let mut table: IndexMap<DataIdentifier, DecimalSymbols> = IndexMap::new(alloc);
     for entry in entries {
         let (key, symbols) = symbols_entry(alloc, entry)?;
         match add(&mut table, key, symbols) {
@@ -43,7 +42,7 @@ pub fn symbols_table(
 pub fn digits_table(
     alloc: Global,
     entries: &[Value],
-) -> Result<IndexMap<Subtag, [char; 10]>, BookError>
+) -> Result<IndexMap<TinyAsciiStr<8>, [char; 10]>, BookError>
     ensures value { IfOk result (λ table. table_in bytes_eq digits_entry (items_view entries.now) ≡ Some table.entries) }
     ensures shape { IsErrOf result BookError.Shape → table_in bytes_eq digits_entry (items_view entries.now) ≡ None }
 
@@ -51,7 +50,7 @@ pub fn digits_table(
     ensures room { IsErrOf result BookError.Memory → begins_with digits_may_grow (items_view entries.now) ≡ true }
     ensures only { IfErr result IsShapeOrMemory }
 {
-    let mut table: IndexMap<Subtag, [char; 10]> = IndexMap::new(alloc);
+    let mut table: IndexMap<TinyAsciiStr<8>, [char; 10]> = IndexMap::new(alloc);
     for entry in entries {
         let (system, digits) = digits_entry(alloc, entry)?;
         match add(&mut table, system, digits) {

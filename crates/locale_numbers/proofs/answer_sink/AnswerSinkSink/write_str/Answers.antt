@@ -1,0 +1,21 @@
+use Rattle.std.proofs.Common.{[], arith, refl, ap, ◌++◌, ◌∙◌, length, rules}
+use Rattle.writeable.specs.AnnotatedText.{bytes}
+use Rattle.writeable.proofs.AnnotatedTextLemmas.{text_of_bytes}
+use Rattle.locale_numbers.proofs.answer_sink.AnswerSinkSink.write_str.Goals as goal
+
+pub returns-in-Ok-clause-ok : goal.returns-in-Ok-clause-ok
+returns-in-Ok-clause-ok c = record {
+  same = refl;
+  text = rw (text_of_bytes c.args.text.now) (c.push_fitting.ensures.text ∙ ap (λ held. held ++ c.args.text.now) c.in-Ok.ensures.bytes);
+  capacity = omega (arith, c.push_fitting.ensures.capacity, c.in-Ok.ensures.capacity);
+}
+
+-- nothing was put, and there was no room
+pub returns-in-Err-clause-begun : goal.returns-in-Err-clause-begun
+returns-in-Err-clause-begun c = record {
+  front = [];
+  rest = bytes c.args.text.now;
+  whole = refl;
+  taken = record { same = refl; text = search rules; capacity = c.in-Err.ensures.capacity };
+  short = rw (text_of_bytes c.args.text.now) (let same = ap length c.in-Err.ensures.bytes in omega (arith, same, c.in-Err.ensures.full, c.in-Err.ensures.err));
+}

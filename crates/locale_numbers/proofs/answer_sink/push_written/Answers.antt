@@ -1,0 +1,10 @@
+use Rattle.std.proofs.Common.{arith, length, ap}
+use Rattle.locale_numbers.specs.AnswerSinkLaws.{rest_needs}
+use Rattle.locale_numbers.proofs.answer_sink.push_written.Goals as goal
+
+pub returns-in-Err-clause-room : goal.returns-in-Err-clause-room
+returns-in-Err-clause-room g c = λ room.
+    let begun = c.in-Err.ensures.begun in
+    let needs = rest_needs _ _ _ begun.front begun.rest begun.whole begun.taken begun.short in
+    let same = ap length c.in_ok-reserve.ensures.bytes in
+    absurd (omega (arith, room, needs, same, c.in_ok-reserve.ensures.capacity))

@@ -1,0 +1,90 @@
+//! The buffer of answers as a sink, so that no text is copied.
+ghost use Rattle.std.specs.Prelude.{◌≡◌, ◌≤◌, ◌++◌, IsOk, OnOk, OnErr, string_bytes, string_capacity};
+ghost use Rattle.writeable.specs.AnnotatedText.{text_of};
+ghost use Rattle.locale_numbers_engine.specs.Growth.{Grows};
+ghost use Rattle.locale_numbers.specs.AnswerSink.{HasRoom};
+
+use std::alloc::AllocError;
+use writeable::{Error, Part, Sink, Writeable};
+
+// A text goes behind what the buffer holds, and its parts are left out.
+struct AnswerSink<'o> {
+    out: &'o mut String,
+    refused: bool,
+}
+
+// Puts a text for which there is room behind what `out` holds.
+fn push_fitting(out: &mut String, text: &str)
+    requires { HasRoom out.old text.now }
+    ensures text { string_bytes out.new ≡ string_bytes out.old ++ text.now }
+    ensures capacity { string_capacity out.old ≤ string_capacity out.new }
+{
+    match out.push_str(text) {
+        Ok(()) => {}
+        Err(_) => unreachable!(),
+    }
+}
+
+impl<'o> Sink for AnswerSink<'o> {
+    ghost use Rattle.locale_numbers.specs.AnswerSink.{NeedsMemory, Puts};
+    ghost use Rattle.locale_numbers.specs.AnswerSinkLaws.{needs_more, puts_nothing, puts_joined};
+
+    ghost takes = { λ s es t. Puts s.out es t.out };
+
+    ghost lacks_room = { λ s es. NeedsMemory s.out.now es };
+
+    ghost refused = { λ s. s.refused };
+
+    ghost lacks_more = { λ s first second lacking. needs_more s.out.now first second lacking };
+
+    ghost nothing = { λ s. puts_nothing s.out };
+
+    ghost joins = { λ s t u first second begun going ended. puts_joined s.out t.out u.out first second begun ended };
+
+    fn has_refused(&self) -> bool {
+        self.refused
+    }
+
+    fn write_str(&mut self, text: &str) -> Result<(), Error> {
+        match self.out.reserve(text.len()) {
+            Ok(()) => {
+                push_fitting(self.out, text);
+                Ok(())
+            }
+            Err(_) => {
+                self.refused = true;
+                Err(Error)
+            }
+        }
+    }
+
+    fn open_part(&mut self, _part: Part) -> Result<(), Error> {
+        Ok(())
+    }
+
+    fn close_part(&mut self) -> Result<(), Error> {
+        Ok(())
+    }
+}
+
+/// Puts the text of a value behind what `out` holds.
+///
+/// Where its hint tells the length, memory is asked for once; where there is room, not at all. After an error a part of the
+/// text may stand there.
+pub(crate) fn push_written<T: Writeable>(out: &mut String, value: &T) -> Result<(), AllocError>
+    ensures text { OnOk result (string_bytes out.new ≡ string_bytes out.old ++ text_of (T.events value.now)) }
+    ensures err { OnErr result (Grows (string_bytes out.old) (string_bytes out.new)) }
+    ensures room { HasRoom out.old (text_of (T.events value.now)) → IsOk result }
+{
+    out.reserve(value.writeable_length_hint().low)?;
+    let mut sink = AnswerSink {
+        out,
+        refused: false,
+    };
+    let written = value.write_to(&mut sink);
+    let AnswerSink { out: _, refused: _ } = sink;
+    match written {
+        Ok(()) => Ok(()),
+        Err(_) => Err(AllocError),
+    }
+}

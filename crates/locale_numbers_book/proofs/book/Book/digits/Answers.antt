@@ -1,4 +1,0 @@
-use Rattle.locale_numbers_book.proofs.book.Book.digits.Goals as goal
-
-pub returns : goal.returns
-returns c = rw (← c.self.view_is) c.get.ensures.value

@@ -1,0 +1,23 @@
+-- What stands in a book under an identifier, of symbols and of digits.
+-- Defined in docs/books.md, "Choosing tables".
+-- Cited by both impls of `DataProvider` for `Book`, and by the answer to a line.
+use Rattle.std.specs.Prelude.{ℕ, List, Option, None, Result, if◌then◌else◌}
+use Rattle.std.specs.Str.{bytes_eq}
+use Rattle.icu_locale_core.specs.DataLocales.{unknown_data}
+use Rattle.icu_decimal.specs.declared.error.DataError.{DataError}
+use Rattle.icu_decimal.specs.Choice.{answered}
+use Rattle.icu_decimal.specs.Identifiers.{Identifier}
+use Rattle.icu_decimal.specs.Symbols.{Symbols}
+use Rattle.locale_numbers_book.specs.Book.{BookTables, same_data_locale, same_key, table_at}
+
+-- the symbols of the entry with this locale and this system, or with none
+abbrev pub symbols_under : BookTables → Identifier → Result Symbols DataError
+symbols_under book id = answered (table_at same_key id book.symbols)
+
+-- digits depend on no locale
+abbrev pub digits_there : BookTables → Identifier → Option (List ℕ)
+digits_there book id = if same_data_locale id.locale unknown_data then table_at bytes_eq id.attributes book.digits else None
+
+-- the digits of the entry with this system, where no locale is asked for
+abbrev pub digits_under : BookTables → Identifier → Result (List ℕ) DataError
+digits_under book id = answered (digits_there book id)

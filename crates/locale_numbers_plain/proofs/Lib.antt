@@ -1,3 +1,0 @@
-pub mod GrouperLemmas
-pub mod KnownValues
-pub mod PlainTextLemmas

@@ -1,3 +1,0 @@
-pub mod Grouper
-pub mod PlainText
-pub mod GroupLaws
