@@ -1,4 +1,12 @@
--- What a reader must believe: which tables are asked for, and the text of a number with its parts.
+-- What a reader must believe: which tables are asked for, plural rules, and the text of a number with its parts.
+pub use Rattle.icu_decimal_plurals.specs.Categories
+pub use Rattle.icu_decimal_plurals.specs.ConditionGrammar
+pub use Rattle.icu_decimal_plurals.specs.Conditions
+pub use Rattle.icu_decimal_plurals.specs.ExactNumbers
+pub use Rattle.icu_decimal_plurals.specs.Operands
+pub use Rattle.icu_decimal_plurals.specs.Reading
+pub use Rattle.icu_decimal_plurals.specs.Rules
+pub use Rattle.icu_decimal_plurals.specs.Tokens
 pub use Rattle.icu_decimal_provider.specs.Choice
 pub use Rattle.icu_decimal_provider.specs.Cow
 pub use Rattle.icu_decimal_provider.specs.DataErrors

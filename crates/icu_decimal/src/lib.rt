@@ -18,9 +18,11 @@
 
 pub mod input;
 pub mod laws;
+pub mod plurals;
+pub mod provider;
 
 pub use icu_decimal_provider::preferences::DecimalFormatterPreferences;
-pub use icu_decimal_provider::{Cow, error, options, parts, preferences, provider};
+pub use icu_decimal_provider::{Cow, error, options, parts, preferences};
 pub use icu_decimal_text::{
     DecimalFormatter, FormattedDecimal, FormattedSign, FormattedUnsignedDecimal, grouper,
 };

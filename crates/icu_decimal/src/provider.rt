@@ -1,0 +1,8 @@
+//! Providers: who has the tables that a formatter borrows, and under which identifier each stands.
+
+pub use icu_decimal_plurals::PluralsCardinalV1;
+pub use icu_decimal_provider::provider::{
+    DataError, DataIdentifier, DataMarker, DataProvider, DecimalDigitsV1, DecimalSymbolStrsBuilder,
+    DecimalSymbols, DecimalSymbolsStrs, DecimalSymbolsV1, GroupingSizes, load_digits, load_symbols,
+    load_with_fallback,
+};

@@ -1,0 +1,40 @@
+//! Rows and their answers.
+
+use crate::plurals;
+use crate::stop::Stop;
+use std::alloc::{AllocError, Global};
+
+// The answer of a row, by the call that it begins with.
+fn answer(alloc: Global, row: &str) -> Result<String, Stop> {
+    let fields: Vec<&str> = row.split('\t').collect(alloc)?;
+    match fields.as_slice() {
+        ["category", rules, number, exponent] => plurals::category(alloc, rules, number, exponent),
+        ["rules", rules] => plurals::rules(alloc, rules),
+        ["operands", number, exponent] => plurals::operands(alloc, number, exponent),
+        ["is_exactly", number, exponent, asked] => {
+            plurals::is_exactly(alloc, number, exponent, asked)
+        }
+        ["get_for_cldr_bytes", word] => plurals::named(alloc, word),
+        _ => Err(Stop::Unknown),
+    }
+}
+
+// What is written behind a row: its answer, the words of a refusal, or `?` where it is not understood.
+fn written(alloc: Global, row: &str) -> Result<String, AllocError> {
+    match answer(alloc, row) {
+        Ok(answer) => Ok(answer),
+        Err(Stop::Refused(error)) => format!(in alloc; "{error}"),
+        Err(Stop::Unknown) => String::from_str(alloc, "?"),
+        Err(Stop::Memory) => Err(AllocError),
+    }
+}
+
+/// The rows, each with a tab and its answer behind it.
+pub fn answered(alloc: Global, rows: &str) -> Result<String, AllocError> {
+    let mut output = String::new(alloc);
+    for row in rows.lines() {
+        let answer = written(alloc, row)?;
+        writeln!(output, "{row}\t{answer}")?;
+    }
+    Ok(output)
+}

@@ -1,0 +1,46 @@
+//! Why a row has no value.
+
+use fixed_decimal::ParseError;
+use icu_decimal::error::DataError;
+use std::alloc::{AllocError, AllocFailed};
+
+/// Why a row has no value.
+#[derive(Clone, Copy, Drop)]
+pub enum Stop {
+    /// A table was refused.
+    Refused(DataError),
+    /// The line names no call, or passes it what it does not take.
+    Unknown,
+    /// Out of memory.
+    Memory,
+}
+
+impl From<AllocError> for Stop {
+    fn from(_refused: AllocError) -> Stop {
+        Stop::Memory
+    }
+}
+
+impl<T: Drop> From<AllocFailed<T>> for Stop {
+    fn from(_refused: AllocFailed<T>) -> Stop {
+        Stop::Memory
+    }
+}
+
+impl From<ParseError> for Stop {
+    fn from(refused: ParseError) -> Stop {
+        match refused {
+            ParseError::Memory => Stop::Memory,
+            _ => Stop::Unknown,
+        }
+    }
+}
+
+impl From<DataError> for Stop {
+    fn from(refused: DataError) -> Stop {
+        match refused {
+            DataError::Memory => Stop::Memory,
+            error => Stop::Refused(error),
+        }
+    }
+}
