@@ -5,6 +5,7 @@
 
 mod plurals;
 mod rows;
+mod shown;
 mod stop;
 
 use std::io;

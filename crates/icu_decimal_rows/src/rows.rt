@@ -1,7 +1,7 @@
 //! Rows and their answers.
 
-use crate::plurals;
 use crate::stop::Stop;
+use crate::{plurals, shown};
 use std::alloc::{AllocError, Global};
 
 // The answer of a row, by the call that it begins with.
@@ -15,6 +15,13 @@ fn answer(alloc: Global, row: &str) -> Result<String, Stop> {
             plurals::is_exactly(alloc, number, exponent, asked)
         }
         ["get_for_cldr_bytes", word] => plurals::named(alloc, word),
+        ["show", entries, number] => shown::shown(alloc, entries, number),
+        ["exact_entry", entries, significand, exponent] => {
+            shown::exact(alloc, entries, significand, exponent)
+        }
+        ["exponent_for_magnitude", entries, magnitude] => {
+            shown::exponent(alloc, entries, magnitude)
+        }
         _ => Err(Stop::Unknown),
     }
 }
