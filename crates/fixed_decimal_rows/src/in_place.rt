@@ -4,7 +4,7 @@ use crate::number::{ends, told};
 use crate::rounding::Rounding;
 use crate::step::{Step, number_of};
 use crate::stop::Stop;
-use fixed_decimal::UnsignedDecimal;
+use fixed_decimal::{ShownDigits, UnsignedDecimal};
 use std::alloc::Global;
 
 // Makes a call that is passed nothing; false where the name is of none.
@@ -67,6 +67,15 @@ pub fn round_by(number: &mut UnsignedDecimal, step: Step<'_>) -> Result<(), Stop
     Ok(())
 }
 
+// How many digits there are, and each of them.
+fn listed(alloc: Global, digits: ShownDigits<'_>) -> Result<Option<String>, Stop> {
+    let mut text = format!(in alloc; "{}:", digits.len())?;
+    for digit in digits {
+        write!(text, " {digit}")?;
+    }
+    Ok(Some(text))
+}
+
 /// What a call tells of the number, or `None` where it tells nothing.
 pub fn answer(
     alloc: Global,
@@ -78,6 +87,8 @@ pub fn answer(
         "nonzero_magnitude_end" => told(alloc, &number.nonzero_magnitude_end()),
         "is_zero" => told(alloc, &number.is_zero()),
         "digit_at" => told(alloc, &number.digit_at(number_of(step.passed)?)),
+        "whole_digits" => listed(alloc, number.whole_digits()),
+        "fraction_digits" => listed(alloc, number.fraction_digits()),
         "magnitude_range" => {
             let range = number.magnitude_range();
             ends(alloc, range.start(), range.end())
