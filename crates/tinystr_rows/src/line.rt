@@ -5,7 +5,7 @@ ghost use Rattle.std.specs.Prelude.{◌≤◌};
 use crate::argument::{Argument, arguments_of};
 use crate::{
     aligned4, aligned8, ascii_bytes, comparing, decimal, errors, joining, json, lossy, readers,
-    texts, ule, unvalidated,
+    texts, ule, unvalidated, words,
 };
 use std::alloc::{AllocError, Global};
 
@@ -100,6 +100,7 @@ fn answer<const N: usize>(
         "readers" => readers::answer::<N>(call, arguments, out),
         "ule" => ule::answer::<N>(call, arguments, out),
         "unvalidated" => unvalidated::answer::<N>(call, arguments, out),
+        "words" if call == "alike" && arguments.is_empty() => words::answer::<N>(out),
         _ => Err(Fault::NotUnderstood),
     }
 }

@@ -19,6 +19,7 @@ mod readers;
 mod texts;
 mod ule;
 mod unvalidated;
+mod words;
 mod writing;
 
 use std::io;
