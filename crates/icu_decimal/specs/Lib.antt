@@ -1,4 +1,9 @@
--- What a reader must believe: which tables are asked for, plural rules, and the text of a number with its parts.
+-- What a reader must believe: which tables are asked for, plural rules, patterns, the value that compact text shows, and the
+-- text of a number with its parts.
+pub use Rattle.icu_decimal_patterns.specs.Elements
+pub use Rattle.icu_decimal_patterns.specs.KeptEntries
+pub use Rattle.icu_decimal_patterns.specs.Pattern
+pub use Rattle.icu_decimal_patterns.specs.SlotsJson
 pub use Rattle.icu_decimal_plurals.specs.Categories
 pub use Rattle.icu_decimal_plurals.specs.ConditionGrammar
 pub use Rattle.icu_decimal_plurals.specs.Conditions
@@ -14,17 +19,27 @@ pub use Rattle.icu_decimal_provider.specs.Identifiers
 pub use Rattle.icu_decimal_provider.specs.Options
 pub use Rattle.icu_decimal_provider.specs.Preferences
 pub use Rattle.icu_decimal_provider.specs.Symbols
+pub use Rattle.icu_decimal_shown.specs.Choice as ShownChoice
+pub use Rattle.icu_decimal_shown.specs.Entries
+pub use Rattle.icu_decimal_shown.specs.ExactForms
+pub use Rattle.icu_decimal_shown.specs.Significand
+pub use Rattle.icu_decimal_shown.specs.ShownValue
 pub use Rattle.icu_decimal_text.specs.Affixes
 pub use Rattle.icu_decimal_text.specs.FoundTables
 pub use Rattle.icu_decimal_text.specs.Grouper
 pub use Rattle.icu_decimal_text.specs.PlainText
 -- What a formatter holds.
 pub use Rattle.icu_decimal_text.specs.HeldTables
--- Equality of symbols and of formatted numbers.
+-- Equality of symbols, of patterns and of formatted numbers.
+pub use Rattle.icu_decimal_patterns.specs.SameElements
+pub use Rattle.icu_decimal_patterns.specs.SamePattern
+pub use Rattle.icu_decimal_patterns.specs.SameTable
 pub use Rattle.icu_decimal_provider.specs.SameSymbols
 pub use Rattle.icu_decimal_text.specs.SameAffixes
 pub use Rattle.icu_decimal_text.specs.SamePlain
 -- Statements of laws.
+pub use Rattle.icu_decimal_shown.specs.ExactLaws
+pub use Rattle.icu_decimal_shown.specs.ShownLaws
 pub use Rattle.icu_decimal_provider.specs.Laws
 pub use Rattle.icu_decimal_provider.specs.SameSymbolsLaws
 pub use Rattle.icu_decimal_text.specs.GroupLaws

@@ -16,13 +16,15 @@
 //! ```
 #![tactic(auto)]
 
+pub mod error;
 pub mod input;
 pub mod laws;
+pub mod pattern;
 pub mod plurals;
 pub mod provider;
 
 pub use icu_decimal_provider::preferences::DecimalFormatterPreferences;
-pub use icu_decimal_provider::{Cow, error, options, parts, preferences};
+pub use icu_decimal_provider::{Cow, options, parts, preferences};
 pub use icu_decimal_text::{
     DecimalFormatter, FormattedDecimal, FormattedSign, FormattedUnsignedDecimal, grouper,
 };
