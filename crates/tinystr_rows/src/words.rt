@@ -67,7 +67,12 @@ fn is_alike<const N: usize>(bytes: &[u8]) -> Result<bool, Fault>
         && text.is_ascii_uppercase() == bytes.iter().all(|b| !b.is_ascii_lowercase())
         && text.is_ascii_alphabetic_lowercase() == bytes.iter().all(|b| b.is_ascii_lowercase())
         && text.is_ascii_alphabetic_uppercase() == bytes.iter().all(|b| b.is_ascii_uppercase());
-    Ok(answers && text.len() == bytes.len() && are_titles_alike(&text, bytes) && are_changes_alike(text, bytes))
+    Ok(
+        answers
+            && text.len() == bytes.len()
+            && are_titles_alike(&text, bytes)
+            && are_changes_alike(text, bytes),
+    )
 }
 
 fn are_titles_alike<const N: usize>(text: &TinyAsciiStr<N>, bytes: &[u8]) -> bool {
