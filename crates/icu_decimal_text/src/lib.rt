@@ -17,6 +17,7 @@ mod formatted_unsigned_decimal;
 mod formatter;
 pub mod grouper;
 pub mod laws;
+mod tables;
 mod writing;
 
 pub use formatted_sign::FormattedSign;

@@ -1,0 +1,68 @@
+-- The sign under which a number has a text.
+use Rattle.std.proofs.Common.{◌≡◌, ℕ, Bool, true, false, cond, List, arith, refl, sym, ap, ◌∙◌}
+use Rattle.std.proofs.lemmas.Bool.Decides.{nat_tests}
+use Rattle.std.proofs.lemmas.Cmp.{same_from_slice_cmp}
+use Rattle.std.specs.Ordering.{is_eq, nat_cmp}
+use Rattle.std.specs.Str.{bytes_eq, chars}
+use Rattle.std.specs.declared.cmp.Ordering.{Ordering}
+use Rattle.writeable.specs.Order.{byte_order}
+use Rattle.fixed_decimal.specs.Number.{Number}
+use Rattle.fixed_decimal.specs.SignedValue.{SignedValue}
+use Rattle.fixed_decimal.specs.declared.Sign.TheVariants.{None as NoSign, Negative, Positive}
+use Rattle.icu_decimal_text.specs.PlainText.{Tables}
+use Rattle.icu_decimal_reading.specs.PlainReading.{PlainReading, decimal, fraction_in, is_text_of, is_within, not_written, number_with, plain_reading, signed_reading, unreadable, whole_in, with_sign, written_reading}
+use Rattle.icu_decimal_reading.specs.Readable.{is_readable_by}
+
+module _ (t : Tables) (text : List ℕ) (n : Number) where
+  after_none : PlainReading
+  after_none = cond (is_text_of t text (with_sign Negative n)) (decimal (with_sign Negative n))
+      (cond (is_text_of t text (with_sign Positive n)) (decimal (with_sign Positive n)) not_written)
+
+  after_minus : PlainReading
+  after_minus = cond (is_text_of t text (with_sign Positive n)) (decimal (with_sign Positive n)) not_written
+
+  pub first_sign : true ≡ is_text_of t text (with_sign NoSign n) → signed_reading t text n ≡ decimal (with_sign NoSign n)
+  unfolding after_none
+  first_sign holds = ap (λ b. cond b (decimal (with_sign NoSign n)) after_none) (sym holds)
+
+  pub second_sign : false ≡ is_text_of t text (with_sign NoSign n) → true ≡ is_text_of t text (with_sign Negative n) → signed_reading t text n ≡ decimal (with_sign Negative n)
+  unfolding after_none after_minus
+  second_sign lacks holds = ap (λ b. cond b (decimal (with_sign NoSign n)) after_none) (sym lacks) ∙ ap (λ b. cond b (decimal (with_sign Negative n)) after_minus) (sym holds)
+
+  pub third_sign : false ≡ is_text_of t text (with_sign NoSign n) → false ≡ is_text_of t text (with_sign Negative n) → true ≡ is_text_of t text (with_sign Positive n) → signed_reading t text n ≡ decimal (with_sign Positive n)
+  unfolding after_none after_minus
+  third_sign lacks nor holds =
+      ap (λ b. cond b (decimal (with_sign NoSign n)) after_none) (sym lacks) ∙ ap (λ b. cond b (decimal (with_sign Negative n)) after_minus) (sym nor)
+      ∙ ap (λ b. cond b (decimal (with_sign Positive n)) not_written) (sym holds)
+
+  pub no_sign_fits : false ≡ is_text_of t text (with_sign NoSign n) → false ≡ is_text_of t text (with_sign Negative n) → false ≡ is_text_of t text (with_sign Positive n) → signed_reading t text n ≡ not_written
+  unfolding after_none after_minus
+  no_sign_fits lacks nor neither =
+      ap (λ b. cond b (decimal (with_sign NoSign n)) after_none) (sym lacks) ∙ ap (λ b. cond b (decimal (with_sign Negative n)) after_minus) (sym nor)
+      ∙ ap (λ b. cond b (decimal (with_sign Positive n)) not_written) (sym neither)
+
+-- ---- the reading by its steps
+
+module _ (t : Tables) (text : List ℕ) where
+  -- the digits before and behind the point
+  abbrev pub whole_of : List ℕ
+  whole_of = whole_in t.digits (chars t.symbols.strings.decimal_separator) (chars text)
+
+  abbrev pub fraction_of : List ℕ
+  fraction_of = fraction_in t.digits (chars t.symbols.strings.decimal_separator) (chars text)
+
+  pub reading_unreadable : is_readable_by t ≡ false → plain_reading t text ≡ unreadable
+  reading_unreadable lacks = ap (λ b. cond b (written_reading t text) unreadable) lacks
+
+  pub reading_past : is_readable_by t ≡ true → is_within whole_of fraction_of ≡ false → plain_reading t text ≡ not_written
+  reading_past holds past =
+      ap (λ b. cond b (written_reading t text) unreadable) holds ∙ ap (λ b. cond b (signed_reading t text (number_with whole_of fraction_of)) not_written) past
+
+  pub reading_signed : is_readable_by t ≡ true → is_within whole_of fraction_of ≡ true → plain_reading t text ≡ signed_reading t text (number_with whole_of fraction_of)
+  reading_signed holds within =
+      ap (λ b. cond b (written_reading t text) unreadable) holds ∙ ap (λ b. cond b (signed_reading t text (number_with whole_of fraction_of)) not_written) within
+
+-- the order of two texts is equal exactly where they are one
+pub same_by_order : (order : Ordering) (a b c : List ℕ) → order ≡ byte_order a b → a ≡ c → is_eq order ≡ bytes_eq c b
+same_by_order order a b c is same =
+    same_from_slice_cmp nat_cmp is_eq bytes_eq refl (λ _ _. refl) (λ _ _. refl) (λ x y xs ys o h. grind (arith, nat_tests)) a b order is ∙ ap (λ x. bytes_eq x b) same

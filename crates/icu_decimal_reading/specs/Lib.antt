@@ -1,0 +1,4 @@
+pub mod PlainReading
+pub mod Readable
+pub mod ReadErrors
+pub mod ReadingLaws

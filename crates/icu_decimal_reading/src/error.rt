@@ -1,0 +1,43 @@
+//! Why a text is not read.
+
+ghost use Rattle.std.specs.Prelude.{◌≡◌};
+ghost use Rattle.icu_decimal_reading.specs.declared.error.ReadError.TheVariants.{Memory};
+ghost use Rattle.icu_decimal_reading.specs.ReadErrors.{read_error_number};
+
+use std::alloc::AllocError;
+use thiserror::Error;
+
+/// Why a text is not read as a decimal.
+#[derive(Clone, Copy, Debug, Drop, PartialEq, Eq, Error)]
+pub enum ReadError {
+    /// The formatter's symbols do not tell numbers apart: no text is read under them.
+    #[error("unreadable symbols")]
+    Unreadable,
+    /// The formatter writes no decimal so: `98,7654` in English.
+    #[error("not written so")]
+    NotWritten,
+    /// A request for memory was refused.
+    #[error("out of memory")]
+    Memory,
+}
+
+impl ReadError {
+    /// The number of the error: 1 of `Unreadable`, 2 of `NotWritten`, 3 of `Memory`. It takes no memory.
+    pub fn number(&self) -> u8
+        ensures { result ≡ read_error_number self.now }
+    {
+        match *self {
+            ReadError::Unreadable => 1,
+            ReadError::NotWritten => 2,
+            ReadError::Memory => 3,
+        }
+    }
+}
+
+impl From<AllocError> for ReadError {
+    ghost from_gives = { λ _ e. e ≡ Memory };
+
+    fn from(_refused: AllocError) -> ReadError {
+        ReadError::Memory
+    }
+}

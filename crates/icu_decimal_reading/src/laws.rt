@@ -1,0 +1,1 @@
+//! Laws of reading. No call is made: each clause is the law.

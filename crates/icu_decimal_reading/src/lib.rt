@@ -1,0 +1,24 @@
+//! Plain texts read back: the decimal whose text a formatter writes so.
+//!
+//! In English `-1,234.50` is read as -1234.50, shown down to magnitude -2, and `98,7654` as nothing, since no decimal is written
+//! so. The rules are in docs/reading.md.
+//!
+//! ```rust
+//! use icu_decimal_reading::{is_readable, read_plain};
+//!
+//! if is_readable(&formatter) {
+//!     let number = read_plain(alloc, &formatter, "-1,234.50")?;       // -1234.50
+//! }
+//! ```
+#![tactic(auto)]
+
+mod digits;
+mod error;
+pub mod laws;
+mod reading;
+mod scanning;
+mod symbols;
+
+pub use error::ReadError;
+// pub use reading::read_plain;
+pub use symbols::is_readable;

@@ -1,0 +1,77 @@
+//! Reading a plain text back.
+
+ghost use Rattle.std.specs.Prelude.{◌≡◌, ◌↔◌, true, false, cond, length, IfNone, IfOk, IfSome, IsErrOf, OnOk};
+ghost use Rattle.std.specs.Str.{bytes_eq, chars};
+ghost use Rattle.fixed_decimal.specs.declared.Sign.TheVariants.{None as NoSign};
+ghost use Rattle.icu_decimal_text.specs.HeldTables.{tables_of};
+ghost use Rattle.icu_decimal_text.specs.PlainText.{decimal_text};
+ghost use Rattle.icu_decimal_reading.specs.PlainReading.{HasManyDigits, HasNoNumber, IsAnswered, IsPlainText, decimal, fraction_in, is_text_of, is_within, not_written, number_with, plain_reading, signed_reading, whole_in, with_sign, written_reading};
+ghost use Rattle.icu_decimal_reading.specs.Readable.{is_readable_by};
+
+use crate::error::ReadError;
+use crate::scanning::number_in;
+use crate::symbols::is_readable;
+use fixed_decimal::{Decimal, Sign};
+use icu_decimal_text::DecimalFormatter;
+use std::alloc::Global;
+use writeable::strict_cmp;
+
+// Whether the formatter writes the number so.
+#[tactic(auto, using(icu_decimal_text::proofs::TextLemmas::decimal_is_text, crate::proofs::ReadingLemmas::same_by_order))]
+fn is_written_so(formatter: &DecimalFormatter<'_>, number: &Decimal, text: &str) -> bool
+    ensures { result ≡ is_text_of (tables_of formatter.now) text.now number.now }
+{
+    strict_cmp(&formatter.format(number), text.as_bytes()).is_eq()
+}
+
+// The number with the sign under which the formatter writes it so.
+#[tactic(auto, using(crate::proofs::ReadingLemmas::first_sign, crate::proofs::ReadingLemmas::second_sign, crate::proofs::ReadingLemmas::third_sign, crate::proofs::ReadingLemmas::no_sign_fits))]
+fn with_sign_of(
+    formatter: &DecimalFormatter<'_>,
+    number: Decimal,
+    text: &str,
+) -> Option<Decimal>
+    requires { number.sign ≡ NoSign }
+    ensures some { IfSome result (λ v. signed_reading (tables_of formatter.now) text.now number.absolute ≡ decimal v) }
+    ensures none { IfNone result (signed_reading (tables_of formatter.now) text.now number.absolute ≡ not_written) }
+{
+    let mut number = number;
+    if is_written_so(formatter, &number, text) {
+        return Some(number);
+    }
+    number.set_sign(Sign::Negative);
+    if is_written_so(formatter, &number, text) {
+        return Some(number);
+    }
+    number.set_sign(Sign::Positive);
+    if is_written_so(formatter, &number, text) {
+        return Some(number);
+    }
+    None
+}
+
+// The reading that the definition has.
+#[tactic(auto, using(crate::proofs::ReadingLemmas::reading_unreadable, crate::proofs::ReadingLemmas::reading_past, crate::proofs::ReadingLemmas::reading_signed))]
+fn read_as_defined(
+    alloc: Global,
+    formatter: &DecimalFormatter<'_>,
+    text: &str,
+) -> Result<Decimal, ReadError>
+    ensures unreadable { IsErrOf result ReadError.Unreadable → is_readable_by (tables_of formatter.now) ≡ false }
+    ensures memory { IsErrOf result ReadError.Memory → HasManyDigits (tables_of formatter.now) text.now }
+    ensures reading { IsAnswered result (plain_reading (tables_of formatter.now) text.now) }
+    ensures readable { is_readable_by (tables_of formatter.now) ≡ false → IsErrOf result ReadError.Unreadable }
+{
+    if !is_readable(formatter) {
+        return Err(ReadError::Unreadable);
+    }
+    let symbols = formatter.symbols();
+    let number = match number_in(alloc, formatter.digits(), symbols.decimal_separator(), text) {
+        Ok(number) => number,
+        Err(error) => return Err(error),
+    };
+    match with_sign_of(formatter, number, text) {
+        Some(number) => Ok(number),
+        None => Err(ReadError::NotWritten),
+    }
+}

@@ -1,0 +1,72 @@
+//! Which symbols are readable.
+
+ghost use Rattle.std.specs.Prelude.{◌≡◌, [], not};
+ghost use Rattle.std.specs.Str.{bytes_eq};
+ghost use Rattle.icu_decimal_text.specs.HeldTables.{tables_of};
+ghost use Rattle.icu_decimal_reading.specs.Readable.{are_clear, do_separators_differ, do_signs_differ, is_readable_by, is_same_pair};
+
+use crate::digits::{do_all_differ, has_none};
+use icu_decimal_provider::provider::DecimalSymbols;
+use icu_decimal_text::DecimalFormatter;
+
+// Whether two texts are one.
+fn is_same_text(one: &str, other: &str) -> bool
+    ensures { result ≡ bytes_eq one.now other.now }
+{
+    one == other
+}
+
+// Whether no digit stands in the affixes and in the separators.
+fn are_texts_clear(table: &[char; 10], symbols: &DecimalSymbols) -> bool
+    ensures { result ≡ are_clear table.now symbols.now.strings }
+{
+    has_none(table, symbols.minus_sign_prefix())
+        && (has_none(table, symbols.minus_sign_suffix())
+            && (has_none(table, symbols.plus_sign_prefix())
+                && (has_none(table, symbols.plus_sign_suffix())
+                    && (has_none(table, symbols.decimal_separator())
+                        && has_none(table, symbols.grouping_separator())))))
+}
+
+// Whether two pairs of affixes are one.
+fn is_one_pair(prefix: &str, suffix: &str, other_prefix: &str, other_suffix: &str) -> bool
+    ensures { result ≡ is_same_pair prefix.now suffix.now other_prefix.now other_suffix.now }
+{
+    is_same_text(prefix, other_prefix) && is_same_text(suffix, other_suffix)
+}
+
+// Whether the affixes of both signs and of none differ.
+fn do_affixes_differ(symbols: &DecimalSymbols) -> bool
+    ensures { result ≡ do_signs_differ symbols.now.strings }
+{
+    let minus_prefix = symbols.minus_sign_prefix();
+    let minus_suffix = symbols.minus_sign_suffix();
+    let plus_prefix = symbols.plus_sign_prefix();
+    let plus_suffix = symbols.plus_sign_suffix();
+    !is_one_pair(minus_prefix, minus_suffix, "", "")
+        && (!is_one_pair(plus_prefix, plus_suffix, "", "")
+            && !is_one_pair(minus_prefix, minus_suffix, plus_prefix, plus_suffix))
+}
+
+// Whether the decimal separator is there, and no grouping separator.
+fn is_decimal_apart(symbols: &DecimalSymbols) -> bool
+    ensures { result ≡ do_separators_differ symbols.now.strings }
+{
+    let decimal = symbols.decimal_separator();
+    !is_same_text(decimal, "") && !is_same_text(decimal, symbols.grouping_separator())
+}
+
+/// Whether texts can be read back under the formatter's symbols: in English they can.
+///
+/// They can where the ten digits differ and stand in no affix and no separator, the decimal separator is neither empty nor the
+/// grouping separator, and the affixes of a minus sign, of a plus sign and of no sign differ as pairs. Then no two decimals have
+/// one text. It takes no memory.
+pub fn is_readable(formatter: &DecimalFormatter<'_>) -> bool
+    ensures { result ≡ is_readable_by (tables_of formatter.now) }
+{
+    let table = formatter.digits();
+    let symbols = formatter.symbols();
+    do_all_differ(table)
+        && (are_texts_clear(table, symbols)
+            && (is_decimal_apart(symbols) && do_affixes_differ(symbols)))
+}
