@@ -1,4 +1,6 @@
+pub mod LawLemmas
 pub mod NumberLemmas
+pub mod PlainLemmas
 pub mod ReadingLemmas
 pub mod ScanLemmas
 pub mod StepLemmas

@@ -174,7 +174,7 @@ pub record AreMarks (ds sep group : List ℕ) : Type 0 where
 abbrev pub spelled_by : List ℕ → List ℕ → List ℕ
 spelled_by ds vs = map (slice_index ds) vs
 
-found : (ds sep group : List ℕ) (v : ℕ) → AreMarks ds sep group → v < 10 → digit_of ds (slice_index ds v) ≡ Some v
+pub found : (ds sep group : List ℕ) (v : ℕ) → AreMarks ds sep group → v < 10 → digit_of ds (slice_index ds v) ≡ Some v
 found ds sep group v marks ten = digit_at ds v marks.differ (omega (arith, ten, marks.ten))
 
 no_point_between : (ds sep group rest : List ℕ) (b : Bool) (x : ℕ) → AreMarks ds sep group → is_some (digit_of ds x) ≡ true → begins_fraction ds sep (cond b group [] ++ x ∷ rest) ≡ false

@@ -20,5 +20,5 @@ mod scanning;
 mod symbols;
 
 pub use error::ReadError;
-// pub use reading::read_plain;
+pub use reading::read_plain;
 pub use symbols::is_readable;

@@ -10,7 +10,7 @@ ghost use Rattle.icu_decimal_reading.specs.Readable.{is_readable_by};
 
 use crate::error::ReadError;
 use crate::scanning::number_in;
-use crate::symbols::is_readable;
+use crate::symbols::{are_tables, is_readable};
 use fixed_decimal::{Decimal, Sign};
 use icu_decimal_text::DecimalFormatter;
 use std::alloc::Global;
@@ -26,11 +26,7 @@ fn is_written_so(formatter: &DecimalFormatter<'_>, number: &Decimal, text: &str)
 
 // The number with the sign under which the formatter writes it so.
 #[tactic(auto, using(crate::proofs::ReadingLemmas::first_sign, crate::proofs::ReadingLemmas::second_sign, crate::proofs::ReadingLemmas::third_sign, crate::proofs::ReadingLemmas::no_sign_fits))]
-fn with_sign_of(
-    formatter: &DecimalFormatter<'_>,
-    number: Decimal,
-    text: &str,
-) -> Option<Decimal>
+fn with_sign_of(formatter: &DecimalFormatter<'_>, number: Decimal, text: &str) -> Option<Decimal>
     requires { number.sign ≡ NoSign }
     ensures some { IfSome result (λ v. signed_reading (tables_of formatter.now) text.now number.absolute ≡ decimal v) }
     ensures none { IfNone result (signed_reading (tables_of formatter.now) text.now number.absolute ≡ not_written) }
@@ -74,4 +70,25 @@ fn read_as_defined(
         Some(number) => Ok(number),
         None => Err(ReadError::NotWritten),
     }
+}
+
+/// The decimal whose text under the formatter this is: in English `-1,234.50` is -1234.50, shown down to magnitude -2.
+///
+/// Sign, digits and visible range are those of the one decimal that the formatter writes so. `Unreadable` where `is_readable`
+/// is false; `NotWritten` where the formatter writes no decimal so, as `98,7654` or `1234` in English; `Memory` where memory for
+/// the digits was refused. It is taken where more than eight digits stand in the text.
+#[tactic(auto, using(crate::proofs::LawLemmas::answered_value))]
+pub fn read_plain(
+    alloc: Global,
+    formatter: &DecimalFormatter<'_>,
+    text: &str,
+) -> Result<Decimal, ReadError>
+    ensures unreadable { IsErrOf result ReadError.Unreadable ↔ (is_readable_by (tables_of formatter.now) ≡ false) }
+    ensures not_written { IsErrOf result ReadError.NotWritten → HasNoNumber (tables_of formatter.now) text.now }
+    ensures memory { IsErrOf result ReadError.Memory → HasManyDigits (tables_of formatter.now) text.now }
+    ensures value { IfOk result (λ v. IsPlainText (tables_of formatter.now) text.now v) }
+    ensures reading { IsAnswered result (plain_reading (tables_of formatter.now) text.now) }
+{
+    are_tables(formatter);
+    read_as_defined(alloc, formatter, text)
 }

@@ -1,8 +1,9 @@
 //! Which symbols are readable.
 
-ghost use Rattle.std.specs.Prelude.{◌≡◌, [], not};
+ghost use Rattle.std.specs.Prelude.{◌≡◌, [], length, not};
 ghost use Rattle.std.specs.Str.{bytes_eq};
 ghost use Rattle.icu_decimal_text.specs.HeldTables.{tables_of};
+ghost use Rattle.icu_decimal_reading.specs.ReadingLaws.{AreTables};
 ghost use Rattle.icu_decimal_reading.specs.Readable.{are_clear, do_separators_differ, do_signs_differ, is_readable_by, is_same_pair};
 
 use crate::digits::{do_all_differ, has_none};
@@ -56,14 +57,38 @@ fn is_decimal_apart(symbols: &DecimalSymbols) -> bool
     !is_same_text(decimal, "") && !is_same_text(decimal, symbols.grouping_separator())
 }
 
+// The digits of a table, and that they are ten.
+fn ten_digits(table: &[char; 10]) -> &[char]
+    ensures value { result.now ≡ table.now }
+    ensures ten { length result.now ≡ 10 }
+{
+    table
+}
+
+// That the tables of a formatter are ten digits and six texts.
+pub(crate) fn are_tables(formatter: &DecimalFormatter<'_>)
+    ensures { AreTables (tables_of formatter.now) }
+{
+    let _digits = ten_digits(formatter.digits());
+    let symbols = formatter.symbols();
+    let _minus_prefix = symbols.minus_sign_prefix();
+    let _minus_suffix = symbols.minus_sign_suffix();
+    let _plus_prefix = symbols.plus_sign_prefix();
+    let _plus_suffix = symbols.plus_sign_suffix();
+    let _decimal = symbols.decimal_separator();
+    let _grouping = symbols.grouping_separator();
+}
+
 /// Whether texts can be read back under the formatter's symbols: in English they can.
 ///
 /// They can where the ten digits differ and stand in no affix and no separator, the decimal separator is neither empty nor the
 /// grouping separator, and the affixes of a minus sign, of a plus sign and of no sign differ as pairs. Then no two decimals have
 /// one text. It takes no memory.
 pub fn is_readable(formatter: &DecimalFormatter<'_>) -> bool
-    ensures { result ≡ is_readable_by (tables_of formatter.now) }
+    ensures value { result ≡ is_readable_by (tables_of formatter.now) }
+    ensures tables { AreTables (tables_of formatter.now) }
 {
+    are_tables(formatter);
     let table = formatter.digits();
     let symbols = formatter.symbols();
     do_all_differ(table)

@@ -1,0 +1,7 @@
+use Rattle.icu_decimal_text.specs.HeldTables.{tables_of}
+use Rattle.icu_decimal_reading.proofs.LawLemmas.{answered_not_written}
+use Rattle.icu_decimal_reading.proofs.reading.read_plain.Goals as goal
+
+pub returns-clause-not_written : goal.returns-clause-not_written
+returns-clause-not_written c = λ missing.
+    answered_not_written (tables_of c.args.formatter.now) c.args.text.now c.read_as_defined.result c.are_tables.ensures c.utf8.text c.read_as_defined.ensures.reading missing
