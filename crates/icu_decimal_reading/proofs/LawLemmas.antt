@@ -1,10 +1,9 @@
 -- Reading and writing are inverse to each other: a text has one decimal, and the function finds it.
-use Rattle.std.proofs.Common.{◌≡◌, ◌≢◌, ◌↔◌, ℕ, ◌<◌, Bool, true, false, cond, not, ◌&&◌, List, [], ◌∷◌, ◌++◌, length, map, slice_index, is_none, is_some, Result, Ok, Err, IfOk, IsErrOf, refl, sym, ap, subst, ◌∙◌, arith}
+use Rattle.std.proofs.Common.{◌≡◌, ℕ, ◌<◌, Bool, true, false, cond, not, List, [], ◌∷◌, ◌++◌, length, map, is_none, Result, Ok, Err, IfOk, IsErrOf, refl, sym, ap, subst, ◌∙◌, arith}
 use Rattle.std.proofs.lemmas.Bool.{and_from, and_parts, both_ways, false_from_ne_true, false≢true, not-true}
 use Rattle.std.proofs.lemmas.List.{append_cancel_left, length-map}
 use Rattle.std.proofs.lemmas.Str.{chars_from_encodes, encodes_same}
 use Rattle.std.specs.Cmp.Lexicographic.{bytes_decides}
-use Rattle.std.specs.Int.Digits.{AllBelowBase}
 use Rattle.std.specs.Str.{IsUtf8, bytes_eq, chars}
 use Rattle.fixed_decimal.specs.Number.{IsNumber, Number, fraction_digits, whole_digits}
 use Rattle.fixed_decimal.specs.NumberText.{AreDigits, behind_point, character}
@@ -21,7 +20,7 @@ use Rattle.icu_decimal_reading.specs.declared.error.ReadError.TheVariants.{Unrea
 use Rattle.icu_decimal_reading.specs.Readable.{digit_of, do_signs_differ, is_readable_by, is_same_pair}
 use Rattle.icu_decimal_reading.specs.ReadingLaws.{AreTables, AutoIsAlways, HasOneReading, IsReading, ReadIsWrittenAgain, TextsHaveOneDecimal, WrittenReadsBack}
 use Rattle.icu_decimal_reading.proofs.NumberLemmas.{fraction_digits_are, is_number, number_again, number_read, whole_digits_are, within_read}
-use Rattle.icu_decimal_reading.proofs.PlainLemmas.{chars_of, digit_first, encoded_decimal, fraction_again, marks_of, plain_chars, prefix_clear, prefix_for, prefix_utf8, same_chars, suffix_for, suffix_utf8, tests_of, whole_again, whole_some}
+use Rattle.icu_decimal_reading.proofs.PlainLemmas.{chars_of, digit_first, encoded_decimal, fraction_again, plain_chars, prefix_clear, prefix_for, prefix_utf8, same_chars, suffix_for, suffix_utf8, tests_of, whole_again, whole_some}
 use Rattle.icu_decimal_reading.proofs.ReadingLemmas.{first_sign, fraction_of, no_sign_fits, reading_past, reading_signed, reading_unreadable, second_sign, third_sign, whole_of}
 use Rattle.icu_decimal_reading.proofs.ScanLemmas.{no_digits}
 

@@ -1,3 +1,4 @@
+pub mod KnownValues
 pub mod LawLemmas
 pub mod NumberLemmas
 pub mod PlainLemmas

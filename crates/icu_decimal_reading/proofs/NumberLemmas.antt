@@ -1,8 +1,7 @@
 -- The number that digits before and behind a point are, and the text of `0` to `9` that spells it.
-use Rattle.std.proofs.Common.{◌≡◌, ℕ, zero, suc, ◌+◌, ◌-◌, ◌*◌, ◌^◌, ◌%◌, ◌<◌, ◌≤◌, ◌==◌, ◌||◌, ◌⊎◌, nat_le, nat_lt, min, max, Bool, true, false, cond, ◌&&◌, List, [], ◌∷◌, ◌++◌, length, map, Option, None, Some, refl, sym, ap, ◌∙◌, append_assoc, subst, inl, inr, arith, length-append}
+use Rattle.std.proofs.Common.{◌≡◌, ℕ, ◌+◌, ◌-◌, ◌*◌, ◌^◌, ◌<◌, ◌≤◌, ◌==◌, ◌||◌, ◌⊎◌, nat_le, nat_lt, min, max, Bool, true, false, cond, ◌&&◌, List, [], ◌∷◌, ◌++◌, length, map, Option, None, Some, refl, sym, ap, ◌∙◌, append_assoc, subst, inl, inr, arith, length-append}
 use Rattle.std.specs.List.{cons_option, filter_map}
 use Rattle.std.specs.Char.{digit_value}
-use Rattle.std.specs.Str.Parse.{AllDigits}
 use Rattle.std.proofs.lemmas.Bool.{false≢true, and_parts, and_from, ltb-true, leb-true, lt-ltb, le-leb, true_from_ne_false, false_from_ne_true, cases_lt}
 use Rattle.std.proofs.lemmas.Bool.Decides.{nat_tests}
 use Rattle.std.proofs.lemmas.Int.Digits.{digits_value-lt}
@@ -10,11 +9,10 @@ use Rattle.std.proofs.lemmas.List.{append-nil, length-map}
 use Rattle.std.proofs.lemmas.Nat.{pow-add}
 use Rattle.std.proofs.Math.Nat.{mul-mod_left, mul-le-mul_right, one-le-pow, pow-le-pow_right}
 use Rattle.fixed_decimal.specs.Number.{Number, IsNumber, fraction_digits, whole_digits}
-use Rattle.fixed_decimal.specs.NumberText.{AreDigits, AreEndsIn, Parts, Reads, Spells, behind_point, character, down_of, mantissa_of, number_at, number_of, small_mark, spelled, text_of, up_of}
-use Rattle.fixed_decimal.specs.Range.{HoldsDigits, IsLong}
+use Rattle.fixed_decimal.specs.NumberText.{AreDigits, AreEndsIn, Parts, Spells, behind_point, character, down_of, mantissa_of, number_at, small_mark, spelled, up_of}
+use Rattle.fixed_decimal.specs.Range.{HoldsDigits}
 use Rattle.fixed_decimal.specs.SignedText.{IsBeyondSigned, IsNoSignedText, ReadsSigned, ReadsLongSigned}
 use Rattle.fixed_decimal.specs.SignedValue.{SignedValue}
-use Rattle.fixed_decimal.specs.declared.Sign.{Sign}
 use Rattle.fixed_decimal.specs.declared.Sign.TheVariants.{None as NoSign}
 use Rattle.fixed_decimal.proofs.SignedReadOnceLemmas.{signed_not_beyond, signed_printed, signed_reads_once}
 use Rattle.icu_decimal_reading.specs.PlainReading.{begins_fraction, digits_of_text, fraction_in, fraction_then, is_within, number_with, whole_in, whole_then, with_sign}

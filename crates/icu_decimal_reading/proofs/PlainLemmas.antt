@@ -1,5 +1,5 @@
 -- The plain text of a decimal as characters: its digits, and nothing that is a digit between, before and behind them.
-use Rattle.std.proofs.Common.{◌≡◌, ℕ, zero, suc, ◌+◌, ◌-◌, ◌/◌, ◌%◌, ◌^◌, ◌<◌, ◌≤◌, Bool, true, false, cond, not, ◌&&◌, List, [], ◌∷◌, ◌++◌, length, map, slice_index, is_none, refl, sym, ap, subst, ◌∙◌, arith}
+use Rattle.std.proofs.Common.{◌≡◌, ℕ, zero, suc, ◌+◌, ◌-◌, ◌/◌, ◌^◌, ◌<◌, Bool, true, false, cond, not, ◌&&◌, List, [], ◌∷◌, ◌++◌, length, map, slice_index, is_none, refl, sym, ap, ◌∙◌, arith}
 use Rattle.std.proofs.lemmas.Bool.{and_parts, both_ways, ne_eqb, not-true, or_from}
 use Rattle.std.proofs.lemmas.List.Sums.{sum_by-cons}
 use Rattle.std.specs.List.{sum}
@@ -17,11 +17,11 @@ use Rattle.fixed_decimal.specs.declared.Sign.{Sign}
 use Rattle.fixed_decimal.specs.declared.Sign.TheVariants.{None as NoSign, Negative, Positive}
 use Rattle.icu_decimal_provider.specs.Symbols.{SymbolStrings}
 use Rattle.icu_decimal_text.specs.Affixes.{affixes_of}
-use Rattle.icu_decimal_text.specs.Grouper.{ends_at, group_sizes, groups, joined, marked}
+use Rattle.icu_decimal_text.specs.Grouper.{ends_at, group_sizes, marked}
 use Rattle.icu_decimal_text.specs.PlainText.{Tables, chained, decimal_text, digit_text, fraction_text, prefix_text, suffix_text, unsigned_text, whole_text}
 use Rattle.icu_decimal_text.proofs.GrouperLemmas.{AllAbove, are_sizes, joined_is_separated}
 use Rattle.icu_decimal_reading.specs.PlainReading.{fraction_in, whole_in}
-use Rattle.icu_decimal_reading.specs.Readable.{all_differ, are_clear, digit_of, do_separators_differ, do_signs_differ, has_no_digit, is_readable_by, is_same_pair}
+use Rattle.icu_decimal_reading.specs.Readable.{all_differ, are_clear, digit_of, do_separators_differ, do_signs_differ, has_no_digit, is_readable_by}
 use Rattle.icu_decimal_reading.specs.ReadingLaws.{AreTables}
 use Rattle.icu_decimal_reading.proofs.ScanLemmas.{AreMarks, found, fraction_chars, fraction_of_text, no_digits, number_chars, spelled_by, whole_of_text}
 

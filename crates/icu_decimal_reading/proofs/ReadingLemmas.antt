@@ -1,5 +1,5 @@
 -- The sign under which a number has a text.
-use Rattle.std.proofs.Common.{◌≡◌, ℕ, Bool, true, false, cond, List, arith, refl, sym, ap, ◌∙◌}
+use Rattle.std.proofs.Common.{◌≡◌, ℕ, true, false, cond, List, arith, refl, sym, ap, ◌∙◌}
 use Rattle.std.proofs.lemmas.Bool.Decides.{nat_tests}
 use Rattle.std.proofs.lemmas.Cmp.{same_from_slice_cmp}
 use Rattle.std.specs.Ordering.{is_eq, nat_cmp}
@@ -7,7 +7,6 @@ use Rattle.std.specs.Str.{bytes_eq, chars}
 use Rattle.std.specs.declared.cmp.Ordering.{Ordering}
 use Rattle.writeable.specs.Order.{byte_order}
 use Rattle.fixed_decimal.specs.Number.{Number}
-use Rattle.fixed_decimal.specs.SignedValue.{SignedValue}
 use Rattle.fixed_decimal.specs.declared.Sign.TheVariants.{None as NoSign, Negative, Positive}
 use Rattle.icu_decimal_text.specs.PlainText.{Tables}
 use Rattle.icu_decimal_reading.specs.PlainReading.{PlainReading, decimal, fraction_in, is_text_of, is_within, not_written, number_with, plain_reading, signed_reading, unreadable, whole_in, with_sign, written_reading}

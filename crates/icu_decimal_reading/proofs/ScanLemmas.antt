@@ -1,11 +1,11 @@
 -- The digits of a number's text, whatever stands between them: each of them once, and the point where the decimal separator stands.
-use Rattle.std.proofs.Common.{◌≡◌, ℕ, zero, suc, ◌+◌, ◌<◌, ◌≤◌, Bool, true, false, cond, ◌&&◌, ◌==◌, nat_lt, List, [], ◌∷◌, ◌++◌, length, map, slice_index, Option, None, Some, is_some, is_none, refl, sym, ap, ◌∙◌, append_assoc, arith}
+use Rattle.std.proofs.Common.{◌≡◌, ℕ, zero, suc, ◌<◌, ◌≤◌, Bool, true, false, cond, ◌&&◌, ◌==◌, nat_lt, List, [], ◌∷◌, ◌++◌, length, map, slice_index, Option, None, Some, is_some, is_none, refl, sym, ap, ◌∙◌, append_assoc, arith}
 use Rattle.std.specs.List.{list_all, cons_option, filter_map, position_or_len}
 use Rattle.std.specs.Int.Digits.{AllBelowBase}
-use Rattle.std.proofs.lemmas.Bool.{false≢true, eq-eqb, ne_eqb, eqb-true, and_left, and_right, and_from, and_parts, ltb-false, ltb-true, lt-ltb, cases_lt}
-use Rattle.std.proofs.lemmas.List.{append-nil, map-append}
+use Rattle.std.proofs.lemmas.Bool.{false≢true, eq-eqb, ne_eqb, eqb-true, and_left, and_right, and_from, and_parts, ltb-false, ltb-true, lt-ltb}
+use Rattle.std.proofs.lemmas.List.{append-nil}
 use Rattle.std.proofs.lemmas.List.Sums.{fails_before_first, position_or_len_is}
-use Rattle.fixed_decimal.specs.NumberText.{character, AreDigits}
+use Rattle.fixed_decimal.specs.NumberText.{character}
 use Rattle.icu_decimal_reading.specs.PlainReading.{begins_fraction, digits_of_text, whole_then, whole_in, fraction_then, fraction_in}
 use Rattle.icu_decimal_reading.specs.Readable.{digit_of, all_differ}
 use Rattle.icu_decimal_text.specs.Grouper.{marked}

@@ -1,7 +1,7 @@
 -- Which tables are readable: those under which the text of a number tells its digits, its separators and its sign apart.
 -- Defined in docs/reading.md, "Readable symbols".
 -- Cited by `is_readable` and `read_plain`, and by the laws of reading.
-use Rattle.std.specs.Prelude.{ℕ, ◌==◌, Bool, true, not, ◌&&◌, List, [], ◌∷◌, Option, is_none, length, position}
+use Rattle.std.specs.Prelude.{ℕ, ◌==◌, Bool, true, not, ◌&&◌, List, [], ◌∷◌, Option, is_none, position}
 use Rattle.std.specs.Str.{bytes_eq, chars}
 use Rattle.std.specs.List.{list_all}
 use Rattle.icu_decimal_provider.specs.Symbols.{SymbolStrings}

@@ -1,6 +1,5 @@
-use Rattle.std.proofs.Common.{rules, ◌≡◌, ◌<◌, ◌++◌, ◌∙◌, ℕ, List, length}
+use Rattle.std.proofs.Common.{rules, ◌≡◌, ◌<◌, ◌∙◌, ℕ, List, length}
 use Rattle.std.specs.Str.{chars}
-use Rattle.fixed_decimal.specs.NumberText.{AreDigits, behind_point}
 use Rattle.icu_decimal_reading.specs.PlainReading.{fraction_in, whole_in}
 use Rattle.icu_decimal_reading.proofs.NumberLemmas.{fraction_digits_are, some_whole, whole_digits_are}
 use Rattle.icu_decimal_reading.proofs.scanning.number_in.Goals as goal
