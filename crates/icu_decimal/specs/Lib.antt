@@ -19,6 +19,9 @@ pub use Rattle.icu_decimal_provider.specs.Identifiers
 pub use Rattle.icu_decimal_provider.specs.Options
 pub use Rattle.icu_decimal_provider.specs.Preferences
 pub use Rattle.icu_decimal_provider.specs.Symbols
+pub use Rattle.icu_decimal_reading.specs.PlainReading
+pub use Rattle.icu_decimal_reading.specs.Readable
+pub use Rattle.icu_decimal_reading.specs.ReadErrors
 pub use Rattle.icu_decimal_shown.specs.Choice as ShownChoice
 pub use Rattle.icu_decimal_shown.specs.Entries
 pub use Rattle.icu_decimal_shown.specs.ExactForms
@@ -38,6 +41,7 @@ pub use Rattle.icu_decimal_provider.specs.SameSymbols
 pub use Rattle.icu_decimal_text.specs.SameAffixes
 pub use Rattle.icu_decimal_text.specs.SamePlain
 -- Statements of laws.
+pub use Rattle.icu_decimal_reading.specs.ReadingLaws
 pub use Rattle.icu_decimal_shown.specs.ExactLaws
 pub use Rattle.icu_decimal_shown.specs.ShownLaws
 pub use Rattle.icu_decimal_provider.specs.Laws

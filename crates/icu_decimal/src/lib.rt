@@ -25,6 +25,7 @@ pub mod provider;
 
 pub use icu_decimal_provider::preferences::DecimalFormatterPreferences;
 pub use icu_decimal_provider::{Cow, options, parts, preferences};
+pub use icu_decimal_reading::{is_readable, read_plain};
 pub use icu_decimal_text::{
     DecimalFormatter, FormattedDecimal, FormattedSign, FormattedUnsignedDecimal, grouper,
 };
