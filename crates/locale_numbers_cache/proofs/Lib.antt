@@ -1,0 +1,2 @@
+pub mod RecentLemmas
+pub mod CachedLemmas
