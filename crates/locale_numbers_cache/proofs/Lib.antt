@@ -1,2 +1,4 @@
-pub mod RecentLemmas
 pub mod CachedLemmas
+pub mod KnownValues
+pub mod LawsLemmas
+pub mod RecentLemmas

@@ -13,8 +13,13 @@
 
 mod cache_key;
 mod formatter_cache;
+mod key_reader;
+mod last_key;
+pub mod laws;
 mod maker;
 
 pub use cache_key::CacheKey;
 pub use formatter_cache::FormatterCache;
+pub use key_reader::KeyReader;
+pub use last_key::LastKey;
 pub use maker::Maker;
