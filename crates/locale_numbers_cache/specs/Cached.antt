@@ -1,7 +1,7 @@
 -- What a cache holds: each thing kept is the one that would be made now, and the count of things made follows the keys used.
 -- Defined in docs/requests.md, "What a run keeps".
 -- Cited by `FormatterCache`: `new`, `keep`, `latest`, `made`.
-use Rattle.std.specs.Prelude.{ℕ, ◌≡◌, ◌+◌, ◌-◌, ◌^◌, Bool, true, List, [], ◌∷◌, min, Option, None, Some, slice_get, Contains, refl, if◌then◌else◌}
+use Rattle.std.specs.Prelude.{false, ℕ, ◌≡◌, ◌+◌, ◌-◌, ◌^◌, Bool, true, List, [], ◌∷◌, min, Option, None, Some, slice_get, Contains, refl, if◌then◌else◌}
 use Rattle.std.specs.Coded.{Coded, code_by, coded×, coded_list, coded_ℕ}
 use Rattle.std.specs.Map.{keys_of}
 use Rattle.locale_numbers_cache.specs.Recent.{recent_after, misses}
@@ -24,6 +24,11 @@ module _ {K F : Type 0} where
   abbrev pub cached_code : Coded K → Coded F → Coded (Cached K F)
   cached_code k f =
       code_by (List (K × F) × (ℕ × ℕ)) (coded× (coded_list (coded× k f)) (coded× coded_ℕ coded_ℕ)) (λ c. (c.entries, (c.capacity, c.made))) (λ p. cached p.0 p.1.0 p.1.1) (λ _. refl)
+
+  -- whether the first key passes the test
+  abbrev pub first_passes : (K → Bool) → List (K × F) → Bool
+  first_passes test [] = false
+  first_passes test (entry ∷ entries) = test entry.0
 
   -- the keys, the last used first
   abbrev pub recent_of : Cached K F → List K

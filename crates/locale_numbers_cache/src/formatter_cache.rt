@@ -3,6 +3,7 @@ ghost use Rattle.locale_numbers_cache.specs.Cached.{cached, most, IsSound, IsLat
 
 use crate::cache_key::CacheKey;
 use crate::maker::Maker;
+use crate::promoting::promote;
 use lru::LruCache;
 use std::alloc::{AllocError, Global};
 use std::marker::Model;
@@ -58,7 +59,7 @@ impl<K: CacheKey, F: Drop> FormatterCache<K, F> {
         ensures same { IfOk result (λ found. found ≡ false → self.new ≡ self.old) }
         ensures err { OnErr result (self.new ≡ self.old) }
     {
-        if self.kept.promote(&key) {
+        if promote(&mut self.kept, &key) {
             return Ok(true);
         }
         let Some(made) = maker.make(key) else {

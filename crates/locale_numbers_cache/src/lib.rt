@@ -17,6 +17,7 @@ mod key_reader;
 mod last_key;
 pub mod laws;
 mod maker;
+mod promoting;
 
 pub use cache_key::CacheKey;
 pub use formatter_cache::FormatterCache;
