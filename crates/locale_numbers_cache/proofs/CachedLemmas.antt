@@ -102,6 +102,11 @@ pub not_promoted : {K F : Type 0} (same : K → K → Bool) (key : K) (before af
     → result ≡ is_some (lookup (same key) before.entries) → result ≡ false → after ≡ before
 not_promoted same key before after result moved looked none = let h = no_entry_of same key before.entries (sym looked ∙ none) in moved ∙ rw h refl
 
+-- and then its key was not kept
+pub not_kept : {K F : Type 0} (same : K → K → Bool) (key : K) (before : LruCache K F) (made : ℕ) (old : Cached K F) (result : Bool) → cached before.entries before.cap made ≡ old
+    → result ≡ is_some (lookup (same key) before.entries) → result ≡ false → has same key (recent_of old) ≡ false
+not_kept same key before made old result view looked none = subst (λ c. has same key (recent_of c) ≡ false) view (has-none same key before.entries (no_entry_of same key before.entries (sym looked ∙ none)))
+
 module _ {K F : Type 0} (same : K → K → Bool) (exact : (one other : K) → same one other ≡ true → one ≡ other) (finds : K → Bool) (is_made : K → F → Type 0) (key : K) (before : LruCache K F) (made : ℕ) where
   -- a key that is found
   pub hit : (old : Cached K F) (after : LruCache K F) (result : Bool) → cached before.entries before.cap made ≡ old → IsSound finds is_made old → (length before.entries ≤ before.cap) × (0 < before.cap) → made ≤ most

@@ -1,4 +1,5 @@
-ghost use Rattle.std.specs.Prelude.{◌≡◌, ◌≤◌, List, ◌∷◌, [], Option, option_map, option_copied, slice_get, false, IfOk, OnOk, OnErr, IsTrue};
+ghost use Rattle.std.specs.Prelude.{◌≡◌, ◌≤◌, List, ◌∷◌, [], Option, option_map, option_copied, slice_get, false, IfOk, OnOk, OnErr, IsOk, IsTrue};
+ghost use Rattle.locale_numbers_cache.specs.Recent.{has};
 ghost use Rattle.locale_numbers_cache.specs.Cached.{cached, most, IsSound, IsLatest, recent_of, recent_with, made_over};
 
 use crate::cache_key::CacheKey;
@@ -45,9 +46,11 @@ impl<K: CacheKey, F: Drop> FormatterCache<K, F> {
     /// Sees to it that what the maker makes for `key` is kept and is the latest; `false` where it makes nothing for it.
     ///
     /// It is made only where it is not kept already, and then pushes out what was used longest ago where the cache is full. A
-    /// key for which nothing is made changes nothing. It fails where it is out of memory, and then the cache is as before.
+    /// key for which nothing is made changes nothing. It fails where it is out of memory, and then the cache is as before; for a
+    /// key that is kept, or for which nothing is made, it takes none.
     pub fn keep<M: Maker<K, F>>(&mut self, maker: &M, key: K) -> Result<bool, AllocError>
         requires { IsSound (M.finds maker.now) (M.is_made maker.now) self.old }
+        ensures succeeds { M.finds maker.now key ≡ false → IsOk result }
         ensures value { IfOk result (λ found. found ≡ M.finds maker.now key) }
         ensures latest { IfOk result (λ found. IsTrue found → IsLatest (M.is_made maker.now) key self.new) }
         ensures recent { OnOk result (recent_of self.new ≡ recent_with K.eq (M.finds maker.now) self.old key) }
@@ -58,6 +61,7 @@ impl<K: CacheKey, F: Drop> FormatterCache<K, F> {
         ensures capacity { self.new.capacity ≡ self.old.capacity }
         ensures same { IfOk result (λ found. found ≡ false → self.new ≡ self.old) }
         ensures err { OnErr result (self.new ≡ self.old) }
+        ensures room { IsTrue (has K.eq key (recent_of self.old)) → IsOk result }
     {
         if promote(&mut self.kept, &key) {
             return Ok(true);

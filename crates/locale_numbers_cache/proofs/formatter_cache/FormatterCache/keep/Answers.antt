@@ -1,6 +1,6 @@
-use Rattle.std.proofs.Common.{◌≡◌, ◌≤◌, sym, ap, subst, ◌∙◌, arith, Result, Ok, Err, OnErr}
+use Rattle.std.proofs.Common.{◌≡◌, ◌≤◌, sym, ap, subst, ◌∙◌, true≢false, arith, Result, Ok, Err, OnErr}
 use Rattle.locale_numbers_cache.specs.Cached.{cached, most, recent_of, made_over, IsSound}
-use Rattle.locale_numbers_cache.proofs.CachedLemmas.{Uses, hit, miss, not_promoted}
+use Rattle.locale_numbers_cache.proofs.CachedLemmas.{Uses, hit, miss, not_kept, not_promoted}
 use Rattle.locale_numbers_cache.proofs.formatter_cache.FormatterCache.keep.Given as given
 use Rattle.locale_numbers_cache.proofs.formatter_cache.FormatterCache.keep.Goals as goal
 
@@ -72,6 +72,11 @@ returns-in_err-put-clause-sound g c =
 
 pub returns-in_err-put-clause-err : goal.returns-in_err-put-clause-err
 returns-in_err-put-clause-err g c = on_err c.from_residual.result (ap (λ k. cached k.entries k.cap c.self.inside.made) (refused_here g c) ∙ c.self.view_is)
+
+pub returns-in_err-put-clause-room : goal.returns-in_err-put-clause-room
+returns-in_err-put-clause-room g c = λ there.
+    let gone = not_kept g.K.PartialEq.eq c.args.key c.self.inside.kept c.self.inside.made c.args.self.now c.promote.result c.self.view_is c.promote.ensures.value c.if-promote.false in
+    absurd (true≢false (sym there ∙ gone))
 
 -- a thing was made, and kept
 made_here : (g : given.Over) (c : goal.After-self-1 g)
