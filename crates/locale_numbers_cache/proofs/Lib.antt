@@ -1,0 +1,4 @@
+pub mod CachedLemmas
+pub mod KnownValues
+pub mod LawsLemmas
+pub mod RecentLemmas

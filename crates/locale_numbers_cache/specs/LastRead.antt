@@ -1,0 +1,15 @@
+-- Bytes kept beside the key that was read from them: it is the one that would be read now.
+-- Defined in docs/requests.md, "What a run keeps".
+-- Cited by `LastKey::key_of`.
+use Rattle.std.specs.Prelude.{ℕ, ◌≡◌, List, Option, Some, None}
+
+module _ {K : Type 0} where
+  -- what is kept for the bytes is the key that these have
+  abbrev pub IsRead : (List ℕ → K) → Option (List ℕ × K) → Type 0
+  IsRead key_of None = Unit {0}
+  IsRead key_of (Some kept) = kept.1 ≡ key_of kept.0
+
+  -- these are the bytes that it keeps
+  abbrev pub Remembers : List ℕ → Option (List ℕ × K) → Type 0
+  Remembers bytes None = ⊥
+  Remembers bytes (Some kept) = kept.0 ≡ bytes

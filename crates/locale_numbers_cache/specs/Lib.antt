@@ -1,0 +1,4 @@
+pub mod Cached
+pub mod LastRead
+pub mod Laws
+pub mod Recent

@@ -1,0 +1,9 @@
+ghost use Rattle.std.specs.Prelude.{◌≡◌, IsTrue};
+
+use std::hash::Hash;
+
+/// A key of a cache: keys are `==` exactly where they are one value, and then they are hashed alike.
+pub trait CacheKey: Copy + Drop + Hash {
+    // Equal keys are one value.
+    ghost same: { (one other : Self) → IsTrue (Self.eq one other) → one ≡ other };
+}

@@ -1,0 +1,94 @@
+ghost use Rattle.std.specs.Prelude.{◌≡◌, ◌≤◌, List, ◌∷◌, [], Option, option_map, option_copied, slice_get, false, IfOk, OnOk, OnErr, IsOk, IsTrue};
+ghost use Rattle.locale_numbers_cache.specs.Recent.{has};
+ghost use Rattle.locale_numbers_cache.specs.Cached.{cached, most, IsSound, IsLatest, recent_of, recent_with, made_over};
+
+use crate::cache_key::CacheKey;
+use crate::maker::Maker;
+use crate::promoting::promote;
+use lru::LruCache;
+use std::alloc::{AllocError, Global};
+use std::marker::Model;
+use std::num::NonZeroUsize;
+
+/// Things that a [`Maker`] made for keys, the most recently used, up to a capacity; and a count of all that were made.
+#[derive(Drop)]
+pub struct FormatterCache<K: CacheKey, F: Drop> {
+    kept: LruCache<K, F>,
+    made: u64,
+}
+
+impl<K: CacheKey, F: Drop> Model for FormatterCache<K, F> {
+    ghost use Rattle.std.specs.Prelude.{◌<◌, ◌≤◌, length};
+    ghost use Rattle.locale_numbers_cache.specs.Cached.{Cached, cached, cached_code};
+
+    ghost Value = { Cached K F };
+
+    ghost coded = { cached_code K.code F.code };
+
+    ghost view = { λ c. cached c.kept.entries c.kept.cap c.made };
+
+    ghost invariant = { λ c. (length c.kept.entries ≤ c.kept.cap) × (0 < c.kept.cap) };
+}
+
+impl<K: CacheKey, F: Drop> FormatterCache<K, F> {
+    /// A cache that keeps nothing yet, `capacity` things at most, 1 at least.
+    ///
+    /// It fails where it is out of memory.
+    pub fn new(alloc: Global, capacity: usize) -> Result<Self, AllocError>
+        requires { 1 ≤ capacity }
+        ensures { IfOk result (λ cache. cache ≡ cached [] capacity 0) }
+    {
+        let capacity = NonZeroUsize::new(capacity).unwrap();
+        let kept = LruCache::new(alloc, capacity)?;
+        Ok(FormatterCache { kept, made: 0 })
+    }
+
+    /// Sees to it that what the maker makes for `key` is kept and is the latest; `false` where it makes nothing for it.
+    ///
+    /// It is made only where it is not kept already, and then pushes out what was used longest ago where the cache is full. A
+    /// key for which nothing is made changes nothing. It fails where it is out of memory, and then the cache is as before; for a
+    /// key that is kept, or for which nothing is made, it takes none.
+    pub fn keep<M: Maker<K, F>>(&mut self, maker: &M, key: K) -> Result<bool, AllocError>
+        requires { IsSound (M.finds maker.now) (M.is_made maker.now) self.old }
+        ensures succeeds { M.finds maker.now key ≡ false → IsOk result }
+        ensures value { IfOk result (λ found. found ≡ M.finds maker.now key) }
+        ensures latest { IfOk result (λ found. IsTrue found → IsLatest (M.is_made maker.now) key self.new) }
+        ensures recent { OnOk result (recent_of self.new ≡ recent_with K.eq (M.finds maker.now) self.old key) }
+        ensures count { OnOk result (self.new.made ≡ made_over K.eq (M.finds maker.now) self.old (Some key ∷ [])) }
+        ensures ahead { OnOk result ((more : List (Option K)) →
+            made_over K.eq (M.finds maker.now) self.old (Some key ∷ more) ≡ made_over K.eq (M.finds maker.now) self.new more) }
+        ensures sound { IsSound (M.finds maker.now) (M.is_made maker.now) self.new }
+        ensures capacity { self.new.capacity ≡ self.old.capacity }
+        ensures same { IfOk result (λ found. found ≡ false → self.new ≡ self.old) }
+        ensures err { OnErr result (self.new ≡ self.old) }
+        ensures room { IsTrue (has K.eq key (recent_of self.old)) → IsOk result }
+    {
+        if promote(&mut self.kept, &key) {
+            return Ok(true);
+        }
+        let Some(made) = maker.make(key) else {
+            return Ok(false);
+        };
+        self.kept.put(key, made)?;
+        self.made = self.made.saturating_add(1);
+        Ok(true)
+    }
+
+    /// How many things were made; a count that does not fit is 18,446,744,073,709,551,615. It takes no memory.
+    pub fn made(&self) -> u64
+        ensures value { result ≡ self.now.made }
+        ensures fits { self.now.made ≤ most }
+    {
+        self.made
+    }
+
+    /// What was kept or used last; `None` where nothing is kept. It takes no memory.
+    pub fn latest(&self) -> Option<&F>
+        ensures { option_copied result ≡ option_map (λ entry. entry.1) (slice_get self.now.entries 0) }
+    {
+        match self.kept.peek_mru() {
+            Some((_, kept)) => Some(kept),
+            None => None,
+        }
+    }
+}

@@ -1,0 +1,15 @@
+ghost use Rattle.std.specs.Prelude.{◌≡◌, ℕ, List, IfOk};
+
+use std::alloc::AllocError;
+
+/// One that reads a key from bytes, from the same bytes always the same.
+pub trait KeyReader<K> {
+    // The key of the bytes.
+    ghost key_of: { Self → List ℕ → K };
+
+    /// The key of the bytes, as of the front of a line.
+    ///
+    /// It fails only where it is out of memory.
+    fn read(&self, bytes: &[u8]) -> Result<K, AllocError>
+        ensures value { IfOk result (λ key. key ≡ key_of self.now bytes.now) };
+}
