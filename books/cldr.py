@@ -50,8 +50,7 @@ def tag_of(name):
     """The locale tag of a file's name: en_US_POSIX is en-US-posix, root is und."""
     if name == "root":
         return "und"
-    pieces = name.split("_")
-    return "-".join([pieces[0], *(it.lower() if len(it) > 4 or it[:1].isdigit() and len(it) == 4 else it for it in pieces[1:])])
+    return "-".join(it.lower() if len(it) > 4 else it for it in name.split("_"))
 
 
 class Cldr:
@@ -79,7 +78,8 @@ class Cldr:
         for listed in parse(f"{self.folder}/supplemental/supplementalData.xml").iter("parentLocales"):
             if listed.get("component") is None:
                 for it in listed.iter("parentLocale"):
-                    self.parents.update((child, it.get("parent")) for child in it.get("locales", "").split())
+                    children = it.get("locales", "").split()
+                    self.parents.update((child, it.get("parent")) for child in children)
         self.rules = {}
         for kind in parse(f"{self.folder}/supplemental/plurals.xml").iter("plurals"):
             if kind.get("type", "cardinal") == "cardinal":

@@ -81,14 +81,13 @@ class Entries:
         others = {"default": [], "named": self.named_systems(chain), "all": sorted(self.cldr.digits)}[self.systems]
         rules = self.rules(name)
         self.arrays[2].append([tag, rules])
-        compact = lambda types: self.compact(tag, types, rules)
-        for array, kind, make in ((0, None, lambda *tables: self.symbols(tag, *tables)), (3, "short", compact), (4, "long", compact)):
+        for array, kind in ((0, None), (3, "short"), (4, "long")):
             made, usual = {}, None
             for system in (default, *(it for it in others if it != default)):
                 tables = self.tables(chain, system, kind)
                 which = tuple(map(id, tables))
                 if which not in made:
-                    made[which] = make(*tables)
+                    made[which] = self.compact(tag, *tables, rules) if kind else self.symbols(tag, *tables)
                 entry = made[which]
                 if system == default:
                     usual, named = entry, ""

@@ -25,10 +25,17 @@ static std::vector<std::string_view> fields(std::string_view line) {
 // A formatter for the first four fields; false where one of them is not known.
 static bool make(const std::vector<std::string_view>& field, LocalizedNumberFormatter& made) {
     static const std::unordered_map<std::string_view, UNumberGroupingStrategy> groupings = {
-        {"auto", UNUM_GROUPING_AUTO}, {"never", UNUM_GROUPING_OFF}, {"always", UNUM_GROUPING_ON_ALIGNED}, {"min2", UNUM_GROUPING_MIN2}};
+        {"auto", UNUM_GROUPING_AUTO},
+        {"never", UNUM_GROUPING_OFF},
+        {"always", UNUM_GROUPING_ON_ALIGNED},
+        {"min2", UNUM_GROUPING_MIN2}};
     static const std::unordered_map<std::string_view, UNumberSignDisplay> signs = {
-        {"keep", UNUM_SIGN_AUTO}, {"auto", UNUM_SIGN_AUTO}, {"always", UNUM_SIGN_ALWAYS}, {"never", UNUM_SIGN_NEVER},
-        {"except-zero", UNUM_SIGN_EXCEPT_ZERO}, {"negative", UNUM_SIGN_NEGATIVE}};
+        {"keep", UNUM_SIGN_AUTO},
+        {"auto", UNUM_SIGN_AUTO},
+        {"always", UNUM_SIGN_ALWAYS},
+        {"never", UNUM_SIGN_NEVER},
+        {"except-zero", UNUM_SIGN_EXCEPT_ZERO},
+        {"negative", UNUM_SIGN_NEGATIVE}};
     const auto grouping = groupings.find(field[2]);
     const auto sign = signs.find(field[3]);
     if (grouping == groupings.end() || sign == signs.end()) return false;
@@ -53,7 +60,8 @@ int main() {
         if (field.size() == 6 && field[4] == "-") {
             const std::string key = line.substr(0, field[4].data() - line.data());
             auto found = kept.find(key);
-            if (LocalizedNumberFormatter made; found == kept.end() && make(field, made)) found = kept.emplace(key, std::move(made)).first;
+            if (LocalizedNumberFormatter made; found == kept.end() && make(field, made))
+                found = kept.emplace(key, std::move(made)).first;
             if (found != kept.end()) formatter = &found->second;
         }
         if (formatter == nullptr) {

@@ -66,13 +66,16 @@ static std::string element(const char* name, const std::string& inner) {
 static std::string symbols(const Table& system) {
     Table table = below(system, "symbols");
     std::string found;
-    for (const char* name : {"decimal", "group", "plusSign", "minusSign"}) found += element(name, text(below(table, name)));
+    for (const char* name : {"decimal", "group", "plusSign", "minusSign"})
+        found += element(name, text(below(table, name)));
     return found;
 }
 
 static std::string standard(const Table& system) {
     std::string pattern = element("pattern", text(below(below(system, "patterns"), "decimalFormat")));
-    return pattern.empty() ? "" : "<decimalFormatLength><decimalFormat>\n" + pattern + "</decimalFormat></decimalFormatLength>\n";
+    return pattern.empty()
+               ? ""
+               : "<decimalFormatLength><decimalFormat>\n" + pattern + "</decimalFormat></decimalFormatLength>\n";
 }
 
 static std::string compact(const Table& system, const char* length, const char* bundle) {
@@ -83,7 +86,8 @@ static std::string compact(const Table& system, const char* length, const char* 
         }
     }
     if (found.empty()) return "";
-    return std::string("<decimalFormatLength type=\"") + length + "\"><decimalFormat>\n" + found + "</decimalFormat></decimalFormatLength>\n";
+    return std::string("<decimalFormatLength type=\"") + length + "\"><decimalFormat>\n" + found +
+           "</decimalFormat></decimalFormatLength>\n";
 }
 
 static std::string alias(const std::string& path) { return "<alias source=\"locale\" path=\"" + path + "\"/>\n"; }
@@ -99,13 +103,15 @@ static std::string numbers(const std::string& locale) {
     for (const Table& system : items(elements)) {
         if (ures_getType(system.getAlias()) != URES_TABLE) continue;
         const std::string name = key(system), named = " numberSystem=\"" + name + "\">\n";
-        std::string own = symbols(system), brief = compact(system, "short", "patternsShort"), whole = compact(system, "long", "patternsLong");
+        std::string own = symbols(system), brief = compact(system, "short", "patternsShort"),
+                    whole = compact(system, "long", "patternsLong");
         std::string formats = standard(system) + whole + brief;
         if (root && name != "latn") {
             if (own == symbols(latn)) own = alias("../symbols[@numberSystem='latn']");
             formats = alias("../decimalFormats[@numberSystem='latn']");
         } else if (root) {
-            formats = standard(system) + brief + "<decimalFormatLength type=\"long\">" + alias("../decimalFormatLength[@type='short']") + "</decimalFormatLength>\n";
+            formats = standard(system) + brief + "<decimalFormatLength type=\"long\">" +
+                      alias("../decimalFormatLength[@type='short']") + "</decimalFormatLength>\n";
         }
         if (!own.empty()) first += "<symbols" + named + own + "</symbols>\n";
         if (!formats.empty()) second += "<decimalFormats" + named + formats + "</decimalFormats>\n";
@@ -127,8 +133,8 @@ static std::string systems() {
     for (const Table& system : items(below(open("numberingSystems"), "numberingSystems"))) {
         UErrorCode code = U_ZERO_ERROR;
         bool numeric = ures_getInt(below(system, "algorithmic").getAlias(), &code) == 0;
-        found += "<numberingSystem id=\"" + key(system) + "\" type=\"" + (numeric ? "numeric\" digits=\"" : "algorithmic\" rules=\"") +
-                 text(below(system, "desc")) + "\"/>\n";
+        found += "<numberingSystem id=\"" + key(system) + "\" type=\"" +
+                 (numeric ? "numeric\" digits=\"" : "algorithmic\" rules=\"") + text(below(system, "desc")) + "\"/>\n";
     }
     return element("numberingSystems", found);
 }
@@ -136,8 +142,10 @@ static std::string systems() {
 static std::string parents() {
     std::string found;
     for (const Table& parent : items(below(open("supplementalData"), "parentLocales"))) {
-        std::string children = text(parent);
-        for (const Table& child : items(parent)) children += (children.empty() ? "" : " ") + text(child);
+        std::string children = text(parent);  // one child is a text, several are an array
+        if (children.empty()) {
+            for (const Table& child : items(parent)) children += text(child) + " ";
+        }
         found += "<parentLocale parent=\"" + key(parent) + "\" locales=\"" + children + "\"/>\n";
     }
     return element("parentLocales", found);
@@ -172,12 +180,14 @@ int main(int count, char** words) {
     std::filesystem::create_directories(folder / "supplemental", fault);
     std::vector<std::string> locales = {"root"};
     for (int32_t i = 0; i < uloc_countAvailable(); i++) locales.push_back(uloc_getAvailable(i));
-    for (const std::string& locale : locales) write(folder / "main" / (locale + ".xml"), "ldml", element("numbers", numbers(locale)));
+    for (const std::string& locale : locales)
+        write(folder / "main" / (locale + ".xml"), "ldml", element("numbers", numbers(locale)));
     write(folder / "supplemental" / "numberingSystems.xml", "supplementalData", systems());
     write(folder / "supplemental" / "supplementalData.xml", "supplementalData", parents());
     write(folder / "supplemental" / "plurals.xml", "supplementalData", plurals());
     UErrorCode code = U_ZERO_ERROR;
     UVersionInfo version;
     ulocdata_getCLDRVersion(version, &code);
-    std::cerr << "icu-to-cldr: " << locales.size() << " locales of ICU " << U_ICU_VERSION << " with CLDR " << int(version[0]) << "\n";
+    std::cerr << "icu-to-cldr: " << locales.size() << " locales of ICU " << U_ICU_VERSION << " with CLDR "
+              << int(version[0]) << "\n";
 }
