@@ -1,0 +1,83 @@
+// Answers request lines by ICU4C's number formatter: forms plain, short and long, rounding `-`, each as
+// `ok`, a tab and the text. Any other line is `err`, a tab and a word. A formatter is kept for each locale,
+// form, grouping and sign.
+#include <unicode/numberformatter.h>
+#include <unicode/unistr.h>
+
+#include <iostream>
+#include <string>
+#include <string_view>
+#include <unordered_map>
+#include <vector>
+
+using icu::number::LocalizedNumberFormatter;
+
+static std::vector<std::string_view> fields(std::string_view line) {
+    std::vector<std::string_view> found;
+    for (size_t start = 0;;) {
+        const size_t tab = line.find('\t', start);
+        found.push_back(line.substr(start, tab - start));
+        if (tab == std::string_view::npos) return found;
+        start = tab + 1;
+    }
+}
+
+// A formatter for the first four fields; false where one of them is not known.
+static bool make(const std::vector<std::string_view>& field, LocalizedNumberFormatter& made) {
+    static const std::unordered_map<std::string_view, UNumberGroupingStrategy> groupings = {
+        {"auto", UNUM_GROUPING_AUTO},
+        {"never", UNUM_GROUPING_OFF},
+        {"always", UNUM_GROUPING_ON_ALIGNED},
+        {"min2", UNUM_GROUPING_MIN2}};
+    static const std::unordered_map<std::string_view, UNumberSignDisplay> signs = {
+        {"keep", UNUM_SIGN_AUTO},
+        {"auto", UNUM_SIGN_AUTO},
+        {"always", UNUM_SIGN_ALWAYS},
+        {"never", UNUM_SIGN_NEVER},
+        {"except-zero", UNUM_SIGN_EXCEPT_ZERO},
+        {"negative", UNUM_SIGN_NEGATIVE}};
+    const auto grouping = groupings.find(field[2]);
+    const auto sign = signs.find(field[3]);
+    if (grouping == groupings.end() || sign == signs.end()) return false;
+    UErrorCode code = U_ZERO_ERROR;
+    const icu::Locale locale = icu::Locale::forLanguageTag({field[0].data(), int32_t(field[0].size())}, code);
+    const auto base = icu::number::NumberFormatter::withLocale(locale).grouping(grouping->second).sign(sign->second);
+    if (field[1] == "plain") made = base.precision(icu::number::Precision::unlimited());
+    else if (field[1] == "short") made = base.notation(icu::number::Notation::compactShort());
+    else if (field[1] == "long") made = base.notation(icu::number::Notation::compactLong());
+    else return false;
+    return U_SUCCESS(code);
+}
+
+int main() {
+    std::ios::sync_with_stdio(false);
+    std::cin.tie(nullptr);
+    std::unordered_map<std::string, LocalizedNumberFormatter> kept;
+    std::string line, text, answers;
+    while (std::getline(std::cin, line)) {
+        const auto field = fields(line);
+        const LocalizedNumberFormatter* formatter = nullptr;
+        if (field.size() == 6 && field[4] == "-") {
+            const std::string key = line.substr(0, field[4].data() - line.data());
+            auto found = kept.find(key);
+            if (LocalizedNumberFormatter made; found == kept.end() && make(field, made))
+                found = kept.emplace(key, std::move(made)).first;
+            if (found != kept.end()) formatter = &found->second;
+        }
+        if (formatter == nullptr) {
+            answers += "err\tshape\n";
+        } else {
+            UErrorCode code = U_ZERO_ERROR;
+            const auto formatted = formatter->formatDecimal({field[5].data(), int32_t(field[5].size())}, code);
+            text.clear();
+            formatted.toTempString(code).toUTF8String(text);
+            if (U_SUCCESS(code)) answers.append("ok\t").append(text).push_back('\n');
+            else answers += "err\tnumber\n";
+        }
+        if (answers.size() > 65536) {
+            std::cout.write(answers.data(), answers.size());
+            answers.clear();
+        }
+    }
+    std::cout.write(answers.data(), answers.size());
+}
