@@ -25,6 +25,7 @@ use Rattle.icu_locale_core.specs.Subtags.{Text}
 use Rattle.icu_locale_core.specs.TagPreferences.{DataLocaleMeaning, Preferences, language_priority}
 use Rattle.locale_numbers_book.specs.TagReading.{tag_of}
 use Rattle.locale_numbers.specs.Wanted.{wanted_of}
+use Rattle.locale_numbers.specs.Words.{words_said, capacity_named}
 
 -- ---- request lines
 
@@ -182,6 +183,36 @@ too_high : reading_of (codes "10e32767") ≡ beyond
 too_high = refl
 
 -- ---- the program
+
+no_words : words_said [] ≡ Some (record { book = None; capacity = 16 })
+no_words = refl
+
+book_alone : words_said (codes "b" ∷ []) ≡ Some (record { book = Some (codes "b"); capacity = 16 })
+book_alone = refl
+
+book_and_capacity : words_said (codes "b" ∷ codes "65535" ∷ []) ≡ Some (record { book = Some (codes "b"); capacity = 65535 })
+book_and_capacity = refl
+
+empty_book : words_said ([] ∷ codes "1" ∷ []) ≡ None
+empty_book = refl
+
+three_words : words_said (codes "b" ∷ codes "1" ∷ codes "2" ∷ []) ≡ None
+three_words = refl
+
+zeros_in_front : capacity_named (codes "00016") ≡ Some 16
+zeros_in_front = refl
+
+six_digits : capacity_named (codes "000016") ≡ None
+six_digits = refl
+
+no_formatters : capacity_named (codes "0") ≡ None
+no_formatters = refl
+
+too_many : capacity_named (codes "65536") ≡ None
+too_many = refl
+
+plus_sign : capacity_named (codes "+1") ≡ None
+plus_sign = refl
 
 usage_line : line_of Usage ≡ codes "fault: usage"
 usage_line = refl

@@ -1,5 +1,6 @@
 pub mod AlikeTags
 pub mod AnsweringLemmas
+pub mod DigitsLemmas
 pub mod FoundLemmas
 pub mod KnownValues
 pub mod LawsLemmas
@@ -8,5 +9,4 @@ pub mod PartsLemmas
 pub mod ReadingLemmas
 pub mod RequestLemmas
 pub mod RoundedLemmas
-pub mod RoundingFieldLemmas
 pub mod WantedLemmas

@@ -64,11 +64,11 @@ parts_with_right text integer fraction last whole integers fractions no_digit no
       power = spells;
     }
 
-digits_all : (text : List ℕ) → AreDigits text → list_all is_digit text ≡ true
+pub digits_all : (text : List ℕ) → AreDigits text → list_all is_digit text ≡ true
 digits_all [] digits = refl
 digits_all (c ∷ cs) digits = let first : is_digit c ≡ true = grind (arith, nat_tests, digits.0) in rw (first, digits_all cs digits.1)
 
-all_digits : (text : List ℕ) → list_all is_digit text ≡ true → AreDigits text
+pub all_digits : (text : List ℕ) → list_all is_digit text ≡ true → AreDigits text
 all_digits [] all = tt
 all_digits (c ∷ cs) all = at (is_digit c) refl all (all_digits cs)
   where

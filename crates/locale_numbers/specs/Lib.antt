@@ -13,6 +13,7 @@ pub mod Request
 pub mod Rounded
 pub mod RoundingField
 pub mod Wanted
+pub mod Words
 pub use Rattle.locale_numbers_book.specs.Book
 pub use Rattle.locale_numbers_book.specs.BookError
 pub use Rattle.locale_numbers_book.specs.Json

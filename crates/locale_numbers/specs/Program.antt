@@ -1,6 +1,6 @@
 -- What a start of the program leaves: the book that it reads, the faults that may come, and what they leave untouched.
 -- Defined in docs/requests.md, "Program".
--- Cited by `program`.
+-- Cited by `program` and `start`.
 use Rattle.std.specs.Prelude.{◌≡◌, ℕ, List, Option, IsNone, IsSome}
 use Rattle.serde_json.specs.Data.{Data}
 use Rattle.locale_numbers_book.specs.Json.{Reads, IsNoJson}
@@ -28,9 +28,10 @@ pub record OfText {P : Type 0} (sample : List ℕ) (path : Option P) (Fact : Lis
   pub unnamed : IsNone path → text ≡ sample
   pub fact : Fact text
 
--- a fact of the book that a text says
-pub record OfSaid (text : List ℕ) (Fact : BookTables → Type 0) : Type 0 where
+-- a fact of a book that some text says
+pub record OfSomeBook (Fact : BookTables → Type 0) : Type 0 where
   pub book : BookTables
+  pub text : List ℕ
   pub said : Says text book
   pub fact : Fact book
 
@@ -69,8 +70,7 @@ IsOfWords Usage = Unit {0}
 IsOfWords (Run run.Memory) = Unit {0}
 IsOfWords _ = ⊥
 
--- when each fault may come of a start: that of a file never, since no words name one
-abbrev pub MayStart : List ℕ → ProgramFault → Type 0
-MayStart sample File = ⊥
-MayStart sample (Book cause) = IsRefused sample cause
-MayStart sample _ = Unit {0}
+-- when a book's fault may come of a start: some text is refused by it
+abbrev pub MayStart : ProgramFault → Type 0
+MayStart (Book cause) = (text : List ℕ) × IsRefused text cause
+MayStart _ = Unit {0}

@@ -18,6 +18,7 @@ mod answering;
 mod asked_book;
 mod changing;
 mod cutting;
+mod digits;
 mod fault;
 pub mod laws;
 mod program_run;

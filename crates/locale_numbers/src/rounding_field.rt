@@ -1,19 +1,13 @@
 // The rounding that a request asks for: a position, a mode and an increment, or none.
-ghost use Rattle.std.specs.Prelude.{◌≡◌, ◌<◌, ◌≤◌, ◌∷◌, [], ◌↔◌, true, length, min, IsSome, IfSome};
-ghost use Rattle.std.specs.Char.{digit_value};
-ghost use Rattle.std.specs.List.{list_all};
-ghost use Rattle.fixed_decimal.specs.NumberText.{spelled};
-ghost use Rattle.locale_numbers.specs.NumberReading.{is_digit};
+ghost use Rattle.std.specs.Prelude.{◌≡◌, ◌≤◌, ◌∷◌, [], ◌↔◌, length, IsSome, IfSome};
 ghost use Rattle.locale_numbers.specs.RoundingField.{comma, is_size, size_named, position_named, mode_named, increment_named, rounding_in, rounding_named};
 ghost use Rattle.locale_numbers.specs.Cutting.{cut_at};
 
 use crate::cutting::cut_field;
+use crate::digits::{are_digits, capped_number};
 use fixed_decimal::{RoundingIncrement, SignedRoundingMode, UnsignedRoundingMode};
 
 const COMMA: u8 = b',';
-
-// One more than the size of any position.
-const TOO_LARGE: u32 = 32769;
 
 /// What is rounded.
 #[derive(Clone, Copy, Debug, PartialEq, Eq)]
@@ -24,13 +18,6 @@ pub(crate) enum RoundingAsked {
     At(i16, SignedRoundingMode, RoundingIncrement),
 }
 
-// Whether each byte is one of the ten decimal digits.
-fn are_digits(word: &[u8]) -> bool
-    ensures { result ≡ list_all is_digit word.now }
-{
-    word.iter().all(|byte| byte.is_ascii_digit())
-}
-
 // Whether a word is digits, of which the first is not zero.
 fn is_size(word: &[u8]) -> bool
     ensures { result ≡ is_size word.now }
@@ -39,27 +26,6 @@ fn is_size(word: &[u8]) -> bool
         None => false,
         Some((first, _)) => *first != b'0' && are_digits(word),
     }
-}
-
-// The value of a digit's character.
-fn digit_of(digit: u8) -> u8
-    requires { digit_value digit < 10 }
-    ensures { result ≡ digit_value digit }
-{
-    digit - b'0'
-}
-
-// The number that digits spell, or one too large for a position where it is as large at least.
-#[tactic(auto, using(crate::proofs::RoundingFieldLemmas::digit_at, crate::proofs::RoundingFieldLemmas::capped_more))]
-fn capped_number(digits: &[u8]) -> u32
-    requires { list_all is_digit digits.now ≡ true }
-    ensures { result ≡ min (spelled digits.now) 32769 }
-{
-    let mut number = 0u32;
-    for digit in digits {
-        number = (number * 10 + digit_of(*digit) as u32).min(TOO_LARGE);
-    }
-    number
 }
 
 // The number above zero, and not above a bound, that a word writes with no zero in front.

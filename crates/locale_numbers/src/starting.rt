@@ -1,14 +1,14 @@
-ghost use Rattle.std.specs.Prelude.{◌≡◌, ◌⊎◌, false, true, None, IfOk, IfErr, OnOk, IsErrOf};
+ghost use Rattle.std.specs.Prelude.{◌≡◌, ◌≤◌, ◌⊎◌, ◌↔◌, false, true, None, Some, Err, map, option_map, string_bytes, IfOk, IfErr, OnOk, IsErrOf};
 ghost use Rattle.std.specs.IoError.{error_kind};
 ghost use Rattle.std.specs.declared.io.ErrorKind.TheVariants.{OutOfMemory};
 ghost use Rattle.locale_numbers_engine.specs.Run.{WritesAll, WritesTold, WritesPart, WritesFirst, GivesTooLong};
 ghost use Rattle.locale_numbers.specs.Answer.{answer_of};
-ghost use Rattle.locale_numbers.specs.Program.{OfSaid, IsOfWords, MayStart, IsBeforeLines};
+ghost use Rattle.locale_numbers.specs.Program.{OfSomeBook, IsOfWords, MayStart, IsBeforeLines};
+ghost use Rattle.locale_numbers.specs.Words.{words_said};
 
 use crate::fault::ProgramFault;
 use crate::program_run::program;
 use crate::words::{Words, read_words};
-use locale_numbers_book::SAMPLE_BOOK;
 use locale_numbers_engine::{ByteReader, ByteWriter, RunError};
 use std::alloc::Global;
 use std::env::{self, Env};
@@ -45,31 +45,81 @@ fn own_words<H: Env + AllocGlobal>(rt: &H) -> Result<Vec<String>, ProgramFault>
 }
 
 // What the words say.
-fn words_in<'a>(alloc: Global, texts: &'a [String]) -> Result<Words<'a>, ProgramFault>
-    ensures value { IfOk result (λ read. (read.book ≡ None) × (read.capacity ≡ 16)) }
-    ensures fault { IfErr result IsOfWords }
+fn words_in(texts: &[String]) -> Result<Words<'_>, ProgramFault>
+    ensures value { IfOk result (λ read. words_said (map (λ text. string_bytes text) texts.now)
+        ≡ Some (record { book = option_map (λ book. book.now) read.book; capacity = read.capacity })) }
+    ensures usage { IfErr result (λ fault. (fault ≡ ProgramFault.Usage)
+        × (words_said (map (λ text. string_bytes text) texts.now) ≡ None)) }
+    ensures room { IfOk result (λ read. 1 ≤ read.capacity) }
 {
-    let mut words = Vec::new(alloc);
-    for text in texts {
-        if words.push(text.as_str()).is_err() {
-            return Err(ProgramFault::Run(RunError::Memory));
-        }
+    match texts {
+        [] => read_words(&[]),
+        [book] => read_words(&[book.as_str()]),
+        [book, capacity] => read_words(&[book.as_str(), capacity.as_str()]),
+        _ => Err(ProgramFault::Usage),
     }
-    read_words(&words)
+}
+
+// Answers the lines that `reader` gives onto `writer`, as these words say.
+fn start_with<F: Files, R: ByteReader, W: ByteWriter>(
+    rt: &F,
+    alloc: Global,
+    texts: &[String],
+    reader: &mut R,
+    writer: &mut W,
+) -> Result<(), ProgramFault>
+    requires reader_well { R.failed reader.old ≡ false }
+    requires writer_well { W.failed writer.old ≡ false }
+    // No fault of a file, of a book or of the run is told before one of the words.
+    ensures usage { (result ≡ Err ProgramFault.Usage) ↔ (words_said (map (λ text. string_bytes text) texts.now) ≡ None) }
+    ensures output { OnOk result (OfSomeBook (λ book.
+        WritesAll (answer_of book) (R.remaining reader.old)
+        (W.contents writer.old) (W.contents writer.new))) }
+    ensures stays_well { OnOk result (
+        (R.failed reader.new ≡ false) × (W.failed writer.new ≡ false)) }
+
+    // A book is refused for what its text is.
+    ensures faults { IfErr result MayStart }
+    ensures untouched { IfErr result (λ fault. IsBeforeLines fault →
+        (reader.new ≡ reader.old) × (writer.new ≡ writer.old)) }
+    ensures read { IsErrOf result (ProgramFault.Run RunError.Read) → OfSomeBook (λ book.
+        WritesTold (answer_of book) (R.remaining reader.old) (R.remaining reader.new)
+        (W.contents writer.old) (W.contents writer.new)) }
+    ensures reader_failed { IsErrOf result (ProgramFault.Run RunError.Read) →
+        (R.failed reader.new ≡ true) ⊎ GivesTooLong (R.remaining reader.old) (R.remaining reader.new) }
+    ensures write { IsErrOf result (ProgramFault.Run RunError.Write) → OfSomeBook (λ book.
+        WritesPart (answer_of book) (R.remaining reader.old)
+        (W.contents writer.old) (W.contents writer.new)) }
+    ensures writer_failed { IsErrOf result (ProgramFault.Run RunError.Write) →
+        W.failed writer.new ≡ true }
+
+    ensures memory { IsErrOf result (ProgramFault.Run RunError.Memory) → OfSomeBook (λ book.
+        WritesFirst (answer_of book) (R.remaining reader.old)
+        (W.contents writer.old) (W.contents writer.new)) }
+    ensures memory_only { IsErrOf result (ProgramFault.Run RunError.Memory) →
+        (R.failed reader.new ≡ false) × (W.failed writer.new ≡ false) }
+{
+    match words_in(texts) {
+        Ok(words) => program(rt, alloc, &words, reader, writer),
+        Err(fault) => Err(fault),
+    }
 }
 
 /// Answers the lines that `reader` gives onto `writer`, as the words say that the program was started
 /// with: the whole program, but for its standard streams and its status.
 ///
-/// `rt` is the runtime that `main` has. No words ask for the sample book: the line of `ar-EG`, `plain`,
-/// `auto`, `keep`, `-`, `1234.5` is answered by `ok`, a tab, `١٬٢٣٤٫٥`. Takes memory. Of neither `reader`
-/// nor `writer` a call may have failed before.
+/// `rt` is the runtime that `main` has; its words are read by [`read_words`], and its book by
+/// [`program`](crate::program). No words ask for the sample book: the line of `ar-EG`, `plain`, `auto`, `keep`, `-`,
+/// `1234.5` is answered by `ok`, a tab, `١٬٢٣٤٫٥`. Takes memory. Of neither `reader` nor `writer` a call may have
+/// failed before. Faults come in this order, and up to Book nothing is read or written:
 ///
-/// - Usage: there is a word, or one that is not UTF-8; nothing is read or written.
-/// - Book: memory was wanting while the sample book was read; nothing is read or written.
+/// - Usage: the words are not those of [`read_words`], or one is not UTF-8.
+/// - File: the book's file can't be opened, or not be read to its end.
+/// - Book: its text is refused, or memory was wanting while it was read.
 /// - Run: the reader or the writer failed, or memory was wanting.
 ///
-/// File never comes, since no words name one so far.
+/// Of the words that a program is given the runtime tells nothing, so the clauses leave open which book it is: that is
+/// said of [`read_words`] and of [`program`](crate::program).
 pub fn start<H: Env + AllocGlobal + Files, R: ByteReader, W: ByteWriter>(
     rt: &H,
     reader: &mut R,
@@ -77,22 +127,22 @@ pub fn start<H: Env + AllocGlobal + Files, R: ByteReader, W: ByteWriter>(
 ) -> Result<(), ProgramFault>
     requires reader_well { R.failed reader.old ≡ false }
     requires writer_well { W.failed writer.old ≡ false }
-    ensures output { OnOk result (OfSaid SAMPLE_BOOK.now (λ book.
+    ensures output { OnOk result (OfSomeBook (λ book.
         WritesAll (answer_of book) (R.remaining reader.old)
         (W.contents writer.old) (W.contents writer.new))) }
     ensures stays_well { OnOk result (
         (R.failed reader.new ≡ false) × (W.failed writer.new ≡ false)) }
 
-    // Each fault is that of the words, of the sample book or of the run.
-    ensures faults { IfErr result (MayStart SAMPLE_BOOK.now) }
+    // A book is refused for what its text is.
+    ensures faults { IfErr result MayStart }
     ensures untouched { IfErr result (λ fault. IsBeforeLines fault →
         (reader.new ≡ reader.old) × (writer.new ≡ writer.old)) }
-    ensures read { IsErrOf result (ProgramFault.Run RunError.Read) → OfSaid SAMPLE_BOOK.now (λ book.
+    ensures read { IsErrOf result (ProgramFault.Run RunError.Read) → OfSomeBook (λ book.
         WritesTold (answer_of book) (R.remaining reader.old) (R.remaining reader.new)
         (W.contents writer.old) (W.contents writer.new)) }
     ensures reader_failed { IsErrOf result (ProgramFault.Run RunError.Read) →
         (R.failed reader.new ≡ true) ⊎ GivesTooLong (R.remaining reader.old) (R.remaining reader.new) }
-    ensures write { IsErrOf result (ProgramFault.Run RunError.Write) → OfSaid SAMPLE_BOOK.now (λ book.
+    ensures write { IsErrOf result (ProgramFault.Run RunError.Write) → OfSomeBook (λ book.
         WritesPart (answer_of book) (R.remaining reader.old)
         (W.contents writer.old) (W.contents writer.new)) }
     ensures writer_failed { IsErrOf result (ProgramFault.Run RunError.Write) →
@@ -100,18 +150,14 @@ pub fn start<H: Env + AllocGlobal + Files, R: ByteReader, W: ByteWriter>(
 
     // Memory may be wanting for the words too.
     ensures memory { IsErrOf result (ProgramFault.Run RunError.Memory) →
-        ((reader.new ≡ reader.old) × (writer.new ≡ writer.old)) ⊎ OfSaid SAMPLE_BOOK.now (λ book.
+        ((reader.new ≡ reader.old) × (writer.new ≡ writer.old)) ⊎ OfSomeBook (λ book.
         WritesFirst (answer_of book) (R.remaining reader.old)
         (W.contents writer.old) (W.contents writer.new)) }
     ensures memory_only { IsErrOf result (ProgramFault.Run RunError.Memory) →
         (R.failed reader.new ≡ false) × (W.failed writer.new ≡ false) }
 {
-    let texts = match own_words(rt) {
-        Ok(texts) => texts,
-        Err(fault) => return Err(fault),
-    };
-    match words_in(rt.alloc(), &texts) {
-        Ok(words) => program(rt, rt.alloc(), &words, reader, writer),
+    match own_words(rt) {
+        Ok(texts) => start_with(rt, rt.alloc(), &texts, reader, writer),
         Err(fault) => Err(fault),
     }
 }
