@@ -1,171 +1,12 @@
--- Lemmas on the arrays of a book: `specs/Book.antt`.
-use Rattle.std.proofs.Common.{IsErrOf, Err, get_or, drop, drop-cons, add-one, ◌<◌, true≢false, append_assoc, ◌≡◌, if◌then◌else◌, ℕ, ◌+◌, suc, Bool, true, false, ◌&&◌, ◌||◌, ◌==◌, not, List, [], ◌∷◌, ◌++◌, length, Option, Some, None, is_some, option_map, refl, sym, ap, ◌∙◌, arith}
-use Rattle.std.specs.Bool.{Decides}
-use Rattle.std.specs.Option.{option_eq}
-use Rattle.std.specs.Str.{bytes_eq}
-use Rattle.std.proofs.lemmas.Bool.{eqb-true}
-use Rattle.std.proofs.lemmas.Slice.Eq.{bytes_eq-Decides}
-use Rattle.std.proofs.lemmas.Bool.Decides.{Decides-and, Decides-like, same_from_decides}
-use Rattle.icu_locale_core.specs.Subtags.{Text}
-use Rattle.icu_locale_core.specs.TagPreferences.{Subdivision, DataLocaleMeaning}
-use Rattle.serde_json.specs.Data.{Data, Items}
-use Rattle.serde_json.specs.View.{items_view, view}
-use Rattle.serde_json.specs.declared.value.Value.{Value}
-use Rattle.icu_decimal.specs.Identifiers.{Identifier}
-use Rattle.locale_numbers_book.specs.Book.{count_of_items, all_of, table_at, has_no_key_twice, table_in, same_subdivision, same_data_locale, same_key, BookTables, IsBook}
-use Rattle.locale_numbers_book.specs.Room.{begins_with}
-
-pub count-items : (fields : List Value) → count_of_items (items_view fields) ≡ length fields
-count-items [] = refl
-count-items (field ∷ fields) = let rest = count-items fields in omega arith
-
-pub none_from_is_some : {T : Type 0} (o : Option T) → is_some o ≡ false → o ≡ None
-none_from_is_some None h = refl
-none_from_is_some (Some x) h = cc
-
--- ---- no key twice
-
-both_true : (a b : Bool) → (a && b) ≡ true → (a ≡ true) × (b ≡ true)
-both_true true b h = (refl, h)
-both_true false b h = let no : false ≡ true = h in (h, absurd (true≢false (sym no)))
-
-and_false : (a : Bool) → (a && false) ≡ false
-and_false true = refl
-and_false false = refl
-
-module _ {K V : Type 0} (same : K → K → Bool) (symmetric : (a b : K) → same a b ≡ same b a) where
-  -- a key that stands behind others is found
-  pub found_behind : (pairs : List (K × V)) (key : K) (first : K) (value : V) (rest : List (K × V)) → same first key ≡ true
-      → is_some (table_at same first (pairs ++ (key, value) ∷ rest)) ≡ true
-  found_behind [] key first value rest h = rw h refl
-  found_behind (pair ∷ pairs) key first value rest h =
-      elim (same first pair.0) as (λ b. is_some (if b then Some pair.1 else table_at same first (pairs ++ (key, value) ∷ rest)) ≡ true) [
-        | true ↦ refl
-        | false ↦ found_behind pairs key first value rest h
-      ]
-
-  -- a key that is there already stands twice
-  pub twice : (pairs : List (K × V)) (key : K) (value : V) (rest : List (K × V)) → is_some (table_at same key pairs) ≡ true
-      → has_no_key_twice same (pairs ++ (key, value) ∷ rest) ≡ false
-  twice [] key value rest h = cc
-  twice (pair ∷ pairs) key value rest h = by (twice pairs key value rest) (same key pair.0) refl h
-    where
-      by : (is_some (table_at same key pairs) ≡ true → has_no_key_twice same (pairs ++ (key, value) ∷ rest) ≡ false)
-          → (b : Bool) → same key pair.0 ≡ b → is_some (if b then Some pair.1 else table_at same key pairs) ≡ true
-          → has_no_key_twice same ((pair ∷ pairs) ++ (key, value) ∷ rest) ≡ false
-      by again true e g = rw (found_behind pairs key pair.0 value rest (symmetric pair.0 key ∙ e)) refl
-      by again false e g = rw (again g) (and_false _)
-
-  -- a new key behind the others is found by itself alone
-  absent_behind : (pairs : List (K × V)) (first key : K) (value : V) → same first key ≡ false
-      → is_some (table_at same first (pairs ++ (key, value) ∷ [])) ≡ is_some (table_at same first pairs)
-  absent_behind [] first key value h = rw h refl
-  absent_behind (pair ∷ pairs) first key value h =
-      elim (same first pair.0) as (λ b. is_some (if b then Some pair.1 else table_at same first (pairs ++ (key, value) ∷ [])) ≡ is_some (if b then Some pair.1 else table_at same first pairs)) [
-        | true ↦ refl
-        | false ↦ absent_behind pairs first key value h
-      ]
-
-  pub once_more : (pairs : List (K × V)) (key : K) (value : V) → table_at same key pairs ≡ None → has_no_key_twice same pairs ≡ true
-      → has_no_key_twice same (pairs ++ (key, value) ∷ []) ≡ true
-  once_more [] key value h n = refl
-  once_more (pair ∷ pairs) key value h n = by (once_more pairs key value) (same key pair.0) refl h n
-    where
-      by : (table_at same key pairs ≡ None → has_no_key_twice same pairs ≡ true → has_no_key_twice same (pairs ++ (key, value) ∷ []) ≡ true)
-          → (b : Bool) → same key pair.0 ≡ b → (if b then Some pair.1 else table_at same key pairs) ≡ None → has_no_key_twice same (pair ∷ pairs) ≡ true
-          → has_no_key_twice same ((pair ∷ pairs) ++ (key, value) ∷ []) ≡ true
-      by again true e g m = cc
-      by again false e g m =
-          let parts = both_true (not (is_some (table_at same pair.0 pairs))) (has_no_key_twice same pairs) m in
-          rw (absent_behind pairs pair.0 key value (symmetric pair.0 key ∙ e), parts.0) (again g parts.1)
-
-  -- a key that is there already: the array makes no table
-  pub no_table : (read : Data → Option (K × V)) (items : Items) (pairs : List (K × V)) (key : K) (value : V) (left : Option (List (K × V)))
-      → all_of read items ≡ option_map (λ (rest : List (K × V)). (pairs ++ (key, value) ∷ []) ++ rest) left → is_some (table_at same key pairs) ≡ true
-      → table_in same read items ≡ None
-  no_table read items pairs key value None all h = rw all refl
-  no_table read items pairs key value (Some rest) all h = rw (all, append_assoc, twice pairs key value rest h) refl
-
--- ---- one more entry read
-
-next_item : (values : List Value) (i : ℕ) (value : Value) → i < length values → value ≡ get_or values i value → drop i values ≡ value ∷ drop (i + 1) values
-next_item values i value below is =
-    let at_suc : drop i values ≡ get_or values i value ∷ drop (suc i) values = drop-cons values i value below in
-    rw add-one (at_suc ∙ ap (λ x. x ∷ drop (suc i) values) (sym is))
-
-module _ {E : Type 0} (read : Data → Option E) where
-  moved : (entry : E) (done : List E) (left : Option (List E))
-      → option_map (λ (rest : List E). done ++ rest) (option_map {T = List E} {U = List E} (λ rest. entry ∷ rest) left) ≡ option_map (λ (rest : List E). (done ++ entry ∷ []) ++ rest) left
-  moved entry done None = refl
-  moved entry done (Some rest) = ap Some (sym (append_assoc done (entry ∷ []) rest))
-
-  pub one_more : (values : List Value) (i : ℕ) (value : Value) (entry : E) (done : List E) → i < length values → value ≡ get_or values i value → read (view value) ≡ Some entry
-      → all_of read (items_view values) ≡ option_map (λ (rest : List E). done ++ rest) (all_of read (items_view (drop i values)))
-      → all_of read (items_view values) ≡ option_map (λ (rest : List E). (done ++ entry ∷ []) ++ rest) (all_of read (items_view (drop (i + 1) values)))
-  one_more values i value entry done below is reads all =
-      let cons : drop i values ≡ value ∷ drop (i + 1) values = next_item values i value below is in
-      all ∙ ap (λ xs. option_map (λ (rest : List E). done ++ rest) (all_of read (items_view xs))) cons ∙ rw reads (moved entry done (all_of read (items_view (drop (i + 1) values))))
-
--- ---- where memory may be wanting
-
-pub either : (a b : Bool) → b ≡ true → (a || b) ≡ true
-either true b h = refl
-either false b h = h
-
--- an array that has such an entry at its first index begins with one
-pub begins : (may_grow : Data → Bool) (values : List Value) (i : ℕ) (value : Value) → i < length values → value ≡ get_or values i value → may_grow (view value) ≡ true
-    → (i == 0 || begins_with may_grow (items_view values)) ≡ true → begins_with may_grow (items_view values) ≡ true
-begins may_grow values i value below is grows first = by (i == 0) refl first
-  where
-    by : (b : Bool) → (i == 0) ≡ b → (b || begins_with may_grow (items_view values)) ≡ true → begins_with may_grow (items_view values) ≡ true
-    by false e h = h
-    by true e h =
-        let cons : drop i values ≡ value ∷ drop (i + 1) values = next_item values i value below is in
-        let whole : values ≡ value ∷ drop (i + 1) values = sym (ap (λ n. drop n values) (eqb-true i 0 e)) ∙ cons in
-        ap (λ xs. begins_with may_grow (items_view xs)) whole ∙ grows
-
--- ---- keys are one exactly where they are equal
-
--- an option is tested as what it holds is
-same_options : {A : Type 0} (same : A → A → Bool) → ((a b : A) → Decides (same a b) (a ≡ b)) → (a b : Option A) → Decides (option_eq same a b) (a ≡ b)
-same_options same each None None = (λ h. refl, λ h. refl)
-same_options same each None (Some b) = (λ h. absurd (true≢false (sym h)), λ h. cc)
-same_options same each (Some a) None = (λ h. absurd (true≢false (sym h)), λ h. cc)
-same_options same each (Some a) (Some b) = (λ h. ap Some ((each a b).0 h), λ h. (each a b).1 cc)
-
-same_texts : (a b : Option Text) → Decides (option_eq bytes_eq a b) (a ≡ b)
-same_texts a b = same_options bytes_eq bytes_eq-Decides a b
-
-same_subdivisions : (a b : Subdivision) → Decides (same_subdivision a b) (a ≡ b)
-same_subdivisions a b = Decides-like (same_subdivision a b)
-    (λ h i. record { region = h.0 i; suffix = h.1 i })
-    (λ h. (ap (λ s. s.region) h, ap (λ s. s.suffix) h))
-    (Decides-and _ _ (bytes_eq-Decides a.region b.region) (bytes_eq-Decides a.suffix b.suffix))
-
-pub same_data_locales : (a b : DataLocaleMeaning) → Decides (same_data_locale a b) (a ≡ b)
-same_data_locales a b = Decides-like (same_data_locale a b)
-    (λ h i. record { language = h.0 i; script = h.1.0 i; region = h.1.1.0 i; variant = h.1.1.1.0 i; subdivision = h.1.1.1.1 i })
-    (λ h. (ap (λ l. l.language) h, (ap (λ l. l.script) h, (ap (λ l. l.region) h, (ap (λ l. l.variant) h, ap (λ l. l.subdivision) h)))))
-    (Decides-and _ _ (bytes_eq-Decides a.language b.language)
-    (Decides-and _ _ (same_texts a.script b.script)
-    (Decides-and _ _ (same_texts a.region b.region)
-    (Decides-and _ _ (same_texts a.variant b.variant) (same_options same_subdivision same_subdivisions a.subdivision b.subdivision)))))
-
-pub same_keys : (a b : Identifier) → Decides (same_key a b) (a ≡ b)
-same_keys a b = Decides-like (same_key a b)
-    (λ h i. record { locale = h.0 i; attributes = h.1 i })
-    (λ h. (ap (λ k. k.locale) h, ap (λ k. k.attributes) h))
-    (Decides-and _ _ (same_data_locales a.locale b.locale) (bytes_eq-Decides a.attributes b.attributes))
-
-pub same_key_symmetric : (a b : Identifier) → same_key a b ≡ same_key b a
-same_key_symmetric a b = same_from_decides (same_key a b) (same_key b a) (same_keys a b) (Decides-like (same_key b a) sym sym (same_keys b a))
-
-pub bytes_eq_symmetric : (a b : Text) → bytes_eq a b ≡ bytes_eq b a
-bytes_eq_symmetric a b = same_from_decides (bytes_eq a b) (bytes_eq b a) (bytes_eq-Decides a b) (Decides-like (bytes_eq b a) sym sym (bytes_eq-Decides b a))
-
--- an error is the same error at another type of answers
-pub err_at : {T U E : Type 0} (e f : E) → IsErrOf {T = T} (Err e) f → IsErrOf {T = U} (Err e) f
-err_at e f h = cc
+-- A value is one book at most, and what its last two arrays say of it: `specs/Book.antt` and `specs/Room.antt`.
+use Rattle.std.proofs.Common.{◌≡◌, Bool, true, false, ◌&&◌, ◌||◌, Some, None, refl, sym, ◌∙◌}
+use Rattle.serde_json.specs.Data.{Data}
+use Rattle.locale_numbers_book.specs.declared.error.BookError.{BookError}
+use Rattle.locale_numbers_book.specs.Book.{BookTables, IsBook}
+use Rattle.locale_numbers_book.specs.Faults.{book_fault, compact_faults, digits_faults, has_form, items_at, rules_faults, symbols_faults}
+use Rattle.locale_numbers_book.specs.Refusal.{IsTold}
+use Rattle.locale_numbers_book.specs.Room.{begins_with, book_may_grow, compact_may_grow, digits_may_grow, rules_may_grow, symbols_may_grow}
+use Rattle.locale_numbers_book.proofs.FaultLemmas.{told_at}
 
 some_same : {A : Type 0} (x y : A) → Some x ≡ Some y → x ≡ y
 some_same x y h = cc
@@ -174,4 +15,55 @@ pub one_book : (value : Data) (book other : BookTables) → IsBook value book �
 one_book value book other m n =
     let symbols = some_same book.symbols other.symbols (sym m.symbols ∙ n.symbols) in
     let digits = some_same book.digits other.digits (sym m.digits ∙ n.digits) in
-    λ i. record { symbols = symbols i; digits = digits i }
+    let rules = some_same book.rules other.rules (sym m.rules ∙ n.rules) in
+    let short = some_same book.short other.short (sym m.short ∙ n.short) in
+    let long = some_same book.long other.long (sym m.long ∙ n.long) in
+    λ i. record { symbols = symbols i; digits = digits i; rules = rules i; short = short i; long = long i }
+
+-- ---- the last two arrays
+
+pub grows_short : (value : Data) → has_form value ≡ true → begins_with compact_may_grow (items_at 3 value) ≡ true → book_may_grow value ≡ true
+grows_short value form grows =
+    by (has_form value) (begins_with symbols_may_grow (items_at 0 value)) (begins_with digits_may_grow (items_at 1 value)) (begins_with rules_may_grow (items_at 2 value))
+    (begins_with compact_may_grow (items_at 3 value)) (begins_with compact_may_grow (items_at 4 value)) form grows
+  where
+    by : (f a b c d e : Bool) → f ≡ true → d ≡ true → (f && (a || b || c || d || e)) ≡ true
+    by true a b c true e g h = elim a as (λ x. (x || b || c || true || e) ≡ true) [
+      | true ↦ refl
+      | false ↦ elim b as (λ x. (x || c || true || e) ≡ true) [
+        | true ↦ refl
+        | false ↦ elim c as (λ x. (x || true || e) ≡ true) [
+          | true ↦ refl
+          | false ↦ refl
+        ]
+      ]
+    ]
+    by true a b c false e g h = cc
+    by false a b c d e g h = cc
+
+pub grows_long : (value : Data) → has_form value ≡ true → begins_with compact_may_grow (items_at 4 value) ≡ true → book_may_grow value ≡ true
+grows_long value form grows =
+    by (has_form value) (begins_with symbols_may_grow (items_at 0 value)) (begins_with digits_may_grow (items_at 1 value)) (begins_with rules_may_grow (items_at 2 value))
+    (begins_with compact_may_grow (items_at 3 value)) (begins_with compact_may_grow (items_at 4 value)) form grows
+  where
+    by : (f a b c d e : Bool) → f ≡ true → e ≡ true → (f && (a || b || c || d || e)) ≡ true
+    by true a b c d true g h = elim a as (λ x. (x || b || c || d || true) ≡ true) [
+      | true ↦ refl
+      | false ↦ elim b as (λ x. (x || c || d || true) ≡ true) [
+        | true ↦ refl
+        | false ↦ elim c as (λ x. (x || d || true) ≡ true) [
+          | true ↦ refl
+          | false ↦ elim d as (λ x. (x || true) ≡ true) [
+            | true ↦ refl
+            | false ↦ refl
+          ]
+        ]
+      ]
+    ]
+    by true a b c d false g h = cc
+    by false a b c d e g h = cc
+
+pub told_long : (value : Data) (e : BookError) → has_form value ≡ true → symbols_faults (items_at 0 value) ≡ None → digits_faults (items_at 1 value) ≡ None
+    → rules_faults (items_at 2 value) ≡ None → compact_faults (items_at 3 value) ≡ None → IsTold (compact_faults (items_at 4 value)) e → IsTold (book_fault value) e
+told_long value e form symbols digits rules short told =
+    told_at (compact_faults (items_at 4 value)) (book_fault value) e (rw (form, symbols, digits, rules, short) refl) told

@@ -10,7 +10,8 @@ use Rattle.locale_numbers_book.specs.TagReading.{tag_of, data_locale_of}
 use Rattle.locale_numbers_book.specs.Fields.{size_in, system_in, system_or_none_in, digits_in, plain_text_in}
 use Rattle.icu_decimal.specs.declared.error.DataError.{DataError}
 use Rattle.icu_decimal.specs.Identifiers.{of_both, of_system}
-use Rattle.locale_numbers_book.specs.Book.{BookTables, has_count}
+use Rattle.locale_numbers_book.specs.Book.{BookTables}
+use Rattle.locale_numbers_book.specs.Entries.{has_count}
 use Rattle.locale_numbers_book.specs.Tables.{digits_under}
 use Rattle.std.specs.Str.{chars}
 
@@ -122,7 +123,7 @@ no_fields = refl
 -- ---- tables
 
 abbrev latin_alone : BookTables
-latin_alone = record { symbols = []; digits = (codes "latn", codes "0123456789") ∷ [] }
+latin_alone = record { symbols = []; digits = (codes "latn", codes "0123456789") ∷ []; rules = []; short = []; long = [] }
 
 abbrev english : DataLocaleMeaning
 english = record { language = codes "en"; script = None; region = None; variant = None; subdivision = None }

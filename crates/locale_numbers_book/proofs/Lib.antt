@@ -1,4 +1,9 @@
 pub mod SystemLemmas
 pub mod TagLemmas
+pub mod KeyLemmas
+pub mod TableLemmas
+pub mod FaultLemmas
+pub mod RulesLemmas
+pub mod CompactLemmas
 pub mod BookLemmas
 pub mod KnownValues

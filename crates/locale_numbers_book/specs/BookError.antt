@@ -33,47 +33,8 @@ word_of Duplicate = codes "duplicate"
 word_of Cycle = codes "cycle"
 word_of Memory = codes "memory"
 
--- the two faults that come today once the bytes are read as JSON
-abbrev pub IsShapeOrMemory : BookError → Type 0
-IsShapeOrMemory Json = ⊥
-IsShapeOrMemory Shape = Unit {0}
-IsShapeOrMemory Tag = ⊥
-IsShapeOrMemory System = ⊥
-IsShapeOrMemory Text = ⊥
-IsShapeOrMemory Digits = ⊥
-IsShapeOrMemory Condition = ⊥
-IsShapeOrMemory Types = ⊥
-IsShapeOrMemory Exponents = ⊥
-IsShapeOrMemory Duplicate = ⊥
-IsShapeOrMemory Cycle = ⊥
-IsShapeOrMemory Memory = Unit {0}
-
 -- the two faults of bytes that are to be read as JSON
 abbrev pub IsJsonOrMemory : BookError → Type 0
 IsJsonOrMemory Json = Unit {0}
-IsJsonOrMemory Shape = ⊥
-IsJsonOrMemory Tag = ⊥
-IsJsonOrMemory System = ⊥
-IsJsonOrMemory Text = ⊥
-IsJsonOrMemory Digits = ⊥
-IsJsonOrMemory Condition = ⊥
-IsJsonOrMemory Types = ⊥
-IsJsonOrMemory Exponents = ⊥
-IsJsonOrMemory Duplicate = ⊥
-IsJsonOrMemory Cycle = ⊥
 IsJsonOrMemory Memory = Unit {0}
-
--- the faults that come today
-abbrev pub IsJsonShapeOrMemory : BookError → Type 0
-IsJsonShapeOrMemory Json = Unit {0}
-IsJsonShapeOrMemory Shape = Unit {0}
-IsJsonShapeOrMemory Tag = ⊥
-IsJsonShapeOrMemory System = ⊥
-IsJsonShapeOrMemory Text = ⊥
-IsJsonShapeOrMemory Digits = ⊥
-IsJsonShapeOrMemory Condition = ⊥
-IsJsonShapeOrMemory Types = ⊥
-IsJsonShapeOrMemory Exponents = ⊥
-IsJsonShapeOrMemory Duplicate = ⊥
-IsJsonShapeOrMemory Cycle = ⊥
-IsJsonShapeOrMemory Memory = Unit {0}
+IsJsonOrMemory _ = ⊥

@@ -1,16 +1,20 @@
--- Laws of the definitions: which tags and data locales are read, when two keys are one, and that a value is one book.
--- Defined in docs/books.md, "Tags" and "The form".
+-- Laws of the definitions: which tags and data locales are read, when two keys are one, which tables of patterns are made, and when a
+-- value is a book.
+-- Defined in docs/books.md, "Tags", "The form" and "Faults".
 -- Cited by the functions of `laws.rt`.
-use Rattle.std.specs.Prelude.{◌≡◌, ◌↔◌, List, Some}
+use Rattle.std.specs.Prelude.{◌≡◌, ◌↔◌, List, Option, Some}
 use Rattle.std.specs.Bool.{Decides}
 use Rattle.serde_json.specs.Data.{Data}
 use Rattle.icu_locale_core.specs.Subtags.{Text}
 use Rattle.icu_locale_core.specs.Meaning.{TagMeaning, MeansTag}
 use Rattle.icu_locale_core.specs.TagPreferences.{DataLocaleMeaning}
 use Rattle.icu_locale_core.specs.DataTags.{MeansDataLocale}
-use Rattle.locale_numbers_book.specs.TagReading.{tag_of, data_locale_of}
 use Rattle.icu_decimal.specs.Identifiers.{Identifier}
-use Rattle.locale_numbers_book.specs.Book.{BookTables, same_key, IsBook}
+use Rattle.icu_decimal.specs.KeptEntries.{CompactTable, IsTable, Patterns, TypePatterns}
+use Rattle.locale_numbers_book.specs.Book.{BookTables, IsBook}
+use Rattle.locale_numbers_book.specs.CompactEntries.{table_made}
+use Rattle.locale_numbers_book.specs.Keys.{same_key}
+use Rattle.locale_numbers_book.specs.TagReading.{tag_of, data_locale_of}
 
 -- a list of pieces is read as a tag exactly where it means one, and as that one
 abbrev pub TagsAreRead : Type 0
@@ -23,6 +27,10 @@ DataLocalesAreRead = (list : List Text) (locale : DataLocaleMeaning) → MeansDa
 -- the test of two keys is true exactly where they are equal
 abbrev pub KeysAreOneWhereEqual : Type 0
 KeysAreOneWhereEqual = (key other : Identifier) → Decides (same_key key other) (key ≡ other)
+
+-- types make a table exactly where it is theirs
+abbrev pub TablesAreMade : Type 0
+TablesAreMade = (zero : Option Patterns) (given : List TypePatterns) (table : CompactTable) → IsTable zero given table ↔ (table_made zero given ≡ Some table)
 
 -- a value is one book at most
 abbrev pub IsOneBook : Type 0

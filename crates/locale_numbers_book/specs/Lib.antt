@@ -2,7 +2,13 @@ pub mod TagReading
 pub mod BookError
 pub mod Json
 pub mod Fields
+pub mod Entries
+pub mod Keys
+pub mod RulesEntries
+pub mod CompactEntries
+pub mod Faults
 pub mod Book
+pub mod Refusal
 pub mod Laws
 pub mod Room
 pub mod Tables

@@ -1,14 +1,15 @@
 -- Where the reading of a book may run out of memory: never at a fault that is found before memory is asked for.
 -- Defined in docs/books.md, "Faults".
 -- Cited by the steps of `Book::from_json`.
-use Rattle.std.specs.Prelude.{ℕ, Bool, false, ◌&&◌, ◌||◌, List, [], ◌∷◌, is_some, option_and_then}
+use Rattle.std.specs.Prelude.{ℕ, Bool, false, not, ◌&&◌, ◌||◌, List, [], ◌∷◌, is_some}
 use Rattle.std.specs.List.{list_any}
 use Rattle.std.specs.Option.{option_map_or}
 use Rattle.serde_json.specs.Data.{Data, Items, no_items, item}
-use Rattle.serde_json.specs.Find.{at, as_array, as_str}
+use Rattle.serde_json.specs.Find.{as_str}
 use Rattle.icu_locale_core.specs.Subtags.{Text, is_language, is_variant, is_singleton}
 use Rattle.icu_locale_core.specs.Pieces.{pieces}
-use Rattle.locale_numbers_book.specs.Book.{field_at, has_count, has_form, symbols_entry, digits_entry}
+use Rattle.locale_numbers_book.specs.Entries.{has_count, field_at, is_text_at}
+use Rattle.locale_numbers_book.specs.Faults.{has_symbols_shape, symbols_fault, digits_fault, has_form, items_at}
 
 -- a tag: where it begins with a language, and a variant or a singleton stands behind that
 abbrev pub tag_may_grow : List Text → Bool
@@ -19,22 +20,30 @@ tag_may_grow (p ∷ ps) = is_language p && list_any (λ q. is_variant q || is_si
 abbrev pub locale_may_grow : ℕ → Data → Bool
 locale_may_grow place entry = option_map_or (λ text. tag_may_grow (pieces text)) (field_at as_str place entry) false
 
--- symbols: an entry of twelve fields, of which the locale may take memory, or one that has no fault
+-- symbols: an entry of the right shape, of which the locale may take memory, or one that has no fault
 abbrev pub symbols_may_grow : Data → Bool
-symbols_may_grow entry = has_count 12 entry && locale_may_grow 0 entry || is_some (symbols_entry entry)
+symbols_may_grow entry = has_symbols_shape entry && locale_may_grow 0 entry || not (is_some (symbols_fault entry))
 
 -- digits: an entry that has no fault
 abbrev pub digits_may_grow : Data → Bool
-digits_may_grow entry = is_some (digits_entry entry)
+digits_may_grow entry = not (is_some (digits_fault entry))
+
+-- plural rules: an entry of two fields, of which the first is a text
+abbrev pub rules_may_grow : Data → Bool
+rules_may_grow entry = has_count 2 entry && is_text_at 0 entry
+
+-- patterns: an entry of four fields, of which the first two are texts
+abbrev pub compact_may_grow : Data → Bool
+compact_may_grow entry = has_count 4 entry && is_text_at 0 entry && is_text_at 1 entry
 
 -- an array: one that begins with such an entry
 abbrev pub begins_with : (Data → Bool) → Items → Bool
 begins_with may_grow no_items = false
 begins_with may_grow (item first rest) = may_grow first
 
-abbrev pub begins_at : (Data → Bool) → ℕ → Data → Bool
-begins_at may_grow place value = option_map_or (begins_with may_grow) (option_and_then as_array (at place value)) false
-
--- a book: five arrays, where one of the first two begins so
+-- a book: five arrays, where one of them begins so
 abbrev pub book_may_grow : Data → Bool
-book_may_grow value = has_form value && (begins_at symbols_may_grow 0 value || begins_at digits_may_grow 1 value)
+book_may_grow value =
+    has_form value
+    && (begins_with symbols_may_grow (items_at 0 value) || begins_with digits_may_grow (items_at 1 value) || begins_with rules_may_grow (items_at 2 value)
+    || begins_with compact_may_grow (items_at 3 value) || begins_with compact_may_grow (items_at 4 value))

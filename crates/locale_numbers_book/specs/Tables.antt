@@ -1,14 +1,17 @@
--- What stands in a book under an identifier, of symbols and of digits.
+-- What stands in a book under an identifier, of each of its tables.
 -- Defined in docs/books.md, "Choosing tables".
--- Cited by both impls of `DataProvider` for `Book`, and by the answer to a line.
-use Rattle.std.specs.Prelude.{ℕ, List, Option, None, Result, if◌then◌else◌}
+-- Cited by the impls of `DataProvider` for `Book`, and by the answer to a line.
+use Rattle.std.specs.Prelude.{ℕ, ◌==◌, length, List, Option, None, Result, if◌then◌else◌}
 use Rattle.std.specs.Str.{bytes_eq}
 use Rattle.icu_locale_core.specs.DataLocales.{unknown_data}
 use Rattle.icu_decimal.specs.declared.error.DataError.{DataError}
 use Rattle.icu_decimal.specs.Choice.{answered}
 use Rattle.icu_decimal.specs.Identifiers.{Identifier}
+use Rattle.icu_decimal.specs.KeptEntries.{CompactTable}
+use Rattle.icu_decimal.specs.Rules.{Rules}
 use Rattle.icu_decimal.specs.Symbols.{Symbols}
-use Rattle.locale_numbers_book.specs.Book.{BookTables, same_data_locale, same_key, table_at}
+use Rattle.locale_numbers_book.specs.Book.{BookTables}
+use Rattle.locale_numbers_book.specs.Keys.{same_data_locale, same_key, table_at}
 
 -- the symbols of the entry with this locale and this system, or with none
 abbrev pub symbols_under : BookTables → Identifier → Result Symbols DataError
@@ -21,3 +24,18 @@ digits_there book id = if same_data_locale id.locale unknown_data then table_at 
 -- the digits of the entry with this system, where no locale is asked for
 abbrev pub digits_under : BookTables → Identifier → Result (List ℕ) DataError
 digits_under book id = answered (digits_there book id)
+
+-- plural rules depend on no system
+abbrev pub rules_there : BookTables → Identifier → Option Rules
+rules_there book id = if length id.attributes == 0 then table_at same_data_locale id.locale book.rules else None
+
+-- the plural rules of the entry with this locale, where no system is asked for
+abbrev pub rules_under : BookTables → Identifier → Result Rules DataError
+rules_under book id = answered (rules_there book id)
+
+-- the short and the long patterns of the entry with this locale and this system, or with none
+abbrev pub short_under : BookTables → Identifier → Result CompactTable DataError
+short_under book id = answered (table_at same_key id book.short)
+
+abbrev pub long_under : BookTables → Identifier → Result CompactTable DataError
+long_under book id = answered (table_at same_key id book.long)

@@ -1,31 +1,40 @@
 //! A book of tables.
-ghost use Rattle.std.specs.Prelude.{◌≡◌, true, IfOk, IsErrOf, IfErr, Some, None};
+ghost use Rattle.std.specs.Prelude.{◌≡◌, true, IfOk, IsErrOf, IfErr};
 ghost use Rattle.std.specs.Option.{option_copied};
 ghost use Rattle.std.specs.Result.{result_map_both};
 ghost use Rattle.icu_decimal.specs.Choice.{answered};
 ghost use Rattle.serde_json.specs.View.{view};
 ghost use Rattle.serde_json.specs.Data.{Data};
-ghost use Rattle.locale_numbers_book.specs.Json.{Reads, IsNoJson};
-ghost use Rattle.locale_numbers_book.specs.BookError.{IsShapeOrMemory, IsJsonShapeOrMemory};
-ghost use Rattle.locale_numbers_book.specs.Book.{IsBook, IsNoBook};
+ghost use Rattle.locale_numbers_book.specs.Book.{IsBook};
+ghost use Rattle.locale_numbers_book.specs.Faults.{book_fault};
+ghost use Rattle.locale_numbers_book.specs.Json.{Reads};
+ghost use Rattle.locale_numbers_book.specs.Refusal.{IsRefused, IsTold};
 ghost use Rattle.locale_numbers_book.specs.Room.{book_may_grow};
 
 use crate::BookError;
-use crate::json::{array_at, digits_table, has_frame, symbols_table, value_of};
-use icu_decimal::provider::{
-    DataError, DataIdentifier, DataProvider, DecimalDigitsV1, DecimalSymbols, DecimalSymbolsV1,
+use crate::json::{
+    compact_table, digits_table, has_form, items_at, rules_table, symbols_table, value_of,
 };
+use icu_decimal::plurals::PluralRules;
+use icu_decimal::provider::{
+    CompactPatterns, DataError, DataIdentifier, DataProvider, DecimalCompactLongV1,
+    DecimalCompactShortV1, DecimalDigitsV1, DecimalSymbols, DecimalSymbolsV1, PluralsCardinalV1,
+};
+use icu_locale_core::DataLocale;
 use indexmap::IndexMap;
 use serde_json::Value;
 use std::alloc::Global;
 use std::marker::Model;
 use tinystr::TinyAsciiStr;
 
-/// Tables of symbols and of digits, as a JSON text names them.
+/// Tables of symbols, of digits, of plural rules and of short and long patterns, as a JSON text names them.
 #[derive(Drop)]
 pub struct Book {
     symbols: IndexMap<DataIdentifier, DecimalSymbols>,
     digits: IndexMap<TinyAsciiStr<8>, [char; 10]>,
+    rules: IndexMap<DataLocale, PluralRules>,
+    short: IndexMap<DataIdentifier, CompactPatterns>,
+    long: IndexMap<DataIdentifier, CompactPatterns>,
 }
 
 impl Model for Book {
@@ -33,7 +42,7 @@ impl Model for Book {
 
     ghost Value = { BookTables };
 
-    ghost view = { λ b. record { symbols = b.symbols.entries; digits = b.digits.entries } };
+    ghost view = { λ b. record { symbols = b.symbols.entries; digits = b.digits.entries; rules = b.rules.entries; short = b.short.entries; long = b.long.entries } };
 }
 
 // What is there, or that nothing is.
@@ -44,43 +53,47 @@ fn found<T>(there: Option<&T>) -> Result<&T, DataError>
 }
 
 /// The book that a JSON value is.
+#[tactic(auto, using(crate::proofs::BookLemmas::grows_short, crate::proofs::BookLemmas::grows_long))]
 fn book_of(alloc: Global, value: &Value) -> Result<Book, BookError>
     ensures value { IfOk result (IsBook (view value.now)) }
-    ensures shape { IsErrOf result BookError.Shape → IsNoBook (view value.now) }
+    ensures fault { IfErr result (λ fault. IsTold (book_fault (view value.now)) fault) }
 
     // A value of another form is never told as out of memory.
     ensures room { IsErrOf result BookError.Memory → book_may_grow (view value.now) ≡ true }
-    ensures only { IfErr result IsShapeOrMemory }
 {
-    if !has_frame(value) {
+    if !has_form(value) {
         return Err(BookError::Shape);
     }
-    let Some(symbols) = array_at(value, 0) else {
-        return Err(BookError::Shape);
-    };
-    let Some(digits) = array_at(value, 1) else {
-        return Err(BookError::Shape);
-    };
-    let symbols = symbols_table(alloc, symbols)?;
-    let digits = digits_table(alloc, digits)?;
-    Ok(Book { symbols, digits })
+    let symbols = symbols_table(alloc, items_at(value, 0))?;
+    let digits = digits_table(alloc, items_at(value, 1))?;
+    let rules = rules_table(alloc, items_at(value, 2))?;
+    let short = compact_table(alloc, items_at(value, 3))?;
+    match compact_table(alloc, items_at(value, 4)) {
+        Ok(long) => Ok(Book {
+            symbols,
+            digits,
+            rules,
+            short,
+            long,
+        }),
+        Err(fault) => Err(fault),
+    }
 }
 
 impl Book {
     /// The book that a JSON text is.
     ///
-    /// An array of five arrays: of symbols, each under a data locale and a system or none, of digits, and three more of which
-    /// only that they are arrays is looked at. `SAMPLE_BOOK` is one, `[[],[],[],[],[]]` the shortest. Takes memory. The form is
-    /// defined in docs/books.md.
+    /// An array of five arrays: of symbols, each under a data locale and a system or none, of digits, of plural rules, and of short
+    /// and long patterns. `SAMPLE_BOOK` is one, `[[],[],[],[],[]]` the shortest. Takes memory. The form and the faults are defined in
+    /// docs/books.md.
     ///
     /// - Json: the bytes have no reading as JSON, as `[1`.
-    /// - Shape: the value that they say is no book, as `[]`.
-    /// - Memory: memory is refused. No other error comes today.
+    /// - Shape: the value is not an array of five arrays, as `[]`. Else the first faulty entry decides, and in an entry the first of
+    ///   Shape to Duplicate that applies.
+    /// - Memory: memory is refused. Cycle does not come.
     pub fn from_json(alloc: Global, bytes: &[u8]) -> Result<Book, BookError>
         ensures value { IfOk result (λ book. (value : Data) × Reads bytes.now value × IsBook value book) }
-        ensures json { IsErrOf result BookError.Json → IsNoJson bytes.now }
-        ensures shape { IsErrOf result BookError.Shape → (value : Data) × Reads bytes.now value × IsNoBook value }
-        ensures only { IfErr result IsJsonShapeOrMemory }
+        ensures refused { IfErr result (λ fault. IsRefused bytes.now fault) }
     {
         match value_of(alloc, bytes) {
             Ok(value) => book_of(alloc, &value),
@@ -117,5 +130,50 @@ impl DataProvider<DecimalDigitsV1> for Book {
             return Err(DataError::IdentifierNotFound);
         }
         found(self.digits.get(&id.attributes))
+    }
+}
+
+/// The plural rules of the entry with this locale.
+///
+/// In `SAMPLE_BOOK` those of `en`; `en-US` has no entry, nor has `en` with attributes. `IdentifierNotFound`: the book has no such
+/// entry. It takes no memory.
+impl DataProvider<PluralsCardinalV1> for Book {
+    ghost use Rattle.locale_numbers_book.specs.Tables.{rules_under};
+
+    ghost table = { rules_under };
+
+    fn load(&self, id: &DataIdentifier) -> Result<&PluralRules, DataError> {
+        if !id.attributes.is_empty() {
+            return Err(DataError::IdentifierNotFound);
+        }
+        found(self.rules.get(&id.locale))
+    }
+}
+
+/// The short patterns of the entry with this locale and this system, or with none where the attributes are empty.
+///
+/// In `SAMPLE_BOOK` `en` with no system has `K` from a thousand on. `IdentifierNotFound`: the book has no such entry. It takes no
+/// memory.
+impl DataProvider<DecimalCompactShortV1> for Book {
+    ghost use Rattle.locale_numbers_book.specs.Tables.{short_under};
+
+    ghost table = { short_under };
+
+    fn load(&self, id: &DataIdentifier) -> Result<&CompactPatterns, DataError> {
+        found(self.short.get(id))
+    }
+}
+
+/// The long patterns of the entry with this locale and this system, or with none where the attributes are empty.
+///
+/// In `SAMPLE_BOOK` `en` with no system has `a thousand` for 1000. `IdentifierNotFound`: the book has no such entry. It takes no
+/// memory.
+impl DataProvider<DecimalCompactLongV1> for Book {
+    ghost use Rattle.locale_numbers_book.specs.Tables.{long_under};
+
+    ghost table = { long_under };
+
+    fn load(&self, id: &DataIdentifier) -> Result<&CompactPatterns, DataError> {
+        found(self.long.get(id))
     }
 }

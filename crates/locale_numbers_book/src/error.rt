@@ -12,13 +12,13 @@ pub enum BookError {
     /// The bytes have no reading as JSON, for another cause than memory.
     #[error("json")]
     Json,
-    /// The JSON value has not the form of a book. Until the faults below are told apart, every one of them is this.
+    /// The JSON value is not five arrays, or an entry has not its form.
     #[error("shape")]
     Shape,
     /// A locale is refused.
     #[error("tag")]
     Tag,
-    /// A name of a numbering system is not 3 to 8 lower-case letters and digits.
+    /// A name of a numbering system is not 3 to 8 lower-case letters and digits, and where it may be empty, nor is it empty.
     #[error("system")]
     System,
     /// A tab or a line feed stands in the text of a symbol or a pattern.
@@ -30,16 +30,16 @@ pub enum BookError {
     /// The condition of a plural category is not one.
     #[error("condition")]
     Condition,
-    /// The types of patterns do not rise.
+    /// The types of patterns do not rise strictly.
     #[error("types")]
     Types,
-    /// The exponents of patterns are refused.
+    /// The exponents of patterns are refused: one falls, is above its type, or is more than 15 below it.
     #[error("exponents")]
     Exponents,
     /// An earlier entry of the same array has the same key.
     #[error("duplicate")]
     Duplicate,
-    /// The parents of a locale lead back to it.
+    /// The parents of a locale lead back to it. No book has parents yet, so that this does not come.
     #[error("cycle")]
     Cycle,
     /// Memory was refused.

@@ -1,5 +1,5 @@
 //! Laws of the definitions, each the contract of a function that does nothing.
-ghost use Rattle.locale_numbers_book.specs.Laws.{TagsAreRead, DataLocalesAreRead, KeysAreOneWhereEqual, IsOneBook};
+ghost use Rattle.locale_numbers_book.specs.Laws.{TagsAreRead, DataLocalesAreRead, KeysAreOneWhereEqual, TablesAreMade, IsOneBook};
 
 /// The function by which a line is answered reads as a tag exactly what means one in the grammar, and as that meaning.
 pub fn tags_are_read()
@@ -14,6 +14,11 @@ pub fn data_locales_are_read()
 /// Two keys of symbols are one exactly where they are equal: locales are compared as values.
 pub fn keys_are_one_where_equal()
     ensures { KeysAreOneWhereEqual }
+{}
+
+/// The function by which patterns are read makes exactly the tables of `CompactPatterns::new`.
+pub fn tables_are_made()
+    ensures { TablesAreMade }
 {}
 
 /// A JSON value is one book at most.

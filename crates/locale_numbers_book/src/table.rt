@@ -1,7 +1,7 @@
 //! A table that has no key twice.
-ghost use Rattle.std.specs.Prelude.{◌≡◌, ◌++◌, [], ◌∷◌, None, IsSome, OnOk, IsErrOf, IfErr};
+ghost use Rattle.std.specs.Prelude.{◌≡◌, ◌⊎◌, ◌++◌, [], ◌∷◌, None, IsSome, OnOk, IsErrOf, IfErr};
 ghost use Rattle.indexmap.specs.IndexMap.{get};
-ghost use Rattle.locale_numbers_book.specs.BookError.{IsShapeOrMemory};
+ghost use Rattle.locale_numbers_book.specs.declared.error.BookError.{BookError};
 
 use crate::BookError;
 use indexmap::IndexMap;
@@ -15,14 +15,14 @@ pub fn add<K: Eq + Hash + Drop, V: Drop>(
 ) -> Result<(), BookError>
     ensures added { OnOk result (table.new.entries ≡ table.old.entries ++ (key, value) ∷ []) }
     ensures fresh { OnOk result (get K.eq table.old key ≡ None) }
-    ensures shape { IsErrOf result BookError.Shape → IsSome (get K.eq table.old key) }
+    ensures duplicate { IsErrOf result BookError.Duplicate → IsSome (get K.eq table.old key) }
 
     // A key that stands already is never told as out of memory.
-    ensures twice { IsSome (get K.eq table.old key) → IsErrOf result BookError.Shape }
-    ensures only { IfErr result IsShapeOrMemory }
+    ensures twice { IsSome (get K.eq table.old key) → IsErrOf result BookError.Duplicate }
+    ensures only { IfErr result (λ fault. (fault ≡ BookError.Duplicate) ⊎ (fault ≡ BookError.Memory)) }
 {
     if table.contains_key(&key) {
-        return Err(BookError::Shape);
+        return Err(BookError::Duplicate);
     }
     match table.insert(key, value) {
         Ok(_) => Ok(()),

@@ -1,30 +1,29 @@
-//! One entry of an array.
-ghost use Rattle.std.specs.Prelude.{◌≡◌, true, IfOk, IsErrOf, IfErr, Some, None, option_map};
+//! Entries of symbols and of digits.
+ghost use Rattle.std.specs.Prelude.{◌≡◌, true, IfOk, IsErrOf, IfErr, OnOk, Some, None};
 ghost use Rattle.serde_json.specs.View.{view};
-ghost use Rattle.locale_numbers_book.specs.BookError.{IsShapeOrMemory};
-ghost use Rattle.locale_numbers_book.specs.Book.{symbols_key, grouping_sizes_of, symbols_of, has_count, has_texts, symbols_entry, digits_entry};
-ghost use Rattle.locale_numbers_book.specs.Room.{locale_may_grow, symbols_may_grow};
+ghost use Rattle.icu_decimal.specs.Symbols.{SymbolStrings};
+ghost use Rattle.locale_numbers_book.specs.Entries.{grouping_sizes_of, symbol_texts, has_count, has_texts, symbols_entry, digits_entry, digits_key, entry_key};
+ghost use Rattle.locale_numbers_book.specs.Faults.{has_symbols_shape, symbols_fault, has_digits_shape, digits_fault};
+ghost use Rattle.locale_numbers_book.specs.Refusal.{IsTold};
+ghost use Rattle.locale_numbers_book.specs.Room.{symbols_may_grow, digits_may_grow};
 
-use super::fields::{digits, has_text, locale, size, symbol, system, system_or_none};
+use super::fields::{digits, has_text, is_text_at, locale, size, symbol, system, system_or_none};
 use crate::BookError;
 use icu_decimal::provider::{
-    DataIdentifier, DecimalSymbolStrsBuilder, DecimalSymbols, GroupingSizes,
+    DataIdentifier, DecimalSymbolStrsBuilder, DecimalSymbols, DecimalSymbolsStrs, GroupingSizes,
 };
 use serde_json::Value;
-use std::alloc::Global;
+use std::alloc::{AllocError, Global};
 use tinystr::TinyAsciiStr;
 
-fn key(alloc: Global, entry: &Value) -> Result<DataIdentifier, BookError>
-    ensures value { IfOk result (λ key. symbols_key (view entry.now) ≡ Some key) }
-    ensures shape { IsErrOf result BookError.Shape → symbols_key (view entry.now) ≡ None }
-    ensures room { IsErrOf result BookError.Memory → locale_may_grow 0 (view entry.now) ≡ true }
-    ensures only { IfErr result IsShapeOrMemory }
+/// Whether a value is an array of so many items.
+pub fn has_count(entry: &Value, count: usize) -> bool
+    ensures { result ≡ has_count count (view entry.now) }
 {
-    let locale = locale(alloc, entry, 0)?;
-    let Some(system) = system_or_none(entry, 1) else {
-        return Err(BookError::Shape);
-    };
-    Ok(DataIdentifier::for_marker_attributes_and_locale(system, locale))
+    match entry.as_array() {
+        Some(fields) => fields.len() == count,
+        None => false,
+    }
 }
 
 fn grouping_sizes(entry: &Value) -> Option<GroupingSizes>
@@ -40,6 +39,22 @@ fn grouping_sizes(entry: &Value) -> Option<GroupingSizes>
     })
 }
 
+fn has_symbols_shape(entry: &Value) -> bool
+    ensures { result ≡ has_symbols_shape (view entry.now) }
+{
+    has_count(entry, 12)
+        && is_text_at(entry, 0)
+        && is_text_at(entry, 1)
+        && is_text_at(entry, 2)
+        && is_text_at(entry, 3)
+        && is_text_at(entry, 4)
+        && is_text_at(entry, 5)
+        && is_text_at(entry, 6)
+        && is_text_at(entry, 7)
+        && is_text_at(entry, 8)
+        && grouping_sizes(entry).is_some()
+}
+
 fn has_texts(entry: &Value) -> bool
     ensures { result ≡ has_texts (view entry.now) }
 {
@@ -51,23 +66,14 @@ fn has_texts(entry: &Value) -> bool
         && has_text(entry, 8)
 }
 
-fn symbols(alloc: Global, entry: &Value) -> Result<DecimalSymbols, BookError>
-    ensures value { IfOk result (λ symbols. symbols_of (view entry.now) ≡ Some symbols) }
-    ensures shape { IsErrOf result BookError.Shape → symbols_of (view entry.now) ≡ None }
-
-    // Fields that are no symbols are never told as out of memory.
-    ensures none { symbols_of (view entry.now) ≡ None → IsErrOf result BookError.Shape }
-    ensures only { IfErr result IsShapeOrMemory }
+/// The texts of symbols.
+fn symbol_texts(
+    alloc: Global,
+    entry: &Value,
+    numsys: TinyAsciiStr<8>,
+) -> Result<DecimalSymbolsStrs, AllocError>
+    ensures { IfOk result (λ texts. texts ≡ symbol_texts numsys (view entry.now)) }
 {
-    let Some(system) = system(entry, 2) else {
-        return Err(BookError::Shape);
-    };
-    let Some(grouping_sizes) = grouping_sizes(entry) else {
-        return Err(BookError::Shape);
-    };
-    if !has_texts(entry) {
-        return Err(BookError::Shape);
-    }
     let minus_sign_prefix = symbol(alloc, entry, 3)?;
     let minus_sign_suffix = symbol(alloc, entry, 4)?;
     let plus_sign_prefix = symbol(alloc, entry, 5)?;
@@ -81,22 +87,9 @@ fn symbols(alloc: Global, entry: &Value) -> Result<DecimalSymbols, BookError>
         plus_sign_suffix,
         decimal_separator,
         grouping_separator,
-        numsys: system,
+        numsys,
     };
-    Ok(DecimalSymbols {
-        strings: strings.build(),
-        grouping_sizes,
-    })
-}
-
-/// Whether a value is an array of so many items.
-pub fn has_count(entry: &Value, count: usize) -> bool
-    ensures { result ≡ has_count count (view entry.now) }
-{
-    match entry.as_array() {
-        Some(fields) => fields.len() == count,
-        None => false,
-    }
+    Ok(strings.build())
 }
 
 /// The symbols of an entry, with their key.
@@ -105,18 +98,51 @@ pub fn symbols_entry(
     entry: &Value,
 ) -> Result<(DataIdentifier, DecimalSymbols), BookError>
     ensures value { IfOk result (λ pair. symbols_entry (view entry.now) ≡ Some pair) }
-    ensures shape { IsErrOf result BookError.Shape → symbols_entry (view entry.now) ≡ None }
+    ensures key { IfOk result (λ pair. entry_key (view entry.now) ≡ Some pair.0) }
+    ensures sound { OnOk result (symbols_fault (view entry.now) ≡ None) }
+    ensures fault { IfErr result (λ fault. IsTold (symbols_fault (view entry.now)) fault) }
 
     // A fault is told as out of memory only behind a locale whose reading may take memory.
     ensures room { IsErrOf result BookError.Memory → symbols_may_grow (view entry.now) ≡ true }
-    ensures only { IfErr result IsShapeOrMemory }
 {
-    if !has_count(entry, 12) {
+    if !has_symbols_shape(entry) {
         return Err(BookError::Shape);
     }
-    let key = key(alloc, entry)?;
-    let symbols = symbols(alloc, entry)?;
-    Ok((key, symbols))
+    let Ok(found) = locale(alloc, entry, 0) else {
+        return Err(BookError::Memory);
+    };
+    let Some(locale) = found else {
+        return Err(BookError::Tag);
+    };
+    let Some(asked) = system_or_none(entry, 1) else {
+        return Err(BookError::System);
+    };
+    let Some(numsys) = system(entry, 2) else {
+        return Err(BookError::System);
+    };
+    if !has_texts(entry) {
+        return Err(BookError::Text);
+    }
+    let Some(grouping_sizes) = grouping_sizes(entry) else {
+        return Err(BookError::Shape);
+    };
+    let Ok(strings) = symbol_texts(alloc, entry, numsys) else {
+        return Err(BookError::Memory);
+    };
+    let key = DataIdentifier::for_marker_attributes_and_locale(asked, locale);
+    Ok((
+        key,
+        DecimalSymbols {
+            strings,
+            grouping_sizes,
+        },
+    ))
+}
+
+fn has_digits_shape(entry: &Value) -> bool
+    ensures { result ≡ has_digits_shape (view entry.now) }
+{
+    has_count(entry, 2) && is_text_at(entry, 0) && is_text_at(entry, 1)
 }
 
 /// The digits of an entry, with their system.
@@ -125,18 +151,24 @@ pub fn digits_entry(
     entry: &Value,
 ) -> Result<(TinyAsciiStr<8>, [char; 10]), BookError>
     ensures value { IfOk result (λ pair. digits_entry (view entry.now) ≡ Some pair) }
-    ensures shape { IsErrOf result BookError.Shape → digits_entry (view entry.now) ≡ None }
+    ensures key { IfOk result (λ pair. digits_key (view entry.now) ≡ Some pair.0) }
+    ensures sound { OnOk result (digits_fault (view entry.now) ≡ None) }
+    ensures fault { IfErr result (λ fault. IsTold (digits_fault (view entry.now)) fault) }
 
     // No fault of an entry of digits is ever told as out of memory.
-    ensures none { digits_entry (view entry.now) ≡ None → IsErrOf result BookError.Shape }
-    ensures only { IfErr result IsShapeOrMemory }
+    ensures room { IsErrOf result BookError.Memory → digits_may_grow (view entry.now) ≡ true }
 {
-    if !has_count(entry, 2) {
+    if !has_digits_shape(entry) {
         return Err(BookError::Shape);
     }
     let Some(system) = system(entry, 0) else {
-        return Err(BookError::Shape);
+        return Err(BookError::System);
     };
-    let digits = digits(alloc, entry, 1)?;
-    Ok((system, digits))
+    let Ok(found) = digits(alloc, entry, 1) else {
+        return Err(BookError::Memory);
+    };
+    match found {
+        Some(digits) => Ok((system, digits)),
+        None => Err(BookError::Digits),
+    }
 }

@@ -1,32 +1,38 @@
 //! One field of an entry.
-ghost use Rattle.std.specs.Prelude.{◌≡◌, true, IfOk, IsErrOf, IfErr, Some, None, chars, is_some, length, option_map, string_bytes};
+ghost use Rattle.std.specs.Prelude.{◌≡◌, true, IfOk, OnErr, Some, chars, is_some, length, option_map, string_bytes};
 ghost use Rattle.std.specs.List.{list_all};
 ghost use Rattle.serde_json.specs.View.{view};
 ghost use Rattle.serde_json.specs.Find.{as_str};
 ghost use Rattle.icu_locale_core.specs.Pieces.{pieces};
-ghost use Rattle.locale_numbers_book.specs.BookError.{IsShapeOrMemory};
-ghost use Rattle.locale_numbers_book.specs.Book.{field_at};
+ghost use Rattle.locale_numbers_book.specs.Entries.{field_at, is_text_at, text_or_empty};
 ghost use Rattle.locale_numbers_book.specs.Room.{locale_may_grow, tag_may_grow};
 ghost use Rattle.locale_numbers_book.specs.TagReading.{data_locale_of};
 ghost use Rattle.locale_numbers_book.specs.Fields.{is_plain, is_small_letter_or_digit, is_system_name, plain_text_in, system_named, system_in, system_or_none_in, locale_in, size_in, digits_in, ten_characters};
 
-use crate::BookError;
 use icu_locale_core::{DataLocale, ParseError};
 use serde_json::Value;
 use std::alloc::{AllocError, Global};
 use tinystr::TinyAsciiStr;
 
-fn is_plain_text(text: &str) -> bool
+/// Whether no tab and no line feed stands in a text.
+pub fn is_plain_text(text: &str) -> bool
     ensures { result ≡ list_all is_plain (chars text.now) }
 {
     text.chars().all(|c| c != '\t' && c != '\n')
 }
 
 /// The text at a place of an entry.
-fn text_at(entry: &Value, place: usize) -> Option<&str>
+pub fn text_at(entry: &Value, place: usize) -> Option<&str>
     ensures { option_map (λ text. text.now) result ≡ field_at as_str place (view entry.now) }
 {
     entry.get(place)?.as_str()
+}
+
+/// Whether a text stands at a place of an entry.
+pub fn is_text_at(entry: &Value, place: usize) -> bool
+    ensures { result ≡ is_text_at place (view entry.now) }
+{
+    text_at(entry, place).is_some()
 }
 
 /// The text at a place of an entry, where no tab and no line feed stands in it.
@@ -48,19 +54,13 @@ pub fn has_text(entry: &Value, place: usize) -> bool
     plain_text(entry, place).is_some()
 }
 
-/// The text at a place of an entry, as a `String`.
-pub fn symbol(alloc: Global, entry: &Value, place: usize) -> Result<String, BookError>
-    ensures value { IfOk result (λ text. field_at plain_text_in place (view entry.now) ≡ Some (string_bytes text)) }
-    ensures shape { IsErrOf result BookError.Shape → field_at plain_text_in place (view entry.now) ≡ None }
-
-    // A field that is not there, or is no such text, is never told as out of memory.
-    ensures none { field_at plain_text_in place (view entry.now) ≡ None → IsErrOf result BookError.Shape }
-    ensures only { IfErr result IsShapeOrMemory }
+/// The text at a place of an entry, as a `String`; the empty one where there is none.
+pub fn symbol(alloc: Global, entry: &Value, place: usize) -> Result<String, AllocError>
+    ensures { IfOk result (λ text. string_bytes text ≡ text_or_empty place (view entry.now)) }
 {
-    let text = plain_text(entry, place).ok_or(BookError::Shape)?;
-    match String::from_str(alloc, text) {
-        Ok(symbol) => Ok(symbol),
-        Err(_) => Err(BookError::Memory),
+    match plain_text(entry, place) {
+        Some(text) => String::from_str(alloc, text),
+        None => Ok(String::new(alloc)),
     }
 }
 
@@ -76,36 +76,32 @@ pub fn size(entry: &Value, place: usize) -> Option<u8>
     }
 }
 
-/// The locale that a text is.
-fn read_locale(alloc: Global, text: &str) -> Result<DataLocale, BookError>
-    ensures value { IfOk result (λ locale. data_locale_of (pieces text.now) ≡ Some locale) }
-    ensures shape { IsErrOf result BookError.Shape → data_locale_of (pieces text.now) ≡ None }
+/// The locale that a text is, or none.
+fn read_locale(alloc: Global, text: &str) -> Result<Option<DataLocale>, AllocError>
+    ensures value { IfOk result (λ locale. locale ≡ data_locale_of (pieces text.now)) }
 
     // A text that begins as no tag does, or has no variant and no extension, is never told as out of memory.
-    ensures room { IsErrOf result BookError.Memory → tag_may_grow (pieces text.now) ≡ true }
-    ensures only { IfErr result IsShapeOrMemory }
+    ensures room { OnErr result (tag_may_grow (pieces text.now) ≡ true) }
 {
     match DataLocale::try_from_utf8(alloc, text.as_bytes()) {
-        Ok(locale) => Ok(locale),
+        Ok(locale) => Ok(Some(locale)),
         Err(fault) => match fault {
-            ParseError::Memory => Err(BookError::Memory),
-            _ => Err(BookError::Shape),
+            ParseError::Memory => Err(AllocError),
+            _ => Ok(None),
         },
     }
 }
 
-/// The locale at a place of an entry.
-pub fn locale(alloc: Global, entry: &Value, place: usize) -> Result<DataLocale, BookError>
-    ensures value { IfOk result (λ locale. field_at locale_in place (view entry.now) ≡ Some locale) }
-    ensures shape { IsErrOf result BookError.Shape → field_at locale_in place (view entry.now) ≡ None }
+/// The locale at a place of an entry, or none.
+pub fn locale(alloc: Global, entry: &Value, place: usize) -> Result<Option<DataLocale>, AllocError>
+    ensures value { IfOk result (λ locale. locale ≡ field_at locale_in place (view entry.now)) }
 
     // Nor is a field that is no text.
-    ensures room { IsErrOf result BookError.Memory → locale_may_grow place (view entry.now) ≡ true }
-    ensures only { IfErr result IsShapeOrMemory }
+    ensures room { OnErr result (locale_may_grow place (view entry.now) ≡ true) }
 {
     match text_at(entry, place) {
         Some(text) => read_locale(alloc, text),
-        None => Err(BookError::Shape),
+        None => Ok(None),
     }
 }
 
@@ -182,26 +178,19 @@ fn count_of(text: &str) -> usize
     text.chars().count()
 }
 
-/// The ten characters at a place of an entry.
-pub fn digits(alloc: Global, entry: &Value, place: usize) -> Result<[char; 10], BookError>
-    ensures value { IfOk result (λ digits. field_at digits_in place (view entry.now) ≡ Some digits) }
-    ensures shape { IsErrOf result BookError.Shape → field_at digits_in place (view entry.now) ≡ None }
+/// The ten characters at a place of an entry, or none.
+pub fn digits(alloc: Global, entry: &Value, place: usize) -> Result<Option<[char; 10]>, AllocError>
+    ensures value { IfOk result (λ digits. digits ≡ field_at digits_in place (view entry.now)) }
 
     // A field that is not there, or is no such text, is never told as out of memory.
-    ensures none { field_at digits_in place (view entry.now) ≡ None → IsErrOf result BookError.Shape }
-    ensures only { IfErr result IsShapeOrMemory }
+    ensures room { OnErr result (is_some (field_at digits_in place (view entry.now)) ≡ true) }
 {
     let Some(text) = plain_text(entry, place) else {
-        return Err(BookError::Shape);
+        return Ok(None);
     };
     if count_of(text) != 10 {
-        return Err(BookError::Shape);
+        return Ok(None);
     }
-    let Ok(list) = characters(alloc, text) else {
-        return Err(BookError::Memory);
-    };
-    match ten_of(list.as_slice()) {
-        Some(digits) => Ok(digits),
-        None => Err(BookError::Shape),
-    }
+    let list = characters(alloc, text)?;
+    Ok(ten_of(list.as_slice()))
 }

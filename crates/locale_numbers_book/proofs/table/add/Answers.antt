@@ -1,6 +1,6 @@
 use Rattle.std.proofs.Common.{sym, ◌∙◌}
 use Rattle.indexmap.proofs.CallerLemmas.{insert_entry-new}
-use Rattle.locale_numbers_book.proofs.BookLemmas.{none_from_is_some}
+use Rattle.locale_numbers_book.proofs.TableLemmas.{none_from_is_some}
 use Rattle.locale_numbers_book.proofs.table.add.Goals as goal
 
 pub returns-in-Ok-clause-added : goal.returns-in-Ok-clause-added

@@ -1,8 +1,8 @@
 use Rattle.std.proofs.Common.{◌≡◌, true, refl, ap, ◌∙◌}
 use Rattle.icu_locale_core.specs.DataLocales.{unknown_data}
 use Rattle.icu_decimal.specs.Choice.{answered}
-use Rattle.locale_numbers_book.specs.Book.{same_data_locale}
-use Rattle.locale_numbers_book.proofs.BookLemmas.{same_data_locales}
+use Rattle.locale_numbers_book.specs.Keys.{same_data_locale}
+use Rattle.locale_numbers_book.proofs.KeyLemmas.{same_data_locales}
 use Rattle.locale_numbers_book.proofs.book.BookDataProviderDecimalDigitsV1.load.Goals as goal
 
 pub returns : goal.returns

@@ -1,5 +1,5 @@
 use Rattle.std.proofs.Common.{sym, rules}
-use Rattle.locale_numbers_book.proofs.BookLemmas.{count-items}
+use Rattle.locale_numbers_book.proofs.TableLemmas.{count-items}
 use Rattle.locale_numbers_book.proofs.json.entries.has_count.Goals as goal
 
 pub returns-in-Some : goal.returns-in-Some

@@ -1,8 +1,10 @@
-use Rattle.std.proofs.Common.{◌≡◌, ◌++◌, List, drop, option_map, true, ◌||◌, ◌==◌}
+use Rattle.std.proofs.Common.{◌≡◌, ◌++◌, List, drop, map, option_map, true, ◌||◌, ◌==◌}
 use Rattle.serde_json.specs.View.{items_view}
 use Rattle.icu_decimal.specs.Identifiers.{Identifier}
 use Rattle.icu_decimal.specs.Symbols.{Symbols}
-use Rattle.locale_numbers_book.specs.Book.{all_of, symbols_entry, same_key, has_no_key_twice}
+use Rattle.locale_numbers_book.specs.Entries.{all_of, entry_key, symbols_entry}
+use Rattle.locale_numbers_book.specs.Faults.{symbols_fault, symbols_faults, first_fault_behind}
+use Rattle.locale_numbers_book.specs.Keys.{has_no_key_twice, same_key}
 use Rattle.locale_numbers_book.specs.Room.{begins_with, symbols_may_grow}
 use Rattle.locale_numbers_book.proofs.json.tables.symbols_table.Given as goal
 
@@ -12,5 +14,6 @@ invariant-loop-entry l =
       all : all_of symbols_entry (items_view l.entries)
           ≡ option_map (λ (rest : List (Identifier × Symbols)). l.table.entries ++ rest) (all_of symbols_entry (items_view (drop l.entry-index l.entries)));
       once : has_no_key_twice same_key l.table.entries ≡ true;
+      left : first_fault_behind same_key entry_key symbols_fault (map (λ pair. pair.0) l.table.entries) (items_view (drop l.entry-index l.entries)) ≡ symbols_faults (items_view l.entries);
       first : (l.entry-index == 0 || begins_with symbols_may_grow (items_view l.entries)) ≡ true;
     }

@@ -1,0 +1,241 @@
+//! Entries of compact patterns.
+ghost use Rattle.std.specs.Prelude.{◌≡◌, true, ◌&&◌, IfOk, IsErrOf, IfErr, OnOk, Some, None, is_some, map, option_map};
+ghost use Rattle.std.specs.BTreeMap.{insert_entry};
+ghost use Rattle.std.specs.Ordering.{nat_cmp};
+ghost use Rattle.serde_json.specs.View.{view, items_view};
+ghost use Rattle.icu_decimal.specs.KeptEntries.{of_type};
+ghost use Rattle.icu_decimal.specs.SlotsJson.{slots_of};
+ghost use Rattle.locale_numbers_book.specs.CompactEntries.{row_in, rows_in, zero_in, rise_from, table_made, compact_entry};
+ghost use Rattle.locale_numbers_book.specs.Entries.{all_of, field_at, entry_key, has_count, is_text_at};
+ghost use Rattle.locale_numbers_book.specs.Faults.{compact_fault};
+ghost use Rattle.locale_numbers_book.specs.Refusal.{IsTold};
+ghost use Rattle.locale_numbers_book.specs.Room.{compact_may_grow};
+
+use super::entries::has_count;
+use super::fields::{is_text_at, locale, size, system_or_none};
+use super::rules::array_at;
+use super::texts::has_plain_patterns;
+use crate::BookError;
+use icu_decimal::pattern::Pattern;
+use icu_decimal::plurals::PluralElements;
+use icu_decimal::provider::{CompactPatterns, DataError, DataIdentifier};
+use serde_json::Value;
+use std::alloc::{AllocError, Global};
+use std::collections::BTreeMap;
+
+// A type, its exponent and its patterns.
+type Row = (u8, (u8, PluralElements<Pattern>));
+
+/// The patterns that slots are, or none.
+fn slots(alloc: Global, value: &Value) -> Result<Option<PluralElements<Pattern>>, AllocError>
+    ensures { IfOk result (λ found. found ≡ slots_of (view value.now)) }
+{
+    match PluralElements::from_json(alloc, value) {
+        Ok(patterns) => Ok(Some(patterns)),
+        Err(DataError::Custom) => Ok(None),
+        Err(_) => Err(AllocError),
+    }
+}
+
+/// The patterns of the slots at a place, or none.
+fn slots_at(
+    alloc: Global,
+    value: &Value,
+    place: usize,
+) -> Result<Option<PluralElements<Pattern>>, AllocError>
+    ensures { IfOk result (λ found. found ≡ field_at slots_of place (view value.now)) }
+{
+    match value.get(place) {
+        Some(value) => slots(alloc, value),
+        None => Ok(None),
+    }
+}
+
+/// The type that a row is, or none.
+fn row(alloc: Global, value: &Value) -> Result<Option<Row>, AllocError>
+    ensures { IfOk result (λ found. found ≡ row_in (view value.now)) }
+{
+    if !has_count(value, 3) {
+        return Ok(None);
+    }
+    let Some(log10_type) = size(value, 0) else {
+        return Ok(None);
+    };
+    let Some(exponent) = size(value, 1) else {
+        return Ok(None);
+    };
+    match slots_at(alloc, value, 2)? {
+        Some(patterns) => Ok(Some((log10_type, (exponent, patterns)))),
+        None => Ok(None),
+    }
+}
+
+/// The types of an array, where each item is one.
+fn rows(alloc: Global, items: &[Value]) -> Result<Option<Vec<Row>>, AllocError>
+    ensures { IfOk result (λ found. option_map (λ list. list.items) found ≡ all_of row_in (items_view items.now)) }
+{
+    let mut list: Vec<Row> = Vec::new(alloc);
+    for item in items {
+        let Some(row) = row(alloc, item)? else {
+            return Ok(None);
+        };
+        list.push(row)?;
+    }
+    Ok(Some(list))
+}
+
+/// The types of an entry, or none.
+fn entry_rows(alloc: Global, entry: &Value) -> Result<Option<Vec<Row>>, AllocError>
+    ensures { IfOk result (λ found. option_map (λ list. list.items) found ≡ field_at rows_in 2 (view entry.now)) }
+{
+    match array_at(entry, 2) {
+        Some(items) => rows(alloc, items),
+        None => Ok(None),
+    }
+}
+
+/// The zero patterns that a value is, which may be null, or none where it is neither.
+fn zero(alloc: Global, value: &Value) -> Result<Option<Option<PluralElements<Pattern>>>, AllocError>
+    ensures { IfOk result (λ found. found ≡ zero_in (view value.now)) }
+{
+    if value.is_null() {
+        return Ok(Some(None));
+    }
+    match slots(alloc, value)? {
+        Some(patterns) => Ok(Some(Some(patterns))),
+        None => Ok(None),
+    }
+}
+
+/// The zero patterns of an entry.
+fn entry_zero(
+    alloc: Global,
+    entry: &Value,
+) -> Result<Option<Option<PluralElements<Pattern>>>, AllocError>
+    ensures { IfOk result (λ found. found ≡ field_at zero_in 3 (view entry.now)) }
+{
+    match entry.get(3) {
+        Some(value) => zero(alloc, value),
+        None => Ok(None),
+    }
+}
+
+/// Whether types rise strictly.
+fn types_rise(rows: &[Row]) -> bool
+    ensures { result ≡ rise_from 0 rows.now }
+{
+    let mut least: u16 = 0;
+    for (log10_type, _patterns) in rows {
+        if (*log10_type as u16) < least {
+            return false;
+        }
+        least = *log10_type as u16 + 1;
+    }
+    true
+}
+
+/// Puts a type into a map.
+fn put<V: Drop>(types: &mut BTreeMap<u8, V>, log10_type: u8, typed: V) -> Result<(), AllocError>
+    ensures { OnOk result (types.new.entries ≡ insert_entry nat_cmp types.old.entries log10_type typed) }
+{
+    match types.insert(log10_type, typed) {
+        Ok(_) => Ok(()),
+        Err(_) => Err(AllocError),
+    }
+}
+
+/// Types that rise, as a map.
+fn map_of(
+    alloc: Global,
+    rows: Vec<Row>,
+) -> Result<BTreeMap<u8, (u8, PluralElements<Pattern>)>, AllocError>
+    requires { rise_from 0 rows.items ≡ true }
+    ensures { IfOk result (λ types. types.entries ≡ rows.items) }
+{
+    let mut types = BTreeMap::new(alloc);
+    for (log10_type, typed) in rows {
+        put(&mut types, log10_type, typed)?;
+    }
+    Ok(types)
+}
+
+/// The table of types that rise, or none.
+fn table(
+    alloc: Global,
+    rows: Vec<Row>,
+    zero: Option<&PluralElements<Pattern>>,
+) -> Result<Option<CompactPatterns>, AllocError>
+    requires { rise_from 0 rows.items ≡ true }
+    ensures { IfOk result (λ found. found ≡ table_made (option_map (λ patterns. patterns.now) zero.entry) (map of_type rows.items)) }
+{
+    let types = map_of(alloc, rows)?;
+    match CompactPatterns::new(alloc, types, zero) {
+        Ok(table) => Ok(Some(table)),
+        Err(fault) => match fault {
+            DataError::Memory => Err(AllocError),
+            _ => Ok(None),
+        },
+    }
+}
+
+/// Whether an entry has four fields, of which the first two are texts.
+fn has_frame(entry: &Value) -> bool
+    ensures { result ≡ (has_count 4 (view entry.now) && is_text_at 0 (view entry.now) && is_text_at 1 (view entry.now)) }
+{
+    has_count(entry, 4) && is_text_at(entry, 0) && is_text_at(entry, 1)
+}
+
+/// The table of patterns of an entry, with its key.
+pub fn compact_entry(
+    alloc: Global,
+    entry: &Value,
+) -> Result<(DataIdentifier, CompactPatterns), BookError>
+    ensures value { IfOk result (λ pair. compact_entry (view entry.now) ≡ Some pair) }
+    ensures key { IfOk result (λ pair. entry_key (view entry.now) ≡ Some pair.0) }
+    ensures sound { OnOk result (compact_fault (view entry.now) ≡ None) }
+    ensures fault { IfErr result (λ fault. IsTold (compact_fault (view entry.now)) fault) }
+
+    // An entry that has not four fields, or whose first two are no texts, is never told as out of memory.
+    ensures room { IsErrOf result BookError.Memory → compact_may_grow (view entry.now) ≡ true }
+{
+    if !has_frame(entry) {
+        return Err(BookError::Shape);
+    }
+    let Ok(found) = entry_rows(alloc, entry) else {
+        return Err(BookError::Memory);
+    };
+    let Some(rows) = found else {
+        return Err(BookError::Shape);
+    };
+    let Ok(found) = entry_zero(alloc, entry) else {
+        return Err(BookError::Memory);
+    };
+    let Some(zero) = found else {
+        return Err(BookError::Shape);
+    };
+    let Ok(found) = locale(alloc, entry, 0) else {
+        return Err(BookError::Memory);
+    };
+    let Some(locale) = found else {
+        return Err(BookError::Tag);
+    };
+    let Some(asked) = system_or_none(entry, 1) else {
+        return Err(BookError::System);
+    };
+    if !has_plain_patterns(entry) {
+        return Err(BookError::Text);
+    }
+    if !types_rise(rows.as_slice()) {
+        return Err(BookError::Types);
+    }
+    let Ok(found) = table(alloc, rows, zero.as_ref()) else {
+        return Err(BookError::Memory);
+    };
+    match found {
+        Some(table) => Ok((
+            DataIdentifier::for_marker_attributes_and_locale(asked, locale),
+            table,
+        )),
+        None => Err(BookError::Exponents),
+    }
+}
