@@ -37,6 +37,8 @@ pub use Rattle.icu_decimal_text.specs.HeldTables
 pub use Rattle.icu_decimal_patterns.specs.SameElements
 pub use Rattle.icu_decimal_patterns.specs.SamePattern
 pub use Rattle.icu_decimal_patterns.specs.SameTable
+-- How a table keeps its entries, for the crates above.
+pub use Rattle.icu_decimal_patterns.specs.KeptSteps
 pub use Rattle.icu_decimal_provider.specs.SameSymbols
 pub use Rattle.icu_decimal_text.specs.SameAffixes
 pub use Rattle.icu_decimal_text.specs.SamePlain

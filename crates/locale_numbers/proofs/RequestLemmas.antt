@@ -53,9 +53,10 @@ cut_utf8 separator text end some utf8 ascii =
     let lt : end < length text = at.0 in
     let found : get_or text end 0 ≡ separator = eqb-true (get_or text end 0) separator at.1 in
     let low : get_or text end 0 < 128 = omega (arith, found, ascii) in
-    let rest : take (length text - (end + 1)) (drop (end + 1) text) ≡ drop (end + 1) text = grind (arith, common_steps) in
-    (IsUtf8-take text end utf8 (omega (arith, lt), λ l high. absurd (omega (arith, low, high))),
-        rw rest (IsUtf8-drop text (end + 1) utf8 (IsCharBoundary-after_ascii text end utf8 lt low)))
+    let rest : take (length text - (end + 1)) (drop (end + 1) text) ≡ drop (end + 1) text = grind (arith, common_steps) in (
+      IsUtf8-take text end utf8 (omega (arith, lt), λ l high. absurd (omega (arith, low, high))),
+      rw rest (IsUtf8-drop text (end + 1) utf8 (IsCharBoundary-after_ascii text end utf8 lt low)),
+    )
 
 -- six fields and what follows a tab are more than six
 pub more_than_six : (line rest tag form grouping sign rounding text : List ℕ) → fields line ≡ tag ∷ form ∷ grouping ∷ sign ∷ rounding ∷ text ∷ fields rest → length (fields line) ≡ 6 → ⊥

@@ -16,8 +16,11 @@ pub mod Wanted
 pub mod Words
 pub use Rattle.locale_numbers_book.specs.Book
 pub use Rattle.locale_numbers_book.specs.BookError
+pub use Rattle.locale_numbers_book.specs.Faults as BookFaults
 pub use Rattle.locale_numbers_book.specs.Json
+pub use Rattle.locale_numbers_book.specs.Keys as BookKeys
 pub use Rattle.locale_numbers_book.specs.Laws as BookLaws
+pub use Rattle.locale_numbers_book.specs.Refusal as BookRefusal
 pub use Rattle.locale_numbers_book.specs.Tables
 pub use Rattle.locale_numbers_engine.specs.ByteIo
 pub use Rattle.locale_numbers_engine.specs.Outcomes

@@ -3,8 +3,9 @@
 -- Cited by `program` and `start`.
 use Rattle.std.specs.Prelude.{◌≡◌, ℕ, List, Option, IsNone, IsSome}
 use Rattle.serde_json.specs.Data.{Data}
-use Rattle.locale_numbers_book.specs.Json.{Reads, IsNoJson}
-use Rattle.locale_numbers_book.specs.Book.{BookTables, IsBook, IsNoBook}
+use Rattle.locale_numbers_book.specs.Json.{Reads}
+use Rattle.locale_numbers_book.specs.Book.{BookTables, IsBook}
+use Rattle.locale_numbers_book.specs.Refusal.{IsRefused}
 use Rattle.locale_numbers_book.specs.declared.BookError.{BookError}
 use Rattle.locale_numbers_book.specs.declared.BookError.TheVariants as refusal
 use Rattle.locale_numbers_engine.specs.declared.RunError.TheVariants as run
@@ -14,13 +15,6 @@ use Rattle.locale_numbers.specs.declared.fault.ProgramFault.TheVariants.{Usage, 
 -- the text says a JSON value that is this book
 abbrev pub Says : List ℕ → BookTables → Type 0
 Says text book = (value : Data) × Reads text value × IsBook value book
-
--- why a text is refused as a book; nothing is said of out of memory
-abbrev pub IsRefused : List ℕ → BookError → Type 0
-IsRefused text refusal.Json = IsNoJson text
-IsRefused text refusal.Shape = (value : Data) × Reads text value × IsNoBook value
-IsRefused text refusal.Memory = Unit {0}
-IsRefused text _ = ⊥
 
 -- a fact of the text that the book is read from: the sample's where no path is named, else what some file held
 pub record OfText {P : Type 0} (sample : List ℕ) (path : Option P) (Fact : List ℕ → Type 0) : Type 0 where

@@ -7,8 +7,8 @@ use Rattle.std.proofs.lemmas.Bool.{and_parts, and_from}
 use Rattle.std.proofs.lemmas.Bool.Decides.{nat_tests}
 use Rattle.icu_decimal.specs.declared.error.DataError.{DataError}
 use Rattle.icu_decimal.specs.KeptEntries.{CompactTable, IsFaulty, IsTable, IsTableFault, NeverFalls, Patterns, TypePatterns, first_fault, table_of}
-use Rattle.icu_decimal_patterns.specs.KeptSteps.{kept_of}
-use Rattle.icu_decimal_patterns.proofs.KeptLemmas.{keeps_one, is_table, faulty_first}
+use Rattle.icu_decimal.specs.KeptSteps.{kept_of}
+use Rattle.icu_decimal.proofs.KeptLemmas.{keeps_one, is_table, faulty_first}
 use Rattle.locale_numbers_book.specs.CompactEntries.{Row, never_fall_from, rise_from, table_made}
 use Rattle.locale_numbers_book.specs.Laws.{TablesAreMade}
 

@@ -9,7 +9,7 @@ use Rattle.serde_json.specs.Find.{at, as_array, as_null}
 use Rattle.icu_decimal.specs.Identifiers.{Identifier}
 use Rattle.icu_decimal.specs.KeptEntries.{CompactTable, Patterns, TypePatterns, first_fault, of_type, table_of}
 use Rattle.icu_decimal.specs.SlotsJson.{slots_of}
-use Rattle.icu_decimal_patterns.specs.KeptSteps.{kept_of}
+use Rattle.icu_decimal.specs.KeptSteps.{kept_of}
 use Rattle.locale_numbers_book.specs.Fields.{plain_text_in, size_in}
 use Rattle.locale_numbers_book.specs.Entries.{all_of, has_count, field_at, entry_key}
 
