@@ -43,9 +43,15 @@ refused-one = refl
 pub no_table-one : makes 1 (Some 1 ∷ Some 9 ∷ Some 1 ∷ []) ≡ 1
 no_table-one = refl
 
+pub no_table-two : makes 2 (Some 1 ∷ Some 9 ∷ Some 1 ∷ []) ≡ 1
+no_table-two = refl
+
 -- three keys in turn: with room for two each is gone when it comes again
 abbrev in_turn : List (Option ℕ)
 in_turn = Some 1 ∷ Some 2 ∷ Some 3 ∷ Some 1 ∷ Some 2 ∷ Some 3 ∷ []
+
+pub in_turn-one : makes 1 in_turn ≡ 6
+in_turn-one = refl
 
 pub in_turn-two : makes 2 in_turn ≡ 6
 in_turn-two = refl
@@ -54,6 +60,9 @@ pub in_turn-three : makes 3 in_turn ≡ 3
 in_turn-three = refl
 
 -- a use keeps a key: of 1, 2, 1, 3 the key 2 is dropped, and the key 1 is found again
+pub used_again-one : makes 1 (Some 1 ∷ Some 2 ∷ Some 1 ∷ Some 3 ∷ Some 1 ∷ []) ≡ 5
+used_again-one = refl
+
 pub used_again : makes 2 (Some 1 ∷ Some 2 ∷ Some 1 ∷ Some 3 ∷ Some 1 ∷ []) ≡ 3
 used_again = refl
 

@@ -1,5 +1,5 @@
 -- What a cache holds: each thing kept is the one that would be made now, and the count of things made follows the keys used.
--- Defined in docs/requests.md, "What a run keeps".
+-- Defined in docs/requests.md, "What a cache keeps".
 -- Cited by `FormatterCache`: `new`, `keep`, `latest`, `made`.
 use Rattle.std.specs.Prelude.{false, ℕ, ◌≡◌, ◌+◌, ◌-◌, ◌^◌, Bool, true, List, [], ◌∷◌, min, Option, None, Some, slice_get, Contains, refl, if◌then◌else◌}
 use Rattle.std.specs.Coded.{Coded, code_by, coded×, coded_list, coded_ℕ}

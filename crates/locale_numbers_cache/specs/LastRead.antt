@@ -1,5 +1,5 @@
 -- Bytes kept beside the key that was read from them: it is the one that would be read now.
--- Defined in docs/requests.md, "What a run keeps".
+-- Defined in docs/requests.md, "What a cache keeps".
 -- Cited by `LastKey::key_of`.
 use Rattle.std.specs.Prelude.{ℕ, ◌≡◌, List, Option, Some, None}
 

@@ -1,5 +1,5 @@
 -- Which keys are kept, and which uses miss, said without going through the uses one by one.
--- Defined in docs/requests.md, "What a run keeps".
+-- Defined in docs/requests.md, "What a cache keeps".
 -- Cited by the laws of `laws.rt`.
 use Rattle.std.specs.Prelude.{ℕ, ◌≡◌, ◌+◌, Bool, List, [], ◌∷◌, ◌++◌, take, reverse, if◌then◌else◌}
 use Rattle.locale_numbers_cache.specs.Recent.{has, without, recent_after, misses}

@@ -1,5 +1,5 @@
 -- Which keys are kept: those that were used last, up to a capacity; and how many uses find their key not kept.
--- Defined in docs/requests.md, "What a run keeps".
+-- Defined in docs/requests.md, "What a cache keeps".
 -- Cited by `FormatterCache::keep`, itself and through Cached.antt, and by the laws of `laws.rt`.
 use Rattle.std.specs.Prelude.{ℕ, ◌+◌, Bool, List, [], ◌∷◌, take, if◌then◌else◌}
 use Rattle.std.specs.List.{list_any}
