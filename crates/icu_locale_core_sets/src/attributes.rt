@@ -4,7 +4,7 @@ ghost use Rattle.std.specs.Prelude.{◌≡◌, false, [], ◌++◌, IsOk, IfOk, 
 ghost use Rattle.std.specs.Result.{IsErrOf};
 ghost use Rattle.icu_locale_core_grammar.specs.declared.error.ParseError.{ParseError};
 ghost use Rattle.icu_locale_core_grammar.specs.Subtags.{is_attribute};
-ghost use Rattle.icu_locale_core_grammar.specs.Collections.{set_of};
+ghost use Rattle.icu_locale_core_grammar.specs.Collections.{Rises, set_of};
 ghost use Rattle.icu_locale_core_grammar.specs.Pieces.{pieces};
 ghost use Rattle.icu_locale_core_grammar.specs.PartReaders.{ReadsAttributes};
 ghost use Rattle.icu_locale_core_sets.specs.Reading.{IsRefused, begins};
@@ -56,6 +56,18 @@ impl SubtagSet<AttributeRule> {
         Ok(attributes.settled())
     }
 
+    // A set of the same attributes that is to grow by many: what one more costs there is a logarithm of how many there are.
+    fn growing(&self) -> Result<GrowingSet<AttributeRule>, AllocError>
+        ensures value { IfOk result (λ growing. growing ≡ self.now) }
+        ensures rises { Rises self.now }
+    {
+        let mut growing = GrowingSet::new(self.allocator());
+        for attribute in self.as_slice() {
+            growing.push(*attribute)?;
+        }
+        Ok(growing)
+    }
+
     /// Puts the attributes of the other set into this one.
     ///
     /// `bar`, `foo` with `baz`, `foo` becomes `bar`, `baz`, `foo`. `AllocError` is answered for memory alone, and the set is
@@ -69,11 +81,11 @@ impl SubtagSet<AttributeRule> {
             texts_rise(self);
             return Ok(());
         }
-        let mut joined = self.try_clone()?;
+        let mut joined = self.growing()?;
         for attribute in other.as_slice() {
             joined.push(*attribute)?;
         }
-        *self = joined;
+        *self = joined.settled();
         Ok(())
     }
 }

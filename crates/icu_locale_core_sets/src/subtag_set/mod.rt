@@ -56,6 +56,11 @@ impl<R: SubtagRule<8>> SubtagSet<R> {
         SubtagSet { items }
     }
 
+    // Whom the set asks for memory.
+    pub(crate) fn allocator(&self) -> Global {
+        *self.items.allocator()
+    }
+
     /// Puts the subtag into the set; answers whether the set changed.
     ///
     /// `b` pushed into the set of `a`, `c` gives `a`, `b`, `c`. `AllocError` is answered for memory alone, and the set is

@@ -8,5 +8,5 @@ returns-then-is_empty-clause-value c = none_joined c.args.self.now c.args.other 
 pub returns-clause-value : goal.returns-clause-value
 returns-clause-value c =
     let items = c.as_slice-attribute-items.result.now in
-    sym (fold_past c.loop-attribute.joined items c.loop-attribute.attribute-index c.loop-attribute-test.false) ∙ c.loop-attribute.invariant
-    ∙ sym (set_of_joined c.args.self.now c.args.other c.try_clone.ensures.set.rises)
+    c.settled.ensures ∙ sym (fold_past c.loop-attribute.joined items c.loop-attribute.attribute-index c.loop-attribute-test.false) ∙ c.loop-attribute.invariant
+    ∙ sym (set_of_joined c.args.self.now c.args.other c.growing.ensures.rises)
