@@ -68,9 +68,9 @@ asked_digits = refl
 
 abbrev tag_with : List Entry → TagMeaning
 tag_with entries = record {
-  front = record { language = codes "en"; script = None; region = None; variants = [] };
-  blocks = record { unicode = record { head = []; entries = entries }; transform = no_transform; others = [] };
-  own = [];
+  language = record { language = codes "en"; script = None; region = None; variants = [] };
+  extensions = record { unicode = record { head = []; entries = entries }; transform = no_transform; others = [] };
+  private_use = [];
 }
 
 one_system : preferences_of (tag_with ((numbering_key, codes "latn" ∷ []) ∷ [])) ≡ asking (codes "en") (Some (codes "latn"))

@@ -8,3 +8,5 @@ pub mod Preferences
 pub mod SameSymbols
 pub mod SameSymbolsLaws
 pub mod Symbols
+-- What a tag prefers, of which tables are a function.
+pub use Rattle.icu_locale_core.specs.TagPreferences

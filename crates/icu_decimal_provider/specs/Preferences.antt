@@ -28,4 +28,4 @@ joined a b = record { locale = joined_preferences a.locale b.locale; numbering_s
 
 -- a `nu`, an `sd` or an `rg` is there and does not read
 abbrev pub fails : TagMeaning → Bool
-fails tag = fails_numbering tag.blocks.unicode.entries || fails_strictly tag
+fails tag = fails_numbering tag.extensions.unicode.entries || fails_strictly tag

@@ -2,7 +2,7 @@
 -- Defined in docs/formatters.md, "Choosing tables" and "Options".
 -- Cited by `DecimalFormatter::try_new_unstable`.
 use Rattle.std.specs.Prelude.{ℕ, List, Option, Result, Ok, Err}
-use Rattle.icu_locale_core.specs.TagPreferences.{Preferences}
+use Rattle.icu_decimal_provider.specs.TagPreferences.{Preferences}
 use Rattle.icu_decimal_provider.specs.declared.error.DataError.{DataError}
 use Rattle.icu_decimal_provider.specs.declared.options.GroupingStrategy.{GroupingStrategy}
 use Rattle.icu_decimal_provider.specs.Choice.{first_found}

@@ -5,7 +5,7 @@ use Rattle.std.specs.Prelude.{◌≡◌, ℕ, List, Option, Result}
 use Rattle.writeable.specs.AnnotatedText.{text_of}
 use Rattle.fixed_decimal.specs.Number.{Number}
 use Rattle.fixed_decimal.specs.SignedValue.{SignedValue}
-use Rattle.icu_locale_core.specs.TagPreferences.{Preferences}
+use Rattle.icu_decimal_provider.specs.TagPreferences.{Preferences}
 use Rattle.icu_decimal_provider.specs.declared.error.DataError.{DataError}
 use Rattle.icu_decimal_provider.specs.declared.options.GroupingStrategy.{GroupingStrategy}
 use Rattle.icu_decimal_provider.specs.Identifiers.{Identifier}

@@ -6,7 +6,7 @@ ghost use Rattle.writeable.specs.AnnotatedText.{bytes, opening, closing};
 ghost use Rattle.writeable.specs.PartName.{name_of};
 ghost use Rattle.writeable.specs.Taking.{HasBegun};
 ghost use Rattle.icu_decimal_text.specs.Affixes.{affixes_of, as_part, prefix_events, suffix_events};
-ghost use Rattle.icu_decimal_text.specs.HeldAffixes.{texts_of};
+ghost use Rattle.icu_decimal_text.specs.HeldAffixes.{part_name, texts_of};
 ghost use Rattle.icu_decimal_text.specs.SameAffixes.{same_affixes};
 
 use crate::writing::write_part;
@@ -17,10 +17,29 @@ use std::fmt;
 use std::marker::Model;
 use writeable::{Error, LengthHint, Part, Sink, Writeable, display};
 
-// The affixes of a sign, and the part that each of them is.
+// The signs that have affixes.
+#[derive(Clone, Copy, Debug)]
+enum SignPart {
+    Minus,
+    Plus,
+}
+
+impl SignPart {
+    // The part that an affix of the sign is.
+    fn part(self) -> Part
+        ensures { name_of result ≡ part_name self }
+    {
+        match self {
+            SignPart::Minus => parts::MINUS_SIGN,
+            SignPart::Plus => parts::PLUS_SIGN,
+        }
+    }
+}
+
+// The affixes of a sign, and which sign it is.
 #[derive(Clone, Copy, Debug)]
 struct Affixes<'l> {
-    part: Part,
+    part: SignPart,
     prefix: &'l str,
     suffix: &'l str,
 }
@@ -52,12 +71,12 @@ fn affixes_in<'l>(sign: Sign, symbols: &'l DecimalSymbols) -> Option<Affixes<'l>
     match sign {
         Sign::None => None,
         Sign::Negative => Some(Affixes {
-            part: parts::MINUS_SIGN,
+            part: SignPart::Minus,
             prefix: symbols.minus_sign_prefix(),
             suffix: symbols.minus_sign_suffix(),
         }),
         Sign::Positive => Some(Affixes {
-            part: parts::PLUS_SIGN,
+            part: SignPart::Plus,
             prefix: symbols.plus_sign_prefix(),
             suffix: symbols.plus_sign_suffix(),
         }),
@@ -101,7 +120,7 @@ fn write_prefix<S: Sink>(affixes: Option<Affixes<'_>>, sink: &mut S) -> Result<(
     ensures begun { OnErr result (HasBegun S.takes S.lacks_room sink.old (prefix_events (option_map texts_of affixes.entry)) sink.new) }
 {
     match affixes {
-        Some(affixes) => write_part(affixes.part, affixes.prefix, sink),
+        Some(affixes) => write_part(affixes.part.part(), affixes.prefix, sink),
         None => Ok(()),
     }
 }
@@ -114,7 +133,7 @@ fn write_suffix<S: Sink>(affixes: Option<Affixes<'_>>, sink: &mut S) -> Result<(
     ensures begun { OnErr result (HasBegun S.takes S.lacks_room sink.old (suffix_events (option_map texts_of affixes.entry)) sink.new) }
 {
     match affixes {
-        Some(affixes) => write_part(affixes.part, affixes.suffix, sink),
+        Some(affixes) => write_part(affixes.part.part(), affixes.suffix, sink),
         None => Ok(()),
     }
 }
@@ -161,7 +180,9 @@ fn have_same_texts(a: Option<Affixes<'_>>, b: Option<Affixes<'_>>) -> bool
 {
     match (a, b) {
         (None, None) => true,
-        (Some(a), Some(b)) => a.part == b.part && a.prefix == b.prefix && a.suffix == b.suffix,
+        (Some(a), Some(b)) => {
+            a.part.part() == b.part.part() && a.prefix == b.prefix && a.suffix == b.suffix
+        }
         _ => false,
     }
 }

@@ -51,10 +51,10 @@ pub use Rattle.icu_locale_core_entries.specs.Lends
 pub use Rattle.icu_locale_core_entries.specs.EntryChanges
 pub use Rattle.icu_locale_core_entries.specs.Retained
 -- Keywords with a type of their own.
-pub use Rattle.icu_locale_core_keywords.specs.KeywordWords
-pub use Rattle.icu_locale_core_keywords.specs.TypedKeywords
-pub use Rattle.icu_locale_core_keywords.specs.OwnWords
-pub use Rattle.icu_locale_core_keywords.specs.WordLaws
+pub use Rattle.icu_locale_core_preference_keywords.specs.KeywordWords
+pub use Rattle.icu_locale_core_preference_keywords.specs.TypedKeywords
+pub use Rattle.icu_locale_core_preference_keywords.specs.OwnWords
+pub use Rattle.icu_locale_core_preference_keywords.specs.WordLaws
 -- Extensions: one alone, all of a tag, when two are one.
 pub use Rattle.icu_locale_core_extensions.specs.ExtensionText
 pub use Rattle.icu_locale_core_extensions.specs.SameExtension

@@ -9,7 +9,7 @@ pub use icu_locale_core_extensions::{ExtensionType, Extensions};
 pub mod unicode {
     pub use icu_locale_core_entries::unicode::{Keywords, Value};
     pub use icu_locale_core_extensions::Unicode;
-    pub use icu_locale_core_keywords::SubdivisionId;
+    pub use icu_locale_core_preference_keywords::SubdivisionId;
     pub use icu_locale_core_sets::Attributes;
     pub use icu_locale_core_subtags::unicode::{Attribute, Key, SubdivisionSuffix};
 }

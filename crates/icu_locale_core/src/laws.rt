@@ -45,7 +45,7 @@ pub mod single {
 pub use icu_locale_core_locale::laws as locales;
 
 // Of keywords with a type of their own.
-pub use icu_locale_core_keywords::laws as keywords;
+pub use icu_locale_core_preference_keywords::laws as keywords;
 
 // Of preferences and data locales.
 pub use icu_locale_core_preferences::laws as preferences;

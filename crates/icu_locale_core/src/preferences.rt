@@ -3,7 +3,7 @@
 //! `en-US-u-nu-thai-rg-gbeng` prefers the language `en`, the region `US`, the region override `gbeng` and the numbering system
 //! `thai`. A keyword's type is a [`PreferenceKey`]: it knows its key, and which values state it.
 
-pub use icu_locale_core_keywords::PreferenceKey;
+pub use icu_locale_core_preference_keywords::PreferenceKey;
 pub use icu_locale_core_preferences::{LocalePreferences, numbering_system};
 
 /// The extensions that say what is preferred.
@@ -12,12 +12,12 @@ pub mod extensions {
     pub mod unicode {
         /// Why a keyword is refused: its value states no preference of the type.
         pub mod errors {
-            pub use icu_locale_core_keywords::PreferencesParseError;
+            pub use icu_locale_core_preference_keywords::PreferencesParseError;
         }
 
         /// Each keyword: `FirstDay` of `fw`, `CurrencyType` of `cu`, `NumberingSystem` of `nu` and the others.
         pub mod keywords {
-            pub use icu_locale_core_keywords::{
+            pub use icu_locale_core_preference_keywords::{
                 CollationCaseFirst, CollationNumericOrdering, CurrencyFormatStyle, CurrencyType,
                 EmojiPresentationStyle, FirstDay, LineBreakStyle, LineBreakWordHandling,
                 MeasurementSystem, NumberingSystem, RegionOverride, RegionalSubdivision,

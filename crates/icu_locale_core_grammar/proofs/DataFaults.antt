@@ -62,39 +62,39 @@ transform_decided t = by_parts t.head refl (nothing_decided t.entries)
 
 -- what a data tag says, part by part
 record IsBare (m : TagMeaning) : Type 0 where
-  variants : option_to_list (least_of m.front.variants) ≡ m.front.variants
-  attributes : [] ≡ m.blocks.unicode.head
-  keywords : subdivision_entries (keyword_subdivision subdivision_key m.blocks.unicode.entries) ≡ m.blocks.unicode.entries
-  transform : no_transform ≡ m.blocks.transform
-  others : [] ≡ m.blocks.others
-  own : [] ≡ m.own
+  variants : option_to_list (least_of m.language.variants) ≡ m.language.variants
+  attributes : [] ≡ m.extensions.unicode.head
+  keywords : subdivision_entries (keyword_subdivision subdivision_key m.extensions.unicode.entries) ≡ m.extensions.unicode.entries
+  transform : no_transform ≡ m.extensions.transform
+  others : [] ≡ m.extensions.others
+  own : [] ≡ m.private_use
 
 bare_data : (m : TagMeaning) → IsBare m → IsDataTag m
 bare_data m b = λ i. record {
-  front = record { language = m.front.language; script = m.front.script; region = m.front.region; variants = b.variants i };
-  blocks = record { unicode = record { head = b.attributes i; entries = b.keywords i }; transform = b.transform i; others = b.others i };
-  own = b.own i;
+  language = record { language = m.language.language; script = m.language.script; region = m.language.region; variants = b.variants i };
+  extensions = record { unicode = record { head = b.attributes i; entries = b.keywords i }; transform = b.transform i; others = b.others i };
+  private_use = b.own i;
 }
 
 data_bare : (m : TagMeaning) → IsDataTag m → IsBare m
 data_bare m e = record {
-  variants = ap (λ x. x.front.variants) e;
-  attributes = ap (λ x. x.blocks.unicode.head) e;
-  keywords = ap (λ x. x.blocks.unicode.entries) e;
-  transform = ap (λ x. x.blocks.transform) e;
-  others = ap (λ x. x.blocks.others) e;
-  own = ap (λ x. x.own) e;
+  variants = ap (λ x. x.language.variants) e;
+  attributes = ap (λ x. x.extensions.unicode.head) e;
+  keywords = ap (λ x. x.extensions.unicode.entries) e;
+  transform = ap (λ x. x.extensions.transform) e;
+  others = ap (λ x. x.extensions.others) e;
+  own = ap (λ x. x.private_use) e;
 }
 
 bare_decided : (m : TagMeaning) → Decided (IsBare m)
 bare_decided m =
-    by_parts (list_decided text_decided (option_to_list (least_of m.front.variants)) m.front.variants) (nothing_decided m.blocks.unicode.head)
-    (list_decided entry_decided (subdivision_entries (keyword_subdivision subdivision_key m.blocks.unicode.entries)) m.blocks.unicode.entries)
-    (transform_decided m.blocks.transform) (nothing_decided m.blocks.others) (nothing_decided m.own)
+    by_parts (list_decided text_decided (option_to_list (least_of m.language.variants)) m.language.variants) (nothing_decided m.extensions.unicode.head)
+    (list_decided entry_decided (subdivision_entries (keyword_subdivision subdivision_key m.extensions.unicode.entries)) m.extensions.unicode.entries)
+    (transform_decided m.extensions.transform) (nothing_decided m.extensions.others) (nothing_decided m.private_use)
   where
-    by_parts : Decided (option_to_list (least_of m.front.variants) ≡ m.front.variants) → Decided ([] ≡ m.blocks.unicode.head)
-        → Decided (subdivision_entries (keyword_subdivision subdivision_key m.blocks.unicode.entries) ≡ m.blocks.unicode.entries)
-        → Decided (no_transform ≡ m.blocks.transform) → Decided ([] ≡ m.blocks.others) → Decided ([] ≡ m.own) → Decided (IsBare m)
+    by_parts : Decided (option_to_list (least_of m.language.variants) ≡ m.language.variants) → Decided ([] ≡ m.extensions.unicode.head)
+        → Decided (subdivision_entries (keyword_subdivision subdivision_key m.extensions.unicode.entries) ≡ m.extensions.unicode.entries)
+        → Decided (no_transform ≡ m.extensions.transform) → Decided ([] ≡ m.extensions.others) → Decided ([] ≡ m.private_use) → Decided (IsBare m)
     by_parts (inr n) b c d e f = inr (λ x. n x.variants)
     by_parts (inl a) (inr n) c d e f = inr (λ x. n x.attributes)
     by_parts (inl a) (inl b) (inr n) d e f = inr (λ x. n x.keywords)
@@ -105,21 +105,21 @@ bare_decided m =
 
 -- a data tag has one variant at most
 data_variants : (m : TagMeaning) → IsDataTag m → HasOneVariant m
-data_variants m e = by_list m.front.variants refl
+data_variants m e = by_list m.language.variants refl
   where
-    by_list : (vs : List Text) → m.front.variants ≡ vs → HasOneVariant m
-    by_list [] f = let g : length m.front.variants ≡ 0 = ap length f in omega arith
-    by_list (v ∷ []) f = let g : length m.front.variants ≡ 1 = ap length f in omega arith
+    by_list : (vs : List Text) → m.language.variants ≡ vs → HasOneVariant m
+    by_list [] f = let g : length m.language.variants ≡ 0 = ap length f in omega arith
+    by_list (v ∷ []) f = let g : length m.language.variants ≡ 1 = ap length f in omega arith
     by_list (v ∷ w ∷ ws) f =
         let g : v ∷ [] ≡ v ∷ w ∷ ws = sym (ap (λ l. option_to_list (least_of l)) f) ∙ (data_bare m e).variants ∙ f in cc
 
 variants_decided : (m : TagMeaning) → Decided (HasOneVariant m)
-variants_decided m = by_list m.front.variants refl
+variants_decided m = by_list m.language.variants refl
   where
-    by_list : (vs : List Text) → m.front.variants ≡ vs → Decided (HasOneVariant m)
-    by_list [] f = let g : length m.front.variants ≡ 0 = ap length f in inl (omega arith)
-    by_list (v ∷ []) f = let g : length m.front.variants ≡ 1 = ap length f in inl (omega arith)
-    by_list (v ∷ w ∷ ws) f = let g : length m.front.variants ≡ length (v ∷ w ∷ ws) = ap length f in inr (λ h. omega arith)
+    by_list : (vs : List Text) → m.language.variants ≡ vs → Decided (HasOneVariant m)
+    by_list [] f = let g : length m.language.variants ≡ 0 = ap length f in inl (omega arith)
+    by_list (v ∷ []) f = let g : length m.language.variants ≡ 1 = ap length f in inl (omega arith)
+    by_list (v ∷ w ∷ ws) f = let g : length m.language.variants ≡ length (v ∷ w ∷ ws) = ap length f in inr (λ h. omega arith)
 
 -- ---- answers
 

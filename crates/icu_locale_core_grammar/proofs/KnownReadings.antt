@@ -77,9 +77,9 @@ of_texas = record { tag = data_meaning texan; means = meaning_row (codes "en-us-
 
 abbrev pub two_variants : TagMeaning
 two_variants = record {
-  front = record { language = codes "de"; script = None; region = None; variants = codes "1996" ∷ codes "fonipa" ∷ [] };
-  blocks = record { unicode = record { head = []; entries = [] }; transform = no_transform; others = [] };
-  own = [];
+  language = record { language = codes "de"; script = None; region = None; variants = codes "1996" ∷ codes "fonipa" ∷ [] };
+  extensions = record { unicode = record { head = []; entries = [] }; transform = no_transform; others = [] };
+  private_use = [];
 }
 
 two_read : tag_answer (codes "de-1996-fonipa") ≡ Ok two_variants
@@ -95,9 +95,9 @@ second_variant = inr (record { tag = two_variants; means = meaning_row (codes "d
 
 abbrev pub private_tag : TagMeaning
 private_tag = record {
-  front = record { language = codes "en"; script = None; region = None; variants = [] };
-  blocks = record { unicode = record { head = []; entries = [] }; transform = no_transform; others = [] };
-  own = codes "foo" ∷ [];
+  language = record { language = codes "en"; script = None; region = None; variants = [] };
+  extensions = record { unicode = record { head = []; entries = [] }; transform = no_transform; others = [] };
+  private_use = codes "foo" ∷ [];
 }
 
 private_read : tag_answer (codes "en-x-foo") ≡ Ok private_tag
@@ -109,7 +109,7 @@ nothing_own e = cc
 
 -- an extension that a data locale does not hold
 pub private_part : HasDataFault (pieces (codes "en-x-foo")) InvalidExtension
-private_part = inr (record { tag = private_tag; means = meaning_row (codes "en-x-foo") private_tag private_read; refused = (few, λ e. nothing_own (ap (λ m. m.own) e)) })
+private_part = inr (record { tag = private_tag; means = meaning_row (codes "en-x-foo") private_tag private_read; refused = (few, λ e. nothing_own (ap (λ m. m.private_use) e)) })
 
 -- the faults of a tag come first
 pub fault_of_a_tag : HasDataFault (pieces (codes "en-a")) InvalidExtension

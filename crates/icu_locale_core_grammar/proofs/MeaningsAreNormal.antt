@@ -116,7 +116,7 @@ own_normal (x ∷ ps) own private = subst (AreLower is_private_piece) private.3 
 
 pub meaning_normal : (ps : List Text) (m : TagMeaning) → MeansTag ps m → IsNormalTag m
 meaning_normal ps m a = record {
-  language = language_normal a.front m.front a.meant;
+  language = language_normal a.front m.language a.meant;
   extensions = subst AreNormalExtensions a.together (blocks_normal a.blocks no_extensions a.each none_normal);
-  own = own_normal a.last m.own a.private;
+  own = own_normal a.last m.private_use a.private;
 }

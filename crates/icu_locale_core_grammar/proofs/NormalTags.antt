@@ -16,20 +16,20 @@ use Rattle.icu_locale_core_grammar.proofs.NormalOrder.{blocks_rise}
 
 pub normal_means : (m : TagMeaning) → IsNormalTag m → MeansTag (normal m) m
 normal_means m n = record {
-  front = language_pieces m.front;
-  blocks = blocks_of m.blocks;
-  last = private_pieces m.own;
+  front = language_pieces m.language;
+  blocks = blocks_of m.extensions;
+  last = private_pieces m.private_use;
   parts = refl;
-  meant = language_means m.front n.language;
-  each = blocks_are m.blocks n.extensions;
-  apart = apart_from_rising (map block_key (blocks_of m.blocks)) (blocks_rise m.blocks n.extensions);
-  together = blocks_mean m.blocks n.extensions;
-  private = private_means m.own n.own;
+  meant = language_means m.language n.language;
+  each = blocks_are m.extensions n.extensions;
+  apart = apart_from_rising (map block_key (blocks_of m.extensions)) (blocks_rise m.extensions n.extensions);
+  together = blocks_mean m.extensions n.extensions;
+  private = private_means m.private_use n.own;
 }
 
 -- the text of the normal pieces, cut again
 pub normal_again : (m : TagMeaning) → MeansTag (normal m) m → pieces (normal_text m) ≡ normal m
-normal_again m a = pieces-joined m.front.language _ (tag_plain (normal m) m a)
+normal_again m a = pieces-joined m.language.language _ (tag_plain (normal m) m a)
 
 pub read_again : (ps : List Text) (m : TagMeaning) → MeansTag ps m → MeansTag (pieces (normal_text m)) m
 read_again ps m a =

@@ -110,27 +110,27 @@ transform_same x y e =
 
 tag_total : IsTotalOrder tag_cmp
 tag_total =
-    then_total (on_total (λ m. m.front) language_total)
-    (then_total (on_total (λ m. m.blocks.unicode) unicode_total)
-    (then_total (on_total (λ m. m.blocks.transform) transform_total)
-    (then_total (on_total (λ m. m.own) texts_total) (on_total (λ m. m.blocks.others) entries_total))))
+    then_total (on_total (λ m. m.language) language_total)
+    (then_total (on_total (λ m. m.extensions.unicode) unicode_total)
+    (then_total (on_total (λ m. m.extensions.transform) transform_total)
+    (then_total (on_total (λ m. m.private_use) texts_total) (on_total (λ m. m.extensions.others) entries_total))))
 
 tag_same : IsAntisymmetric tag_cmp
 tag_same x y e =
-    let r = language_cmp x.front y.front in
-    let s = unicode_cmp x.blocks.unicode y.blocks.unicode in
-    let t = transform_cmp x.blocks.transform y.blocks.transform in
-    let u = texts_cmp x.own y.own in
-    let v = entries_cmp x.blocks.others y.blocks.others in
+    let r = language_cmp x.language y.language in
+    let s = unicode_cmp x.extensions.unicode y.extensions.unicode in
+    let t = transform_cmp x.extensions.transform y.extensions.transform in
+    let u = texts_cmp x.private_use y.private_use in
+    let v = entries_cmp x.extensions.others y.extensions.others in
     let second = tie_second r (ordering_then s (ordering_then t (ordering_then u v))) e in
     let third = tie_second s (ordering_then t (ordering_then u v)) second in
     let fourth = tie_second t (ordering_then u v) third in
-    let front = language_same x.front y.front (tie_first r (ordering_then s (ordering_then t (ordering_then u v))) e) in
-    let unicode = unicode_same x.blocks.unicode y.blocks.unicode (tie_first s (ordering_then t (ordering_then u v)) second) in
-    let transform = transform_same x.blocks.transform y.blocks.transform (tie_first t (ordering_then u v) third) in
-    let own = texts_same x.own y.own (tie_first u v fourth) in
-    let others = entries_same x.blocks.others y.blocks.others (tie_second u v fourth) in
-    λ i. record { front = front i; blocks = record { unicode = unicode i; transform = transform i; others = others i }; own = own i }
+    let front = language_same x.language y.language (tie_first r (ordering_then s (ordering_then t (ordering_then u v))) e) in
+    let unicode = unicode_same x.extensions.unicode y.extensions.unicode (tie_first s (ordering_then t (ordering_then u v)) second) in
+    let transform = transform_same x.extensions.transform y.extensions.transform (tie_first t (ordering_then u v) third) in
+    let own = texts_same x.private_use y.private_use (tie_first u v fourth) in
+    let others = entries_same x.extensions.others y.extensions.others (tie_second u v fourth) in
+    λ i. record { language = front i; extensions = record { unicode = unicode i; transform = transform i; others = others i }; private_use = own i }
 
 subdivision_total : IsTotalOrder subdivision_cmp
 subdivision_total = then_total (on_total (λ s. s.region) text_total) (on_total (λ s. s.suffix) text_total)

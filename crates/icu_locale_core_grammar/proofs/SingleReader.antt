@@ -15,7 +15,8 @@ use Rattle.icu_locale_core_grammar.specs.LanguagePart.{LanguageId, MeansLanguage
 use Rattle.icu_locale_core_grammar.specs.FaultyPiece.{IsAccepted}
 use Rattle.icu_locale_core_grammar.specs.Stepping.{run, CanEnd, IsReader}
 use Rattle.icu_locale_core_grammar.specs.TagStages.{only_language, fits_script, fits_region, fits_variant, with_script, with_region, with_variant, with_piece, language_after}
-use Rattle.icu_locale_core_grammar.specs.SingleVariant.{SingleMeaning, piece_meaning, MeansKeyword, MeansSingle, begins_extension, single_name, HasSingleFault, SingleStage, InLanguage, BehindUnicode, BehindKey, BehindValue, has_short, kept_short, after_language, single_after, first_variant, single_of, single_ends, single_fault}
+use Rattle.icu_locale_core_grammar.specs.SingleVariant.{SingleMeaning, piece_meaning, MeansKeyword, MeansSingle, begins_extension, single_name, HasSingleFault, SingleStage, InLanguage, BehindUnicode, BehindKey, BehindValue, has_short, kept_short, after_language, single_after, single_of, single_ends, single_fault}
+use Rattle.icu_locale_core_grammar.specs.TagPreferences.{least_of}
 use Rattle.icu_locale_core_grammar.proofs.ListLemmas.{mapped_some}
 use Rattle.icu_locale_core_grammar.proofs.SingletonLemmas.{unicode_single}
 use Rattle.icu_locale_core_grammar.proofs.Runs.{run_joined, run_begun, run_keeps, first_step, Stop, answered}
@@ -28,7 +29,7 @@ abbrev IsShort : Option LanguageId → Type 0
 IsShort None = Unit {0}
 IsShort (Some id) = has_short id.variants ≡ true
 
-short_same : (vs : List Text) → has_short vs ≡ true → option_to_list (first_variant vs) ≡ vs
+short_same : (vs : List Text) → has_short vs ≡ true → option_to_list (least_of vs) ≡ vs
 short_same [] e = refl
 short_same (v ∷ []) e = refl
 short_same (v ∷ w ∷ ws) e = cc
@@ -37,7 +38,7 @@ always_short : (v : Option Text) → has_short (option_to_list v) ≡ true
 always_short None = refl
 always_short (Some v) = refl
 
-first_again : (v : Option Text) → first_variant (option_to_list v) ≡ v
+first_again : (v : Option Text) → least_of (option_to_list v) ≡ v
 first_again None = refl
 first_again (Some v) = refl
 
@@ -139,7 +140,7 @@ stands : (ps : List Text) (s : SingleStage) → run single_after (Some (InLangua
 stands ps s e = run_keeps single_after Stands adds ps [] (InLanguage None) s (refl, tt) e
 
 -- the language part, as it stands in a meaning
-as_single : (front : List Text) (id : LanguageId) → MeansLanguage front id → has_short id.variants ≡ true → MeansLanguage front (record { language = id.language; script = id.script; region = id.region; variants = option_to_list (first_variant id.variants) })
+as_single : (front : List Text) (id : LanguageId) → MeansLanguage front id → has_short id.variants ≡ true → MeansLanguage front (record { language = id.language; script = id.script; region = id.region; variants = option_to_list (least_of id.variants) })
 as_single front id a short = subst (λ vs. MeansLanguage front (record { language = id.language; script = id.script; region = id.region; variants = vs })) (sym (short_same id.variants short)) a
 
 ends_well : (taken : List Text) (s : SingleStage) (m : SingleMeaning) → Stands taken s → single_ends s ≡ Some m → MeansSingle taken m

@@ -205,7 +205,7 @@ module _ {L I E B V : Type 0} (step_front : L → Text → Option L) (start : L)
   -- ---- the end
 
   -- a front and blocks, closed
-  closed : (taken : List Text) (i : I) (seen : List Text) (e : E) → InBlocks taken i seen e [] → Meant taken (record { front = i; blocks = e; own = [] })
+  closed : (taken : List Text) (i : I) (seen : List Text) (e : E) → InBlocks taken i seen e [] → Meant taken (record { language = i; extensions = e; private_use = [] })
   closed taken i seen e s = record {
     front = s.front;
     blocks = s.blocks;
@@ -218,7 +218,7 @@ module _ {L I E B V : Type 0} (step_front : L → Text → Option L) (start : L)
     private = refl;
   }
 
-  private_meant : (taken : List Text) (i : I) (e : E) (w : Text) (ws : List Text) → InOwn taken i e (w ∷ ws) → Meant taken (record { front = i; blocks = e; own = w ∷ ws })
+  private_meant : (taken : List Text) (i : I) (e : E) (w : Text) (ws : List Text) → InOwn taken i e (w ∷ ws) → Meant taken (record { language = i; extensions = e; private_use = w ∷ ws })
   private_meant taken i e w ws s = record {
     front = s.blocks.front;
     blocks = s.blocks.blocks;
@@ -233,15 +233,15 @@ module _ {L I E B V : Type 0} (step_front : L → Text → Option L) (start : L)
 
   pub ends_well : (taken : List Text) (s : Stage) (m : Whole I E) → Stands taken s → whole_ends front_ends body_ends put none s ≡ Some m → Meant taken m
   ends_well taken (InFront l) m s q =
-      let f = mapped_some (λ i. record { front = i; blocks = none; own = [] }) (front_ends l) m q in
+      let f = mapped_some (λ i. record { language = i; extensions = none; private_use = [] }) (front_ends l) m q in
       subst (Meant taken) f.2 (record { front = taken; blocks = []; last = []; parts = append-nil taken; meant = sound.front.found taken l f.0 s f.1; each = tt; apart = apart_none; together = refl; private = refl })
   ends_well taken (AtBlock i seen e k b) m s q = cc
   ends_well taken (InBlock i seen e k b) m s q =
-      let f = mapped_some (λ v. record { front = i; blocks = put k v e; own = [] }) (body_ends b) m q in
+      let f = mapped_some (λ v. record { language = i; extensions = put k v e; private_use = [] }) (body_ends b) m q in
       subst (Meant taken) f.2 (closed taken i (seen ++ k ∷ []) (put k f.0 e) (close_block taken i seen e k b f.0 s f.1))
   ends_well taken (InPrivate i e []) m s q = cc
   ends_well taken (InPrivate i e (w ∷ ws)) m s q =
-      let same : record { front = i; blocks = e; own = w ∷ ws } ≡ m = cc in
+      let same : record { language = i; extensions = e; private_use = w ∷ ws } ≡ m = cc in
       subst (Meant taken) same (private_meant taken i e w ws s)
 
   pub stands : (ps : List Text) (s : Stage) → run after (Some (InFront start)) ps ≡ Some s → Stands ps s

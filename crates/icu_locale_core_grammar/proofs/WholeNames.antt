@@ -154,16 +154,16 @@ module _ {L I E B V : Type 0} (step_front : L → Text → Option L) (start : L)
 
   body_accepted : (taken : List Text) (i : I) (seen : List Text) (e : E) (k : Text) (b : B) (v : V) → Body taken i seen e k b → body_ends b ≡ Some v → IsAccepted Meant taken
   body_accepted taken i seen e k b v s f = (
-    record { front = i; blocks = put k v e; own = [] },
+    record { language = i; extensions = put k v e; private_use = [] },
     ends_well step_front start front_ends MeansFront step_body body_ends opens MeansBody put none is_x is_own sound taken (InBlock i seen e k b) _ s
-        (ap (option_map (λ w. record { front = i; blocks = put k w e; own = [] })) f),
+        (ap (option_map (λ w. record { language = i; extensions = put k w e; private_use = [] })) f),
   )
 
   -- what the end of a reached block says of its pieces
   end_of_body : (taken : List Text) (i : I) (seen : List Text) (e : E) (k : Text) (b : B) → run after (Some (InFront start)) taken ≡ Some (InBlock i seen e k b) → IsAccepted Meant taken → (v : V) × (body_ends b ≡ Some v)
   end_of_body taken i seen e k b r a =
       let f = accepted_ends (whole_reader step_front start front_ends MeansFront step_body body_ends opens MeansBody put none is_x is_own sound) taken (InBlock i seen e k b) a.0 r a.1 in
-      let g = mapped_some (λ v. record { front = i; blocks = put k v e; own = [] }) (body_ends b) a.0 f in
+      let g = mapped_some (λ v. record { language = i; extensions = put k v e; private_use = [] }) (body_ends b) a.0 f in
       (g.0, g.1)
 
   named_block : (taken : List Text) (i : I) (seen : List Text) (e : E) (k : Text) (b : B) (p : Text) (x : Bool) → run after (Some (InFront start)) taken ≡ Some (InBlock i seen e k b) → Body taken i seen e k b → list_any is_single taken ≡ true

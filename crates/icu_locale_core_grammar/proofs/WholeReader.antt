@@ -76,11 +76,11 @@ module _ {L I E B V : Type 0} (step_front : L → Text → Option L) (start : L)
   IsDone (InBlock j before f k b) i seen e = (v : V) × (body_ends b ≡ Some v) × (j ≡ i) × (seen ≡ before ++ k ∷ []) × (e ≡ put k v f)
   IsDone (InPrivate j f own) i seen e = ⊥
 
-  done_ends : (s : Stage) (i : I) (seen : List Text) (e : E) → IsDone s i seen e → ends s ≡ Some (record { front = i; blocks = e; own = [] })
-  done_ends (InFront l) i seen e d = ap (option_map (λ x. record { front = x; blocks = none; own = [] })) d.0 ∙ ap (λ x. Some (record { front = i; blocks = x; own = [] })) (sym d.2)
+  done_ends : (s : Stage) (i : I) (seen : List Text) (e : E) → IsDone s i seen e → ends s ≡ Some (record { language = i; extensions = e; private_use = [] })
+  done_ends (InFront l) i seen e d = ap (option_map (λ x. record { language = x; extensions = none; private_use = [] })) d.0 ∙ ap (λ x. Some (record { language = i; extensions = x; private_use = [] })) (sym d.2)
   done_ends (AtBlock j before f k b) i seen e d = absurd d
   done_ends (InBlock j before f k b) i seen e d =
-      ap (option_map (λ v. record { front = j; blocks = put k v f; own = [] })) d.1 ∙ ap (λ x. Some (record { front = x; blocks = put k d.0 f; own = [] })) d.2 ∙ ap (λ x. Some (record { front = i; blocks = x; own = [] })) (sym d.4)
+      ap (option_map (λ v. record { language = j; extensions = put k v f; private_use = [] })) d.1 ∙ ap (λ x. Some (record { language = x; extensions = put k d.0 f; private_use = [] })) d.2 ∙ ap (λ x. Some (record { language = i; extensions = x; private_use = [] })) (sym d.4)
   done_ends (InPrivate j f own) i seen e d = absurd d
 
   done_next : (s : Stage) (i : I) (seen : List Text) (e : E) (p : Text) → IsDone s i seen e → is_single p ≡ true → after s p ≡ next i seen e p
@@ -142,38 +142,38 @@ module _ {L I E B V : Type 0} (step_front : L → Text → Option L) (start : L)
   abbrev Ends : Stage → List Text → Whole I E → Type 0
   Ends s ps m = (t : Stage) × (run after (Some s) ps ≡ Some t) × (ends t ≡ Some m)
 
-  private_runs : (last own : List Text) (s : Stage) (i : I) (seen : List Text) (e : E) → IsDone s i seen e → IsPrivatePart is_x is_own last own → Ends s last (record { front = i; blocks = e; own = own })
-  private_runs [] own s i seen e done private = (s, refl, done_ends s i seen e done ∙ ap (λ l. Some (record { front = i; blocks = e; own = l })) (sym private))
+  private_runs : (last own : List Text) (s : Stage) (i : I) (seen : List Text) (e : E) → IsDone s i seen e → IsPrivatePart is_x is_own last own → Ends s last (record { language = i; extensions = e; private_use = own })
+  private_runs [] own s i seen e done private = (s, refl, done_ends s i seen e done ∙ ap (λ l. Some (record { language = i; extensions = e; private_use = l })) (sym private))
   private_runs (x ∷ []) own s i seen e done private = absurd (private.1 refl)
   private_runs (x ∷ p ∷ ps) own s i seen e done private =
       let opening : after s x ≡ Some (InPrivate i e []) = done_next s i seen e x done (sound.x_single x private.0) ∙ next_private i seen e x private.0 in (
         InPrivate i e (map lower (p ∷ ps)),
         run_begun after s (InPrivate i e []) _ x (p ∷ ps) opening (own_runs i e [] (p ∷ ps) private.2),
-        ap (λ l. Some (record { front = i; blocks = e; own = l })) private.3,
+        ap (λ l. Some (record { language = i; extensions = e; private_use = l })) private.3,
       )
 
   only : (ps : List Text) (m : Whole I E) → Meant ps m → Ends (InFront start) ps m
   only ps m a =
-      let r = sound.front.only a.front m.front a.meant in
-      let done : IsDone (InFront r.0) m.front [] none = (r.2, refl, refl) in
-      let bs = blocks_run a.blocks (InFront r.0) m.front [] none done a.each a.apart in
-      let w = private_runs a.last m.own bs.0 m.front (map block_key a.blocks) (blocks_meaning put none a.blocks) bs.2 a.private in
+      let r = sound.front.only a.front m.language a.meant in
+      let done : IsDone (InFront r.0) m.language [] none = (r.2, refl, refl) in
+      let bs = blocks_run a.blocks (InFront r.0) m.language [] none done a.each a.apart in
+      let w = private_runs a.last m.private_use bs.0 m.language (map block_key a.blocks) (blocks_meaning put none a.blocks) bs.2 a.private in
       let back : run after (Some (InFront r.0)) (flat_map spelled_block a.blocks ++ a.last) ≡ Some w.0 = run_joined after (InFront r.0) bs.0 _ (flat_map spelled_block a.blocks) a.last bs.1 w.1 in
       let whole : run after (Some (InFront start)) (a.front ++ (flat_map spelled_block a.blocks ++ a.last)) ≡ Some w.0 =
       run_joined after (InFront start) (InFront r.0) _ a.front (flat_map spelled_block a.blocks ++ a.last) (front_runs start r.0 a.front r.1) back in
-      (w.0, subst (λ l. run after (Some (InFront start)) l ≡ Some w.0) a.parts whole, w.2 ∙ ap (λ x. Some (record { front = m.front; blocks = x; own = m.own })) a.together)
+      (w.0, subst (λ l. run after (Some (InFront start)) l ≡ Some w.0) a.parts whole, w.2 ∙ ap (λ x. Some (record { language = m.language; extensions = x; private_use = m.private_use })) a.together)
 
   -- ---- each stage goes on to some end
 
   in_block_goes_on : (i : I) (seen : List Text) (e : E) (k : Text) (b : B) → (more : List Text) × (t : Stage) × (m : Whole I E) × (run after (Some (InBlock i seen e k b)) more ≡ Some t) × (ends t ≡ Some m)
   in_block_goes_on i seen e k b =
       let w = sound.body_goes_on b in
-      (w.0, InBlock i seen e k w.1, record { front = i; blocks = put k w.2 e; own = [] }, body_runs i seen e k b w.1 w.0 w.3, ap (option_map (λ v. record { front = i; blocks = put k v e; own = [] })) w.4)
+      (w.0, InBlock i seen e k w.1, record { language = i; extensions = put k w.2 e; private_use = [] }, body_runs i seen e k b w.1 w.0 w.3, ap (option_map (λ v. record { language = i; extensions = put k v e; private_use = [] })) w.4)
 
   goes_on : CanEnd after ends
   goes_on (InFront l) =
       let w = sound.front.goes_on l in
-      (w.0, InFront w.1, record { front = w.2; blocks = none; own = [] }, front_runs l w.1 w.0 w.3, ap (option_map (λ x. record { front = x; blocks = none; own = [] })) w.4)
+      (w.0, InFront w.1, record { language = w.2; extensions = none; private_use = [] }, front_runs l w.1 w.0 w.3, ap (option_map (λ x. record { language = x; extensions = none; private_use = [] })) w.4)
   goes_on (AtBlock i seen e k b) =
       let f = sound.body_begins b in
       let w = in_block_goes_on i seen e k f.1 in
@@ -181,8 +181,8 @@ module _ {L I E B V : Type 0} (step_front : L → Text → Option L) (start : L)
   goes_on (InBlock i seen e k b) = in_block_goes_on i seen e k b
   goes_on (InPrivate i e []) =
       let o = sound.some_own in
-      (o.0 ∷ [], InPrivate i e (lower o.0 ∷ []), record { front = i; blocks = e; own = lower o.0 ∷ [] }, run_begun after (InPrivate i e []) (InPrivate i e (lower o.0 ∷ [])) _ o.0 [] (own_steps i e [] o.0 o.1) refl, refl)
-  goes_on (InPrivate i e (w ∷ ws)) = ([], InPrivate i e (w ∷ ws), record { front = i; blocks = e; own = w ∷ ws }, refl, refl)
+      (o.0 ∷ [], InPrivate i e (lower o.0 ∷ []), record { language = i; extensions = e; private_use = lower o.0 ∷ [] }, run_begun after (InPrivate i e []) (InPrivate i e (lower o.0 ∷ [])) _ o.0 [] (own_steps i e [] o.0 o.1) refl, refl)
+  goes_on (InPrivate i e (w ∷ ws)) = ([], InPrivate i e (w ∷ ws), record { language = i; extensions = e; private_use = w ∷ ws }, refl, refl)
 
   pub whole_reader : IsReader after (InFront start) ends Meant
   whole_reader = record { found = whole_found step_front start front_ends MeansFront step_body body_ends opens MeansBody put none is_x is_own sound; only = only; goes_on = goes_on }

@@ -10,7 +10,7 @@ use Rattle.icu_locale_core_grammar.specs.FaultyPiece.{HasFault}
 use Rattle.icu_locale_core_grammar.specs.TagPreferences.{DataLocaleMeaning, data_meaning, locale_preferences_of, language_priority}
 
 abbrev pub HasOneVariant : TagMeaning → Type 0
-HasOneVariant m = length m.front.variants ≤ 1
+HasOneVariant m = length m.language.variants ≤ 1
 
 -- the tag is its own data locale: nothing else is said
 abbrev pub IsDataTag : TagMeaning → Type 0

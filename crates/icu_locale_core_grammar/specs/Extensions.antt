@@ -73,11 +73,11 @@ abbrev pub IsPrivatePart : (Text → Bool) → (Text → Bool) → List Text →
 IsPrivatePart is_x is_own [] own = own ≡ []
 IsPrivatePart is_x is_own (x ∷ ps) own = (is_x x ≡ true) × (ps ≢ []) × Each is_own ps × (map lower ps ≡ own)
 
--- the meaning of a front, blocks and a private part
+-- the meaning of a whole tag: of its language part, its extensions and its private part
 pub record Whole (I E : Type 0) : Type 0 where
-  pub front : I
-  pub blocks : E
-  pub own : List Text
+  pub language : I
+  pub extensions : E
+  pub private_use : List Text
 
 -- these pieces are a front, blocks with singletons that differ, and a private part or none, and they mean `m`
 pub record MeansWhole {I V E : Type 0} (MeansFront : List Text → I → Type 0) (MeansBody : Text → List Text → V → Type 0)
@@ -86,8 +86,8 @@ pub record MeansWhole {I V E : Type 0} (MeansFront : List Text → I → Type 0)
   pub blocks : List (Block V)
   pub last : List Text
   pub parts : front ++ (flat_map spelled_block blocks ++ last) ≡ ps
-  pub meant : MeansFront front m.front
+  pub meant : MeansFront front m.language
   pub each : AllByRecursion (IsBlock MeansBody) blocks
   pub apart : AreApart (map block_key blocks)
-  pub together : blocks_meaning put none blocks ≡ m.blocks
-  pub private : IsPrivatePart is_x is_own last m.own
+  pub together : blocks_meaning put none blocks ≡ m.extensions
+  pub private : IsPrivatePart is_x is_own last m.private_use

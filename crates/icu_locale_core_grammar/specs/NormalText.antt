@@ -71,7 +71,7 @@ block_pieces bs = flat_map spelled_block bs
 
 -- the pieces of a whole tag
 abbrev pub normal : TagMeaning → List Text
-normal m = language_pieces m.front ++ (block_pieces (blocks_of m.blocks) ++ private_pieces m.own)
+normal m = language_pieces m.language ++ (block_pieces (blocks_of m.extensions) ++ private_pieces m.private_use)
 
 -- the text of a whole tag
 abbrev pub normal_text : TagMeaning → Text

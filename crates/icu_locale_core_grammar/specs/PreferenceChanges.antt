@@ -40,9 +40,9 @@ preference_entries p = keyword_of override_key p.region_override ++ keyword_of s
 
 abbrev pub preference_tag : LocalePreferencesMeaning → TagMeaning
 preference_tag p = record {
-  front = record { language = p.language; script = p.script; region = p.region; variants = option_to_list p.variant };
-  blocks = record { unicode = record { head = []; entries = preference_entries p }; transform = no_transform; others = [] };
-  own = [];
+  language = record { language = p.language; script = p.script; region = p.region; variants = option_to_list p.variant };
+  extensions = record { unicode = record { head = []; entries = preference_entries p }; transform = no_transform; others = [] };
+  private_use = [];
 }
 
 -- ---- strictly: a keyword that is there reads
@@ -55,4 +55,4 @@ fails_numbering es = is_some (value_at numbering_key es) && is_none (keyword_pie
 
 -- an `sd` or an `rg` that does not read
 abbrev pub fails_strictly : TagMeaning → Bool
-fails_strictly m = fails_subdivision subdivision_key m.blocks.unicode.entries || fails_subdivision override_key m.blocks.unicode.entries
+fails_strictly m = fails_subdivision subdivision_key m.extensions.unicode.entries || fails_subdivision override_key m.extensions.unicode.entries

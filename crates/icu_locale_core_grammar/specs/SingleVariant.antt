@@ -11,6 +11,7 @@ use Rattle.icu_locale_core_grammar.specs.LanguagePart.{LanguageId, MeansLanguage
 use Rattle.icu_locale_core_grammar.specs.Collections.{Entry}
 use Rattle.icu_locale_core_grammar.specs.Meaning.{TagMeaning, no_transform}
 use Rattle.icu_locale_core_grammar.specs.FaultyPiece.{StopsAt}
+use Rattle.icu_locale_core_grammar.specs.TagPreferences.{least_of}
 use Rattle.icu_locale_core_grammar.specs.TagStages.{language_after}
 
 -- ---- meaning
@@ -48,9 +49,9 @@ keyword_entries (Some k) = (k.0, option_to_list k.1) ∷ []
 
 abbrev pub single_tag : SingleMeaning → TagMeaning
 single_tag m = record {
-  front = record { language = m.language; script = m.script; region = m.region; variants = option_to_list m.variant };
-  blocks = record { unicode = record { head = []; entries = keyword_entries m.keyword }; transform = no_transform; others = [] };
-  own = [];
+  language = record { language = m.language; script = m.script; region = m.region; variants = option_to_list m.variant };
+  extensions = record { unicode = record { head = []; entries = keyword_entries m.keyword }; transform = no_transform; others = [] };
+  private_use = [];
 }
 
 -- ---- faults
@@ -101,12 +102,8 @@ single_after (BehindUnicode id) p = if is_key p then Some (BehindKey id (lower p
 single_after (BehindKey id k) p = if is_value p then Some (BehindValue id k (piece_meaning p)) else None
 single_after (BehindValue id k v) p = None
 
-abbrev pub first_variant : List Text → Option Text
-first_variant [] = None
-first_variant (t ∷ ts) = Some t
-
 abbrev pub single_of : LanguageId → Option (Text × Option Text) → SingleMeaning
-single_of id keyword = record { language = id.language; script = id.script; region = id.region; variant = first_variant id.variants; keyword = keyword }
+single_of id keyword = record { language = id.language; script = id.script; region = id.region; variant = least_of id.variants; keyword = keyword }
 
 abbrev pub single_ends : SingleStage → Option SingleMeaning
 single_ends (InLanguage None) = None

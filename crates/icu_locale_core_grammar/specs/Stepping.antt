@@ -100,12 +100,12 @@ module _ {L I E B V : Type 0} (step_front : L → Text → Option L) (front_ends
 -- the meaning of a private part with at least one piece
 abbrev pub private_ends : {I E : Type 0} → I → E → List Text → Option (Whole I E)
 private_ends i e [] = None
-private_ends i e (w ∷ ws) = Some (record { front = i; blocks = e; own = w ∷ ws })
+private_ends i e (w ∷ ws) = Some (record { language = i; extensions = e; private_use = w ∷ ws })
 
 abbrev pub whole_ends : {L I E B V : Type 0} → (L → Option I) → (B → Option V) → (Text → V → E → E) → E → WholeStage L I E B → Option (Whole I E)
-whole_ends front_ends body_ends put none (InFront l) = option_map (λ i. record { front = i; blocks = none; own = [] }) (front_ends l)
+whole_ends front_ends body_ends put none (InFront l) = option_map (λ i. record { language = i; extensions = none; private_use = [] }) (front_ends l)
 whole_ends front_ends body_ends put none (AtBlock i seen e k b) = None
-whole_ends front_ends body_ends put none (InBlock i seen e k b) = option_map (λ v. record { front = i; blocks = put k v e; own = [] }) (body_ends b)
+whole_ends front_ends body_ends put none (InBlock i seen e k b) = option_map (λ v. record { language = i; extensions = put k v e; private_use = [] }) (body_ends b)
 whole_ends front_ends body_ends put none (InPrivate i e own) = private_ends i e own
 
 -- ---- the fault at a stage

@@ -43,10 +43,10 @@ transform_cmp a b = then_cmp (on (λ t. t.head) (option_cmp language_cmp)) (on (
 -- `u`, `t`, the private pieces, and then the others
 abbrev pub tag_cmp : TagMeaning → TagMeaning → Ordering
 tag_cmp a b =
-    then_cmp (on (λ m. m.front) language_cmp)
-    (then_cmp (on (λ m. m.blocks.unicode) unicode_cmp)
-    (then_cmp (on (λ m. m.blocks.transform) transform_cmp)
-    (then_cmp (on (λ m. m.own) texts_cmp) (on (λ m. m.blocks.others) entries_cmp)))) a b
+    then_cmp (on (λ m. m.language) language_cmp)
+    (then_cmp (on (λ m. m.extensions.unicode) unicode_cmp)
+    (then_cmp (on (λ m. m.extensions.transform) transform_cmp)
+    (then_cmp (on (λ m. m.private_use) texts_cmp) (on (λ m. m.extensions.others) entries_cmp)))) a b
 
 -- region, then suffix
 abbrev pub subdivision_cmp : Subdivision → Subdivision → Ordering

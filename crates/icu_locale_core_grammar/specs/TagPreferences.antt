@@ -56,6 +56,7 @@ override_key = codes "rg"
 abbrev pub subdivision_key : Text
 subdivision_key = codes "sd"
 
+-- the first of variants, which rise, and so the least
 abbrev pub least_of : List Text → Option Text
 least_of [] = None
 least_of (t ∷ ts) = Some t
@@ -83,16 +84,16 @@ keyword_subdivision key es = option_and_then subdivision_of (keyword_piece key e
 
 abbrev pub locale_preferences_of : TagMeaning → LocalePreferencesMeaning
 locale_preferences_of m = record {
-  language = m.front.language;
-  script = m.front.script;
-  region = m.front.region;
-  variant = least_of m.front.variants;
-  subdivision = keyword_subdivision subdivision_key m.blocks.unicode.entries;
-  region_override = keyword_subdivision override_key m.blocks.unicode.entries;
+  language = m.language.language;
+  script = m.language.script;
+  region = m.language.region;
+  variant = least_of m.language.variants;
+  subdivision = keyword_subdivision subdivision_key m.extensions.unicode.entries;
+  region_override = keyword_subdivision override_key m.extensions.unicode.entries;
 }
 
 abbrev pub preferences_of : TagMeaning → Preferences
-preferences_of m = record { locale = locale_preferences_of m; numbering_system = keyword_piece numbering_key m.blocks.unicode.entries }
+preferences_of m = record { locale = locale_preferences_of m; numbering_system = keyword_piece numbering_key m.extensions.unicode.entries }
 
 -- ---- the locale that data is asked for
 
@@ -122,7 +123,7 @@ subdivision_entries (Some s) = (subdivision_key, subdivision_text s ∷ []) ∷ 
 -- a data locale as a tag
 abbrev pub data_meaning : DataLocaleMeaning → TagMeaning
 data_meaning d = record {
-  front = record { language = d.language; script = d.script; region = d.region; variants = option_to_list d.variant };
-  blocks = record { unicode = record { head = []; entries = subdivision_entries d.subdivision }; transform = no_transform; others = [] };
-  own = [];
+  language = record { language = d.language; script = d.script; region = d.region; variants = option_to_list d.variant };
+  extensions = record { unicode = record { head = []; entries = subdivision_entries d.subdivision }; transform = no_transform; others = [] };
+  private_use = [];
 }

@@ -62,6 +62,6 @@ pub record AreNormalExtensions (e : ExtensionMeanings) : Type 0 where
   pub others : AreNormalOthers e.others
 
 pub record IsNormalTag (m : TagMeaning) : Type 0 where
-  pub language : IsNormalLanguage m.front
-  pub extensions : AreNormalExtensions m.blocks
-  pub own : AreLower is_private_piece m.own
+  pub language : IsNormalLanguage m.language
+  pub extensions : AreNormalExtensions m.extensions
+  pub own : AreLower is_private_piece m.private_use

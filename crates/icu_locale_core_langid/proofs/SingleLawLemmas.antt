@@ -8,7 +8,8 @@ use Rattle.icu_locale_core_grammar.specs.FaultyPiece.{StopsAt, HasFault}
 use Rattle.icu_locale_core_grammar.specs.PartialReading.{ReadsFront}
 use Rattle.icu_locale_core_grammar.specs.Stepping.{run}
 use Rattle.icu_locale_core_grammar.specs.TagStages.{has_none}
-use Rattle.icu_locale_core_grammar.specs.SingleVariant.{SingleMeaning, MeansKeyword, HasSingleFault, single_name, has_short, first_variant, single_of}
+use Rattle.icu_locale_core_grammar.specs.SingleVariant.{SingleMeaning, MeansKeyword, HasSingleFault, single_name, has_short, single_of}
+use Rattle.icu_locale_core_grammar.specs.TagPreferences.{least_of}
 use Rattle.icu_locale_core_grammar.proofs.Runs as runs
 use Rattle.icu_locale_core_grammar.proofs.FaultyPieceLemmas as faults
 use Rattle.icu_locale_core_grammar.proofs.PartialReadingLemmas.{one_front_meaning}
@@ -24,12 +25,12 @@ use Rattle.icu_locale_core_langid.proofs.SingleFrontLemmas.{StopsWith, front_lef
 
 -- ---- a language part of one variant, and a meaning without a keyword
 
-short_same : (vs : List Text) → has_short vs ≡ true → option_to_list (first_variant vs) ≡ vs
+short_same : (vs : List Text) → has_short vs ≡ true → option_to_list (least_of vs) ≡ vs
 short_same [] e = refl
 short_same (v ∷ []) e = refl
 short_same (v ∷ w ∷ ws) e = cc
 
-first_again : (v : Option Text) → first_variant (option_to_list v) ≡ v
+first_again : (v : Option Text) → least_of (option_to_list v) ≡ v
 first_again None = refl
 first_again (Some v) = refl
 

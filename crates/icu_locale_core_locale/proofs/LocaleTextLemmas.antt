@@ -14,12 +14,12 @@ use Rattle.icu_locale_core_locale.specs.LocaleText.{locale_tail, locale_events}
 
 module _ (m : TagMeaning) where
   abbrev behind_language : List Text
-  behind_language = option_to_list m.front.script ++ (option_to_list m.front.region ++ m.front.variants)
+  behind_language = option_to_list m.language.script ++ (option_to_list m.language.region ++ m.language.variants)
 
-  text_joined : normal_text m ≡ language_text m.front ++ locale_tail m
+  text_joined : normal_text m ≡ language_text m.language ++ locale_tail m
   text_joined =
-      ap (λ l. m.front.language ++ l) (flat_map-append hyphened behind_language (extension_pieces m.blocks m.own))
-      ∙ sym (append_assoc m.front.language (flat_map hyphened behind_language) (locale_tail m))
+      ap (λ l. m.language.language ++ l) (flat_map-append hyphened behind_language (extension_pieces m.extensions m.private_use))
+      ∙ sym (append_assoc m.language.language (flat_map hyphened behind_language) (locale_tail m))
 
   pub locale_joined : bytes (normal_text m) ≡ locale_events m
-  locale_joined = ap bytes text_joined ∙ bytes_joined (language_text m.front) (locale_tail m)
+  locale_joined = ap bytes text_joined ∙ bytes_joined (language_text m.language) (locale_tail m)

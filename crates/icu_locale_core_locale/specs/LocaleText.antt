@@ -11,8 +11,8 @@ use Rattle.icu_locale_core_extensions.specs.ExtensionText.{extension_pieces}
 
 -- what stands behind the language part
 abbrev pub locale_tail : TagMeaning → Text
-locale_tail m = flat_map hyphened (extension_pieces m.blocks m.own)
+locale_tail m = flat_map hyphened (extension_pieces m.extensions m.private_use)
 
 -- the text, a part at a time
 abbrev pub locale_events : TagMeaning → List Event
-locale_events m = bytes (language_text m.front) ++ bytes (locale_tail m)
+locale_events m = bytes (language_text m.language) ++ bytes (locale_tail m)

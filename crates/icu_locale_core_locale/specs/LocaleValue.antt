@@ -11,7 +11,7 @@ pub use Rattle.icu_locale_core_locale.specs.SameLocaleLaws.{locale_decides}
 
 -- a language part without extensions
 abbrev pub language_alone : LanguageId → TagMeaning
-language_alone id = record { front = id; blocks = no_extensions; own = [] }
+language_alone id = record { language = id; extensions = no_extensions; private_use = [] }
 
 -- the language `und` alone
 abbrev pub unknown_locale : TagMeaning

@@ -11,10 +11,10 @@ use Rattle.icu_locale_core_extensions.specs.SameExtension.{same_extensions, exte
 
 -- all but the language part
 abbrev pub extensions_of : TagMeaning → ExtensionsValue
-extensions_of m = record { blocks = m.blocks; own = m.own }
+extensions_of m = record { blocks = m.extensions; own = m.private_use }
 
 abbrev pub same_locale : TagMeaning → TagMeaning → Bool
-same_locale a b = same_language a.front b.front && same_extensions (extensions_of a) (extensions_of b)
+same_locale a b = same_language a.language b.language && same_extensions (extensions_of a) (extensions_of b)
 
 -- `==` holds exactly of equal locales
 abbrev pub SameIsEqual : Type 0
@@ -22,4 +22,4 @@ SameIsEqual = (a b : TagMeaning) → (same_locale a b ≡ true) ↔ (a ≡ b)
 
 -- what a hasher is fed
 abbrev pub locale_fed : TagMeaning → fed.HashWrites
-locale_fed m = language_fed m.front ++ extensions_fed (extensions_of m)
+locale_fed m = language_fed m.language ++ extensions_fed (extensions_of m)

@@ -12,14 +12,14 @@ use Rattle.icu_locale_core_extensions.specs.SameExtensionLaws.{extensions_equiv,
 use Rattle.icu_locale_core_locale.specs.SameLocale.{same_locale, extensions_of, locale_fed}
 
 pub locale_equiv : IsEquivalence same_locale
-locale_equiv = and_equiv (on_equiv (λ (m : TagMeaning). m.front) same_equiv) (on_equiv extensions_of extensions_equiv)
+locale_equiv = and_equiv (on_equiv (λ (m : TagMeaning). m.language) same_equiv) (on_equiv extensions_of extensions_equiv)
 
 locale_equal : (a b : TagMeaning) → same_locale a b ≡ true → a ≡ b
 locale_equal a b e =
-    let parts = and_parts (same_language a.front b.front) (same_extensions (extensions_of a) (extensions_of b)) e in
-    let front : a.front ≡ b.front = (same_decides a.front b.front).0 parts.0 in
+    let parts = and_parts (same_language a.language b.language) (same_extensions (extensions_of a) (extensions_of b)) e in
+    let front : a.language ≡ b.language = (same_decides a.language b.language).0 parts.0 in
     let behind : extensions_of a ≡ extensions_of b = (extensions_decide (extensions_of a) (extensions_of b)).0 parts.1 in
-    λ i. record { front = front i; blocks = (behind i).blocks; own = (behind i).own }
+    λ i. record { language = front i; extensions = (behind i).blocks; private_use = (behind i).own }
 
 -- equal exactly where each part is the same
 pub locale_decides : (a b : TagMeaning) → Decides (same_locale a b) (a ≡ b)

@@ -34,7 +34,7 @@ impl Model for Locale {
 
     ghost Value = { TagMeaning };
 
-    ghost view = { λ l. record { front = l.id; blocks = l.extensions.blocks; own = l.extensions.own } };
+    ghost view = { λ l. record { language = l.id; extensions = l.extensions.blocks; private_use = l.extensions.own } };
 }
 
 impl Locale {
@@ -92,7 +92,7 @@ impl Locale {
 
     /// An equal locale. `AllocError` is answered for memory alone, and without a variant and an extension none is taken.
     pub fn try_clone(&self) -> Result<Self, AllocError>
-        ensures succeeds { self.now.front.variants ≡ [] → extensions_of self.now ≡ nothing → IsOk result }
+        ensures succeeds { self.now.language.variants ≡ [] → extensions_of self.now ≡ nothing → IsOk result }
         ensures value { IfOk result (λ locale. locale ≡ self.now) }
     {
         let id = self.id.try_clone()?;
@@ -126,7 +126,7 @@ impl Locale {
 impl AsRef<LanguageIdentifier> for Locale {
     /// The language part: of `en-US-u-nu-thai` it is `en-US`.
     fn as_ref(&self) -> &LanguageIdentifier
-        ensures { result.now ≡ self.now.front }
+        ensures { result.now ≡ self.now.language }
     {
         &self.id
     }

@@ -32,14 +32,14 @@ pub trait TryFromLocaleBytes {
 }
 
 impl TryFromLocaleBytes for LanguageIdentifier {
-    ghost part = { λ m. m.front };
+    ghost part = { λ m. m.language };
 
     /// The language part of the tag that these bytes are: of `en-US-u-nu-thai` it is `en-US`.
     ///
     /// The extensions are read too: `en-u` is `InvalidExtension`. It refuses as `Locale::try_from_utf8` does, and takes memory
     /// only for variants and extensions.
     fn try_from_locale_bytes(alloc: Global, v: &[u8]) -> Result<Self, ParseError>
-        ensures value { IfOk result (λ id. (m : TagMeaning) × MeansTag (pieces v.now) m × (id ≡ m.front)) }
+        ensures value { IfOk result (λ id. (m : TagMeaning) × MeansTag (pieces v.now) m × (id ≡ m.language)) }
         ensures fault { IfErr result (λ e. (e ≡ ParseError.Memory) ⊎ HasFault MeansTag (pieces v.now) e) }
         ensures room { tag_may_grow (pieces v.now) ≡ false → ¬ (IsErrOf result ParseError.Memory) }
     {

@@ -147,9 +147,9 @@ pub preferences_are_held : PreferencesAreHeld
 preferences_are_held p n none =
     let entries = entries_held p.region_override p.subdivision none.region_override none.subdivision in
     let tag : held_tag (preference_tag p) ≡ preference_tag p = λ i. record {
-      front = (preference_tag p).front;
-      blocks = record { unicode = record { head = []; entries = entries i }; transform = no_transform; others = [] };
-      own = [];
+      language = (preference_tag p).language;
+      extensions = record { unicode = record { head = []; entries = entries i }; transform = no_transform; others = [] };
+      private_use = [];
     } in
     record { whole = tag; back = ap locale_preferences_of tag ∙ preferences_read_back p n.data_locale.subdivision n.region_override }
 
@@ -161,9 +161,9 @@ pub data_is_held : DataIsHeld
 data_is_held d n none =
     let entries = data_entries_held d.subdivision none in
     let tag : held_tag (data_meaning d) ≡ data_meaning d = λ i. record {
-      front = (data_meaning d).front;
-      blocks = record { unicode = record { head = []; entries = entries i }; transform = no_transform; others = [] };
-      own = [];
+      language = (data_meaning d).language;
+      extensions = record { unicode = record { head = []; entries = entries i }; transform = no_transform; others = [] };
+      private_use = [];
     } in
     record { whole = tag; back = ap (λ m. language_priority (locale_preferences_of m)) tag ∙ data_locale_is_itself d n.subdivision }
 
@@ -217,4 +217,4 @@ module _ (key : Text) where
 pub tags_hold_no_true : TagsHoldNoTrue
 tags_hold_no_true text m a =
     let each = (meaning_normal (pieces text) m a).extensions.unicode.keywords.each in
-    record { subdivision = keyword_not_true subdivision_key m.blocks.unicode.entries each; region_override = keyword_not_true override_key m.blocks.unicode.entries each }
+    record { subdivision = keyword_not_true subdivision_key m.extensions.unicode.entries each; region_override = keyword_not_true override_key m.extensions.unicode.entries each }

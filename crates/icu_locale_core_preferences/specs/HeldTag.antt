@@ -14,13 +14,13 @@ held_entry e = (e.0, without_true e.1)
 
 abbrev pub held_tag : TagMeaning → TagMeaning
 held_tag m = record {
-  front = m.front;
-  blocks = record {
-    unicode = record { head = m.blocks.unicode.head; entries = map held_entry m.blocks.unicode.entries };
-    transform = m.blocks.transform;
-    others = m.blocks.others;
+  language = m.language;
+  extensions = record {
+    unicode = record { head = m.extensions.unicode.head; entries = map held_entry m.extensions.unicode.entries };
+    transform = m.extensions.transform;
+    others = m.extensions.others;
   };
-  own = m.own;
+  private_use = m.private_use;
 }
 
 -- the subdivision is `true`, the region TR with the suffix ue

@@ -5,9 +5,9 @@ ghost use Rattle.icu_locale_core_grammar.specs.TagPreferences.{locale_preference
 ghost use Rattle.icu_locale_core_preferences.specs.DataLocales.{language_data, triple_data, unknown_data};
 
 use crate::locale_preferences::LocalePreferences;
-use icu_locale_core_keywords::SubdivisionId;
 use icu_locale_core_langid::LanguageIdentifier;
 use icu_locale_core_locale::Locale;
+use icu_locale_core_preference_keywords::SubdivisionId;
 use icu_locale_core_subtags::{Language, Region, Script, Variant};
 use std::marker::Model;
 

@@ -7,7 +7,7 @@ ghost use Rattle.icu_locale_core_preferences.specs.Laws.{IsNormalData, IsNormalP
 
 use crate::data_locale::DataLocale;
 use crate::locale_preferences::LocalePreferences;
-use icu_locale_core_keywords::SubdivisionId;
+use icu_locale_core_preference_keywords::SubdivisionId;
 use icu_locale_core_subtags::laws::subtags_are_words;
 use icu_locale_core_subtags::{SubtagOf, SubtagRule};
 

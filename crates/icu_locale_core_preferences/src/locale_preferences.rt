@@ -4,16 +4,16 @@ ghost use Rattle.std.specs.Prelude.{◌≡◌, true, false, MatchResult};
 ghost use Rattle.icu_locale_core_grammar.specs.TagPreferences.{locale_preferences_of, language_priority, region_priority};
 ghost use Rattle.icu_locale_core_grammar.specs.PreferenceChanges.{fails_strictly};
 ghost use Rattle.icu_locale_core_grammar.specs.PreferenceLaws.{no_preferences};
-ghost use Rattle.icu_locale_core_keywords.specs.declared.error.PreferencesParseError.{PreferencesParseError};
+ghost use Rattle.icu_locale_core_preference_keywords.specs.declared.error.PreferencesParseError.{PreferencesParseError};
 ghost use Rattle.icu_locale_core_preferences.specs.DataLocales.{language_preferences};
 
 use crate::data_locale::DataLocale;
 use crate::keywords::{fails_in, override_in, subdivision_in};
-use icu_locale_core_keywords::{
-    PreferencesParseError, RegionOverride, RegionalSubdivision, SubdivisionId,
-};
 use icu_locale_core_langid::LanguageIdentifier;
 use icu_locale_core_locale::Locale;
+use icu_locale_core_preference_keywords::{
+    PreferencesParseError, RegionOverride, RegionalSubdivision, SubdivisionId,
+};
 use icu_locale_core_subtags::{Language, Region, Script, Variant};
 use std::marker::Model;
 

@@ -8,7 +8,7 @@ ghost use Rattle.icu_locale_core_grammar.specs.TagPreferences.{subdivision_text}
 ghost use Rattle.icu_locale_core_preferences.specs.DataText.{data_text, piece_tail, keyword_head, subdivision_tail, data_events};
 
 use crate::data_locale::DataLocale;
-use icu_locale_core_keywords::SubdivisionId;
+use icu_locale_core_preference_keywords::SubdivisionId;
 use icu_locale_core_subtags::laws::subtags_are_words;
 use icu_locale_core_subtags::{SubtagOf, SubtagRule};
 use std::fmt;

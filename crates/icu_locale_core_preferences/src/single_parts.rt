@@ -7,10 +7,10 @@ ghost use Rattle.icu_locale_core_langid.specs.SingleModes.{single};
 
 use crate::keywords::key_of;
 use crate::locale_preferences::LocalePreferences;
-use icu_locale_core_keywords::{
+use icu_locale_core_langid::single::SingleParts;
+use icu_locale_core_preference_keywords::{
     NumberingSystem, PreferenceKey, RegionOverride, RegionalSubdivision, SubdivisionId,
 };
-use icu_locale_core_langid::single::SingleParts;
 use icu_locale_core_subtags::Subtag;
 use icu_locale_core_subtags::unicode::Key;
 

@@ -30,14 +30,14 @@ fn system_at(keywords: &Keywords, key: &Key) -> Option<NumberingSystem>
 
 // The numbering system of the locale: the value of `nu`, where that is one subtag.
 pub(crate) fn system_of(locale: &Locale) -> Option<NumberingSystem>
-    ensures { result ≡ keyword_piece numbering_key locale.now.blocks.unicode.entries }
+    ensures { result ≡ keyword_piece numbering_key locale.now.extensions.unicode.entries }
 {
     system_at(&locale.extensions.unicode.keywords, &key_of_numbering())
 }
 
 // Whether `nu` is there, and does not read.
 pub(crate) fn fails_at_numbering(locale: &Locale) -> bool
-    ensures { result ≡ fails_numbering locale.now.blocks.unicode.entries }
+    ensures { result ≡ fails_numbering locale.now.extensions.unicode.entries }
 {
     let keywords = &locale.extensions.unicode.keywords;
     let key = key_of_numbering();
