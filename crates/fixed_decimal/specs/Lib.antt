@@ -16,6 +16,7 @@ pub mod WholeNumbers
 pub use Rattle.fixed_decimal_unsigned.specs.Concatenation
 pub use Rattle.fixed_decimal_unsigned.specs.Equality
 pub use Rattle.fixed_decimal_unsigned.specs.ErrorNumbers
+pub use Rattle.fixed_decimal_unsigned.specs.GivenDigits
 pub use Rattle.fixed_decimal_unsigned.specs.Integers
 pub use Rattle.fixed_decimal_unsigned.specs.Laws
 pub use Rattle.fixed_decimal_unsigned.specs.NonzeroPlaces

@@ -27,8 +27,8 @@ pub use compact::CompactDecimal;
 pub use decimal::Decimal;
 pub use error::LimitError;
 pub use fixed_decimal_unsigned::{
-    ConcatenateError, ParseError, RoundingIncrement, ShownDigits, Turns, UnsignedDecimal,
-    UnsignedRoundingMode,
+    ConcatenateError, GivenDigits, ParseError, RoundingIncrement, ShownDigits, Turns,
+    UnsignedDecimal, UnsignedRoundingMode,
 };
 pub use integer::FixedInteger;
 pub use modes::SignedRoundingMode;

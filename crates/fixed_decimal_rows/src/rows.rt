@@ -1,5 +1,5 @@
 use crate::stop::Stop;
-use crate::{counted, errors, number, runs};
+use crate::{counted, errors, number, one_byte, runs};
 use fixed_decimal::{CompactDecimal, Decimal, FixedInteger, ScientificDecimal, UnsignedDecimal};
 use std::alloc::{AllocError, Global};
 
@@ -14,6 +14,7 @@ fn answer_by(alloc: Global, kind: &str, fields: &[&str]) -> Result<String, Stop>
         "run_calls" => runs::answer(alloc, fields),
         "run_calls_in_room" => runs::answer_in_room(alloc, fields),
         "expand_byte" => counted::byte_answer(alloc, fields),
+        "differ_from_one_byte" => one_byte::answer(alloc, fields),
         _ => errors::answer(alloc, kind, fields),
     }
 }

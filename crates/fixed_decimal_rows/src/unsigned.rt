@@ -2,7 +2,7 @@ use crate::number::Number;
 use crate::rounding::Rounding;
 use crate::step::{Step, number_of, split_word, unescaped};
 use crate::stop::Stop;
-use crate::{concatenation, in_place, integers};
+use crate::{concatenation, given, in_place, integers};
 use fixed_decimal::{ParseError, UnsignedDecimal, UnsignedRoundingMode};
 use std::alloc::{AllocError, Global};
 use writeable::Writeable;
@@ -95,6 +95,7 @@ impl Number for UnsignedDecimal {
                 let bytes = unescaped(alloc, step.passed)?;
                 Ok(UnsignedDecimal::try_from_utf8(alloc, bytes.as_slice())?)
             }
+            "given_digits" => given::number(alloc, step.passed),
             _ => integers::unsigned(alloc, step),
         }
     }

@@ -34,7 +34,7 @@ behind_length zeros es = length-append (replicate zeros 0) es ∙ ap (λ k. k + 
 pub joined_length : (ds es : List ℕ) (zeros : ℕ) → length (joined ds zeros es) ≡ length ds + (zeros + length es)
 joined_length ds es zeros = length-append ds (replicate zeros 0 ++ es) ∙ ap (λ k. length ds + k) (behind_length zeros es)
 
-joined_number : (ds es : List ℕ) (zeros : ℕ) → number_from_digits 10 (joined ds zeros es) ≡ number_from_digits 10 ds * 10 ^ (zeros + length es) + number_from_digits 10 es
+pub joined_number : (ds es : List ℕ) (zeros : ℕ) → number_from_digits 10 (joined ds zeros es) ≡ number_from_digits 10 ds * 10 ^ (zeros + length es) + number_from_digits 10 es
 joined_number ds es zeros =
     number_joined ds (replicate zeros 0 ++ es) ∙ ap (λ k. number_from_digits 10 ds * 10 ^ k + number_from_digits 10 (replicate zeros 0 ++ es)) (behind_length zeros es)
     ∙ ap (λ n. number_from_digits 10 ds * 10 ^ (zeros + length es) + n) (zeros_before zeros es)
@@ -51,11 +51,11 @@ joined_count ds es top u zeros l at =
     ∙ shared (number_from_digits 10 ds) (number_from_digits 10 es) (10 ^ (zeros + length es)) (10 ^ (u + 1 - length es)) (10 ^ (top + 1 - length ds))
     (tens_split (zeros + length es) (u + 1 - length es) (top + 1 - length ds) (omega arith))
 
-zeros_below : (zeros : ℕ) (es : List ℕ) → AllBelowBase 10 es → AllBelowBase 10 (replicate zeros 0 ++ es)
+pub zeros_below : (zeros : ℕ) (es : List ℕ) → AllBelowBase 10 es → AllBelowBase 10 (replicate zeros 0 ++ es)
 zeros_below zero es h = h
 zeros_below (suc n) es h = (omega arith, zeros_below n es h)
 
-below_joined : (ds es : List ℕ) → AllBelowBase 10 ds → AllBelowBase 10 es → AllBelowBase 10 (ds ++ es)
+pub below_joined : (ds es : List ℕ) → AllBelowBase 10 ds → AllBelowBase 10 es → AllBelowBase 10 (ds ++ es)
 below_joined [] es h k = k
 below_joined (d ∷ ds) es h k = (h.0, below_joined ds es h.1 k)
 

@@ -21,6 +21,7 @@ pub mod EqualityLemmas
 pub mod NonzeroLemmas
 pub mod LongLemmas
 pub mod ConcatenationLemmas
+pub mod GivenDigitsLemmas
 pub mod KnownValues
 pub mod KnownRanges
 pub mod KnownRoundings

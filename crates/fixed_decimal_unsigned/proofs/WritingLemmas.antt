@@ -1,27 +1,50 @@
--- Digits written one a call: the events of the first digit, and of the rest.
-use Rattle.std.proofs.Common.{◌≡◌, ℕ, zero, suc, ◌+◌, ◌-◌, ◌<◌, ◌≤◌, List, [], ◌∷◌, ◌++◌, length, map, refl, sym, ap, ◌∙◌, arith}
-use Rattle.std.specs.Char.{encode_utf8}
-use Rattle.std.proofs.lemmas.Str.{encode_ascii}
+-- Digits written a piece a call: the events of the next piece, and of the rest.
+use Rattle.std.proofs.Common.{◌≡◌, ℕ, zero, suc, ◌+◌, ◌-◌, ◌<◌, ◌≤◌, List, [], ◌∷◌, ◌++◌, length, map, take, refl, sym, ap, ◌∙◌, arith}
+use Rattle.std.proofs.Math.ListN.{set}
+use Rattle.std.specs.Str.{IsAscii}
+use Rattle.std.proofs.lemmas.List.{append_assoc, map-append, take_more_set}
+use Rattle.std.proofs.lemmas.Str.Ascii.{IsAscii-nil, IsAscii-cons}
 use Rattle.writeable.specs.AnnotatedText.{bytes, text_of as written}
 use Rattle.writeable.proofs.AnnotatedTextLemmas.{text_of_bytes, bytes_joined}
 use Rattle.fixed_decimal_unsigned.specs.Number.{Number, digit, digits_down, whole_digits, fraction_digits}
 use Rattle.fixed_decimal_unsigned.specs.NumberText.{character, behind_point, point, text_of as printed}
 use Rattle.fixed_decimal_unsigned.proofs.PrintedLemmas.{digit_below_ten}
 
-bytes_first : (c : ℕ) (cs : List ℕ) → bytes (c ∷ cs) ≡ bytes (c ∷ []) ++ bytes cs
-unfolding bytes
-bytes_first c cs = refl
+-- so many digits are the upper of them, and the rest
+digits_apart : (count base size rest : ℕ) → digits_down count base (size + rest) ≡ digits_down count (base + rest) size ++ digits_down count base rest
+digits_apart count base zero rest = ap (digits_down count base) (omega arith)
+digits_apart count base (suc k) rest =
+    let more : suc k + rest ≡ suc (k + rest) = omega arith in
+    let at : base + (k + rest) ≡ base + rest + k = omega arith in
+    ap (digits_down count base) more
+    ∙ ap (λ p. digit count p ∷ digits_down count base (k + rest)) at
+    ∙ ap (λ ds. digit count (base + rest + k) ∷ ds) (digits_apart count base k rest)
 
-pub next_digit : (count base left c : ℕ) → 0 < left → c ≡ character (digit count (base + (left - 1)))
-    → bytes (map character (digits_down count base left)) ≡ bytes (encode_utf8 c) ++ bytes (map character (digits_down count base (left - 1)))
-next_digit count base zero c p e = absurd (omega arith)
-next_digit count base (suc k) c p e =
-    let back : suc k - 1 ≡ k = omega arith in
-    let same : c ≡ character (digit count (base + k)) = e ∙ ap (λ n. character (digit count (base + n))) back in
+-- the events of the digits that are left: those of the next piece, and those of the rest
+pub next_piece : (count base left size rest : ℕ) → left ≡ size + rest
+    → bytes (map character (digits_down count base left)) ≡ bytes (map character (digits_down count (base + rest) size)) ++ bytes (map character (digits_down count base rest))
+next_piece count base left size rest e =
+    ap (λ n. bytes (map character (digits_down count base n))) e
+    ∙ ap (λ ds. bytes (map character ds)) (digits_apart count base size rest)
+    ∙ ap bytes (map-append character (digits_down count (base + rest) size) (digits_down count base rest))
+    ∙ bytes_joined (map character (digits_down count (base + rest) size)) (map character (digits_down count base rest))
+
+-- one character more of a piece
+pub spelled_more : (piece : List ℕ) (count base done left rest c : ℕ) → done < length piece → left ≡ rest + 1 → c ≡ character (digit count (base + rest))
+    → take (done + 1) (set piece done c) ++ map character (digits_down count base rest) ≡ take done piece ++ map character (digits_down count base left)
+spelled_more piece count base done left rest c within e is =
+    let more : suc rest ≡ left = omega arith in
+    ap (λ t. t ++ map character (digits_down count base rest)) (take_more_set piece done c within)
+    ∙ append_assoc (take done piece) (c ∷ []) (map character (digits_down count base rest))
+    ∙ ap (λ d. take done piece ++ d ∷ map character (digits_down count base rest)) is
+    ∙ ap (λ n. take done piece ++ map character (digits_down count base n)) more
+
+-- the characters of digits are ASCII
+pub characters_ascii : (count base size : ℕ) → IsAscii (map character (digits_down count base size))
+characters_ascii count base zero = IsAscii-nil
+characters_ascii count base (suc k) =
     let small : character (digit count (base + k)) < 128 = let ten = digit_below_ten count (base + k) in omega arith in
-    bytes_first (character (digit count (base + k))) (map character (digits_down count base k))
-    ∙ ap (λ t. bytes t ++ bytes (map character (digits_down count base k))) (sym (encode_ascii (character (digit count (base + k))) small) ∙ ap encode_utf8 (sym same))
-    ∙ ap (λ n. bytes (encode_utf8 c) ++ bytes (map character (digits_down count base n))) (sym back)
+    IsAscii-cons (character (digit count (base + k))) (map character (digits_down count base k)) small (characters_ascii count base k)
 
 pub none_left : (count base left : ℕ) → left ≤ 0 → bytes (map character (digits_down count base left)) ≡ []
 unfolding bytes

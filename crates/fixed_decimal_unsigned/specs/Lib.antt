@@ -2,6 +2,7 @@ pub mod BorrowedParts
 pub mod Concatenation
 pub mod Equality
 pub mod ErrorNumbers
+pub mod GivenDigits
 pub mod Integers
 pub mod Laws
 pub mod Number

@@ -8,7 +8,7 @@ use std::alloc::AllocError;
 
 // Adds so many zeros behind the digits.
 #[tactic(auto, using(std::proofs::lemmas::Grind::replicate_next))]
-fn push_zeros(digits: &mut Digits, count: usize)
+pub fn push_zeros(digits: &mut Digits, count: usize)
     requires { length digits.old.items + count ≤ digits.old.capacity }
     ensures items { digits.new.items ≡ digits.old.items ++ replicate count 0 }
     ensures capacity { digits.new.capacity ≡ digits.old.capacity }

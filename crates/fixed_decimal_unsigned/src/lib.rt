@@ -11,6 +11,7 @@ mod cutting;
 mod digit_bytes;
 mod digits;
 mod error;
+mod given_digits;
 mod integers;
 pub mod laws;
 mod modes;
@@ -31,6 +32,7 @@ mod unsigned_decimal;
 mod writing;
 
 pub use error::{ConcatenateError, ParseError};
+pub use given_digits::GivenDigits;
 pub use modes::{RoundingIncrement, UnsignedRoundingMode};
 pub use reading::capped_number;
 pub use shown_digits::ShownDigits;

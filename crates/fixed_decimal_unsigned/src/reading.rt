@@ -143,7 +143,7 @@ pub struct Ends {
 }
 
 // Both ends of so many digits above and below the point, moved up or down.
-fn moved_ends(above: usize, below: usize, up: usize, down: usize) -> Option<Ends>
+pub fn moved_ends(above: usize, below: usize, up: usize, down: usize) -> Option<Ends>
     requires some { 0 < above + below }
     requires up { up ≤ 65536 }
     requires down { down ≤ 65536 }

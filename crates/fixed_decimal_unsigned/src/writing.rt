@@ -1,13 +1,69 @@
-ghost use Rattle.std.specs.Prelude.{◌≡◌, ℕ, ◌+◌, ◌-◌, ◌<◌, ◌≤◌, ◌++◌, codes, false, is_err, length, map, OnOk, OnErr, Some};
+ghost use Rattle.std.specs.Prelude.{◌≡◌, ℕ, ◌+◌, ◌-◌, ◌<◌, ◌≤◌, ◌++◌, codes, false, is_err, length, map, take, OnOk, OnErr, Some};
+ghost use Rattle.std.specs.Str.{IsAscii};
 ghost use Rattle.writeable.specs.AnnotatedText.{bytes};
 ghost use Rattle.writeable.specs.Taking.{HasBegun};
-ghost use Rattle.fixed_decimal_unsigned.specs.Number.{digits_down, whole_digits, fraction_digits};
+ghost use Rattle.fixed_decimal_unsigned.specs.Number.{digit, digits_down, whole_digits, fraction_digits};
 ghost use Rattle.fixed_decimal_unsigned.specs.NumberText.{character, behind_point, text_of};
 
 use crate::places::{ONES, magnitude_of};
 use crate::unsigned_decimal::UnsignedDecimal;
 use std::fmt;
 use writeable::{Error, LengthHint, Sink, Writeable, display};
+
+// How many digits are written by one call of the sink at most.
+const PIECE: u16 = 32;
+
+// The character of the digit at a place.
+fn character_at(number: &UnsignedDecimal, place: u16) -> u8
+    ensures value { result ≡ character (digit number.now.count place) }
+    ensures ascii { result < 128 }
+{
+    b'0' + number.digit_at(magnitude_of(place))
+}
+
+// The characters of so many digits, from the highest down to the one at `base`, in front of what is not used.
+fn spelled(number: &UnsignedDecimal, base: u16, size: u16) -> [u8; 32]
+    requires few { size ≤ 32 }
+    requires places { base + size ≤ 65536 }
+    ensures { take size result ≡ map character (digits_down number.now.count base size) }
+{
+    let mut piece = [b'0'; 32];
+    let mut done = 0;
+    while done < size {
+        piece[done as usize] = character_at(number, base + (size - 1 - done));
+        done += 1;
+    }
+    piece
+}
+
+// ASCII characters as a text.
+fn ascii_text(characters: &[u8]) -> &str
+    requires { IsAscii characters.now }
+    ensures { result.now ≡ characters.now }
+{
+    match str::from_utf8(characters) {
+        Ok(text) => text,
+        Err(_) => "",
+    }
+}
+
+// Writes so many digits of a number, from the highest down to the one at `base`, by one call of the sink.
+fn write_piece<S: Sink>(
+    number: &UnsignedDecimal,
+    base: u16,
+    size: u16,
+    sink: &mut S,
+) -> Result<(), Error>
+    requires fine { S.refused sink.old ≡ false }
+    requires few { size ≤ 32 }
+    requires places { base + size ≤ 65536 }
+    ensures ok { OnOk result (S.takes sink.old (bytes (map character (digits_down number.now.count base size))) sink.new) }
+    ensures refused { S.refused sink.new ≡ is_err result }
+    ensures begun { OnErr result (HasBegun S.takes S.lacks_room sink.old (bytes (map character (digits_down number.now.count base size))) sink.new) }
+{
+    let piece = spelled(number, base, size);
+    sink.write_str(ascii_text(&piece[..size as usize]))
+}
 
 // Writes so many digits of a number, from the highest down to the one at `base`.
 fn write_digits<S: Sink>(
@@ -24,9 +80,9 @@ fn write_digits<S: Sink>(
 {
     let mut left = count;
     while left > 0 {
-        left -= 1;
-        let digit = number.digit_at(magnitude_of(base + left));
-        sink.write_char((b'0' + digit) as char)?;
+        let size = left.min(PIECE);
+        left -= size;
+        write_piece(number, base + left, size, sink)?;
     }
     Ok(())
 }
