@@ -7,3 +7,4 @@ pub mod RulesLemmas
 pub mod CompactLemmas
 pub mod BookLemmas
 pub mod KnownValues
+pub mod KnownFaults
