@@ -1,5 +1,9 @@
 -- What a reader must believe: which tables are asked for, plural rules, patterns, the value that compact text shows, and the
 -- text of a number with its parts.
+pub use Rattle.icu_decimal_compact.specs.CompactTables
+pub use Rattle.icu_decimal_compact.specs.CompactText
+pub use Rattle.icu_decimal_compact.specs.ExactText
+pub use Rattle.icu_decimal_compact.specs.FoundCompactTables
 pub use Rattle.icu_decimal_patterns.specs.Elements
 pub use Rattle.icu_decimal_patterns.specs.KeptEntries
 pub use Rattle.icu_decimal_patterns.specs.Pattern
@@ -32,6 +36,7 @@ pub use Rattle.icu_decimal_text.specs.FoundTables
 pub use Rattle.icu_decimal_text.specs.Grouper
 pub use Rattle.icu_decimal_text.specs.PlainText
 -- What a formatter holds.
+pub use Rattle.icu_decimal_compact.specs.HeldCompact
 pub use Rattle.icu_decimal_text.specs.HeldTables
 -- Equality of symbols, of patterns and of formatted numbers.
 pub use Rattle.icu_decimal_patterns.specs.SameElements

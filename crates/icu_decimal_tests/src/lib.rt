@@ -1,8 +1,10 @@
-//! Rows of formatted decimals over the calls of `icu_decimal`: their texts, and their parts.
+//! Rows over the calls of `icu_decimal`: decimals' texts and their parts, and texts read back.
 
 #![tactic(auto)]
 
 #[cfg(test)]
 mod one_locale;
+#[cfg(test)]
+mod reading;
 #[cfg(test)]
 mod shown;

@@ -1,0 +1,4 @@
+mod KnownValues
+pub mod CompactTextLemmas
+pub mod ExactLemmas
+pub mod ShownLemmas

@@ -1,0 +1,11 @@
+-- what a reader must believe
+pub mod CompactTables
+pub mod FoundCompactTables
+pub mod CompactText
+pub mod ExactText
+-- what a contract sees of a type
+pub mod HeldCompact
+pub mod HeldSink
+pub mod TakenText
+-- steps
+pub mod PatternAt

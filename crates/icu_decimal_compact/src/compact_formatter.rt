@@ -1,0 +1,162 @@
+//! A formatter of compact decimals.
+
+ghost use Rattle.std.specs.Prelude.{◌≡◌, ◌↔◌, IfOk, IsTrue, OnErr, option_map, string_bytes};
+ghost use Rattle.std.specs.Result.{result_map_both};
+ghost use Rattle.fixed_decimal.specs.Number.{place};
+ghost use Rattle.fixed_decimal.specs.Range.{IsLong};
+ghost use Rattle.icu_decimal_shown.specs.Choice.{CanShow, entry_at, exponent_of};
+ghost use Rattle.icu_decimal_compact.specs.CompactText.{compact_decimal_text, compact_formatted, compact_of};
+ghost use Rattle.icu_decimal_compact.specs.FoundCompactTables.{found_compact_tables};
+ghost use Rattle.icu_decimal_compact.specs.HeldCompact.{compact_tables_of};
+ghost use Rattle.icu_decimal_compact.specs.PatternAt.{pattern_at};
+
+use crate::formatted_compact::FormattedUnsignedCompactDecimal;
+use crate::loading::{load_patterns, load_plain, load_rules};
+use fixed_decimal::{Decimal, UnsignedDecimal};
+use icu_decimal_patterns::pattern::Pattern;
+use icu_decimal_patterns::{CompactPatterns, DecimalCompactLongV1, DecimalCompactShortV1};
+use icu_decimal_plurals::{PluralOperands, PluralRules, PluralsCardinalV1};
+use icu_decimal_provider::options::CompactDecimalFormatterOptions;
+use icu_decimal_provider::preferences::CompactDecimalFormatterPreferences;
+use icu_decimal_provider::provider::{DataError, DataProvider, DecimalDigitsV1, DecimalSymbolsV1};
+use icu_decimal_shown::{can_show, exponent_for_magnitude, show};
+use icu_decimal_text::{DecimalFormatter, FormattedSign};
+use std::alloc::{AllocError, Global};
+use writeable::Writeable;
+
+/// A formatter of compact decimals: what a plain one has, plural rules, and a table of patterns. It borrows its tables.
+#[derive(Clone, Copy, Debug)]
+pub struct CompactDecimalFormatter<'b> {
+    pub(crate) plain: DecimalFormatter<'b>,
+    pub(crate) rules: &'b PluralRules,
+    pub(crate) patterns: &'b CompactPatterns,
+}
+
+impl<'b> CompactDecimalFormatter<'b> {
+    /// The formatter of these preferences and options that writes in short form, `1.6K` in English, with tables of the provider.
+    ///
+    /// The symbols are asked for first, then the digits, the plural rules and the patterns. Errors as `load_with_fallback`, the
+    /// first one of these tables. It takes no memory.
+    pub fn try_new_short_unstable<P>(
+        provider: &'b P,
+        preferences: CompactDecimalFormatterPreferences,
+        options: CompactDecimalFormatterOptions,
+    ) -> Result<Self, DataError>
+    where
+        P: DataProvider<DecimalSymbolsV1>
+            + DataProvider<DecimalDigitsV1>
+            + DataProvider<PluralsCardinalV1>
+            + DataProvider<DecimalCompactShortV1>,
+        ensures { result_map_both compact_tables_of (λ error. error) result ≡ found_compact_tables (λ id. ⟦<P as DataProvider<DecimalSymbolsV1>>⟧.table provider.now id) (λ id. ⟦<P as DataProvider<DecimalDigitsV1>>⟧.table provider.now id) (λ id. ⟦<P as DataProvider<PluralsCardinalV1>>⟧.table provider.now id) (λ id. ⟦<P as DataProvider<DecimalCompactShortV1>>⟧.table provider.now id) preferences options.grouping_strategy }
+    {
+        let plain = load_plain(provider, &preferences, options)?;
+        let rules = load_rules(provider, &preferences)?;
+        let patterns = load_patterns::<DecimalCompactShortV1, P>(provider, &preferences)?;
+        Ok(CompactDecimalFormatter {
+            plain,
+            rules,
+            patterns,
+        })
+    }
+
+    /// The same in long form: `1.6 thousand` in English. It takes no memory.
+    pub fn try_new_long_unstable<P>(
+        provider: &'b P,
+        preferences: CompactDecimalFormatterPreferences,
+        options: CompactDecimalFormatterOptions,
+    ) -> Result<Self, DataError>
+    where
+        P: DataProvider<DecimalSymbolsV1>
+            + DataProvider<DecimalDigitsV1>
+            + DataProvider<PluralsCardinalV1>
+            + DataProvider<DecimalCompactLongV1>,
+        ensures { result_map_both compact_tables_of (λ error. error) result ≡ found_compact_tables (λ id. ⟦<P as DataProvider<DecimalSymbolsV1>>⟧.table provider.now id) (λ id. ⟦<P as DataProvider<DecimalDigitsV1>>⟧.table provider.now id) (λ id. ⟦<P as DataProvider<PluralsCardinalV1>>⟧.table provider.now id) (λ id. ⟦<P as DataProvider<DecimalCompactLongV1>>⟧.table provider.now id) preferences options.grouping_strategy }
+    {
+        let plain = load_plain(provider, &preferences, options)?;
+        let rules = load_rules(provider, &preferences)?;
+        let patterns = load_patterns::<DecimalCompactLongV1, P>(provider, &preferences)?;
+        Ok(CompactDecimalFormatter {
+            plain,
+            rules,
+            patterns,
+        })
+    }
+
+    // The pattern beside the entry of an index, for a number of these operands.
+    pub(crate) fn pattern_at(
+        &self,
+        index: Option<usize>,
+        operands: &PluralOperands,
+    ) -> Option<&'b Pattern>
+        ensures { option_map (λ p. p.now) result ≡ pattern_at (compact_tables_of self.now) index operands.now }
+    {
+        let place = index?;
+        if place < self.patterns.entries().len() {
+            Some(self.patterns.elements(place).get(operands, self.rules))
+        } else {
+            None
+        }
+    }
+
+    /// Whether what the number is shown as is a decimal: false in English of 32,768 nines, as they are rounded to 10^32768.
+    ///
+    /// It is the condition of `format`. It takes no memory.
+    pub fn can_show(&self, value: &UnsignedDecimal) -> bool
+        ensures { IsTrue result ↔ CanShow (compact_tables_of self.now).patterns.entries value.now.count }
+    {
+        can_show(value, self.patterns.entries())
+    }
+
+    // What a number without a sign is written as.
+    pub(crate) fn shown(
+        &self,
+        number: &UnsignedDecimal,
+    ) -> Result<FormattedUnsignedCompactDecimal<'b>, AllocError>
+        requires { CanShow (compact_tables_of self.now).patterns.entries number.now.count }
+        ensures value { IfOk result (λ shown. shown ≡ compact_of (compact_tables_of self.now) number.now) }
+        ensures room { OnErr result (IsLong number.now.count) }
+    {
+        let shown = show(number, self.patterns.entries())?;
+        let operands = PluralOperands::from_significand_and_exponent(&shown.significand, 0);
+        let pattern = self.pattern_at(shown.entry, &operands);
+        Ok(FormattedUnsignedCompactDecimal::new(
+            shown.significand,
+            shown.exponent,
+            pattern,
+            self.plain,
+        ))
+    }
+
+    /// The decimal as this formatter writes it: -1172700 as `-1.2M` in English.
+    ///
+    /// The condition is `can_show` of the number without its sign. Memory is taken where the number has more than eight digits, from
+    /// the first to the last one that is not zero; it is refused (`AllocError`) only there.
+    pub fn format<'l>(
+        &'l self,
+        value: &Decimal,
+    ) -> Result<FormattedSign<'l, FormattedUnsignedCompactDecimal<'l>>, AllocError>
+        requires { CanShow (compact_tables_of self.now).patterns.entries value.now.absolute.count }
+        ensures value { IfOk result (λ shown. shown ≡ compact_formatted (compact_tables_of self.now) value.now) }
+        ensures room { OnErr result (IsLong value.now.absolute.count) }
+    {
+        let number = self.shown(&value.absolute)?;
+        Ok(FormattedSign::new(value.sign, self.plain.symbols(), number))
+    }
+
+    /// The text of the decimal: -1172700 gives `-1.2M` in English.
+    ///
+    /// The condition is `can_show` of the number without its sign. It takes memory; `AllocError` is answered where that is refused.
+    pub fn format_to_string(&self, alloc: Global, value: &Decimal) -> Result<String, AllocError>
+        requires { CanShow (compact_tables_of self.now).patterns.entries value.now.absolute.count }
+        ensures { IfOk result (λ text. string_bytes text ≡ compact_decimal_text (compact_tables_of self.now) value.now) }
+    {
+        self.format(value)?.write_to_string(alloc)
+    }
+
+    /// The exponent that numbers of a magnitude are shown with: in English 3 for 5, and 0 for 2. It takes no memory.
+    pub fn compact_exponent_for_magnitude(&self, magnitude: i16) -> u8
+        ensures { result ≡ exponent_of (entry_at 32768 (compact_tables_of self.now).patterns.entries (place magnitude)) }
+    {
+        exponent_for_magnitude(magnitude, self.patterns.entries())
+    }
+}

@@ -1,0 +1,89 @@
+// Exact forms: a significand and an exponent that the caller chose.
+ghost use Rattle.std.specs.Prelude.{◌≡◌, ◌↔◌, IfErr, IfOk, IsTrue, Some, is_err, is_none};
+ghost use Rattle.icu_decimal_shown.specs.ExactForms.{IsInRange, IsRefused};
+ghost use Rattle.icu_decimal_text.specs.Affixes.{affixes_of};
+ghost use Rattle.icu_decimal_text.specs.HeldTables.{tables_of};
+ghost use Rattle.icu_decimal_compact.specs.ExactText.{exact_formatted};
+ghost use Rattle.icu_decimal_compact.specs.HeldCompact.{compact_tables_of};
+ghost use Rattle.icu_decimal_compact.specs.PatternAt.{written_at};
+
+use crate::compact_formatter::CompactDecimalFormatter;
+use fixed_decimal::{Decimal, Sign};
+use icu_decimal_patterns::pattern::Interpolated;
+use icu_decimal_plurals::PluralOperands;
+use icu_decimal_shown::{CompactExponentError, exact_entry, exponent_in_range};
+use icu_decimal_text::{DecimalFormatter, FormattedSign, FormattedUnsignedDecimal};
+
+// A number as a plain formatter writes it, without its sign.
+fn plain_number<'l, 'b>(
+    plain: &'l DecimalFormatter<'b>,
+    value: &'l Decimal,
+) -> FormattedUnsignedDecimal<'l>
+    ensures { result ≡ record { number = value.now.absolute; tables = tables_of plain.now } }
+{
+    let formatted = plain.format(value);
+    match formatted.value().try_clone() {
+        Ok(number) => number,
+        Err(_) => unreachable!(),
+    }
+}
+
+// A value with the affixes that a formatter has for a sign.
+fn signed<'l, 'b, T>(
+    formatter: &'l CompactDecimalFormatter<'b>,
+    sign: Sign,
+    value: T,
+) -> FormattedSign<'l, T>
+    ensures { result ≡ record { value = value; affixes = affixes_of (compact_tables_of formatter.now).plain.symbols.strings sign } }
+{
+    FormattedSign::new(sign, formatter.plain.symbols(), value)
+}
+
+impl<'b> CompactDecimalFormatter<'b> {
+    // A significand in the pattern beside an entry, or in none.
+    fn written_at<'l>(
+        &'l self,
+        significand: &'l Decimal,
+        entry: Option<usize>,
+    ) -> FormattedSign<'l, Interpolated<'l, FormattedUnsignedDecimal<'l>>>
+        ensures { result ≡ written_at (compact_tables_of self.now) significand.now entry }
+    {
+        let operands = PluralOperands::from_significand_and_exponent(&significand.absolute, 0);
+        let pattern = self.pattern_at(entry, &operands);
+        let number = plain_number(&self.plain, significand);
+        signed(self, significand.sign, Interpolated::new(pattern, number))
+    }
+
+    /// Whether the magnitude of a significand and an exponent together is at most 32767: true of 1.2 and 6, false of 10^32767 and 1.
+    ///
+    /// It is the condition of `format_with_exponent`. It takes no memory.
+    pub fn exponent_in_range(&self, significand: &Decimal, exponent: u8) -> bool
+        ensures { IsTrue result ↔ IsInRange significand.now.absolute.count exponent }
+    {
+        exponent_in_range(&significand.absolute, exponent)
+    }
+
+    /// A significand with an exponent that the caller chose: of -1.20 and 6 `-1.20M` in English, with the parts of the number.
+    ///
+    /// The digits are written as they are. `CompactExponentError` exactly where the exponent is not the one that the formatter has for
+    /// the magnitude of both together: 1.2 and 5, as it is 3 there. The condition is `exponent_in_range`. It takes no memory.
+    #[tactic(auto, using(crate::proofs::ExactLemmas::refused_is))]
+    pub fn format_with_exponent<'l>(
+        &'l self,
+        significand: &'l Decimal,
+        exponent: u8,
+    ) -> Result<
+        FormattedSign<'l, Interpolated<'l, FormattedUnsignedDecimal<'l>>>,
+        CompactExponentError,
+    >
+        requires { IsInRange significand.now.absolute.count exponent }
+        ensures value { IfOk result (λ shown. exact_formatted (compact_tables_of self.now) significand.now exponent ≡ Some shown) }
+        ensures refused { is_err result ≡ is_none (exact_formatted (compact_tables_of self.now) significand.now exponent) }
+        ensures err { IfErr result (IsRefused (compact_tables_of self.now).patterns.entries significand.now.absolute.count exponent) }
+    {
+        match exact_entry(&significand.absolute, exponent, self.patterns.entries()) {
+            Ok(entry) => Ok(self.written_at(significand, entry)),
+            Err(error) => Err(error),
+        }
+    }
+}
