@@ -21,15 +21,17 @@ use Rattle.icu_decimal.specs.declared.options.GroupingStrategy.{GroupingStrategy
 use Rattle.locale_numbers_book.specs.Book.{BookTables}
 use Rattle.locale_numbers_book.specs.Tables.{symbols_under, digits_under}
 use Rattle.locale_numbers.specs.NumberReading.{Reading, number, beyond, nothing, reading_of}
-use Rattle.locale_numbers.specs.Request.{tab, fields, form_named, grouping_named, sign_named, request_by, request_in, request_of}
+use Rattle.locale_numbers.specs.ReadAnswer.{read_with}
+use Rattle.locale_numbers.specs.Request.{Asked, tab, fields, form_named, grouping_named, sign_named, takes, request_by, request_in, request_of}
 use Rattle.locale_numbers.specs.Cutting.{is_separator}
 use Rattle.locale_numbers.specs.RoundingField.{rounding_named}
 use Rattle.locale_numbers.specs.declared.sign_field.SignAsked.{SignAsked}
 use Rattle.locale_numbers.specs.declared.rounding_field.RoundingAsked.{RoundingAsked}
 use Rattle.locale_numbers.specs.declared.request.Form.{Form}
+use Rattle.locale_numbers.specs.declared.request.Form.TheVariants.{Plain, Read}
 use Rattle.locale_numbers.specs.Changing.{changed}
 use Rattle.locale_numbers.specs.Wanted.{wanted_of}
-use Rattle.locale_numbers.specs.Answer.{answer_with, answer_tagged, answer_asked}
+use Rattle.locale_numbers.specs.Answer.{found_in, answer_with, answer_to, answer_tagged, answer_asked}
 use Rattle.locale_numbers.proofs.FoundLemmas.{found_alike}
 use Rattle.locale_numbers.proofs.WantedLemmas.{asks_of}
 use Rattle.locale_numbers.specs.Laws.{AreAlike, AlikeTagsAreAnsweredAlike, NormalTextIsAnsweredAlike}
@@ -101,15 +103,25 @@ request_behind text rest h =
 
 -- ---- fields behind a tag
 
--- the answer to the rest of a request by what a tag prefers, the same for both
-abbrev AreAnsweredAlike : BookTables → Option Preferences → Option Preferences → Type 0
-AreAnsweredAlike book one other = (grouping : GroupingStrategy) (sign : SignAsked) (rounding : RoundingAsked) (reading : Reading)
-    → answer_tagged book one grouping sign rounding reading ≡ answer_tagged book other grouping sign rounding reading
+abbrev asked_by : List ℕ → Form → GroupingStrategy → SignAsked → RoundingAsked → List ℕ → Asked
+asked_by tag form grouping sign rounding digits =
+    record { tag = tag; form = form; grouping = grouping; sign = sign; rounding = rounding; text = digits }
 
-module _ (book : BookTables) (text other : List ℕ) (alike : AreAnsweredAlike book (wanted_of text) (wanted_of other)) where
+-- the answer to the rest of a request by what a tag prefers, the same for both
+abbrev AreAnsweredAlike : BookTables → List ℕ → List ℕ → Option Preferences → Option Preferences → Type 0
+AreAnsweredAlike book text other one two = (form : Form) (grouping : GroupingStrategy) (sign : SignAsked) (rounding : RoundingAsked) (digits : List ℕ)
+    → answer_tagged book one (asked_by text form grouping sign rounding digits) ≡ answer_tagged book two (asked_by other form grouping sign rounding digits)
+
+module _ (book : BookTables) (text other : List ℕ) (alike : AreAnsweredAlike book text other (wanted_of text) (wanted_of other)) where
+  taken_alike : (form : Form) (grouping : GroupingStrategy) (sign : SignAsked) (rounding : RoundingAsked) (digits : List ℕ) (b : Bool)
+      → answer_asked book (if b then Some (asked_by text form grouping sign rounding digits) else None)
+      ≡ answer_asked book (if b then Some (asked_by other form grouping sign rounding digits) else None)
+  taken_alike form grouping sign rounding digits true = alike form grouping sign rounding digits
+  taken_alike form grouping sign rounding digits false = refl
+
   known_alike : (digits : List ℕ) (form : Option Form) (grouping : Option GroupingStrategy) (sign : Option SignAsked) (rounding : Option RoundingAsked)
       → answer_asked book (request_by text form grouping sign rounding digits) ≡ answer_asked book (request_by other form grouping sign rounding digits)
-  known_alike digits (Some form) (Some grouping) (Some sign) (Some rounding) = alike grouping sign rounding (reading_of digits)
+  known_alike digits (Some form) (Some grouping) (Some sign) (Some rounding) = taken_alike form grouping sign rounding digits (takes form sign rounding)
   known_alike digits (Some form) (Some grouping) (Some sign) None = refl
   known_alike digits (Some form) (Some grouping) None rounding = refl
   known_alike digits (Some form) None sign rounding = refl
@@ -132,19 +144,29 @@ module _ (book : BookTables) (text other : List ℕ) (alike : AreAnsweredAlike b
 -- ---- alike tags
 
 -- the preferences of alike tags find the same tables
-asks_alike : (book : BookTables) (m n : TagMeaning) → AreAlike m n → AreAnsweredAlike book (Some (preferences_of m)) (Some (preferences_of n))
-asks_alike book m n a grouping sign rounding nothing = refl
-asks_alike book m n a grouping sign rounding beyond = refl
-asks_alike book m n a grouping sign rounding (number value) =
+found_same : (book : BookTables) (m n : TagMeaning) → AreAlike m n → (grouping : GroupingStrategy)
+    → found_in book (preferences_of m) grouping ≡ found_in book (preferences_of n) grouping
+found_same book m n a grouping =
     let locales : language_priority (preferences_of m).locale ≡ language_priority (preferences_of n).locale =
     λ i. record { language = a.language i; script = a.script i; region = a.region i; variant = a.variant i; subdivision = a.subdivision i } in
-    ap (λ tables. answer_with tables (changed rounding sign value))
-    (found_alike (symbols_under book) (digits_under book) grouping (preferences_of m) (preferences_of n) locales a.numbering_system)
+    found_alike (symbols_under book) (digits_under book) grouping (preferences_of m) (preferences_of n) locales a.numbering_system
+
+-- so a number is written alike
+plain_alike : (book : BookTables) (m n : TagMeaning) → AreAlike m n → (grouping : GroupingStrategy) (sign : SignAsked) (rounding : RoundingAsked) (reading : Reading)
+    → answer_to book (preferences_of m) grouping sign rounding reading ≡ answer_to book (preferences_of n) grouping sign rounding reading
+plain_alike book m n a grouping sign rounding nothing = refl
+plain_alike book m n a grouping sign rounding beyond = refl
+plain_alike book m n a grouping sign rounding (number value) =
+    ap (λ tables. answer_with tables (changed rounding sign value)) (found_same book m n a grouping)
+
+asks_alike : (book : BookTables) (text other : List ℕ) (m n : TagMeaning) → AreAlike m n → AreAnsweredAlike book text other (Some (preferences_of m)) (Some (preferences_of n))
+asks_alike book text other m n a Plain grouping sign rounding digits = plain_alike book m n a grouping sign rounding (reading_of digits)
+asks_alike book text other m n a Read grouping sign rounding digits = ap (λ tables. read_with tables digits) (found_same book m n a grouping)
 
 pub alike_tags : AlikeTagsAreAnsweredAlike
 alike_tags book text other rest m n first second a =
-    let alike : AreAnsweredAlike book (wanted_of text) (wanted_of other) =
-    rw (asks_of text m first, asks_of other n second) (asks_alike book m n a) in
+    let alike : AreAnsweredAlike book text other (wanted_of text) (wanted_of other) =
+    rw (asks_of text m first, asks_of other n second) (asks_alike book text other m n a) in
     ap (answer_asked book) (request_behind text rest (tag_bytes text m first))
     ∙ read_alike book text other alike rest (is_utf8 rest)
     ∙ sym (ap (answer_asked book) (request_behind other rest (tag_bytes other n second)))

@@ -1,5 +1,5 @@
 -- A call that refuses before it has written leaves what was there; a number that is written behind `ok` is the answer.
-use Rattle.std.proofs.Common.{◌≡◌, ◌≤◌, ◌+◌, List, [], ◌∷◌, ◌++◌, ℕ, codes, length, sym, ap, ◌∙◌, arith, Result, Ok, Err, OnOk, OnErr}
+use Rattle.std.proofs.Common.{◌≡◌, ◌≤◌, ◌+◌, List, [], ◌∷◌, ◌++◌, ℕ, codes, length, sym, ap, ◌∙◌, subst, arith, Result, Ok, Err, OnOk, OnErr, IsOk}
 use Rattle.std.proofs.lemmas.List.{append-nil, append_assoc, length-append}
 use Rattle.writeable.specs.AnnotatedText.{text_of}
 use Rattle.fixed_decimal.specs.Number.{Number}
@@ -43,3 +43,11 @@ module _ (found : Result Tables DataError) (t : Tables) (value : SignedValue Num
       ap length answer_is ∙ length-append well (text_of (decimal_events shown)) in
       let front : length begun ≡ length old + length well = ap length put ∙ length-append old well in
       omega (arith, whole, front, grows, room)
+
+-- the tables that a formatter has are those that are found
+module _ {T E : Type 0} (r : Result T E) (found : Result Tables DataError) (t : Tables) (is : Ok t ≡ found) (value : SignedValue Number) where
+  pub put_along : (old new : List ℕ) → OnOk r (new ≡ old ++ answer_with (Ok t) value) → OnOk r (new ≡ old ++ answer_with found value)
+  put_along old new put = on_ok_by r (λ p. p ∙ ap (λ tables. old ++ answer_with tables value) is) put
+
+  pub room_along : (held room : ℕ) → (held + length (answer_with (Ok t) value) ≤ room → IsOk r) → held + length (answer_with found value) ≤ room → IsOk r
+  room_along held room fits h = fits (subst (λ tables. held + length (answer_with tables value) ≤ room) (sym is) h)

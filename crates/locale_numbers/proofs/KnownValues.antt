@@ -1,9 +1,11 @@
 -- Known values of the definitions: lines taken apart, roundings, what tags ask for, texts of numbers, lines of the program.
-use Rattle.std.proofs.Common.{◌≡◌, [], ◌∷◌, ◌++◌, codes, ◌*◌, ◌^◌, pos, negsuc, true, false, Option, option_map, Some, None, refl}
+use Rattle.std.proofs.Common.{◌≡◌, [], ◌∷◌, ◌++◌, codes, ◌*◌, ◌^◌, pos, negsuc, true, false, Option, option_map, Some, None, Err, refl}
+use Rattle.icu_decimal.specs.declared.error.DataError.{DataError}
 use Rattle.icu_decimal.specs.declared.options.GroupingStrategy.TheVariants.{Min2}
+use Rattle.icu_decimal.specs.PlainReading.{decimal, not_written, unreadable}
 use Rattle.locale_numbers_engine.specs.declared.RunError.TheVariants as run
 use Rattle.locale_numbers_book.specs.declared.BookError.TheVariants as book
-use Rattle.locale_numbers.specs.declared.request.Form.TheVariants.{Plain}
+use Rattle.locale_numbers.specs.declared.request.Form.TheVariants.{Plain, Read}
 use Rattle.locale_numbers.specs.declared.sign_field.SignAsked.TheVariants.{Keep, Show}
 use Rattle.locale_numbers.specs.declared.rounding_field.RoundingAsked.TheVariants.{Unrounded, At}
 use Rattle.locale_numbers.specs.declared.fault.ProgramFault.TheVariants.{Usage, Book, Run}
@@ -17,6 +19,7 @@ use Rattle.fixed_decimal.specs.declared.RoundingIncrement.TheVariants.{Multiples
 use Rattle.locale_numbers.specs.Changing.{changed}
 use Rattle.locale_numbers.specs.Rounded.{multiple_of, highest_of}
 use Rattle.locale_numbers.specs.RoundingField.{position_named, rounding_named}
+use Rattle.locale_numbers.specs.ReadAnswer.{read_answer, read_with}
 use Rattle.locale_numbers.specs.NumberReading.{reading_of, parts_of, nothing, beyond}
 use Rattle.locale_numbers.specs.Request.{tab, fields, request_in, grouping_named, sign_named}
 use Rattle.icu_locale_core.specs.Stepping.{headed_after, whole_after}
@@ -36,6 +39,17 @@ empty_field = refl
 plain_line : request_in (codes "en" ∷ codes "plain" ∷ codes "min2" ∷ codes "keep" ∷ codes "-" ∷ codes "1000" ∷ [])
     ≡ Some (record { tag = codes "en"; form = Plain; grouping = Min2; sign = Keep; rounding = Unrounded; text = codes "1000" })
 plain_line = refl
+
+-- what is read back has the sign and the digits of the text
+read_line : request_in (codes "en" ∷ codes "read" ∷ codes "min2" ∷ codes "keep" ∷ codes "-" ∷ codes "1,000" ∷ [])
+    ≡ Some (record { tag = codes "en"; form = Read; grouping = Min2; sign = Keep; rounding = Unrounded; text = codes "1,000" })
+read_line = refl
+
+read_with_a_sign : request_in (codes "en" ∷ codes "read" ∷ codes "auto" ∷ codes "auto" ∷ codes "-" ∷ codes "5" ∷ []) ≡ None
+read_with_a_sign = refl
+
+read_with_a_rounding : request_in (codes "en" ∷ codes "read" ∷ codes "auto" ∷ codes "keep" ∷ codes "0,trunc,1" ∷ codes "5" ∷ []) ≡ None
+read_with_a_rounding = refl
 
 five_fields : request_in (codes "en" ∷ codes "plain" ∷ codes "auto" ∷ codes "keep" ∷ codes "-" ∷ []) ≡ None
 five_fields = refl
@@ -181,6 +195,24 @@ carriage_return = refl
 
 too_high : reading_of (codes "10e32767") ≡ beyond
 too_high = refl
+
+-- ---- texts read back
+
+number_read : read_answer (decimal (record { sign = Negative; absolute = record { count = 987654321 * 10 ^ 32765; low = 32765; high = 32773 } }))
+    ≡ codes "ok" ++ tab ∷ codes "-987654.321"
+number_read = refl
+
+zeros_read : read_answer (decimal (record { sign = NoSign; absolute = record { count = 7 * 10 ^ 32768; low = 32768; high = 32771 } })) ≡ codes "ok" ++ tab ∷ codes "0007"
+zeros_read = refl
+
+no_number_read : read_answer not_written ≡ codes "err" ++ tab ∷ codes "not-written"
+no_number_read = refl
+
+not_readable : read_answer unreadable ≡ codes "err" ++ tab ∷ codes "unreadable"
+not_readable = refl
+
+no_table_read : read_with (Err DataError.IdentifierNotFound) (codes "5") ≡ codes "err" ++ tab ∷ codes "table"
+no_table_read = refl
 
 -- ---- the program
 

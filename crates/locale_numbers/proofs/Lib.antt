@@ -2,11 +2,15 @@ pub mod AlikeTags
 pub mod AnsweringLemmas
 pub mod DigitsLemmas
 pub mod FoundLemmas
+pub mod KeptLemmas
 pub mod KnownValues
 pub mod LawsLemmas
+pub mod NumberBounds
 pub mod NumberReadingLemmas
 pub mod PartsLemmas
+pub mod ReadAnswerLemmas
 pub mod ReadingLemmas
+pub mod ReadingTrips
 pub mod RequestLemmas
 pub mod RoundedLemmas
 pub mod WantedLemmas

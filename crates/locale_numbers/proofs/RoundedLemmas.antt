@@ -81,7 +81,7 @@ exact_nearest unit n takes m = record {
 }
 
 -- a multiple is itself what every mode names
-exact : (mode : UnsignedRoundingMode) (unit n : ℕ) → IsMultiple unit n → IsRounded mode unit n n
+pub exact : (mode : UnsignedRoundingMode) (unit n : ℕ) → IsMultiple unit n → IsRounded mode unit n n
 exact Expand unit n m = record { multiple = m; over = omega arith; least = λ other k h. h }
 exact Trunc unit n m = record { multiple = m; under = omega arith; greatest = λ other k h. h }
 exact HalfExpand unit n m = exact_nearest unit n (λ other. other ≤ n) m
@@ -123,7 +123,7 @@ picks HalfEven unit q r n e p l b h = tie (2 * r == unit) refl b h
         let off : 2 * r ≢ unit = grind (arith, nat_tests) in let half : 2 * r ≤ unit = grind (arith, nat_tests) in
         lower_nearest unit q r n (λ _. IsMultiple (2 * unit) (q * unit)) e p half (λ t. absurd (off t))
 
-multiple_right : (mode : UnsignedRoundingMode) (unit n : ℕ) → 0 < unit → IsRounded mode unit n (multiple_of mode unit n)
+pub multiple_right : (mode : UnsignedRoundingMode) (unit n : ℕ) → 0 < unit → IsRounded mode unit n (multiple_of mode unit n)
 multiple_right mode unit n p = at (n % unit == 0) refl
   where
     whole : n ≡ n / unit * unit + n % unit
@@ -198,13 +198,13 @@ highest_right old at count =
 
 -- ---- the number
 
-unit_positive : (increment : RoundingIncrement) (at : ℕ) → 0 < increment_number increment * 10 ^ at
+pub unit_positive : (increment : RoundingIncrement) (at : ℕ) → 0 < increment_number increment * 10 ^ at
 unit_positive MultiplesOf1 at = let p : 1 ≤ 10 ^ at = one-le-pow at 10 (omega arith) in omega (arith, p)
 unit_positive MultiplesOf2 at = let p : 1 ≤ 10 ^ at = one-le-pow at 10 (omega arith) in omega (arith, p)
 unit_positive MultiplesOf5 at = let p : 1 ≤ 10 ^ at = one-le-pow at 10 (omega arith) in omega (arith, p)
 unit_positive MultiplesOf25 at = let p : 1 ≤ 10 ^ at = one-le-pow at 10 (omega arith) in omega (arith, p)
 
-size_right : (mode : UnsignedRoundingMode) (increment : RoundingIncrement) (at : ℕ) (old : Number) → Rounds mode increment at old (rounded_size mode increment at old)
+pub size_right : (mode : UnsignedRoundingMode) (increment : RoundingIncrement) (at : ℕ) (old : Number) → Rounds mode increment at old (rounded_size mode increment at old)
 size_right mode increment at old = record {
   taken = record {
     multiple = multiple_of mode (increment_number increment * 10 ^ at) old.count;

@@ -1,7 +1,7 @@
 -- The answer of a book to a line: the number written as the line asks, or the first word that refuses it.
 -- Defined in docs/requests.md, "Answer line".
 -- Cited by `answer` and by `run`.
-use Rattle.std.specs.Prelude.{ℕ, List, ◌∷◌, ◌++◌, codes, Option, Some, None, Result, Ok, Err}
+use Rattle.std.specs.Prelude.{ℕ, List, Option, Some, None, Result, Ok, Err}
 use Rattle.fixed_decimal.specs.Number.{Number}
 use Rattle.fixed_decimal.specs.SignedValue.{SignedValue}
 use Rattle.icu_decimal.specs.declared.error.DataError.{DataError}
@@ -12,22 +12,16 @@ use Rattle.icu_locale_core.specs.TagPreferences.{Preferences}
 use Rattle.locale_numbers_book.specs.Book.{BookTables}
 use Rattle.locale_numbers_book.specs.Tables.{symbols_under, digits_under}
 use Rattle.locale_numbers.specs.Changing.{changed}
+pub use Rattle.locale_numbers.specs.AnswerLine.{refused, written}
 use Rattle.locale_numbers.specs.NumberReading.{Reading, number, beyond, nothing, reading_of}
-use Rattle.locale_numbers.specs.Request.{tab, Asked, request_of}
+use Rattle.locale_numbers.specs.ReadAnswer.{read_with}
+use Rattle.locale_numbers.specs.Request.{Asked, request_of}
 use Rattle.locale_numbers.specs.Wanted.{wanted_of}
-use Rattle.locale_numbers.specs.Refusal.{word_of}
 use Rattle.locale_numbers.specs.declared.sign_field.SignAsked.{SignAsked}
 use Rattle.locale_numbers.specs.declared.rounding_field.RoundingAsked.{RoundingAsked}
-use Rattle.locale_numbers.specs.declared.refusal.Refusal.{Refusal}
+use Rattle.locale_numbers.specs.declared.request.Form.{Form}
+use Rattle.locale_numbers.specs.declared.request.Form.TheVariants.{Plain, Read}
 use Rattle.locale_numbers.specs.declared.refusal.Refusal.TheVariants as refusal
-
--- the answer that refuses a line
-abbrev pub refused : Refusal → List ℕ
-refused cause = codes "err" ++ tab ∷ word_of cause
-
--- the answer that holds a text
-abbrev pub written : List ℕ → List ℕ
-written text = codes "ok" ++ tab ∷ text
 
 -- the tables of a book that preferences find, with a grouping
 abbrev pub found_in : BookTables → Preferences → GroupingStrategy → Result Tables DataError
@@ -38,22 +32,27 @@ abbrev pub answer_with : Result Tables DataError → SignedValue Number → List
 answer_with (Err error) value = refused refusal.Table
 answer_with (Ok tables) value = written (decimal_text tables value)
 
--- the answer to what a tag and the rest of a request ask for, by what the text says
+-- the answer of the form `plain` to what a tag and the rest of a request ask for, by what the text says
 abbrev pub answer_to : BookTables → Preferences → GroupingStrategy → SignAsked → RoundingAsked → Reading → List ℕ
 answer_to book preferences grouping sign rounding nothing = refused refusal.Number
 answer_to book preferences grouping sign rounding beyond = refused refusal.Limit
 answer_to book preferences grouping sign rounding (number value) =
     answer_with (found_in book preferences grouping) (changed rounding sign value)
 
+-- the answer to what a tag and a request ask for, by the form
+abbrev pub answer_in : Form → BookTables → Preferences → Asked → List ℕ
+answer_in Plain book preferences asked = answer_to book preferences asked.grouping asked.sign asked.rounding (reading_of asked.text)
+answer_in Read book preferences asked = read_with (found_in book preferences asked.grouping) asked.text
+
 -- the answer by what the tag prefers, where it is a tag
-abbrev pub answer_tagged : BookTables → Option Preferences → GroupingStrategy → SignAsked → RoundingAsked → Reading → List ℕ
-answer_tagged book None grouping sign rounding reading = refused refusal.Tag
-answer_tagged book (Some preferences) grouping sign rounding reading = answer_to book preferences grouping sign rounding reading
+abbrev pub answer_tagged : BookTables → Option Preferences → Asked → List ℕ
+answer_tagged book None asked = refused refusal.Tag
+answer_tagged book (Some preferences) asked = answer_in asked.form book preferences asked
 
 -- the answer to a request, or to a line that is none
 abbrev pub answer_asked : BookTables → Option Asked → List ℕ
 answer_asked book None = refused refusal.Shape
-answer_asked book (Some asked) = answer_tagged book (wanted_of asked.tag) asked.grouping asked.sign asked.rounding (reading_of asked.text)
+answer_asked book (Some asked) = answer_tagged book (wanted_of asked.tag) asked
 
 -- the answer to a line, without its line feed
 abbrev pub answer_of : BookTables → List ℕ → List ℕ

@@ -1,22 +1,34 @@
 -- Laws over the definitions alone, for readers of the clauses that cite them.
 -- Defined in docs/requests.md, "Answer line", and docs/numbers.md, "The text" and "Rounding".
 -- Cited by the functions of `laws`.
-use Rattle.std.specs.Prelude.{◌≡◌, ◌↔◌, List, ℕ, ℤ, ◌∷◌, ◌++◌}
+use Rattle.std.specs.Prelude.{◌≡◌, ◌<◌, ◌↔◌, List, ℕ, ℤ, ◌∷◌, ◌++◌, true, Some, Ok}
+use Rattle.std.specs.Str.{IsUtf8}
 use Rattle.fixed_decimal.specs.Number.{Number, place}
 use Rattle.fixed_decimal.specs.SignedRounding.{RoundsSigned}
 use Rattle.fixed_decimal.specs.SignedValue.{SignedValue}
 use Rattle.fixed_decimal.specs.declared.RoundingIncrement.{RoundingIncrement}
 use Rattle.fixed_decimal.specs.declared.modes.SignedRoundingMode.{SignedRoundingMode}
-use Rattle.fixed_decimal.specs.SignedText.{ReadsSigned, IsBeyondSigned, IsNoSignedText}
+use Rattle.fixed_decimal.specs.SignedText.{ReadsSigned, IsBeyondSigned, IsNoSignedText, signed_text_of}
+use Rattle.fixed_decimal.specs.TextLaws.{IsDecimal}
+use Rattle.icu_decimal.specs.PlainText.{Tables, decimal_text}
+use Rattle.icu_decimal.specs.Readable.{is_readable_by}
+use Rattle.icu_decimal.specs.ReadingLaws.{AreTables}
+use Rattle.icu_decimal.specs.declared.options.GroupingStrategy.{GroupingStrategy}
+use Rattle.icu_decimal.specs.declared.options.GroupingStrategy.TheVariants.{Auto, Always}
 use Rattle.icu_locale_core.specs.Pieces.{pieces}
 use Rattle.icu_locale_core.specs.Meaning.{TagMeaning, MeansTag}
 use Rattle.icu_locale_core.specs.NormalText.{normal_text}
-use Rattle.icu_locale_core.specs.TagPreferences.{least_of, keyword_piece, keyword_subdivision, numbering_key, subdivision_key}
+use Rattle.icu_locale_core.specs.TagPreferences.{Preferences, least_of, keyword_piece, keyword_subdivision, numbering_key, subdivision_key}
 use Rattle.locale_numbers_book.specs.Book.{BookTables}
 use Rattle.locale_numbers.specs.NumberReading.{Reading, number, beyond, nothing, reading_of}
-use Rattle.locale_numbers.specs.Request.{tab}
+use Rattle.locale_numbers.specs.Request.{tab, Asked}
 use Rattle.locale_numbers.specs.Rounded.{rounded}
-use Rattle.locale_numbers.specs.Answer.{answer_of}
+use Rattle.locale_numbers.specs.Wanted.{wanted_of}
+use Rattle.locale_numbers.specs.Answer.{written, found_in, answer_asked, answer_of}
+use Rattle.locale_numbers.specs.declared.request.Form.TheVariants.{Plain, Read}
+use Rattle.locale_numbers.specs.declared.sign_field.SignAsked.TheVariants.{Keep}
+use Rattle.locale_numbers.specs.declared.rounding_field.RoundingAsked.{RoundingAsked}
+use Rattle.locale_numbers.specs.declared.rounding_field.RoundingAsked.TheVariants.{Unrounded, At}
 
 -- ---- numbers
 
@@ -41,12 +53,12 @@ HasOneRounding = (mode : SignedRoundingMode) (increment : RoundingIncrement) (po
 
 -- two tags say the same language, script, region and first variant, and the same under `sd` and `nu`, where these read
 pub record AreAlike (tag other : TagMeaning) : Type 0 where
-  pub language : tag.front.language ≡ other.front.language
-  pub script : tag.front.script ≡ other.front.script
-  pub region : tag.front.region ≡ other.front.region
-  pub variant : least_of tag.front.variants ≡ least_of other.front.variants
-  pub subdivision : keyword_subdivision subdivision_key tag.blocks.unicode.entries ≡ keyword_subdivision subdivision_key other.blocks.unicode.entries
-  pub numbering_system : keyword_piece numbering_key tag.blocks.unicode.entries ≡ keyword_piece numbering_key other.blocks.unicode.entries
+  pub language : tag.language.language ≡ other.language.language
+  pub script : tag.language.script ≡ other.language.script
+  pub region : tag.language.region ≡ other.language.region
+  pub variant : least_of tag.language.variants ≡ least_of other.language.variants
+  pub subdivision : keyword_subdivision subdivision_key tag.extensions.unicode.entries ≡ keyword_subdivision subdivision_key other.extensions.unicode.entries
+  pub numbering_system : keyword_piece numbering_key tag.extensions.unicode.entries ≡ keyword_piece numbering_key other.extensions.unicode.entries
 
 -- of two lines that differ in their tags alone, and these are alike, the answers are one
 abbrev pub AlikeTagsAreAnsweredAlike : Type 0
@@ -57,3 +69,59 @@ AlikeTagsAreAnsweredAlike = (book : BookTables) (text other rest : List ℕ) (m 
 abbrev pub NormalTextIsAnsweredAlike : Type 0
 NormalTextIsAnsweredAlike = (book : BookTables) (text rest : List ℕ) (m : TagMeaning)
     → MeansTag (pieces text) m → answer_of book (text ++ tab ∷ rest) ≡ answer_of book (normal_text m ++ tab ∷ rest)
+
+-- ---- groupings
+
+-- the same request with another grouping
+abbrev pub grouped_by : GroupingStrategy → Asked → Asked
+grouped_by grouping asked = record asked { grouping = grouping }
+
+-- the groupings `auto` and `always` have the same answer to every request
+abbrev pub AutoIsAnsweredAsAlways : Type 0
+AutoIsAnsweredAsAlways = (book : BookTables) (asked : Asked)
+    → answer_asked book (Some (grouped_by Auto asked)) ≡ answer_asked book (Some (grouped_by Always asked))
+
+-- ---- reading back
+
+-- the request that reads a text back, with the tag and the grouping of another
+abbrev pub reading_request : Asked → List ℕ → Asked
+reading_request asked text =
+    record { tag = asked.tag; form = Read; grouping = asked.grouping; sign = Keep; rounding = Unrounded; text = text }
+
+-- the request that rounds and writes a number with its own sign
+abbrev pub plain_request : Asked → RoundingAsked → List ℕ → Asked
+plain_request asked rounding digits =
+    record { tag = asked.tag; form = Plain; grouping = asked.grouping; sign = Keep; rounding = rounding; text = digits }
+
+-- a request finds tables in a book, and these are ten digits and symbols that are texts, as those of every formatter are
+pub record FindsTables (book : BookTables) (asked : Asked) (tables : Tables) : Type 0 where
+  pub preferences : Preferences
+  pub tag : wanted_of asked.tag ≡ Some preferences
+  pub found : found_in book preferences asked.grouping ≡ Ok tables
+  pub are : AreTables tables
+
+-- the number that is answered for a text, sent as it is, is written as that text
+abbrev pub ReadIsWrittenAgain : Type 0
+ReadIsWrittenAgain = (book : BookTables) (asked : Asked) (tables : Tables) (text digits : List ℕ)
+    → FindsTables book asked tables → IsUtf8 text
+    → answer_asked book (Some (reading_request asked text)) ≡ written digits
+    → answer_asked book (Some (plain_request asked Unrounded digits)) ≡ written text
+
+-- under readable symbols the text of each decimal reads back as the decimal
+abbrev pub WrittenReadsBack : Type 0
+WrittenReadsBack = (book : BookTables) (asked : Asked) (tables : Tables) (value : SignedValue Number)
+    → FindsTables book asked tables → is_readable_by tables ≡ true → IsDecimal value → IsUtf8 (decimal_text tables value)
+    → answer_asked book (Some (reading_request asked (decimal_text tables value))) ≡ written (signed_text_of value)
+
+-- the position of a rounding is one of the magnitudes -32768 to 32767, as that of every field is
+abbrev pub IsAtMagnitude : RoundingAsked → Type 0
+IsAtMagnitude Unrounded = Unit {0}
+IsAtMagnitude (At position mode increment) = place position < 65536
+
+-- under readable symbols a plain answer, read back and written again with the same rounding and its own sign, is the same text
+abbrev pub RoundedIsWrittenAgain : Type 0
+RoundedIsWrittenAgain = (book : BookTables) (asked : Asked) (tables : Tables) (text digits : List ℕ)
+    → asked.form ≡ Plain → IsAtMagnitude asked.rounding → FindsTables book asked tables → is_readable_by tables ≡ true → IsUtf8 text
+    → answer_asked book (Some asked) ≡ written text
+    → answer_asked book (Some (reading_request asked text)) ≡ written digits
+    → answer_asked book (Some (plain_request asked asked.rounding digits)) ≡ written text

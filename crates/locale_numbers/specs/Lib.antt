@@ -1,17 +1,21 @@
 pub mod Answer
+pub mod AnswerLine
 pub mod AnswerSink
 pub mod AnswerSinkLaws
 pub mod AskedBook
 pub mod Changing
 pub mod Cutting
 pub mod Fault
+pub mod FormatterKeys
 pub mod Laws
 pub mod NumberReading
 pub mod Program
+pub mod ReadAnswer
 pub mod Refusal
 pub mod Request
 pub mod Rounded
 pub mod RoundingField
+pub mod SameKeys
 pub mod Wanted
 pub mod Words
 pub use Rattle.locale_numbers_book.specs.Book
@@ -22,6 +26,8 @@ pub use Rattle.locale_numbers_book.specs.Keys as BookKeys
 pub use Rattle.locale_numbers_book.specs.Laws as BookLaws
 pub use Rattle.locale_numbers_book.specs.Refusal as BookRefusal
 pub use Rattle.locale_numbers_book.specs.Tables
+pub use Rattle.locale_numbers_cache.specs.Laws as CacheLaws
 pub use Rattle.locale_numbers_engine.specs.ByteIo
+pub use Rattle.locale_numbers_engine.specs.Laws as LineLaws
 pub use Rattle.locale_numbers_engine.specs.Outcomes
 pub use Rattle.locale_numbers_engine.specs.Tracking

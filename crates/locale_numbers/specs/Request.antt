@@ -1,7 +1,7 @@
 -- What a line asks for: its six fields, where each is known, or nothing.
 -- Defined in docs/requests.md, "Request line".
 -- Cited by `answer` and `run`, through Answer.antt, and by the private `read_request`.
-use Rattle.std.specs.Prelude.{ℕ, if◌then◌else◌, List, [], ◌∷◌, Option, Some, None, codes}
+use Rattle.std.specs.Prelude.{ℕ, Bool, true, false, ◌&&◌, if◌then◌else◌, List, [], ◌∷◌, Option, Some, None, codes}
 use Rattle.std.specs.Str.{bytes_eq, is_utf8}
 use Rattle.fixed_decimal.specs.declared.sign.SignDisplay.TheVariants as display
 use Rattle.icu_decimal.specs.declared.options.GroupingStrategy.{GroupingStrategy}
@@ -11,8 +11,9 @@ use Rattle.locale_numbers.specs.RoundingField.{rounding_named}
 use Rattle.locale_numbers.specs.declared.sign_field.SignAsked.{SignAsked}
 use Rattle.locale_numbers.specs.declared.sign_field.SignAsked.TheVariants.{Keep, Show}
 use Rattle.locale_numbers.specs.declared.rounding_field.RoundingAsked.{RoundingAsked}
+use Rattle.locale_numbers.specs.declared.rounding_field.RoundingAsked.TheVariants.{Unrounded, At}
 use Rattle.locale_numbers.specs.declared.request.Form.{Form}
-use Rattle.locale_numbers.specs.declared.request.Form.TheVariants.{Plain}
+use Rattle.locale_numbers.specs.declared.request.Form.TheVariants.{Plain, Read}
 
 -- the code of a tab
 abbrev pub tab : ℕ
@@ -24,7 +25,10 @@ fields line = cut_at tab line
 
 -- the form that a word names
 abbrev pub form_named : List ℕ → Option Form
-form_named word = if bytes_eq word (codes "plain") then Some Plain else None
+form_named word =
+    if bytes_eq word (codes "plain") then Some Plain
+    else if bytes_eq word (codes "read") then Some Read
+    else None
 
 -- the grouping that a word names
 abbrev pub grouping_named : List ℕ → Option GroupingStrategy
@@ -46,6 +50,21 @@ sign_named word =
     else if bytes_eq word (codes "negative") then Some (Show display.Negative)
     else None
 
+-- the sign is that of the text
+abbrev pub keeps_sign : SignAsked → Bool
+keeps_sign Keep = true
+keeps_sign (Show display) = false
+
+-- nothing is rounded
+abbrev pub keeps_digits : RoundingAsked → Bool
+keeps_digits Unrounded = true
+keeps_digits (At position mode increment) = false
+
+-- whether a form takes a sign and a rounding: what is read back is the number that was written, so neither is chosen there
+abbrev pub takes : Form → SignAsked → RoundingAsked → Bool
+takes Plain sign rounding = true
+takes Read sign rounding = keeps_sign sign && keeps_digits rounding
+
 -- a request as it is asked: a tag, a form, a grouping, a sign, a rounding and the text of a number
 pub record Asked : Type 0 where
   pub tag : List ℕ
@@ -55,10 +74,12 @@ pub record Asked : Type 0 where
   pub rounding : RoundingAsked
   pub text : List ℕ
 
--- what six fields ask, where each is known
+-- what six fields ask, where each is known and the form takes the sign and the rounding
 abbrev pub request_by : List ℕ → Option Form → Option GroupingStrategy → Option SignAsked → Option RoundingAsked → List ℕ → Option Asked
 request_by tag (Some form) (Some grouping) (Some sign) (Some rounding) text =
-    Some (record { tag = tag; form = form; grouping = grouping; sign = sign; rounding = rounding; text = text })
+    if takes form sign rounding
+    then Some (record { tag = tag; form = form; grouping = grouping; sign = sign; rounding = rounding; text = text })
+    else None
 request_by tag _ _ _ _ text = None
 
 -- what the fields of a line ask: nothing, where they are not six

@@ -20,14 +20,20 @@ mod changing;
 mod cutting;
 mod digits;
 mod fault;
+mod formatter_key;
+mod kept;
+mod kept_formatter;
 pub mod laws;
 mod program_run;
+mod read_answer;
 mod refusal;
 mod request;
 mod rounding_field;
 mod running;
 mod sign_field;
 mod starting;
+mod tables;
+mod tag_reader;
 mod wanted;
 mod words;
 
@@ -40,4 +46,5 @@ pub use locale_numbers_engine::{
 pub use program_run::program;
 pub use running::run;
 pub use starting::start;
+pub use tables::Tables;
 pub use words::{Words, read_words};

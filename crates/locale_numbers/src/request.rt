@@ -1,7 +1,7 @@
 // The request line: six fields between tabs.
 ghost use Rattle.std.specs.Prelude.{◌≡◌, ◌∷◌, [], ◌↔◌, length, IsSome, IfSome, MatchOption, Some, None};
-ghost use Rattle.std.specs.Str.{is_utf8};
-ghost use Rattle.locale_numbers.specs.Request.{fields, form_named, grouping_named, request_of};
+ghost use Rattle.std.specs.Str.{IsUtf8, is_utf8};
+ghost use Rattle.locale_numbers.specs.Request.{fields, form_named, grouping_named, keeps_digits, keeps_sign, request_of, takes};
 
 use crate::cutting::cut_field;
 use crate::rounding_field::{RoundingAsked, rounding_by};
@@ -15,6 +15,8 @@ const TAB: u8 = b'\t';
 pub(crate) enum Form {
     /// Its digits, grouped.
     Plain,
+    /// The number itself, read back from such a text.
+    Read,
 }
 
 /// A request line taken apart.
@@ -40,6 +42,8 @@ fn form_by(word: &[u8]) -> Option<Form>
 {
     if word == b"plain".as_slice() {
         Some(Form::Plain)
+    } else if word == b"read".as_slice() {
+        Some(Form::Read)
     } else {
         None
     }
@@ -62,6 +66,30 @@ fn grouping_by(word: &[u8]) -> Option<GroupingStrategy>
     }
 }
 
+/// Whether the sign is that of the text.
+fn keeps_sign(sign: SignAsked) -> bool
+    ensures { result ≡ keeps_sign sign }
+{
+    matches!(sign, SignAsked::Keep)
+}
+
+/// Whether nothing is rounded.
+fn keeps_digits(rounding: RoundingAsked) -> bool
+    ensures { result ≡ keeps_digits rounding }
+{
+    matches!(rounding, RoundingAsked::Unrounded)
+}
+
+/// Whether a form takes a sign and a rounding.
+fn takes(form: Form, sign: SignAsked, rounding: RoundingAsked) -> bool
+    ensures { result ≡ takes form sign rounding }
+{
+    match form {
+        Form::Plain => true,
+        Form::Read => keeps_sign(sign) && keeps_digits(rounding),
+    }
+}
+
 /// Six fields of a line.
 #[derive(Clone, Copy)]
 struct Fields<'a> {
@@ -78,6 +106,7 @@ fn six_fields(line: &[u8]) -> Option<Fields<'_>>
     ensures six { IsSome result ↔ (length (fields line.now) ≡ 6) }
     ensures fields { IfSome result (λ six. fields line.now
         ≡ six.tag.now ∷ six.form.now ∷ six.grouping.now ∷ six.sign.now ∷ six.rounding.now ∷ six.text.now ∷ []) }
+    ensures utf8 { IsUtf8 line.now → IfSome result (λ six. IsUtf8 six.text.now) }
 {
     let (tag, rest) = cut_field(line, TAB);
     let (form, rest) = cut_field(rest?, TAB);
@@ -104,10 +133,11 @@ fn is_text(bytes: &[u8]) -> bool
     str::from_utf8(bytes).is_ok()
 }
 
-/// The request that a line is, or `None` where it is none: not UTF-8, or not six known fields.
+/// The request that a line is, or `None` where it is none: not UTF-8, or not six known fields that go together.
 pub(crate) fn read_request(line: &[u8]) -> Option<Request<'_>>
-    ensures { MatchOption result (request_of line.now ≡ None) (λ asked. request_of line.now
+    ensures request { MatchOption result (request_of line.now ≡ None) (λ asked. request_of line.now
         ≡ Some (record { tag = asked.tag.now; form = asked.form; grouping = asked.grouping; sign = asked.sign; rounding = asked.rounding; text = asked.text.now })) }
+    ensures utf8 { IfSome result (λ asked. IsUtf8 asked.text.now) }
 {
     if !is_text(line) {
         return None;
@@ -117,6 +147,9 @@ pub(crate) fn read_request(line: &[u8]) -> Option<Request<'_>>
     let grouping = grouping_by(six.grouping)?;
     let sign = sign_by(six.sign)?;
     let rounding = rounding_by(six.rounding)?;
+    if !takes(form, sign, rounding) {
+        return None;
+    }
     Some(Request {
         tag: six.tag,
         form,

@@ -1,6 +1,6 @@
 //! Which call a line asks for.
 use crate::row_error::RowError;
-use crate::{answers, faults, plain, repeated, runs, starts, tracked};
+use crate::{answers, faults, loads, plain, repeated, runs, starts, tracked};
 use std::alloc::Global;
 use std::rt::Files;
 
@@ -27,6 +27,7 @@ fn run_result<F: Files>(
         "run_long" => repeated::long_row(alloc, arguments),
         "run_cuts" => runs::cuts_row(alloc, arguments),
         "run_with" => runs::shouted_row(alloc, arguments),
+        "run_loads" => loads::loads_row(alloc, arguments),
         "program" => starts::program_row(rt, alloc, arguments),
         other => tracked_result(alloc, other, arguments),
     }

@@ -5,9 +5,11 @@
 mod answers;
 mod books;
 mod calls;
+mod counting;
 mod escapes;
 mod faults;
 mod giving;
+mod loads;
 mod narrow;
 mod numbers;
 mod pieces;

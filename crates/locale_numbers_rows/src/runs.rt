@@ -67,8 +67,8 @@ pub fn left_text(
     Ok(format!(in alloc; "{outcome}, flushed {flushes}, failed {failed}, \"{output}\"")?)
 }
 
-// What a run answers.
-fn outcome_text(alloc: Global, outcome: Result<Report, RunError>) -> Result<String, RowError> {
+/// What a run answers.
+pub fn outcome_text(alloc: Global, outcome: Result<Report, RunError>) -> Result<String, RowError> {
     match outcome {
         Ok(report) => {
             let lines = report.lines;

@@ -1,0 +1,55 @@
+#!/bin/sh
+# Answers the same lines by one run, and by GNU parallel with 1, 2 and as many jobs as there are processors. It compares the
+# bytes with those of the one run, and prints lines a second over those of the one run.
+# usage: bench/parallel.sh [LINES]
+set -eu
+top=$(cd "$(dirname "$0")/.." && pwd)
+made=$top/bench/made
+built=$top/crates/locale_numbers_program/out/locale_numbers_program
+lines=${1:-10000000}
+command -v parallel >/dev/null || {
+    echo "bench: GNU parallel is needed (Debian's package parallel)" >&2
+    exit 1
+}
+command -v python3 >/dev/null || {
+    echo "bench: python3 is needed" >&2
+    exit 1
+}
+mkdir -p "$made"
+input=$made/lines-$lines-12.txt
+if [ ! -f "$input" ]; then
+    python3 "$top/bench/make_lines.py" "$lines" 1 12 >"$input.part"
+    mv "$input.part" "$input"
+fi
+: | "$top/locale_numbers" >/dev/null
+
+python3 - "$input" "$made" "$built" "$lines" <<'PYTHON'
+import filecmp, os, subprocess, sys, time
+
+source, made, program, lines = sys.argv[1:]
+
+
+def wall(command, name):
+    """The least time by the clock of three runs."""
+    best = None
+    for _ in range(3):
+        with open(source, "rb") as given, open(f"{made}/{name}.out", "wb") as taken:
+            start = time.monotonic()
+            subprocess.run(command, stdin=given, stdout=taken, check=True)
+            spent = time.monotonic() - start
+        best = spent if best is None else min(best, spent)
+    return best
+
+
+alone = wall([program], "alone")
+print(f"{'jobs':>6}{'speed':>8}  bytes")
+print(f"{'none':>6}{1:>8.2f}")
+processors = len(os.sched_getaffinity(0))
+for jobs in sorted({1, 2, processors}):
+    command = ["parallel", "--pipe", "--keep-order", "--block", "16M", "--jobs", str(jobs), program]
+    spent = wall(command, f"parallel-{jobs}")
+    same = filecmp.cmp(f"{made}/alone.out", f"{made}/parallel-{jobs}.out", shallow=False)
+    print(f"{jobs:>6}{alone / spent:>8.2f}  {'the same' if same else 'DIFFERENT'}")
+    if not same:
+        sys.exit(1)
+PYTHON

@@ -1,0 +1,27 @@
+-- Which tables the formatter of a key has.
+use Rattle.std.proofs.Common.{◌≡◌, ℕ, List, Some, Result, ap, ◌∙◌}
+use Rattle.icu_locale_core.specs.TagPreferences.{Preferences}
+use Rattle.icu_decimal.specs.declared.error.DataError.{DataError}
+use Rattle.icu_decimal.specs.declared.options.DecimalFormatterOptions.{DecimalFormatterOptions}
+use Rattle.icu_decimal.specs.declared.options.GroupingStrategy.{GroupingStrategy}
+use Rattle.icu_decimal.specs.FoundTables.{found_tables}
+use Rattle.icu_decimal.specs.Identifiers.{Identifier}
+use Rattle.icu_decimal.specs.PlainText.{Tables}
+use Rattle.icu_decimal.specs.Symbols.{Symbols}
+use Rattle.locale_numbers_book.specs.Book.{BookTables}
+use Rattle.locale_numbers_book.specs.Tables.{symbols_under, digits_under}
+use Rattle.locale_numbers.specs.Answer.{found_in}
+
+-- tables that answer as a book does are found as in the book
+pub found_by : (symbols : Identifier → Result Symbols DataError) (digits : Identifier → Result (List ℕ) DataError) (book : BookTables) (p : Preferences) (grouping : GroupingStrategy) (options : DecimalFormatterOptions) (found : Result Tables DataError)
+    → ((id : Identifier) → symbols id ≡ symbols_under book id) → ((id : Identifier) → digits id ≡ digits_under book id)
+    → options ≡ record { grouping_strategy = Some grouping }
+    → found ≡ found_tables symbols digits p options.grouping_strategy
+    → found ≡ found_in book p grouping
+found_by symbols digits book p grouping options found symbols_agree digits_agree made is =
+    let symbols_are : symbols ≡ symbols_under book = λ i id. symbols_agree id i in
+    let digits_are : digits ≡ digits_under book = λ i id. digits_agree id i in
+    is
+    ∙ ap (λ (o : DecimalFormatterOptions). found_tables symbols digits p o.grouping_strategy) made
+    ∙ ap (λ s. found_tables s digits p (Some grouping)) symbols_are
+    ∙ ap (λ d. found_tables (symbols_under book) d p (Some grouping)) digits_are

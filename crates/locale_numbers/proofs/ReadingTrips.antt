@@ -1,0 +1,182 @@
+-- What is read back is written again, and what was written reads back: `specs/Laws.antt`.
+use Rattle.std.proofs.Common.{◌≡◌, ℕ, true, List, [], drop, get_or, Option, Some, None, Result, Ok, Err, refl, sym, ap, ◌∙◌, subst, arith}
+use Rattle.std.specs.Str.{IsUtf8}
+use Rattle.fixed_decimal.specs.Number.{Number}
+use Rattle.fixed_decimal.specs.SignedText.{ReadsSigned, signed_text_of}
+use Rattle.fixed_decimal.specs.SignedValue.{SignedValue}
+use Rattle.fixed_decimal.specs.TextLaws.{IsDecimal}
+use Rattle.fixed_decimal.proofs.SignedReadOnceLemmas.{signed_printed}
+use Rattle.icu_decimal.specs.declared.error.DataError.{DataError}
+use Rattle.icu_decimal.specs.declared.options.GroupingStrategy.{GroupingStrategy}
+use Rattle.icu_decimal.specs.declared.options.GroupingStrategy.TheVariants.{Auto, Always}
+use Rattle.icu_decimal.specs.Choice.{first_found}
+use Rattle.icu_decimal.specs.FoundTables.{with_digits, with_symbols}
+use Rattle.icu_decimal.specs.Identifiers.{digits_identifiers, symbols_identifiers}
+use Rattle.icu_decimal.specs.PlainReading.{IsPlainText, PlainReading, decimal, not_written, plain_reading, unreadable}
+use Rattle.icu_decimal.specs.PlainText.{Tables, decimal_text}
+use Rattle.icu_decimal.specs.Readable.{is_readable_by}
+use Rattle.icu_decimal.specs.ReadingLaws.{HasOneReading as HasOnePlainReading, ReadIsWrittenAgain as TextIsWrittenAgain, TextsHaveOneDecimal, WrittenReadsBack as TextReadsBack}
+use Rattle.icu_decimal.specs.Symbols.{Symbols}
+use Rattle.icu_locale_core.specs.TagPreferences.{Preferences}
+use Rattle.locale_numbers_book.specs.Book.{BookTables}
+use Rattle.locale_numbers_book.specs.Tables.{digits_under, symbols_under}
+use Rattle.locale_numbers.specs.Answer.{answer_asked, answer_in, answer_tagged, answer_to, answer_with, found_in, refused, written}
+use Rattle.locale_numbers.specs.Changing.{changed}
+use Rattle.locale_numbers.specs.Laws.{AutoIsAnsweredAsAlways, FindsTables, IsAtMagnitude, ReadIsWrittenAgain, RoundedIsWrittenAgain, WrittenReadsBack, grouped_by, plain_request, reading_request}
+use Rattle.locale_numbers.specs.NumberReading.{Reading, beyond, nothing, number, reading_of}
+use Rattle.locale_numbers.specs.ReadAnswer.{read_answer, read_with}
+use Rattle.locale_numbers.specs.Request.{Asked}
+use Rattle.locale_numbers.specs.Wanted.{wanted_of}
+use Rattle.locale_numbers.specs.declared.refusal.Refusal.{Refusal}
+use Rattle.locale_numbers.specs.declared.refusal.Refusal.TheVariants as refusal
+use Rattle.locale_numbers.specs.declared.request.Form.{Form}
+use Rattle.locale_numbers.specs.declared.request.Form.TheVariants.{Plain, Read}
+use Rattle.locale_numbers.specs.declared.rounding_field.RoundingAsked.{RoundingAsked}
+use Rattle.locale_numbers.specs.declared.rounding_field.RoundingAsked.TheVariants.{Unrounded, At}
+use Rattle.locale_numbers.specs.declared.sign_field.SignAsked.{SignAsked}
+use Rattle.locale_numbers.specs.declared.sign_field.SignAsked.TheVariants.{Keep, Show}
+use Rattle.locale_numbers.proofs.NumberBounds.{changed_again, changed_is_decimal, reading_is_decimal}
+use Rattle.locale_numbers.proofs.NumberReadingLemmas.{signed_number}
+
+-- ---- answers apart
+
+-- a refusal is no text
+refused_no : (cause : Refusal) (text : List ℕ) → refused cause ≡ written text → ⊥
+refused_no cause text same = let bad : 101 ≡ 111 = ap (λ (t : List ℕ). get_or t 0 0) same in absurd (omega (arith, bad))
+
+-- answers that hold texts hold one text
+one_text : (a b : List ℕ) → written a ≡ written b → a ≡ b
+one_text a b same = let rest : a ≡ b = ap (λ t. drop 3 t) same in rest
+
+-- ---- groupings
+
+-- tables of the two groupings, which differ in nothing else
+data AreTwins : Result Tables DataError → Result Tables DataError → Type 0 where
+  found : (symbols : Symbols) (digits : List ℕ)
+      → AreTwins (Ok (record { symbols = symbols; digits = digits; strategy = Auto })) (Ok (record { symbols = symbols; digits = digits; strategy = Always }))
+  failed : (error : DataError) → AreTwins (Err error) (Err error)
+
+twin_digits : (symbols : Symbols) (answer : Result (List ℕ) DataError) → AreTwins (with_digits Auto symbols answer) (with_digits Always symbols answer)
+twin_digits symbols (Ok digits) = found symbols digits
+twin_digits symbols (Err error) = failed error
+
+twin_symbols : (book : BookTables) (p : Preferences) (answer : Result Symbols DataError)
+    → AreTwins (with_symbols Auto (digits_under book) p answer) (with_symbols Always (digits_under book) p answer)
+twin_symbols book p (Ok symbols) = twin_digits symbols (first_found (digits_under book) (digits_identifiers p.numbering_system symbols.strings.numsys))
+twin_symbols book p (Err error) = failed error
+
+twins_of : (book : BookTables) (p : Preferences) → AreTwins (found_in book p Auto) (found_in book p Always)
+twins_of book p = twin_symbols book p (first_found (symbols_under book) (symbols_identifiers p))
+
+twins_write : (one two : Result Tables DataError) → AreTwins one two → (value : SignedValue Number) → answer_with one value ≡ answer_with two value
+twins_write one two (found symbols digits) value = refl
+twins_write one two (failed error) value = refl
+
+twins_read : (one two : Result Tables DataError) → AreTwins one two → (text : List ℕ) → read_with one text ≡ read_with two text
+twins_read one two (found symbols digits) text = refl
+twins_read one two (failed error) text = refl
+
+twins_answer : (book : BookTables) (p : Preferences) (sign : SignAsked) (rounding : RoundingAsked) (reading : Reading)
+    → answer_to book p Auto sign rounding reading ≡ answer_to book p Always sign rounding reading
+twins_answer book p sign rounding nothing = refl
+twins_answer book p sign rounding beyond = refl
+twins_answer book p sign rounding (number value) = twins_write (found_in book p Auto) (found_in book p Always) (twins_of book p) (changed rounding sign value)
+
+auto_in : (book : BookTables) (p : Preferences) (asked : Asked) (form : Form)
+    → answer_in form book p (grouped_by Auto asked) ≡ answer_in form book p (grouped_by Always asked)
+auto_in book p asked Plain = twins_answer book p asked.sign asked.rounding (reading_of asked.text)
+auto_in book p asked Read = twins_read (found_in book p Auto) (found_in book p Always) (twins_of book p) asked.text
+
+auto_tagged : (book : BookTables) (asked : Asked) (p : Option Preferences)
+    → answer_tagged book p (grouped_by Auto asked) ≡ answer_tagged book p (grouped_by Always asked)
+auto_tagged book asked None = refl
+auto_tagged book asked (Some p) = auto_in book p asked asked.form
+
+pub auto_is_always : AutoIsAnsweredAsAlways
+auto_is_always book asked = auto_tagged book asked (wanted_of asked.tag)
+
+-- ---- requests whose tables are found
+
+-- what was read of a text that has an answer
+record IsRead (tables : Tables) (text digits : List ℕ) : Type 0 where
+  value : SignedValue Number
+  is : plain_reading tables text ≡ decimal value
+  printed : signed_text_of value ≡ digits
+
+read_by : (tables : Tables) (text digits : List ℕ) (reading : PlainReading) → plain_reading tables text ≡ reading → read_answer reading ≡ written digits → IsRead tables text digits
+read_by tables text digits unreadable is same = absurd (refused_no refusal.Unreadable digits same)
+read_by tables text digits not_written is same = absurd (refused_no refusal.NotWritten digits same)
+read_by tables text digits (decimal value) is same = record { value = value; is = is; printed = one_text (signed_text_of value) digits same }
+
+-- the number of a plain request that has an answer
+record IsWritten (tables : Tables) (asked : Asked) (text : List ℕ) : Type 0 where
+  value : SignedValue Number
+  is : reading_of asked.text ≡ number value
+  shown : decimal_text tables (changed asked.rounding asked.sign value) ≡ text
+
+module _ (book : BookTables) (asked : Asked) (tables : Tables) (finds : FindsTables book asked tables) where
+  read_found : (text : List ℕ) → answer_asked book (Some (reading_request asked text)) ≡ read_answer (plain_reading tables text)
+  read_found text =
+      ap (λ p. answer_tagged book p (reading_request asked text)) finds.tag
+      ∙ ap (λ found. read_with found text) finds.found
+
+  plain_found : (rounding : RoundingAsked) (digits : List ℕ) (value : SignedValue Number) → reading_of digits ≡ number value
+      → answer_asked book (Some (plain_request asked rounding digits)) ≡ written (decimal_text tables (changed rounding Keep value))
+  plain_found rounding digits value is =
+      ap (λ p. answer_tagged book p (plain_request asked rounding digits)) finds.tag
+      ∙ ap (answer_to book finds.preferences asked.grouping Keep rounding) is
+      ∙ ap (λ found. answer_with found (changed rounding Keep value)) finds.found
+
+  read_of : (text digits : List ℕ) → answer_asked book (Some (reading_request asked text)) ≡ written digits → IsRead tables text digits
+  read_of text digits same = read_by tables text digits (plain_reading tables text) refl (sym (read_found text) ∙ same)
+
+  written_by : (text : List ℕ) (reading : Reading) → reading_of asked.text ≡ reading
+      → answer_to book finds.preferences asked.grouping asked.sign asked.rounding reading ≡ written text → IsWritten tables asked text
+  written_by text nothing is same = absurd (refused_no refusal.Number text same)
+  written_by text beyond is same = absurd (refused_no refusal.Limit text same)
+  written_by text (number value) is same = record {
+    value = value;
+    is = is;
+    shown = one_text (decimal_text tables (changed asked.rounding asked.sign value)) text
+        (sym (ap (λ found. answer_with found (changed asked.rounding asked.sign value)) finds.found) ∙ same);
+  }
+
+  written_of : (text : List ℕ) → asked.form ≡ Plain → answer_asked book (Some asked) ≡ written text → IsWritten tables asked text
+  written_of text plain same =
+      written_by text (reading_of asked.text) refl
+      (sym (ap (λ p. answer_tagged book p asked) finds.tag ∙ ap (λ form. answer_in form book finds.preferences asked) plain) ∙ same)
+
+  -- what was read, sent again, is read as the same number
+  sent_again : (text digits : List ℕ) (read : IsRead tables text digits) → IsDecimal read.value → reading_of digits ≡ number read.value
+  sent_again text digits read is = signed_number digits read.value (subst (λ t. ReadsSigned t read.value) read.printed (signed_printed read.value is))
+
+  -- and is a decimal that has the text
+  read_plainly : HasOnePlainReading → (text : List ℕ) (value : SignedValue Number) → IsUtf8 text → plain_reading tables text ≡ decimal value → IsPlainText tables text value
+  read_plainly one text value utf8 is = ((one tables text (decimal value) finds.are utf8).1 (sym is)).1
+
+-- ---- the laws
+
+pub read_again : HasOnePlainReading → TextIsWrittenAgain → ReadIsWrittenAgain
+read_again one again book asked tables text digits finds utf8 same =
+    let read = read_of book asked tables finds text digits same in
+    let plain = read_plainly book asked tables finds one text read.value utf8 read.is in
+    plain_found book asked tables finds Unrounded digits read.value (sent_again book asked tables finds text digits read plain.decimal)
+    ∙ ap written (again tables text read.value read.is)
+
+pub reads_back : TextReadsBack → WrittenReadsBack
+reads_back back book asked tables value finds readable is utf8 =
+    read_found book asked tables finds (decimal_text tables value)
+    ∙ ap read_answer (back tables value finds.are readable is utf8)
+
+pub rounded_again : HasOnePlainReading → TextsHaveOneDecimal → RoundedIsWrittenAgain
+rounded_again one texts book asked tables text digits plain at finds readable utf8 wrote same =
+    let read = read_of book asked tables finds text digits same in
+    let is = read_plainly book asked tables finds one text read.value utf8 read.is in
+    let first = written_of book asked tables finds text plain wrote in
+    let value : SignedValue Number = changed asked.rounding asked.sign first.value in
+    let whole : IsDecimal value = changed_is_decimal asked.rounding asked.sign first.value at (reading_is_decimal asked.text first.value first.is) in
+    let one_value : read.value ≡ value = texts tables read.value value finds.are readable is.decimal whole (is.written ∙ sym first.shown) in
+    let kept : changed asked.rounding Keep read.value ≡ value = ap (changed asked.rounding Keep) one_value ∙ changed_again asked.rounding asked.sign first.value in
+    plain_found book asked tables finds asked.rounding digits read.value (sent_again book asked tables finds text digits read is.decimal)
+    ∙ ap (λ v. written (decimal_text tables v)) kept
+    ∙ ap written first.shown

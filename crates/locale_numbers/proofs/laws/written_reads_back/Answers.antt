@@ -1,0 +1,5 @@
+use Rattle.locale_numbers.proofs.ReadingTrips.{reads_back}
+use Rattle.locale_numbers.proofs.laws.written_reads_back.Goals as goal
+
+pub returns : goal.returns
+returns c = reads_back c.both_trips.ensures.back

@@ -1,0 +1,43 @@
+//! What a formatter is kept under.
+ghost use Rattle.std.specs.Prelude.{◌≡◌};
+ghost use Rattle.locale_numbers.specs.FormatterKeys.{kind_of};
+
+use crate::request::Form;
+use icu_decimal::DecimalFormatterPreferences;
+use icu_decimal::options::GroupingStrategy;
+use locale_numbers_cache::CacheKey;
+
+/// Which tables a form is written with.
+#[derive(Clone, Copy, Debug, PartialEq, Eq, Hash)]
+pub(crate) enum Kind {
+    /// Symbols and digits alone.
+    Plain,
+}
+
+/// What a formatter is kept under: what a tag prefers, a kind and a grouping. Tags that prefer the same have one key.
+#[derive(Clone, Copy, Debug, PartialEq, Eq, Hash)]
+pub(crate) struct FormatterKey {
+    /// What the tag prefers, `rg` too.
+    pub preferences: DecimalFormatterPreferences,
+    /// The kind of tables.
+    pub kind: Kind,
+    /// Where separators stand.
+    pub grouping: GroupingStrategy,
+}
+
+impl CacheKey for FormatterKey {
+    ghost use Rattle.std.specs.Cmp.Rules.{comparing};
+    ghost use Rattle.std.proofs.Common.{rules};
+    ghost use Rattle.locale_numbers.specs.SameKeys.{keys_are};
+
+    ghost same = { keys_are ⟦<Kind as PartialEq>⟧.eq ⟦<GroupingStrategy as PartialEq>⟧.eq (Prim.search (comparing, rules)) (Prim.search (comparing, rules)) };
+}
+
+/// The kind of tables that a form is written with.
+pub(crate) fn kind_by(form: Form) -> Kind
+    ensures { result ≡ kind_of form }
+{
+    match form {
+        Form::Plain | Form::Read => Kind::Plain,
+    }
+}

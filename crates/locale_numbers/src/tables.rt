@@ -1,0 +1,53 @@
+//! The tables that lines are answered with.
+
+use icu_decimal::provider::{
+    DataProvider, DecimalCompactLongV1, DecimalCompactShortV1, DecimalDigitsV1, DecimalSymbolsV1,
+    PluralsCardinalV1,
+};
+use locale_numbers_book::Book;
+
+/// Tables of all five kinds, as those of a [`Book`].
+///
+/// Under each identifier a type of your own answers what stands there in one book, at each call the same, and where nothing
+/// does it answers `IdentifierNotFound`: one that forwards to a book and counts what is loaded, say. That it does so is its
+/// proof's to say.
+pub trait Tables: DataProvider<DecimalSymbolsV1>
+    + DataProvider<DecimalDigitsV1>
+    + DataProvider<PluralsCardinalV1>
+    + DataProvider<DecimalCompactShortV1>
+    + DataProvider<DecimalCompactLongV1> {
+    ghost use Rattle.std.specs.Prelude.{◌≡◌};
+    ghost use Rattle.icu_decimal.specs.Identifiers.{Identifier};
+    ghost use Rattle.locale_numbers_book.specs.Book.{BookTables};
+    ghost use Rattle.locale_numbers_book.specs.Tables.{symbols_under, digits_under, rules_under, short_under, long_under};
+
+    // the book that the tables are those of
+    ghost book: { Self → BookTables };
+
+    // each is what stands there in that book
+    ghost symbols: { (s : Self) (id : Identifier) → Self.DataProvider-1.table s id ≡ symbols_under (book s) id };
+
+    ghost digits: { (s : Self) (id : Identifier) → Self.DataProvider-2.table s id ≡ digits_under (book s) id };
+
+    ghost rules: { (s : Self) (id : Identifier) → Self.DataProvider-3.table s id ≡ rules_under (book s) id };
+
+    ghost short: { (s : Self) (id : Identifier) → Self.DataProvider-4.table s id ≡ short_under (book s) id };
+
+    ghost long: { (s : Self) (id : Identifier) → Self.DataProvider-5.table s id ≡ long_under (book s) id };
+}
+
+impl Tables for Book {
+    ghost use Rattle.std.specs.Prelude.{refl};
+
+    ghost book = { λ book. book };
+
+    ghost symbols = { λ s id. refl };
+
+    ghost digits = { λ s id. refl };
+
+    ghost rules = { λ s id. refl };
+
+    ghost short = { λ s id. refl };
+
+    ghost long = { λ s id. refl };
+}

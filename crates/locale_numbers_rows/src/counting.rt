@@ -1,0 +1,88 @@
+//! Tables that count how often digits were found in them.
+use icu_decimal::plurals::PluralRules;
+use icu_decimal::provider::{
+    CompactPatterns, DataError, DataIdentifier, DataProvider, DecimalCompactLongV1,
+    DecimalCompactShortV1, DecimalDigitsV1, DecimalSymbols, DecimalSymbolsV1, PluralsCardinalV1,
+};
+use locale_numbers::{Book, Tables};
+use std::cell::Cell;
+
+/// The tables of a book, and a count of the digits that were found.
+#[derive(Drop)]
+pub struct Counting<'b> {
+    /// The book.
+    pub book: &'b Book,
+    /// How often digits were found.
+    pub digits_found: Cell<u64>,
+}
+
+impl<'b> DataProvider<DecimalDigitsV1> for Counting<'b> {
+    ghost use Rattle.locale_numbers.specs.Tables.{digits_under};
+
+    ghost table = { λ s id. digits_under s.book.now id };
+
+    fn load(&self, id: &DataIdentifier) -> Result<&[char; 10], DataError> {
+        let found = DataProvider::<DecimalDigitsV1>::load(self.book, id);
+        if found.is_ok() {
+            self.digits_found
+                .set(self.digits_found.get().saturating_add(1));
+        }
+        found
+    }
+}
+
+impl<'b> DataProvider<DecimalSymbolsV1> for Counting<'b> {
+    ghost use Rattle.locale_numbers.specs.Tables.{symbols_under};
+
+    ghost table = { λ s id. symbols_under s.book.now id };
+
+    fn load(&self, id: &DataIdentifier) -> Result<&DecimalSymbols, DataError> {
+        DataProvider::<DecimalSymbolsV1>::load(self.book, id)
+    }
+}
+
+impl<'b> DataProvider<PluralsCardinalV1> for Counting<'b> {
+    ghost use Rattle.locale_numbers.specs.Tables.{rules_under};
+
+    ghost table = { λ s id. rules_under s.book.now id };
+
+    fn load(&self, id: &DataIdentifier) -> Result<&PluralRules, DataError> {
+        DataProvider::<PluralsCardinalV1>::load(self.book, id)
+    }
+}
+
+impl<'b> DataProvider<DecimalCompactShortV1> for Counting<'b> {
+    ghost use Rattle.locale_numbers.specs.Tables.{short_under};
+
+    ghost table = { λ s id. short_under s.book.now id };
+
+    fn load(&self, id: &DataIdentifier) -> Result<&CompactPatterns, DataError> {
+        DataProvider::<DecimalCompactShortV1>::load(self.book, id)
+    }
+}
+
+impl<'b> DataProvider<DecimalCompactLongV1> for Counting<'b> {
+    ghost use Rattle.locale_numbers.specs.Tables.{long_under};
+
+    ghost table = { λ s id. long_under s.book.now id };
+
+    fn load(&self, id: &DataIdentifier) -> Result<&CompactPatterns, DataError> {
+        DataProvider::<DecimalCompactLongV1>::load(self.book, id)
+    }
+}
+
+impl<'b> Tables for Counting<'b> {
+    ghost use Rattle.std.specs.Prelude.{refl};
+
+    ghost book = { λ s. s.book.now };
+
+    ghost symbols = { λ s id. refl };
+
+    ghost digits = { λ s id. refl };
+
+    ghost rules = { λ s id. refl };
+
+    ghost short = { λ s id. refl };
+
+    ghost long = { λ s id. refl };
+}
