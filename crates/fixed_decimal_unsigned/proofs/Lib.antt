@@ -2,6 +2,7 @@ pub mod TenLemmas
 pub mod DigitsLemmas
 pub mod PackedLemmas
 pub mod PackedChanges
+pub mod WordLemmas
 pub mod StoredLemmas
 pub mod TextPartsLemmas
 pub mod SpelledLemmas

@@ -2,8 +2,9 @@
 use Rattle.std.proofs.Common.{◌≡◌, ℕ, zero, suc, ◌+◌, ◌-◌, ◌<◌, ◌≤◌, List, [], ◌∷◌, ◌++◌, length, map, take, refl, sym, ap, ◌∙◌, arith}
 use Rattle.std.proofs.Math.ListN.{set}
 use Rattle.std.specs.Str.{IsAscii}
-use Rattle.std.proofs.lemmas.List.{append_assoc, map-append, take_more_set}
+use Rattle.std.proofs.lemmas.List.{append_assoc, append-nil, map-append, take_more_set}
 use Rattle.std.proofs.lemmas.Str.Ascii.{IsAscii-nil, IsAscii-cons}
+use Rattle.std.proofs.lemmas.Str.{IsAscii-append}
 use Rattle.writeable.specs.AnnotatedText.{bytes, text_of as written}
 use Rattle.writeable.proofs.AnnotatedTextLemmas.{text_of_bytes, bytes_joined}
 use Rattle.fixed_decimal_unsigned.specs.Number.{Number, digit, digits_down, whole_digits, fraction_digits}
@@ -29,15 +30,51 @@ next_piece count base left size rest e =
     ∙ ap bytes (map-append character (digits_down count (base + rest) size) (digits_down count base rest))
     ∙ bytes_joined (map character (digits_down count (base + rest) size)) (map character (digits_down count base rest))
 
--- one character more of a piece
-pub spelled_more : (piece : List ℕ) (count base done left rest c : ℕ) → done < length piece → left ≡ rest + 1 → c ≡ character (digit count (base + rest))
-    → take (done + 1) (set piece done c) ++ map character (digits_down count base rest) ≡ take done piece ++ map character (digits_down count base left)
-spelled_more piece count base done left rest c within e is =
+-- one character more in a piece
+pub spelled_more : (piece : List ℕ) (count base from done left rest c : ℕ) → from + done < length piece → left ≡ rest + 1 → c ≡ character (digit count (base + rest))
+    → take (from + (done + 1)) (set piece (from + done) c) ++ map character (digits_down count base rest) ≡ take (from + done) piece ++ map character (digits_down count base left)
+spelled_more piece count base from done left rest c within e is =
     let more : suc rest ≡ left = omega arith in
-    ap (λ t. t ++ map character (digits_down count base rest)) (take_more_set piece done c within)
-    ∙ append_assoc (take done piece) (c ∷ []) (map character (digits_down count base rest))
-    ∙ ap (λ d. take done piece ++ d ∷ map character (digits_down count base rest)) is
-    ∙ ap (λ n. take done piece ++ map character (digits_down count base n)) more
+    let next : from + (done + 1) ≡ from + done + 1 = omega arith in
+    ap (λ n. take n (set piece (from + done) c) ++ map character (digits_down count base rest)) next
+    ∙ ap (λ t. t ++ map character (digits_down count base rest)) (take_more_set piece (from + done) c within)
+    ∙ append_assoc (take (from + done) piece) (c ∷ []) (map character (digits_down count base rest))
+    ∙ ap (λ d. take (from + done) piece ++ d ∷ map character (digits_down count base rest)) is
+    ∙ ap (λ n. take (from + done) piece ++ map character (digits_down count base n)) more
+
+-- a piece in which no digit is left to spell
+pub spelled_all : (piece whole : List ℕ) (count base from done size : ℕ) → done ≤ size → size ≤ done
+    → take (from + done) piece ++ map character (digits_down count base (size - done)) ≡ whole → take (from + size) piece ≡ whole
+spelled_all piece whole count base from done size l m e =
+    let same : size ≡ done = omega arith in
+    let left : size - done ≡ 0 = omega arith in
+    ap (λ n. take (from + n) piece) same
+    ∙ sym (append-nil (take (from + done) piece))
+    ∙ ap (λ n. take (from + done) piece ++ map character (digits_down count base n)) (sym left)
+    ∙ e
+
+no_fraction : (count low left : ℕ) → left ≡ 0 → behind_point (map character (digits_down count low left)) ≡ []
+no_fraction count low zero e = refl
+no_fraction count low (suc k) e = absurd (omega arith)
+
+some_fraction : (count low left : ℕ) → 0 < left → point ∷ map character (digits_down count low left) ≡ behind_point (map character (digits_down count low left))
+some_fraction count low zero l = absurd (omega arith)
+some_fraction count low (suc k) l = refl
+
+-- a piece with the text of a number that shows no digit behind the point, and of one that does
+pub spelled_whole : (piece : List ℕ) (v : Number) → 32768 ≤ v.low → take (v.high - 32767) piece ≡ map character (whole_digits v) → take (v.high - 32767) piece ≡ printed v
+spelled_whole piece v l e =
+    e ∙ sym (append-nil (map character (whole_digits v)))
+    ∙ ap (λ t. map character (whole_digits v) ++ t) (sym (no_fraction v.count v.low (32768 - v.low) (omega arith)))
+
+pub spelled_both : (first last : List ℕ) (v : Number) (whole : ℕ) → v.low < 32768 → whole < length first → take whole first ≡ map character (whole_digits v)
+    → take (whole + 1 + (32768 - v.low)) last ≡ take (whole + 1) (set first whole point) ++ map character (fraction_digits v)
+    → take (whole + 1 + (32768 - v.low)) last ≡ printed v
+spelled_both first last v whole l within e f =
+    let behind = map character (fraction_digits v) in
+    f ∙ ap (λ t. t ++ behind) (take_more_set first whole point within ∙ ap (λ t. t ++ point ∷ []) e)
+    ∙ append_assoc (map character (whole_digits v)) (point ∷ []) behind
+    ∙ ap (λ t. map character (whole_digits v) ++ t) (some_fraction v.count v.low (32768 - v.low) (omega arith))
 
 -- the characters of digits are ASCII
 pub characters_ascii : (count base size : ℕ) → IsAscii (map character (digits_down count base size))
@@ -45,6 +82,20 @@ characters_ascii count base zero = IsAscii-nil
 characters_ascii count base (suc k) =
     let small : character (digit count (base + k)) < 128 = let ten = digit_below_ten count (base + k) in omega arith in
     IsAscii-cons (character (digit count (base + k))) (map character (digits_down count base k)) small (characters_ascii count base k)
+
+behind_ascii : (cs : List ℕ) → IsAscii cs → IsAscii (behind_point cs)
+behind_ascii [] h = h
+behind_ascii (c ∷ cs) h = IsAscii-cons point (c ∷ cs) (omega arith) h
+
+-- the characters of a number's text are ASCII
+pub text_ascii : (v : Number) → IsAscii (printed v)
+text_ascii v =
+    IsAscii-append (map character (whole_digits v)) (behind_point (map character (fraction_digits v))) (characters_ascii v.count 32768 (v.high - 32767))
+    (behind_ascii (map character (fraction_digits v)) (characters_ascii v.count v.low (32768 - v.low)))
+
+-- the events of a text are those of its two parts
+pub text_events : (v : Number) → bytes (printed v) ≡ bytes (map character (whole_digits v)) ++ bytes (behind_point (map character (fraction_digits v)))
+text_events v = bytes_joined (map character (whole_digits v)) (behind_point (map character (fraction_digits v)))
 
 pub none_left : (count base left : ℕ) → left ≤ 0 → bytes (map character (digits_down count base left)) ≡ []
 unfolding bytes

@@ -1,9 +1,27 @@
 // Changes of the bytes that hold two digits each.
 ghost use Rattle.std.specs.Prelude.{◌≡◌, ◌<◌, ◌≤◌, length, slice_set, drop};
+ghost use Rattle.fixed_decimal_unsigned.specs.DigitWord.{word_bytes};
 ghost use Rattle.fixed_decimal_unsigned.specs.Packed.{shifted};
 
 use crate::digits::INLINE;
 use smallvec::SmallVec;
+use std::alloc::Global;
+
+// The lowest bytes of a word, so many, the highest of them first. No memory is taken.
+pub fn bytes_of_word(alloc: Global, word: u32, count: usize) -> SmallVec<u8, INLINE>
+    requires { count ≤ 4 }
+    ensures items { result.items ≡ word_bytes word count }
+    ensures capacity { result.capacity ≡ 4 }
+{
+    let bytes = word.to_be_bytes();
+    match count {
+        0 => SmallVec::new(alloc),
+        1 => SmallVec::from_buf_and_len(alloc, [bytes[3], 0, 0, 0], 1),
+        2 => SmallVec::from_buf_and_len(alloc, [bytes[2], bytes[3], 0, 0], 2),
+        3 => SmallVec::from_buf_and_len(alloc, [bytes[1], bytes[2], bytes[3], 0], 3),
+        _ => SmallVec::from_buf(alloc, bytes),
+    }
+}
 
 // Puts a byte in the place of another.
 pub fn set_byte(kept: &mut SmallVec<u8, INLINE>, index: usize, byte: u8)

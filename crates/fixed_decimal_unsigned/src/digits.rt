@@ -2,9 +2,11 @@
 ghost use Rattle.std.specs.Prelude.{◌≡◌, ◌==◌, ◌+◌, ◌%◌, ◌<◌, ◌≤◌, [], ◌∷◌, ◌++◌, length, slice_index, take, drop, IsOk, IfOk, OnOk, OnErr};
 ghost use Rattle.std.specs.Prelude.{◌^◌, ◌↔◌, IsTrue};
 ghost use Rattle.std.specs.Bool.{Decides};
+ghost use Rattle.std.specs.Int.Digits.{AllBelowBase};
 ghost use Rattle.std.specs.Iterator.{YieldsFirst, item_count};
+ghost use Rattle.fixed_decimal_unsigned.specs.DigitWord.{word_digits};
 
-use crate::digit_bytes::{drop_bytes, set_byte, shift_half};
+use crate::digit_bytes::{bytes_of_word, drop_bytes, set_byte, shift_half};
 use smallvec::SmallVec;
 use std::alloc::{AllocError, Global};
 use std::iter::FusedIterator;
@@ -53,6 +55,21 @@ impl Digits {
         let mut digits = Digits::new(alloc);
         digits.reserve(count)?;
         Ok(digits)
+    }
+
+    // The lowest digits of a word, so many, four bits each. No memory is taken.
+    pub fn of_word(alloc: Global, word: u32, count: usize) -> Digits
+        requires few { count ≤ 8 }
+        requires fits { word < 16 ^ count }
+        requires tens { AllBelowBase 10 (word_digits word count) }
+        ensures items { result.items ≡ word_digits word count }
+    {
+        let kept = if count % 2 == 0 {
+            bytes_of_word(alloc, word, count / 2)
+        } else {
+            bytes_of_word(alloc, word * 16, count / 2 + 1)
+        };
+        Digits { kept, count }
     }
 
     // How many digits there are.

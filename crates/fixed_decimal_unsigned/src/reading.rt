@@ -1,5 +1,5 @@
 // Reading a text: the range that its digits and its exponent name, and the digits kept.
-ghost use Rattle.std.specs.Prelude.{◌≡◌, ℕ, ◌+◌, ◌-◌, ◌*◌, ◌^◌, ◌%◌, ◌<◌, ◌≤◌, ◌==◌, ◌++◌, ◌||◌, min, max, cond, length, slice_index, IfOk, IfSome, IfNone, OnOk, OnErr, IsErrOf};
+ghost use Rattle.std.specs.Prelude.{◌≡◌, ℕ, ◌+◌, ◌-◌, ◌*◌, ◌^◌, ◌%◌, ◌<◌, ◌≤◌, ◌==◌, ◌++◌, ◌||◌, min, max, cond, length, map, slice_index, IfOk, IfSome, IfNone, OnOk, OnErr, IsErrOf};
 ghost use Rattle.std.specs.Int.Digits.{number_from_digits, number_from_digits_after, AllBelowBase};
 ghost use Rattle.std.specs.Char.{digit_value};
 ghost use Rattle.std.specs.Str.Parse.{digits_value_after};
@@ -16,6 +16,9 @@ use std::alloc::{AllocError, Global};
 
 // No exponent in range reaches this; a larger one is read as this.
 const EXPONENT_CAP: usize = 65536;
+
+// So many digits fit in a word, and need no memory.
+const INLINE_DIGITS: usize = 8;
 
 // The value of a digit's character.
 fn digit_of(c: u8) -> u8
@@ -207,6 +210,32 @@ fn without_leading_zeros<'a>(integer: &'a [u8], fraction: &'a [u8]) -> (&'a [u8]
     }
 }
 
+// A word with the digits of a text behind those that it has, four bits each.
+#[tactic(auto, using(crate::proofs::SpelledLemmas::digits_at, crate::proofs::WordLemmas::folded_more, crate::proofs::WordLemmas::folded_all))]
+fn word_after(word: u32, text: &[u8]) -> u32
+    requires text_digits { AreDigits text.now }
+    requires few { length text.now ≤ 8 }
+    requires room { word < 16 ^ (8 - length text.now) }
+    ensures { result ≡ digits_value_after 16 word text.now }
+{
+    let mut after = word;
+    for c in text {
+        after = after * 16 + digit_of(*c) as u32;
+    }
+    after
+}
+
+// The digits that two texts spell one behind the other, at most eight. No memory is taken.
+fn few_digits(alloc: Global, whole: &[u8], rest: &[u8]) -> Digits
+    requires whole_digits { AreDigits whole.now }
+    requires rest_digits { AreDigits rest.now }
+    requires few { length whole.now + length rest.now ≤ 8 }
+    ensures { result.items ≡ map digit_value (whole.now ++ rest.now) }
+{
+    let word = word_after(word_after(0, whole), rest);
+    Digits::of_word(alloc, word, whole.len() + rest.len())
+}
+
 // The digits that two texts spell one behind the other.
 #[tactic(auto, using(crate::proofs::MantissaLemmas::spelled_after))]
 fn gathered(alloc: Global, integer: &[u8], fraction: &[u8]) -> Result<Digits, AllocError>
@@ -221,7 +250,11 @@ fn gathered(alloc: Global, integer: &[u8], fraction: &[u8]) -> Result<Digits, Al
     ensures room { OnErr result (10 ^ 8 ≤ spelled (integer.now ++ fraction.now)) }
 {
     let (whole, rest) = without_leading_zeros(integer, fraction);
-    let mut digits = Digits::with_room(alloc, whole.len() + rest.len())?;
+    let count = whole.len() + rest.len();
+    if count <= INLINE_DIGITS {
+        return Ok(few_digits(alloc, whole, rest));
+    }
+    let mut digits = Digits::with_room(alloc, count)?;
     push_digits(&mut digits, whole);
     push_digits(&mut digits, rest);
     Ok(digits)

@@ -21,19 +21,35 @@ fn character_at(number: &UnsignedDecimal, place: u16) -> u8
     b'0' + number.digit_at(magnitude_of(place))
 }
 
-// The characters of so many digits, from the highest down to the one at `base`, in front of what is not used.
-fn spelled(number: &UnsignedDecimal, base: u16, size: u16) -> [u8; 32]
-    requires few { size ≤ 32 }
+// Puts the characters of so many digits into a piece, from an index on: the highest first, down to the one at `base`.
+fn spell(number: &UnsignedDecimal, base: u16, size: u16, piece: &mut [u8; 32], from: u16)
+    requires room { from + size ≤ 32 }
     requires places { base + size ≤ 65536 }
-    ensures { take size result ≡ map character (digits_down number.now.count base size) }
+    ensures { take (from + size) piece.new ≡ take from piece.old ++ map character (digits_down number.now.count base size) }
 {
-    let mut piece = [b'0'; 32];
     let mut done = 0;
     while done < size {
-        piece[done as usize] = character_at(number, base + (size - 1 - done));
+        piece[(from + done) as usize] = character_at(number, base + (size - 1 - done));
         done += 1;
     }
-    piece
+}
+
+// Puts the text of a number into a piece, and says how long it is.
+#[tactic(auto, using(crate::proofs::WritingLemmas::spelled_whole, crate::proofs::WritingLemmas::spelled_both))]
+fn spell_text(number: &UnsignedDecimal, piece: &mut [u8; 32]) -> u16
+    requires { number.now.high ≤ number.now.low + 30 }
+    ensures fits { result ≤ 32 }
+    ensures text { take result piece.new ≡ text_of number.now }
+{
+    let whole = number.high - (ONES - 1);
+    spell(number, ONES, whole, piece, 0);
+    if number.low >= ONES {
+        return whole;
+    }
+    piece[whole as usize] = b'.';
+    let fraction = ONES - number.low;
+    spell(number, number.low, fraction, piece, whole + 1);
+    whole + 1 + fraction
 }
 
 // ASCII characters as a text.
@@ -41,10 +57,7 @@ fn ascii_text(characters: &[u8]) -> &str
     requires { IsAscii characters.now }
     ensures { result.now ≡ characters.now }
 {
-    match str::from_utf8(characters) {
-        Ok(text) => text,
-        Err(_) => "",
-    }
+    unsafe { str::from_utf8_unchecked(characters) }
 }
 
 // Writes so many digits of a number, from the highest down to the one at `base`, by one call of the sink.
@@ -61,7 +74,8 @@ fn write_piece<S: Sink>(
     ensures refused { S.refused sink.new ≡ is_err result }
     ensures begun { OnErr result (HasBegun S.takes S.lacks_room sink.old (bytes (map character (digits_down number.now.count base size))) sink.new) }
 {
-    let piece = spelled(number, base, size);
+    let mut piece = [b'0'; 32];
+    spell(number, base, size, &mut piece, 0);
     sink.write_str(ascii_text(&piece[..size as usize]))
 }
 
@@ -128,6 +142,19 @@ fn write_whole<S: Sink>(number: &UnsignedDecimal, sink: &mut S) -> Result<(), Er
     write_digits(number, ONES, number.high - (ONES - 1), sink)
 }
 
+// Writes a text of at most thirty-two bytes by one call of the sink.
+fn write_short<S: Sink>(number: &UnsignedDecimal, sink: &mut S) -> Result<(), Error>
+    requires fine { S.refused sink.old ≡ false }
+    requires short { number.now.high ≤ number.now.low + 30 }
+    ensures ok { OnOk result (S.takes sink.old (bytes (text_of number.now)) sink.new) }
+    ensures refused { S.refused sink.new ≡ is_err result }
+    ensures begun { OnErr result (HasBegun S.takes S.lacks_room sink.old (bytes (text_of number.now)) sink.new) }
+{
+    let mut piece = [b'0'; 32];
+    let length = spell_text(number, &mut piece);
+    sink.write_str(ascii_text(&piece[..length as usize]))
+}
+
 // The number of bytes of a number's text.
 #[tactic(auto, using(crate::proofs::PrintedLemmas::text_with_fraction, crate::proofs::PrintedLemmas::text_without_fraction))]
 fn text_length(number: &UnsignedDecimal) -> usize
@@ -150,7 +177,11 @@ impl Writeable for UnsignedDecimal {
 
     ghost events = { λ v. bytes (map character (whole_digits v)) ++ bytes (behind_point (map character (fraction_digits v))) };
 
+    #[tactic(auto, using(crate::proofs::WritingLemmas::text_events))]
     fn write_to<S: Sink>(&self, sink: &mut S) -> Result<(), Error> {
+        if self.high - self.low < PIECE - 1 {
+            return write_short(self, sink);
+        }
         write_whole(self, sink)?;
         write_fraction(self, sink)
     }

@@ -1,13 +1,13 @@
-use Rattle.std.proofs.Common.{◌≡◌, ◌-◌, ◌≤◌, ◌++◌, length, map, take}
+use Rattle.std.proofs.Common.{◌≡◌, ◌+◌, ◌-◌, ◌≤◌, ◌++◌, length, map, take}
 use Rattle.fixed_decimal_unsigned.specs.Number.{digits_down}
 use Rattle.fixed_decimal_unsigned.specs.NumberText.{character}
-use Rattle.fixed_decimal_unsigned.proofs.writing.spelled.Given as goal
+use Rattle.fixed_decimal_unsigned.proofs.writing.spell.Given as goal
 
 abbrev pub invariant-loop-done : goal.invariant-loop-done
 invariant-loop-done l = record {
   done : l.done ≤ l.size;
   room : length l.piece ≡ 32;
-  spelled : take l.done l.piece ++ map character (digits_down l.number.count l.base (l.size - l.done)) ≡ map character (digits_down l.number.count l.base l.size);
+  spelled : take (l.from + l.done) l.piece ++ map character (digits_down l.number.count l.base (l.size - l.done)) ≡ take l.from l.initial.piece ++ map character (digits_down l.number.count l.base l.size);
 }
 
 abbrev pub decreases-loop-done : goal.decreases-loop-done
