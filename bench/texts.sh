@@ -1,17 +1,54 @@
 #!/bin/sh
-# Times small texts beside byte loops for the same calls, in one run, and prints the one over the other. It works on a copy of
-# the crates, and proves and builds what is not there yet.
-# usage: bench/texts.sh
+# Times small texts beside byte loops for the same calls, in one run, and prints the one over the other. With a commit, it then
+# builds one program, which reads and prints tags of three subtags, over the small texts as they are and as they were at that
+# commit, runs the two in turns, and prints the one over the other. It works on copies of the crates, and proves and builds what
+# is not there yet.
+# usage: bench/texts.sh [COMMIT]     (e9d7478^ went through them byte by byte)
 set -eu
 top=$(cd "$(dirname "$0")/.." && pwd)
 made=${TMPDIR:-/tmp}/tinystr_bench      # outside the repository: a check of all crates reads every .rt file below it
 mkdir -p "$made/crates/tinystr_bench/src"
 for crate in tinystr_words tinystr; do
-    rm -rf "$made/crates/$crate"
-    cp -a "$top/crates/$crate" "$made/crates/"
+    cp -au "$top/crates/$crate" "$made/crates/"
 done
 grep -E '^(tinystr_words|tinystr):' "$top/crates.txt" >"$made/crates.txt"
 echo 'tinystr_bench: anyhow tinystr' >>"$made/crates.txt"
 cp "$top/bench/texts/main.rt.txt" "$made/crates/tinystr_bench/src/main.rt"
-cd "$made/crates/tinystr_bench"
-rt run
+(cd "$made/crates/tinystr_bench" && rt run)
+[ $# -gt 0 ] || exit 0
+
+# The second program, in a folder that holds small texts and their line of crates.txt.
+build() {
+    mkdir -p "$1/crates/tags/src"
+    for crate in writeable icu_locale_core_grammar icu_locale_core_subtags icu_locale_core_sets icu_locale_core_langid; do
+        cp -au "$top/crates/$crate" "$1/crates/"
+        grep -E "^$crate:" "$top/crates.txt"
+    done >"$1/lines"
+    grep -E '^(tinystr_words|tinystr):' "$1/before.txt" | cat - "$1/lines" >"$1/crates.txt"
+    echo 'tags: anyhow icu_locale_core_langid writeable' >>"$1/crates.txt"
+    cp "$top/bench/texts/tags.rt.txt" "$1/crates/tags/src/main.rt"
+    (cd "$1/crates/tags" && rt run >/dev/null)
+}
+now=$made/now
+before=$made/before
+mkdir -p "$now/crates" "$before/crates"
+cp -au "$top/crates/tinystr_words" "$top/crates/tinystr" "$now/crates/"
+cp "$top/crates.txt" "$now/before.txt"
+(cd "$top" && git archive "$1" crates/tinystr crates/tinystr_words) | tar -x -C "$before"
+(cd "$top" && git show "$1:crates.txt") >"$before/before.txt"
+build "$now"
+build "$before"
+: >"$made/now.times"
+: >"$made/before.times"
+for turn in 1 2 3 4 5; do
+    "$before/crates/tags/out/tags" >>"$made/before.times"
+    "$now/crates/tags/out/tags" >>"$made/now.times"
+done
+# the least of five runs each
+awk 'function keep(table) { if (!($1 in table) || $2 < table[$1]) table[$1] = $2 }
+    FNR == NR { if (!($1 in old)) order[++count] = $1; keep(old); next }
+    { keep(new) }
+    END {
+        printf "%-16s %12s %12s %8s\n", "picoseconds", "before", "now", "ratio"
+        for (i = 1; i <= count; i++) printf "%-16s %12d %12d %8.2f\n", order[i], old[order[i]], new[order[i]], new[order[i]] / old[order[i]]
+    }' "$made/before.times" "$made/now.times"

@@ -1,7 +1,7 @@
 //! Keywords whose values are one subtag: a numbering system, a subdivision, a currency.
 
 ghost use Rattle.std.specs.Prelude.{◌≡◌, ⊤, [], ◌∷◌};
-ghost use Rattle.icu_locale_core_preference_keywords.specs.TypedKeywords.{IsReading};
+ghost use Rattle.icu_locale_core_preference_keywords.specs.TypedKeywords.{IsOwnPiece, IsReading};
 
 use crate::error::PreferencesParseError;
 use crate::one_piece::OnePiece;
@@ -47,6 +47,19 @@ impl<K: PieceKey, P: OnePiece> Model for PieceKeyword<K, P> {
     ghost invariant = { λ s. IsOwnPiece P.stated P.piece s.own };
 
     ghost inverse = { λ v. record { own = v; key = record {} } };
+}
+
+impl<K: PieceKey, P: OnePiece> PieceKeyword<K, P> {
+    // The keyword that holds what a value of one subtag states.
+    pub(crate) fn holding(own: P) -> Self
+        requires { IsOwnPiece P.stated P.piece own }
+        ensures { result ≡ own }
+    {
+        PieceKeyword {
+            own,
+            key: PhantomData,
+        }
+    }
 }
 
 impl<K: PieceKey, P: OnePiece> Clone for PieceKeyword<K, P> {

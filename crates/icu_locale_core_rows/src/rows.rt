@@ -12,7 +12,9 @@ use crate::preferences::preferences;
 use crate::sets::{attributes, variants};
 use crate::single::in_mode;
 use crate::subtags::{language, pieces, region, script, subtag, transform_key, variant};
-use crate::typed_keywords::{currency, keyword, subdivision_id, tried, word_keyword, word_of};
+use crate::typed_keywords::{
+    currency, keyword, of_subtag, subdivision_id, tried, word_keyword, word_of,
+};
 use crate::unanswered::{Answer, Unanswered};
 use crate::values::value;
 use icu_locale_core::extensions::other::Other;
@@ -105,6 +107,7 @@ fn of_subtags(alloc: Global, call: Call<'_>) -> Answer {
 fn of_keywords(alloc: Global, call: Call<'_>) -> Answer {
     match call.name {
         "try_from" => tried(alloc, call.kind, &Value::try_from_str(alloc, call.first)?),
+        "try_from_subtag" => of_subtag(alloc, call),
         "as_str" => word_of(alloc, call.kind, call.first),
         _ => of_keyword(alloc, call),
     }

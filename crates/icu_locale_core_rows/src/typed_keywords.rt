@@ -12,7 +12,7 @@ use icu_locale_core::preferences::extensions::unicode::keywords::{
     EmojiPresentationStyle, FirstDay, LineBreakStyle, LineBreakWordHandling, MeasurementSystem,
     NumberingSystem, RegionOverride, RegionalSubdivision, WordKeyword,
 };
-use icu_locale_core::subtags::Region;
+use icu_locale_core::subtags::{Region, Subtag};
 use std::alloc::Global;
 use std::cmp::Ordering;
 use std::fmt::Debug;
@@ -102,6 +102,12 @@ pub fn tried(alloc: Global, kind: &str, value: &Value) -> Answer {
         "LineBreakWordHandling" => debug(alloc, LineBreakWordHandling::try_from(value)?),
         _ => Err(Unanswered::NotUnderstood),
     }
+}
+
+/// The numbering system that a subtag names.
+pub fn of_subtag(alloc: Global, call: Call<'_>) -> Answer {
+    let system = NumberingSystem::try_from(Subtag::try_from_str(call.first)?)?;
+    text(alloc, system.as_str())
 }
 
 fn parts_of(alloc: Global, id: SubdivisionId) -> Answer {
