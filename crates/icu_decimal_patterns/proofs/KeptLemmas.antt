@@ -1,7 +1,7 @@
 -- What is kept, as a relation and as a function; the entries of a table rise.
-use Rattle.std.proofs.Common.{rules, ◌≡◌, ◌≢◌, ℕ, ◌+◌, ◌-◌, ◌<◌, ◌≤◌, suc, Bool, true, false, cond, List, [], ◌∷◌, ◌++◌, map, ◌↔◌, length, length-append, nat_lt, Option, None, Some, Result, Ok, Err, IsErrOf, Decides, refl, sym, ap, ◌∙◌, subst, inl, inr, arith}
+use Rattle.std.proofs.Common.{rules, ◌≡◌, ◌≢◌, ℕ, ◌+◌, ◌-◌, ◌≤◌, suc, Bool, true, false, cond, List, [], ◌∷◌, ◌++◌, map, ◌↔◌, length, length-append, nat_lt, Option, None, Some, Ok, Err, IsErrOf, Decides, refl, sym, ap, ◌∙◌, subst, inl, inr, arith}
 use Rattle.std.proofs.lemmas.Bool.Decides.{nat_tests}
-use Rattle.std.proofs.lemmas.List.{append-nil, append_assoc, length-map}
+use Rattle.std.proofs.lemmas.List.{append-nil, append_assoc}
 use Rattle.std.specs.List.{AllByRecursion, slice_get}
 use Rattle.std.specs.List.Sorted.{IsStrictlySortedBy}
 use Rattle.std.specs.Map.{keys_of}
@@ -12,7 +12,7 @@ use Rattle.icu_decimal_provider.specs.declared.error.DataError.{DataError}
 use Rattle.icu_decimal_shown.specs.declared.entry.CompactEntry.{CompactEntry}
 use Rattle.icu_decimal_shown.specs.Entries.{IsEntry, Rises}
 use Rattle.icu_decimal_patterns.specs.Elements.{without_one}
-use Rattle.icu_decimal_patterns.specs.KeptEntries.{CompactTable, IsFaulty, IsTable, IsTableFault, Keeps, NeverFalls, Patterns, TypePatterns, entry_in, fault_of, first_fault, of_type, table_of}
+use Rattle.icu_decimal_patterns.specs.KeptEntries.{IsFaulty, IsTable, IsTableFault, Keeps, MakesEntries, NeverFalls, Patterns, TypePatterns, entry_in, fault_of, first_fault, of_type, table_of}
 use Rattle.icu_decimal_patterns.specs.KeptSteps.{TypesRise, base_after, kept_of, last_base, repeats}
 use Rattle.icu_decimal_patterns.specs.SameElements.{same_elements_decides}
 use Rattle.icu_decimal_patterns.specs.SamePattern.{same_pattern, same_pattern_decides}
@@ -141,14 +141,11 @@ kept_step base es ps x xs entries patterns fresh before =
 pub kept_whole : (base b : Option Patterns) (given : List TypePatterns) (left : List (ℕ × (ℕ × Patterns))) (es : List CompactEntry) (ps : List Patterns)
     → left ≡ []
     → (es ++ map entry_in (kept_of b (map of_type left)) ≡ map entry_in (kept_of base given)) × (ps ++ map (λ y. y.patterns) (kept_of b (map of_type left)) ≡ map (λ y. y.patterns) (kept_of base given))
-    → TypesRise 0 given → first_fault (kept_of base given) ≡ None
-    → Rises 0 es × (length es ≡ length ps)
-kept_whole base b given left es ps none whole rise sound =
-    let nothing : kept_of b (map of_type left) ≡ [] = ap (λ ys. kept_of b (map of_type ys)) none in
-    let entries : es ≡ map entry_in (kept_of base given) = sym (append-nil es) ∙ ap (λ ks. es ++ map entry_in ks) (sym nothing) ∙ whole.0 in
-    let patterns : ps ≡ map (λ y. y.patterns) (kept_of base given) = sym (append-nil ps) ∙ ap (λ ks. ps ++ map (λ y. y.patterns) ks) (sym nothing) ∙ whole.1 in (
-      subst (Rises 0) (sym entries) (kept_rises 0 base given rise sound),
-      ap length entries ∙ length-map (kept_of base given) entry_in ∙ sym (length-map (kept_of base given) (λ y. y.patterns)) ∙ ap length (sym patterns),
+    → (es ≡ map entry_in (kept_of base given)) × (ps ≡ map (λ y. y.patterns) (kept_of base given))
+kept_whole base b given left es ps none whole =
+    let nothing : kept_of b (map of_type left) ≡ [] = ap (λ ys. kept_of b (map of_type ys)) none in (
+      sym (append-nil es) ∙ ap (λ ks. es ++ map entry_in ks) (sym nothing) ∙ whole.0,
+      sym (append-nil ps) ∙ ap (λ ks. ps ++ map (λ y. y.patterns) ks) (sym nothing) ∙ whole.1,
     )
 
 -- ---- faults
@@ -212,3 +209,41 @@ pub told_memory : {T : Type 0} (zero : Option Patterns) (given : List TypePatter
     → IsErrOf {T = T} (Err DataError.Memory) other ↔ IsFaulty zero given other
 told_memory zero given other none is =
     (λ same. absurd (subst IsEntryFault (sym (err_one DataError.Memory other same)) is), λ faulty. absurd (untold zero given other none faulty))
+
+-- ---- where something is kept
+
+pub not_empty : {A : Type 0} (es : List A) (e : A) (rest : List A) → es ++ e ∷ rest ≢ []
+not_empty [] e rest same = cc
+not_empty (f ∷ es) e rest same = cc
+
+-- a type that does not repeat what is behind it is kept
+pub kept_some : (base b : Option Patterns) (given : List TypePatterns) (left more : List (ℕ × (ℕ × Patterns))) (e : ℕ × (ℕ × Patterns)) (es : List CompactEntry)
+    → left ≡ e ∷ more → repeats b e.1.1 ≡ false
+    → es ++ map entry_in (kept_of b (map of_type left)) ≡ map entry_in (kept_of base given)
+    → kept_of base given ≢ []
+kept_some base b given left more e es step fresh whole none =
+    let here : kept_of b (map of_type left) ≡ of_type e ∷ kept_of (Some (without_one e.1.1)) (map of_type more)
+    = ap (λ ys. kept_of b (map of_type ys)) step ∙ ap (λ t. cond t (kept_of b (map of_type more)) (of_type e ∷ kept_of (Some (without_one e.1.1)) (map of_type more))) fresh in
+    not_empty es (entry_in (of_type e)) (map entry_in (kept_of (Some (without_one e.1.1)) (map of_type more)))
+    (ap (λ ks. es ++ map entry_in ks) (sym here) ∙ whole ∙ ap (map entry_in) none)
+
+no_entries : (ks : List TypePatterns) → map entry_in ks ≡ [] → ks ≡ []
+no_entries [] none = refl
+no_entries (k ∷ ks) none = absurd (cc)
+
+pub makes_entries : (zero : Option Patterns) (given : List TypePatterns) → NeverFalls 0 given → first_fault (kept_of zero given) ≡ None → kept_of zero given ≢ []
+    → MakesEntries zero given
+makes_entries zero given order none some = record {
+  table = table_of (kept_of zero given);
+  made = is_table zero given order none;
+  held = λ empty. some (no_entries (kept_of zero given) empty);
+}
+
+-- the first type is always kept, where nothing is written before it
+pub first_kept : (given : List TypePatterns) → given ≢ [] → kept_of None given ≢ []
+first_kept [] some none = some refl
+first_kept (x ∷ xs) some none = cc
+
+pub told_no_memory : {T : Type 0} (zero : Option Patterns) (given : List TypePatterns) (fault : DataError) → first_fault (kept_of zero given) ≡ Some fault
+    → IsErrOf {T = T} (Err fault) DataError.Memory → MakesEntries zero given
+told_no_memory zero given fault first same = absurd (subst IsEntryFault (err_one fault DataError.Memory same) (first_of_entry (kept_of zero given) fault first))

@@ -1,14 +1,16 @@
 -- Values of the definitions, from docs/compact-text.md.
-use Rattle.std.proofs.Common.{◌≡◌, ℕ, List, [], ◌∷◌, ◌++◌, codes, None, Some, refl, arith}
-use Rattle.serde_json.specs.Data.{Data, array, string, no_items, item}
-use Rattle.writeable.specs.AnnotatedText.{Event, bytes, text_of}
+use Rattle.std.proofs.Common.{◌≡◌, ℕ, List, [], ◌∷◌, codes, None, Some, refl, arith}
+use Rattle.serde_json.specs.Data.{Data, array, null, number, unsigned, string, no_items, item}
+use Rattle.writeable.specs.AnnotatedText.{bytes, text_of}
 use Rattle.icu_decimal_plurals.specs.Operands.{Operands}
 use Rattle.icu_decimal_plurals.specs.Rules.{Rules}
 use Rattle.icu_decimal_provider.specs.declared.error.DataError.{DataError}
-use Rattle.icu_decimal_patterns.specs.Elements.{Elements, only_other, slot_of, with_explicit_one}
-use Rattle.icu_decimal_patterns.specs.KeptEntries.{Keeps, NeverFalls, Patterns, TypePatterns, first_fault}
-use Rattle.icu_decimal_patterns.specs.Pattern.{PatternText, literal, around, pattern_events}
+use Rattle.icu_decimal_shown.specs.declared.entry.CompactEntry.{CompactEntry}
+use Rattle.icu_decimal_patterns.specs.Elements.{only_other, slot_of, with_explicit_one, with_few}
+use Rattle.icu_decimal_patterns.specs.KeptEntries.{CompactTable, Keeps, NeverFalls, Patterns, TypePatterns, first_fault}
+use Rattle.icu_decimal_patterns.specs.Pattern.{literal, around, pattern_events}
 use Rattle.icu_decimal_patterns.specs.SlotsJson.{slots_of}
+use Rattle.icu_decimal_patterns.specs.TableJson.{slots_json, table_json, types_of}
 use Rattle.icu_decimal_patterns.proofs.KeptLemmas.{keeps_kept}
 
 -- ---- patterns
@@ -108,3 +110,57 @@ twice = refl
 
 unknown : slots_of (array (item (slot (codes "2") (array (item (string (codes "K")) no_items))) (item (slot (codes "other") (array (item (string (codes "K")) no_items))) no_items))) ≡ None
 unknown = refl
+
+-- ---- tables as JSON
+
+abbrev one_text : List ℕ → Data
+one_text text = array (item (string text) no_items)
+
+abbrev two_texts : List ℕ → List ℕ → Data
+two_texts before after = array (item (string before) (item (string after) no_items))
+
+abbrev row : ℕ → ℕ → List ℕ → Data
+row log10_type exponent text =
+    array (item (number (unsigned log10_type)) (item (number (unsigned exponent)) (item (array (item (slot (codes "other") (two_texts [] text)) no_items)) no_items)))
+
+-- `[[3,3,[["other",["","K"]]]],[6,6,[["other",["","M"]]]]]`
+abbrev english : Data
+english = array (item (row 3 3 (codes "K")) (item (row 6 6 (codes "M")) no_items))
+
+abbrev entry : ℕ → CompactEntry
+entry log10_type = record { log10_type = log10_type; exponent = log10_type }
+
+abbrev english_table : CompactTable
+english_table = record { entries = entry 3 ∷ entry 6 ∷ []; patterns = letter (codes "K") ∷ letter (codes "M") ∷ [] }
+
+english_read : types_of english ≡ Some (typed 3 3 (codes "K") ∷ typed 6 6 (codes "M") ∷ [])
+english_read = refl
+
+english_written : table_json english_table ≡ english
+english_written = refl
+
+no_rows : types_of (array no_items) ≡ Some []
+no_rows = refl
+
+not_an_array : types_of null ≡ None
+not_an_array = refl
+
+equal_types : types_of (array (item (row 3 3 (codes "K")) (item (row 3 3 (codes "M")) no_items))) ≡ None
+equal_types = refl
+
+falling_types : types_of (array (item (row 6 3 (codes "K")) (item (row 3 3 (codes "M")) no_items))) ≡ None
+falling_types = refl
+
+greatest_type : types_of (array (item (row 255 255 (codes "K")) no_items)) ≡ Some (typed 255 255 (codes "K") ∷ [])
+greatest_type = refl
+
+no_byte : types_of (array (item (row 256 3 (codes "K")) no_items)) ≡ None
+no_byte = refl
+
+two_fields : types_of (array (item (array (item (number (unsigned 3)) (item (number (unsigned 3)) no_items))) no_items)) ≡ None
+two_fields = refl
+
+-- `[["1",["a thousand"]],["few",["K",""]],["other",[""," thousands"]]]`
+slots_written : slots_json (with_few thousands (Some (around (codes "K") [])))
+    ≡ array (item (slot (codes "1") (one_text (codes "a thousand"))) (item (slot (codes "few") (two_texts (codes "K") [])) (item (slot (codes "other") (two_texts [] (codes " thousands"))) no_items)))
+slots_written = refl

@@ -1,4 +1,7 @@
 pub mod HintLemmas
 pub mod KeptLemmas
 pub mod KnownValues
+pub mod OwnTableLemmas
+pub mod ReadBackLemmas
 pub mod SlotsLemmas
+pub mod TableLemmas

@@ -1,5 +1,5 @@
 -- The items of an array that is a list of values.
-use Rattle.std.proofs.Common.{◌≡◌, ℕ, List, [], ◌∷◌, map, length, Option, Some, option_and_then, refl, ap, ◌∙◌}
+use Rattle.std.proofs.Common.{◌≡◌, List, [], ◌∷◌, map, length, Some, option_and_then, refl, ap, ◌∙◌}
 use Rattle.std.proofs.lemmas.List.{length-map}
 use Rattle.serde_json.specs.Data.{Data}
 use Rattle.serde_json.specs.Find.{as_array}
@@ -7,7 +7,7 @@ use Rattle.serde_json.specs.View.{items_of, items_view, view}
 use Rattle.serde_json.specs.declared.value.Value.{Value}
 use Rattle.icu_decimal_patterns.specs.SlotsJson.{elements_in, listed, slots_of}
 
-listed_of : (ds : List Data) → listed (items_of ds) ≡ ds
+pub listed_of : (ds : List Data) → listed (items_of ds) ≡ ds
 listed_of [] = refl
 listed_of (d ∷ ds) = ap (λ rest. d ∷ rest) (listed_of ds)
 

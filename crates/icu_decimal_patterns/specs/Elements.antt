@@ -1,7 +1,7 @@
 -- One value for each plural: which of them a number takes.
 -- UTS 35, part 3 (numbers), section 5 (explicit 0 and 1 rules); docs/compact-text.md, "Slots".
 -- Cited by the calls of `PluralElements`.
-use Rattle.std.specs.Prelude.{ℕ, cond, Option, None, Some, unwrap_or}
+use Rattle.std.specs.Prelude.{cond, Option, None, unwrap_or}
 use Rattle.std.specs.Option.{option_or}
 use Rattle.icu_decimal_plurals.specs.declared.category.PluralCategory.{PluralCategory}
 use Rattle.icu_decimal_plurals.specs.declared.category.PluralCategory.TheVariants.{Zero, One, Two, Few, Many, Other}

@@ -67,12 +67,28 @@ pub record IsTable (zero : Option Patterns) (given : List TypePatterns) (table :
   pub sound : first_fault kept ≡ None
   pub whole : table ≡ table_of kept
 
+-- each entry with its patterns
+abbrev pub types_held : List CompactEntry → List Patterns → List TypePatterns
+types_held [] patterns = []
+types_held (entry ∷ entries) [] = []
+types_held (entry ∷ entries) (first ∷ patterns) = record { log10_type = entry.log10_type; exponent = entry.exponent; patterns = first } ∷ types_held entries patterns
+
+-- a table is made of the types that it holds
+abbrev pub IsOwnTable : CompactTable → Type 0
+IsOwnTable table = IsTable None (types_held table.entries table.patterns) table
+
 -- the types given make no table for this fault
 pub record IsFaulty (zero : Option Patterns) (given : List TypePatterns) (fault : DataError) : Type 0 where
   pub order : NeverFalls 0 given
   pub kept : List TypePatterns
   pub keeps : Keeps zero given kept
   pub first : first_fault kept ≡ Some fault
+
+-- the types given make a table that holds one of them, so that making it takes memory
+pub record MakesEntries (zero : Option Patterns) (given : List TypePatterns) : Type 0 where
+  pub table : CompactTable
+  pub made : IsTable zero given table
+  pub held : table.entries ≢ []
 
 -- an error that tells why there is no table
 abbrev pub IsTableFault : DataError → Type 0

@@ -1,5 +1,6 @@
 pub mod Elements
 pub mod HeldPattern
+pub mod HeldSlots
 pub mod HeldTexts
 pub mod KeptEntries
 pub mod KeptSteps
@@ -8,3 +9,7 @@ pub mod SameElements
 pub mod SamePattern
 pub mod SameTable
 pub mod SlotsJson
+pub mod SmallEntries
+pub mod TableJson
+pub mod TableLaws
+pub mod TableSteps

@@ -1,7 +1,7 @@
 -- When two sets of values are one: slot by slot.
 -- Defined in docs/compact-text.md, "Slots".
 -- Cited by `==` of `PluralElements`.
-use Rattle.std.specs.Prelude.{Bool, false, true, ◌&&◌, Option, None, Some}
+use Rattle.std.specs.Prelude.{Bool, ◌&&◌, Option, None, Some}
 use Rattle.std.proofs.Common.{◌≡◌, refl, ap, Decides}
 use Rattle.std.specs.Cmp.{IsEquivalence, on_equiv, and_equiv}
 use Rattle.std.specs.Cmp.Lexicographic.{options_equiv}

@@ -1,9 +1,9 @@
 -- Which JSON value says a pattern, and which one says the patterns of each plural.
 -- Defined in docs/compact-text.md, "The JSON form".
 -- Cited by `from_json` of `PluralElements` and of `CompactPatterns`.
-use Rattle.std.specs.Prelude.{ℕ, ◌==◌, Bool, true, false, not, ◌&&◌, ◌||◌, List, [], ◌∷◌, cond, codes, length, is_some, Option, None, Some, option_map, option_and_then}
+use Rattle.std.specs.Prelude.{ℕ, ◌==◌, Bool, false, not, ◌&&◌, ◌||◌, List, [], ◌∷◌, cond, codes, length, is_some, Option, None, option_map, option_and_then}
 use Rattle.std.specs.List.{list_all, list_any}
-use Rattle.std.specs.Option.{option_eq, option_map_or}
+use Rattle.std.specs.Option.{option_map_or}
 use Rattle.std.specs.Str.{bytes_eq}
 use Rattle.serde_json.specs.Data.{Data, Items, no_items, item}
 use Rattle.serde_json.specs.Find.{as_array, as_str, at}

@@ -1,11 +1,11 @@
 //! Tables of compact writing.
 
-ghost use Rattle.std.specs.Prelude.{◌≡◌, ◌↔◌, ◌<◌, [], IfErr, IfOk, IsErrOf, None, Some, length, map, option_map};
+ghost use Rattle.std.specs.Prelude.{◌≡◌, ◌≢◌, ◌↔◌, ◌<◌, [], IfErr, IfOk, IsErrOf, None, OnErr, Some, length, map, option_map};
 ghost use Rattle.std.specs.List.{slice_get};
 ghost use Rattle.std.specs.Cmp.{partial_equiv_from_equiv};
 ghost use Rattle.icu_decimal_shown.specs.Entries.{Rises};
 ghost use Rattle.icu_decimal_patterns.specs.SameTable.{same_table, same_table_equiv};
-ghost use Rattle.icu_decimal_patterns.specs.KeptEntries.{IsFaulty, IsTable, IsTableFault, NeverFalls, first_fault, of_type, table_of};
+ghost use Rattle.icu_decimal_patterns.specs.KeptEntries.{IsFaulty, IsTable, IsTableFault, MakesEntries, NeverFalls, first_fault, of_type, table_of};
 ghost use Rattle.icu_decimal_patterns.specs.KeptSteps.{TypesRise, base_after, base_of, kept_of};
 ghost use Rattle.icu_decimal_provider.specs.declared.error.DataError.{DataError};
 
@@ -31,13 +31,14 @@ pub struct CompactPatterns {
 impl Model for CompactPatterns {
     ghost use Rattle.std.specs.Prelude.{◌≡◌, length};
     ghost use Rattle.icu_decimal_shown.specs.Entries.{Rises};
-    ghost use Rattle.icu_decimal_patterns.specs.KeptEntries.{CompactTable};
+    ghost use Rattle.icu_decimal_patterns.specs.KeptEntries.{CompactTable, IsOwnTable};
 
     ghost Value = { CompactTable };
 
     ghost view = { λ a. record { entries = a.entries.items; patterns = a.patterns.items } };
 
-    ghost invariant = { λ a. Rises 0 a.entries.items × (length a.entries.items ≡ length a.patterns.items) };
+    ghost invariant = { λ a. Rises 0 a.entries.items × (length a.entries.items ≡ length a.patterns.items)
+        × IsOwnTable (record { entries = a.entries.items; patterns = a.patterns.items }) };
 }
 
 // What is written before the first type.
@@ -62,9 +63,11 @@ fn base_after<'a>(zero: Base<'a>, kept: &'a [PluralElements<Pattern>]) -> Base<'
 
 // The table of what is kept.
 fn kept(alloc: Global, given: GivenTypes, zero: Base<'_>) -> Result<CompactPatterns, AllocError>
+    requires order { NeverFalls 0 (map of_type given.entries) }
     requires sound { first_fault (kept_of (base_of zero) (map of_type given.entries)) ≡ None }
     requires rising { TypesRise 0 (map of_type given.entries) }
-    ensures { IfOk result (λ table. table ≡ table_of (kept_of (base_of zero.entry) (map of_type given.entries))) }
+    ensures value { IfOk result (λ table. table ≡ table_of (kept_of (base_of zero.entry) (map of_type given.entries))) }
+    ensures room { OnErr result (kept_of (base_of zero.entry) (map of_type given.entries) ≢ []) }
 {
     let mut entries: Vec<CompactEntry> = Vec::new(alloc);
     let mut patterns: Vec<PluralElements<Pattern>> = Vec::new(alloc);
@@ -90,7 +93,7 @@ impl CompactPatterns {
     ///
     /// Refused, in this order: Decreasing, where an exponent is below the one before it; AboveType or TooManyZeros, where the least
     /// type that is kept and has a fault has its exponent above it, or more than 15 below it; Memory, where a request for memory is
-    /// refused.
+    /// refused. Types of which none is kept take no memory.
     pub fn new(
         alloc: Global,
         types: BTreeMap<u8, (u8, PluralElements<Pattern>)>,
@@ -101,6 +104,7 @@ impl CompactPatterns {
         ensures zeros { IsErrOf result DataError.TooManyZeros ↔ IsFaulty (option_map (λ p. p.now) zero_magnitude.entry) (map of_type types.entries) DataError.TooManyZeros }
         ensures only { IfErr result IsTableFault }
         ensures value { IfOk result (λ table. IsTable (option_map (λ p. p.now) zero_magnitude.entry) (map of_type types.entries) table) }
+        ensures room { IsErrOf result DataError.Memory → MakesEntries (option_map (λ p. p.now) zero_magnitude.entry) (map of_type types.entries) }
     {
         if !never_falls(&types) {
             return Err(DataError::Decreasing);

@@ -50,7 +50,7 @@ pub(crate) fn never_falls(given: &GivenTypes) -> bool
 }
 
 // What is wrong with an entry.
-fn fault_of(entry: CompactEntry) -> Option<DataError>
+pub(crate) fn fault_of(entry: CompactEntry) -> Option<DataError>
     ensures { result ≡ fault_of entry }
 {
     if entry.log10_type < entry.exponent {

@@ -10,12 +10,14 @@
 //! ```
 #![tactic(auto)]
 
+mod borrowed;
 mod compact_patterns;
 mod copying;
 mod elements;
 mod interpolated;
 mod json;
 mod kept;
+pub mod laws;
 mod markers;
 pub mod pattern;
 

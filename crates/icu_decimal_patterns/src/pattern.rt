@@ -8,6 +8,7 @@ ghost use Rattle.icu_decimal_patterns.specs.Pattern.{literal, around, pattern_ev
 ghost use Rattle.icu_decimal_patterns.specs.HeldPattern.{least_length, pattern_of};
 ghost use Rattle.icu_decimal_patterns.specs.SamePattern.{same_pattern, same_pattern_equiv};
 
+use crate::borrowed::BorrowedPattern;
 pub use crate::interpolated::Interpolated;
 use std::alloc::AllocError;
 use std::marker::Model;
@@ -56,6 +57,18 @@ impl Pattern {
     {
         Pattern {
             texts: Texts::Literal(text),
+        }
+    }
+
+    // The same pattern with its texts borrowed.
+    pub(crate) fn borrowed(&self) -> BorrowedPattern<'_>
+        ensures { result ≡ self.now }
+    {
+        match &self.texts {
+            Texts::Literal(text) => BorrowedPattern::literal(text.as_str()),
+            Texts::Around(before, after) => {
+                BorrowedPattern::around(before.as_str(), after.as_str())
+            }
         }
     }
 

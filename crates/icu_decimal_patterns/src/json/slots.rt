@@ -5,44 +5,37 @@ ghost use Rattle.std.specs.List.{list_all, list_any};
 ghost use Rattle.std.specs.Option.{option_map_or};
 ghost use Rattle.serde_json.specs.View.{view};
 ghost use Rattle.icu_decimal_provider.specs.declared.error.DataError.{DataError};
-ghost use Rattle.icu_decimal_patterns.specs.HeldTexts.{borrowed};
 ghost use Rattle.icu_decimal_patterns.specs.SlotsJson.{IsCustomOrMemory, elements_in, elements_with, has_count, is_named, is_slot, is_slot_name, pattern_in, pattern_named, repeats_name, slot_name, slot_pattern, slots_of, texts_in};
 
+use crate::borrowed::{BorrowedPattern, owned_elements};
 use crate::elements::PluralElements;
 use crate::pattern::Pattern;
 use icu_decimal_provider::error::DataError;
 use serde_json::Value;
-use std::alloc::{AllocError, Global};
+use std::alloc::Global;
 
-// The texts of a pattern, in a JSON value.
-#[derive(Clone, Copy)]
-pub(crate) enum TextsIn<'a> {
-    Literal(&'a str),
-    Around(&'a str, &'a str),
-}
-
-// One text or two.
-fn texts_in(items: &[Value]) -> Option<TextsIn<'_>>
-    ensures { option_map borrowed result ≡ texts_in (map view items.now) }
+// The pattern of one text, or of two.
+fn texts_in(items: &[Value]) -> Option<BorrowedPattern<'_>>
+    ensures { result ≡ texts_in (map view items.now) }
 {
     match items {
         [text] => {
             let text = text.as_str()?;
-            Some(TextsIn::Literal(text))
+            Some(BorrowedPattern::literal(text))
         }
         [before, after] => {
             let before = before.as_str()?;
             let after = after.as_str()?;
-            Some(TextsIn::Around(before, after))
+            Some(BorrowedPattern::around(before, after))
         }
         _ => None,
     }
 }
 
-// The texts of the pattern that a value is.
+// The pattern that a value is.
 #[tactic(auto, using(crate::proofs::SlotsLemmas::listed_items))]
-fn pattern_in(value: &Value) -> Option<TextsIn<'_>>
-    ensures { option_map borrowed result ≡ pattern_in (view value.now) }
+fn pattern_in(value: &Value) -> Option<BorrowedPattern<'_>>
+    ensures { result ≡ pattern_in (view value.now) }
 {
     let items = value.as_array()?;
     texts_in(items.as_slice())
@@ -50,7 +43,7 @@ fn pattern_in(value: &Value) -> Option<TextsIn<'_>>
 
 // Whether a value is an array of so many items.
 #[tactic(auto, using(crate::proofs::SlotsLemmas::count_items))]
-fn has_count(value: &Value, count: usize) -> bool
+pub(crate) fn has_count(value: &Value, count: usize) -> bool
     ensures { result ≡ has_count count (view value.now) }
 {
     match value.as_array() {
@@ -67,8 +60,8 @@ fn slot_name(slot: &Value) -> Option<&str>
 }
 
 // The pattern of a slot.
-fn slot_pattern(slot: &Value) -> Option<TextsIn<'_>>
-    ensures { option_map borrowed result ≡ slot_pattern (view slot.now) }
+fn slot_pattern(slot: &Value) -> Option<BorrowedPattern<'_>>
+    ensures { result ≡ slot_pattern (view slot.now) }
 {
     let pattern = slot.get(1)?;
     pattern_in(pattern)
@@ -161,9 +154,9 @@ fn repeats_name(slots: &[Value]) -> bool
     false
 }
 
-// The texts of the slot of this name.
-fn pattern_named<'a>(slots: &'a [Value], name: &str) -> Option<TextsIn<'a>>
-    ensures { option_map borrowed result ≡ pattern_named name.now (map view slots.now) }
+// The pattern of the slot of this name.
+fn pattern_named<'a>(slots: &'a [Value], name: &str) -> Option<BorrowedPattern<'a>>
+    ensures { result ≡ pattern_named name.now (map view slots.now) }
 {
     for slot in slots {
         if is_named(slot, name) {
@@ -173,67 +166,9 @@ fn pattern_named<'a>(slots: &'a [Value], name: &str) -> Option<TextsIn<'a>>
     None
 }
 
-// A pattern with texts of its own.
-fn owned(alloc: Global, texts: TextsIn<'_>) -> Result<Pattern, AllocError>
-    ensures { IfOk result (λ pattern. pattern ≡ borrowed texts.entry) }
-{
-    match texts {
-        TextsIn::Literal(text) => {
-            let text = String::from_str(alloc, text)?;
-            Ok(Pattern::literal(text))
-        }
-        TextsIn::Around(before, after) => {
-            let before = String::from_str(alloc, before)?;
-            let after = String::from_str(alloc, after)?;
-            Ok(Pattern::around(before, after))
-        }
-    }
-}
-
-// The pattern of the slot of this name, where there is one.
-fn slot(alloc: Global, slots: &[Value], name: &str) -> Result<Option<Pattern>, AllocError>
-    ensures { IfOk result (λ pattern. pattern ≡ pattern_named name.now (map view slots.now)) }
-{
-    match pattern_named(slots, name) {
-        Some(texts) => {
-            let pattern = owned(alloc, texts)?;
-            Ok(Some(pattern))
-        }
-        None => Ok(None),
-    }
-}
-
-// The patterns of all slots.
-fn elements(
-    alloc: Global,
-    slots: &[Value],
-    other: TextsIn<'_>,
-) -> Result<PluralElements<Pattern>, AllocError>
-    ensures { IfOk result (λ elements. elements ≡ elements_with (map view slots.now) (borrowed other.entry)) }
-{
-    let explicit_zero = slot(alloc, slots, "0")?;
-    let explicit_one = slot(alloc, slots, "1")?;
-    let zero = slot(alloc, slots, "zero")?;
-    let one = slot(alloc, slots, "one")?;
-    let two = slot(alloc, slots, "two")?;
-    let few = slot(alloc, slots, "few")?;
-    let many = slot(alloc, slots, "many")?;
-    let other = owned(alloc, other)?;
-    Ok(PluralElements {
-        explicit_zero,
-        explicit_one,
-        zero,
-        one,
-        two,
-        few,
-        many,
-        other,
-    })
-}
-
-// The texts of `other`, where the items are slots of known names and none stands twice.
-fn other_in(slots: &[Value]) -> Option<TextsIn<'_>>
-    ensures { option_map (λ other. elements_with (map view slots.now) (borrowed other)) result ≡ elements_in (map view slots.now) }
+// The pattern of `other`, where the items are slots of known names and none stands twice.
+fn other_in(slots: &[Value]) -> Option<BorrowedPattern<'_>>
+    ensures { option_map (elements_with (map view slots.now)) result ≡ elements_in (map view slots.now) }
 {
     if !are_slots(slots) || repeats_name(slots) {
         return None;
@@ -241,19 +176,30 @@ fn other_in(slots: &[Value]) -> Option<TextsIn<'_>>
     pattern_named(slots, "other")
 }
 
-// The patterns of the slots of an array.
-fn elements_of(alloc: Global, slots: &[Value]) -> Result<PluralElements<Pattern>, DataError>
-    ensures custom { IsErrOf result DataError.Custom ↔ (elements_in (map view slots.now) ≡ None) }
-    ensures only { IfErr result IsCustomOrMemory }
-    ensures value { IfOk result (λ elements. elements_in (map view slots.now) ≡ Some elements) }
+// The patterns of all slots.
+fn elements_in(slots: &[Value]) -> Option<PluralElements<BorrowedPattern<'_>>>
+    ensures { result ≡ elements_in (map view slots.now) }
 {
-    let Some(other) = other_in(slots) else {
-        return Err(DataError::Custom);
-    };
-    match elements(alloc, slots, other) {
-        Ok(elements) => Ok(elements),
-        Err(_) => Err(DataError::Memory),
-    }
+    let other = other_in(slots)?;
+    Some(PluralElements {
+        explicit_zero: pattern_named(slots, "0"),
+        explicit_one: pattern_named(slots, "1"),
+        zero: pattern_named(slots, "zero"),
+        one: pattern_named(slots, "one"),
+        two: pattern_named(slots, "two"),
+        few: pattern_named(slots, "few"),
+        many: pattern_named(slots, "many"),
+        other,
+    })
+}
+
+// The patterns of the slots that a value is.
+#[tactic(auto, using(crate::proofs::SlotsLemmas::listed_items))]
+pub(crate) fn slots_of(value: &Value) -> Option<PluralElements<BorrowedPattern<'_>>>
+    ensures { result ≡ slots_of (view value.now) }
+{
+    let slots = value.as_array()?;
+    elements_in(slots.as_slice())
 }
 
 impl PluralElements<Pattern> {
@@ -268,9 +214,12 @@ impl PluralElements<Pattern> {
         ensures only { IfErr result IsCustomOrMemory }
         ensures value { IfOk result (λ elements. slots_of (view value.now) ≡ Some elements) }
     {
-        match value.as_array() {
-            Some(slots) => elements_of(alloc, slots.as_slice()),
-            None => Err(DataError::Custom),
+        let Some(patterns) = slots_of(value) else {
+            return Err(DataError::Custom);
+        };
+        match owned_elements(alloc, &patterns) {
+            Ok(patterns) => Ok(patterns),
+            Err(_) => Err(DataError::Memory),
         }
     }
 }

@@ -1,0 +1,12 @@
+-- Entries whose numbers a byte holds.
+-- Defined in docs/compact-text.md, "Entries".
+-- Cited by the private steps of `to_json`.
+use Rattle.std.specs.Prelude.{◌<◌, List, [], ◌∷◌}
+use Rattle.icu_decimal_shown.specs.declared.entry.CompactEntry.{CompactEntry}
+
+abbrev pub IsSmall : CompactEntry → Type 0
+IsSmall entry = (entry.log10_type < 256) × (entry.exponent < 256)
+
+abbrev pub AreSmall : List CompactEntry → Type 0
+AreSmall [] = Unit {0}
+AreSmall (entry ∷ entries) = IsSmall entry × AreSmall entries
