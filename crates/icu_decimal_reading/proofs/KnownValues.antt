@@ -1,12 +1,11 @@
 -- Values from outside that a wrong definition of readable symbols and of reading does not survive: the tables of docs/reading.md.
-use Rattle.std.proofs.Common.{◌≡◌, ℕ, ◌*◌, ◌^◌, true, false, List, [], refl}
+use Rattle.std.proofs.Common.{◌≡◌, ℕ, true, false, List, [], refl}
 use Rattle.std.specs.Prelude.{codes}
-use Rattle.std.specs.Str.{bytes_eq, chars}
-use Rattle.fixed_decimal.specs.declared.Sign.TheVariants.{None as NoSign, Negative, Positive}
+use Rattle.std.specs.Str.{chars}
 use Rattle.icu_decimal_provider.specs.declared.options.GroupingStrategy.TheVariants.{Auto}
 use Rattle.icu_decimal_provider.specs.Symbols.{SymbolStrings, english_strings}
 use Rattle.icu_decimal_text.specs.PlainText.{Tables}
-use Rattle.icu_decimal_reading.specs.PlainReading.{decimal, fraction_in, not_written, plain_reading, whole_in, with_sign}
+use Rattle.icu_decimal_reading.specs.PlainReading.{fraction_in, whole_in}
 use Rattle.icu_decimal_reading.specs.Readable.{is_readable_by}
 
 abbrev latin : List ℕ

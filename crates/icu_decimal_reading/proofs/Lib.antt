@@ -1,3 +1,4 @@
+pub mod GatheredLemmas
 pub mod KnownValues
 pub mod LawLemmas
 pub mod NumberLemmas

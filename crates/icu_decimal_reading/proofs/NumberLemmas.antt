@@ -1,17 +1,16 @@
 -- The number that digits before and behind a point are, and the text of `0` to `9` that spells it.
-use Rattle.std.proofs.Common.{◌≡◌, ℕ, ◌+◌, ◌-◌, ◌*◌, ◌^◌, ◌<◌, ◌≤◌, ◌==◌, ◌||◌, ◌⊎◌, nat_le, nat_lt, min, max, Bool, true, false, cond, ◌&&◌, List, [], ◌∷◌, ◌++◌, length, map, Option, None, Some, refl, sym, ap, ◌∙◌, append_assoc, subst, inl, inr, arith, length-append}
+use Rattle.std.proofs.Common.{◌≡◌, ℕ, ◌+◌, ◌-◌, ◌*◌, ◌^◌, ◌<◌, ◌≤◌, ◌==◌, ◌||◌, nat_le, nat_lt, min, max, Bool, true, false, cond, ◌&&◌, List, [], ◌∷◌, ◌++◌, length, map, Option, None, Some, refl, sym, ap, ◌∙◌, subst, inl, arith, length-append}
 use Rattle.std.specs.List.{cons_option, filter_map}
 use Rattle.std.specs.Char.{digit_value}
-use Rattle.std.proofs.lemmas.Bool.{false≢true, and_parts, and_from, ltb-true, leb-true, lt-ltb, le-leb, true_from_ne_false, false_from_ne_true, cases_lt}
+use Rattle.std.proofs.lemmas.Bool.{false≢true, and_parts, and_from, ltb-true, leb-true, lt-ltb, le-leb, true_from_ne_false}
 use Rattle.std.proofs.lemmas.Bool.Decides.{nat_tests}
 use Rattle.std.proofs.lemmas.Int.Digits.{digits_value-lt}
 use Rattle.std.proofs.lemmas.List.{append-nil, length-map}
 use Rattle.std.proofs.lemmas.Nat.{pow-add}
-use Rattle.std.proofs.Math.Nat.{mul-mod_left, mul-le-mul_right, one-le-pow, pow-le-pow_right}
+use Rattle.std.proofs.Math.Nat.{mul-mod_left, mul-le-mul_right, one-le-pow}
 use Rattle.fixed_decimal.specs.Number.{Number, IsNumber, fraction_digits, whole_digits}
 use Rattle.fixed_decimal.specs.NumberText.{AreDigits, AreEndsIn, Parts, Spells, behind_point, character, down_of, mantissa_of, number_at, small_mark, spelled, up_of}
-use Rattle.fixed_decimal.specs.Range.{HoldsDigits}
-use Rattle.fixed_decimal.specs.SignedText.{IsBeyondSigned, IsNoSignedText, ReadsSigned, ReadsLongSigned}
+use Rattle.fixed_decimal.specs.SignedText.{IsBeyondSigned, ReadsSigned}
 use Rattle.fixed_decimal.specs.SignedValue.{SignedValue}
 use Rattle.fixed_decimal.specs.declared.Sign.TheVariants.{None as NoSign}
 use Rattle.fixed_decimal.proofs.SignedReadOnceLemmas.{signed_not_beyond, signed_printed, signed_reads_once}
@@ -67,17 +66,6 @@ digits_counted ds sep [] = refl
 digits_counted ds sep (c ∷ cs) =
     count_cons (digit_of ds c) (begins_fraction ds sep cs) (filter_map (digit_of ds) cs) (whole_in ds sep cs) (fraction_in ds sep cs) (digits_counted ds sep cs)
 
-none_cons : (o : Option ℕ) (b : Bool) (all whole fraction : List ℕ) → (0 < length fraction → 0 < length whole) → 0 < length (fraction_then o b all fraction) → 0 < length (whole_then o b whole)
-none_cons None b all whole fraction more some = more some
-none_cons (Some d) true all whole fraction more some = omega arith
-none_cons (Some d) false all whole fraction more some = omega arith
-
--- no fraction without a digit before it
-pub whole_before : (ds sep cs : List ℕ) → 0 < length (fraction_in ds sep cs) → 0 < length (whole_in ds sep cs)
-whole_before ds sep [] some = absurd (omega (arith, some))
-whole_before ds sep (c ∷ cs) some =
-    none_cons (digit_of ds c) (begins_fraction ds sep cs) (digits_of_text ds cs) (whole_in ds sep cs) (fraction_in ds sep cs) (whole_before ds sep cs) some
-
 -- ---- the number
 
 abbrev parts_with : List ℕ → List ℕ → Parts
@@ -120,7 +108,7 @@ within_from whole fraction short =
     and_from (nat_lt 0 (length whole)) _ (lt-ltb 0 (length whole) short.some)
     (and_from (nat_le (length whole) 32768) (nat_le (length fraction) 32768) (le-leb (length whole) 32768 short.above) (le-leb (length fraction) 32768 short.below))
 
-ends_from : (a b up down : ℕ) → up ≡ 0 → down ≡ 0 → a ≤ 32768 → b ≤ 32768 → AreEndsIn a b up down
+pub ends_from : (a b up down : ℕ) → up ≡ 0 → down ≡ 0 → a ≤ 32768 → b ≤ 32768 → AreEndsIn a b up down
 ends_from a b up down u d above below = record {
   exponent_high = omega (arith, u);
   exponent_low = omega (arith, d);
@@ -134,7 +122,7 @@ number_of_three c l h = record { count = c; low = l; high = h }
 same_numbers : (c e l k h j : ℕ) → c ≡ e → l ≡ k → h ≡ j → number_of_three c l h ≡ number_of_three e k j
 same_numbers c e l k h j f g i = ap (λ x. number_of_three x l h) f ∙ ap (λ x. number_of_three e x h) g ∙ ap (λ x. number_of_three e k x) i
 
-number_by : (m a b up down : ℕ) → up ≡ 0 → down ≡ 0 → 0 < a → b ≤ 32768 → record { count = m * 10 ^ (32768 - b); low = 32768 - b; high = 32767 + a } ≡ number_at m a b up down
+pub number_by : (m a b up down : ℕ) → up ≡ 0 → down ≡ 0 → 0 < a → b ≤ 32768 → record { count = m * 10 ^ (32768 - b); low = 32768 - b; high = 32767 + a } ≡ number_at m a b up down
 number_by m a b up down u d some below =
     let place : 32768 - b ≡ 32768 + up - (b + down) = omega (arith, u, d) in
     let low : 32768 - b ≡ min 32768 (32768 + up - (b + down)) = omega (arith, u, d) in
@@ -186,11 +174,6 @@ number_read whole fraction v are more some reads =
     signed_reads_once (whole ++ behind_point fraction) v (with_sign NoSign (number_with whole fraction)) reads
     (reads_number whole fraction are more (within_read whole fraction v are more some reads))
 
--- where a text is beyond the limits, they are too many
-pub beyond_read : (whole fraction : List ℕ) → AreDigits whole → AreDigits fraction → IsBeyondSigned (whole ++ behind_point fraction) → is_within whole fraction ≡ false
-beyond_read whole fraction are more beyond =
-    false_from_ne_true (is_within whole fraction) (λ within. signed_not_beyond (whole ++ behind_point fraction) (with_sign NoSign (number_with whole fraction)) (reads_number whole fraction are more within) beyond)
-
 -- ---- what the number is
 
 tens_positive : (k : ℕ) → 0 < 10 ^ k
@@ -230,73 +213,8 @@ is_number whole fraction are more within =
       below = count_below (spelled (whole ++ fraction)) (length whole + length fraction) (32768 - length fraction) (32767 + length whole + 1) (spelled_below whole fraction are more) (omega (arith, below));
     }
 
--- at most eight digits are no long number
-few_digits : (whole fraction : List ℕ) → AreDigits whole → AreDigits fraction → length whole + length fraction ≤ 8 → HoldsDigits (number_with whole fraction).count (32768 - length fraction) 8
-few_digits whole fraction are more few =
-    let up : 10 ^ (length whole + length fraction) ≤ 10 ^ 8 = pow-le-pow_right {n = 10} (omega arith) {i = length whole + length fraction} {j = 8} few in
-    let least = spelled_below whole fraction are more in
-    record {
-      whole = mul-mod_left (spelled (whole ++ fraction)) (10 ^ (32768 - length fraction));
-      below = count_below (spelled (whole ++ fraction)) 8 (32768 - length fraction) (32768 - length fraction + 8) (omega (arith, up, least)) (omega arith);
-    }
-
-pub long_read : (whole fraction : List ℕ) → AreDigits whole → AreDigits fraction → 0 < length whole → ReadsLongSigned (whole ++ behind_point fraction) → 8 < length whole + length fraction
-long_read whole fraction are more some long = by (cases_lt 8 (length whole + length fraction))
-  where
-    by : (8 < length whole + length fraction) ⊎ (length whole + length fraction ≤ 8) → 8 < length whole + length fraction
-    by (inl many) = many
-    by (inr few) =
-        let is : long.number ≡ with_sign NoSign (number_with whole fraction) = number_read whole fraction long.number are more some long.reads in
-        let holds : HoldsDigits long.number.absolute.count (32768 - length fraction) 8 = subst (λ (v : SignedValue Number). HoldsDigits v.absolute.count (32768 - length fraction) 8) (sym is) (few_digits whole fraction are more few) in
-        absurd (long.long (32768 - length fraction) holds)
-
 -- a number's own digits are its digits
 pub number_again : (n : Number) (whole fraction : List ℕ) → IsNumber n → whole ≡ map character (whole_digits n) → fraction ≡ map character (fraction_digits n) → ReadsSigned (whole ++ behind_point fraction) (with_sign NoSign n)
 number_again n whole fraction is before behind =
     subst (λ cs. ReadsSigned (cs ++ behind_point fraction) (with_sign NoSign n)) (sym before)
     (subst (λ cs. ReadsSigned (map character (whole_digits n) ++ behind_point cs) (with_sign NoSign n)) (sym behind) (signed_printed (with_sign NoSign n) is))
-
--- ---- what the steps of reading say
-
-pub spelled_both : (none start first second last digits whole fraction : List ℕ) → none ≡ [] → first ≡ none ++ whole → second ≡ first ++ 46 ∷ [] → last ≡ second ++ digits → digits ≡ fraction → 0 < length fraction → last ≡ whole ++ behind_point fraction
-spelled_both none start first second last digits whole [] empty before point behind is some = absurd (omega (arith, some))
-spelled_both none start first second last digits whole (c ∷ cs) empty before point behind is some =
-    behind ∙ ap (λ t. t ++ digits) point ∙ append_assoc first (46 ∷ []) digits ∙ ap (λ t. t ++ 46 ∷ digits) (before ∙ ap (λ t. t ++ whole) empty) ∙ ap (λ t. whole ++ 46 ∷ t) is
-
-pub spelled_whole : (none first whole fraction : List ℕ) → none ≡ [] → first ≡ none ++ whole → fraction ≡ [] → first ≡ whole ++ behind_point fraction
-spelled_whole none first whole fraction empty before is = before ∙ ap (λ t. t ++ whole) empty ∙ sym (ap (λ t. whole ++ behind_point t) is ∙ append-nil whole)
-
-module _ (items whole fraction : List ℕ) (are : AreDigits whole) (more : AreDigits fraction) (some : 0 < length whole) (is : items ≡ whole ++ behind_point fraction) where
-  pub items_number : (v : SignedValue Number) → ReadsSigned items v → v ≡ with_sign NoSign (number_with whole fraction)
-  items_number v reads = number_read whole fraction v are more some (subst (λ t. ReadsSigned t v) is reads)
-
-  pub items_within : (v : SignedValue Number) → ReadsSigned items v → is_within whole fraction ≡ true
-  items_within v reads = within_read whole fraction v are more some (subst (λ t. ReadsSigned t v) is reads)
-
-  pub items_beyond : IsBeyondSigned items → is_within whole fraction ≡ false
-  items_beyond beyond = beyond_read whole fraction are more (subst IsBeyondSigned is beyond)
-
-  pub items_no_text : IsNoSignedText items → is_within whole fraction ≡ false
-  items_no_text lacks = absurd (lacks NoSign items refl (parts_with whole fraction) (subst (λ t. Spells t (parts_with whole fraction)) (sym is) (spells_parts whole fraction are more some)))
-
-  pub items_long : ReadsLongSigned items → 8 < length whole + length fraction
-  items_long long = long_read whole fraction are more some (subst ReadsLongSigned is long)
-
--- no digits, no number
-pub empty_not_within : (ds sep cs items : List ℕ) → items ≡ whole_in ds sep cs ++ behind_point (fraction_in ds sep cs) → length items ≡ 0 → is_within (whole_in ds sep cs) (fraction_in ds sep cs) ≡ false
-empty_not_within ds sep cs items is none =
-    false_from_ne_true (is_within (whole_in ds sep cs) (fraction_in ds sep cs)) (λ within.
-    let short = short_from (whole_in ds sep cs) (fraction_in ds sep cs) within in
-    let some = short.some in
-    let size : length items ≡ length (whole_in ds sep cs) + length (behind_point (fraction_in ds sep cs)) = ap length is ∙ length-append (whole_in ds sep cs) (behind_point (fraction_in ds sep cs)) in
-    omega (arith, some, size, none))
-
-some_by : (whole fraction : List ℕ) → (0 < length fraction → 0 < length whole) → 0 < length whole + length (behind_point fraction) → 0 < length whole
-some_by whole [] before some = omega (arith, some)
-some_by whole (c ∷ cs) before some = before (omega arith)
-
--- some digits begin with one before the point
-pub some_whole : (ds sep cs items : List ℕ) → items ≡ whole_in ds sep cs ++ behind_point (fraction_in ds sep cs) → 0 < length items → 0 < length (whole_in ds sep cs)
-some_whole ds sep cs items is some =
-    let size : length items ≡ length (whole_in ds sep cs) + length (behind_point (fraction_in ds sep cs)) = ap length is ∙ length-append (whole_in ds sep cs) (behind_point (fraction_in ds sep cs)) in
-    some_by (whole_in ds sep cs) (fraction_in ds sep cs) (whole_before ds sep cs) (omega (arith, some, size))

@@ -1,5 +1,6 @@
 -- The sign under which a number has a text.
 use Rattle.std.proofs.Common.{◌≡◌, ℕ, true, false, cond, List, arith, refl, sym, ap, ◌∙◌}
+use Rattle.std.proofs.lemmas.Bool.{and_parts}
 use Rattle.std.proofs.lemmas.Bool.Decides.{nat_tests}
 use Rattle.std.proofs.lemmas.Cmp.{same_from_slice_cmp}
 use Rattle.std.specs.Ordering.{is_eq, nat_cmp}
@@ -10,7 +11,7 @@ use Rattle.fixed_decimal.specs.Number.{Number}
 use Rattle.fixed_decimal.specs.declared.Sign.TheVariants.{None as NoSign, Negative, Positive}
 use Rattle.icu_decimal_text.specs.PlainText.{Tables}
 use Rattle.icu_decimal_reading.specs.PlainReading.{PlainReading, decimal, fraction_in, is_text_of, is_within, not_written, number_with, plain_reading, signed_reading, unreadable, whole_in, with_sign, written_reading}
-use Rattle.icu_decimal_reading.specs.Readable.{is_readable_by}
+use Rattle.icu_decimal_reading.specs.Readable.{all_differ, is_readable_by}
 
 module _ (t : Tables) (text : List ℕ) (n : Number) where
   after_none : PlainReading
@@ -65,3 +66,7 @@ module _ (t : Tables) (text : List ℕ) where
 pub same_by_order : (order : Ordering) (a b c : List ℕ) → order ≡ byte_order a b → a ≡ c → is_eq order ≡ bytes_eq c b
 same_by_order order a b c is same =
     same_from_slice_cmp nat_cmp is_eq bytes_eq refl (λ _ _. refl) (λ _ _. refl) (λ x y xs ys o h. grind (arith, nat_tests)) a b order is ∙ ap (λ x. bytes_eq x b) same
+
+-- no digit stands twice in readable tables
+pub digits_differ : (t : Tables) → is_readable_by t ≡ true → all_differ t.digits ≡ true
+digits_differ t readable = (and_parts (all_differ t.digits) _ readable).0

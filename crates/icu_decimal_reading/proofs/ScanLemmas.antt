@@ -62,6 +62,10 @@ digit_at ds i differ near =
     let place : position_or_len test ds ≡ i = position_or_len_is test ds i 0 (omega (arith, near)) (λ k less. apart ds k i differ less near) (λ _. eq-eqb (slice_index ds i) (slice_index ds i) refl) in
     at_by (nat_lt (position_or_len test ds) (length ds)) (position_or_len test ds) i place (lt-ltb (position_or_len test ds) (length ds) (omega (arith, place, near)))
 
+-- and is the place of what stands there
+pub digit_here : (ds : List ℕ) (i c : ℕ) → all_differ ds ≡ true → i < length ds → slice_index ds i ≡ c → Some i ≡ digit_of ds c
+digit_here ds i c differ near is = sym (ap (digit_of ds) (sym is) ∙ digit_at ds i differ near)
+
 within_by : (b : Bool) (n i d : ℕ) → (b ≡ true → n < i) → cond b (Some n) None ≡ Some d → d < i
 within_by true n i d below is = let same : n ≡ d = some_same n d is in let less = below refl in omega (arith, same, less)
   where

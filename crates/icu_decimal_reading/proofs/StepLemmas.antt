@@ -1,11 +1,15 @@
 -- One character of a text, and the rest: what a loop over characters keeps.
-use Rattle.std.proofs.Common.{◌≡◌, ℕ, ◌+◌, ◌≤◌, ◌<◌, ◌==◌, ◌&&◌, Bool, true, false, List, [], ◌∷◌, ◌++◌, length, map, Option, None, Some, is_some, is_none, refl, sym, ap, ◌∙◌, append_assoc, arith, length-append}
+use Rattle.std.proofs.Common.{◌≡◌, ℕ, suc, ◌+◌, ◌≤◌, ◌<◌, ◌==◌, ◌&&◌, Bool, true, false, List, [], ◌∷◌, length, map, Option, None, Some, is_some, is_none, refl, sym, ap, ◌∙◌, arith}
+use Rattle.std.specs.Char.{digit_value}
 use Rattle.std.specs.List.{list_all, cons_option, filter_map}
 use Rattle.std.proofs.lemmas.Bool.{false≢true, eq-eqb, ne_eqb, and_left}
-use Rattle.std.proofs.lemmas.List.{append-nil, length-map}
+use Rattle.std.proofs.lemmas.Bool.Decides.{nat_tests}
+use Rattle.fixed_decimal.specs.GivenDigits.{DigitsGiven, with_digit}
 use Rattle.fixed_decimal.specs.NumberText.{character}
+use Rattle.icu_decimal_reading.specs.GatheredDigits.{with_characters}
 use Rattle.icu_decimal_reading.specs.PlainReading.{begins_fraction, digits_of_text, fraction_in, fraction_then, whole_in, whole_then}
 use Rattle.icu_decimal_reading.specs.Readable.{digit_of}
+use Rattle.icu_decimal_reading.proofs.GatheredLemmas.{count_with}
 
 clear_by : (o : Option ℕ) (b r : Bool) → is_some o ≡ b → b ≡ true → (is_none o && r) ≡ false
 clear_by None b r is some = absurd (false≢true (is ∙ some))
@@ -67,54 +71,73 @@ begins_digit ds wanted cs rest c whole is are before = sym (ap (λ t. begins_fra
 pub begins_end : (ds wanted cs : List ℕ) (whole : Bool) → wanted ≡ [] → cs ≡ [] → begins_fraction ds wanted cs ≡ whole → false ≡ whole
 begins_end ds wanted cs whole is are before = sym (ap (λ t. begins_fraction ds t cs) is ∙ ap (begins_fraction ds []) are) ∙ before
 
--- ---- digits spelled
+-- ---- digits gathered
 
-pub text_digit : (ds cs rest items after whole : List ℕ) (c d : ℕ) → cs ≡ c ∷ rest → Some d ≡ digit_of ds c → items ++ digits_of_text ds cs ≡ whole → after ≡ items ++ (48 + d) ∷ [] → after ++ digits_of_text ds rest ≡ whole
-text_digit ds cs rest items after whole c d is found before pushed =
-    ap (λ t. t ++ digits_of_text ds rest) pushed ∙ append_assoc items ((48 + d) ∷ []) (digits_of_text ds rest)
-    ∙ sym (ap (λ t. items ++ digits_of_text ds t) is ∙ ap (λ o. items ++ map character (cons_option o (filter_map (digit_of ds) rest))) (sym found)) ∙ before
+digit_again : (d : ℕ) → d < 10 → digit_value (character d) ≡ d
+digit_again d ten = grind (arith, nat_tests)
 
-pub text_other : (ds cs rest items whole : List ℕ) (c : ℕ) → cs ≡ c ∷ rest → None ≡ digit_of ds c → items ++ digits_of_text ds cs ≡ whole → items ++ digits_of_text ds rest ≡ whole
-text_other ds cs rest items whole c is none before =
-    sym (ap (λ t. items ++ digits_of_text ds t) is ∙ ap (λ o. items ++ map character (cons_option o (filter_map (digit_of ds) rest))) (sym none)) ∙ before
+-- a digit that was given is the character's
+given_again : (given after : DigitsGiven) (d : ℕ) → d < 10 → after ≡ with_digit given d → after ≡ with_digit given (digit_value (character d))
+given_again given after d ten e = e ∙ ap (with_digit given) (sym (digit_again d ten))
 
-pub text_end : (ds cs items whole : List ℕ) → cs ≡ [] → items ++ digits_of_text ds cs ≡ whole → items ≡ whole
-text_end ds cs items whole is before = sym (ap (λ t. items ++ digits_of_text ds t) is ∙ append-nil items) ∙ before
+-- counts of the same digits
+same_count : (given first : DigitsGiven) (cs ds : List ℕ) → with_characters given cs ≡ with_characters first ds → given.count + length cs ≡ first.count + length ds
+same_count given first cs ds same = sym (count_with given cs) ∙ ap (λ (g : DigitsGiven). g.count) same ∙ count_with first ds
 
--- room for a digit, and for those behind it
-pub room_some : (ds cs rest items : List ℕ) (c d room : ℕ) → cs ≡ c ∷ rest → Some d ≡ digit_of ds c → length items + length (filter_map (digit_of ds) cs) ≤ room → length items + 1 ≤ room
-room_some ds cs rest items c d room is found before =
-    let more : length (filter_map (digit_of ds) cs) ≡ length (filter_map (digit_of ds) rest) + 1 = ap (λ t. length (filter_map (digit_of ds) t)) is ∙ longer_by (digit_of ds c) (filter_map (digit_of ds) rest) (ap is_some (sym found)) in
-    omega (arith, more, before)
+-- the digits of a text
 
-pub room_digit : (ds cs rest items after : List ℕ) (c d x room : ℕ) → cs ≡ c ∷ rest → Some d ≡ digit_of ds c → length items + length (filter_map (digit_of ds) cs) ≤ room → after ≡ items ++ x ∷ [] → length after + length (filter_map (digit_of ds) rest) ≤ room
-room_digit ds cs rest items after c d x room is found before pushed =
-    let more : length (filter_map (digit_of ds) cs) ≡ length (filter_map (digit_of ds) rest) + 1 = ap (λ t. length (filter_map (digit_of ds) t)) is ∙ longer_by (digit_of ds c) (filter_map (digit_of ds) rest) (ap is_some (sym found)) in
-    let size : length after ≡ length items + 1 = ap length pushed ∙ length-append items (x ∷ []) in
-    omega (arith, more, before, size)
+text_first : (ds cs rest : List ℕ) (c d : ℕ) → cs ≡ c ∷ rest → Some d ≡ digit_of ds c → digits_of_text ds cs ≡ character d ∷ digits_of_text ds rest
+text_first ds cs rest c d is found = ap (digits_of_text ds) is ∙ ap (λ o. map character (cons_option o (filter_map (digit_of ds) rest))) (sym found)
 
-pub room_other : (ds cs rest items : List ℕ) (c room : ℕ) → cs ≡ c ∷ rest → None ≡ digit_of ds c → length items + length (filter_map (digit_of ds) cs) ≤ room → length items + length (filter_map (digit_of ds) rest) ≤ room
-room_other ds cs rest items c room is none before =
-    let same : length (filter_map (digit_of ds) cs) ≡ length (filter_map (digit_of ds) rest) = ap (λ t. length (filter_map (digit_of ds) t)) is ∙ same_by (digit_of ds c) (filter_map (digit_of ds) rest) (ap is_some (sym none)) in
-    omega (arith, same, before)
+pub text_digit : (ds cs rest : List ℕ) (c d : ℕ) (given after whole : DigitsGiven) → cs ≡ c ∷ rest → Some d ≡ digit_of ds c → d < 10 → with_characters given (digits_of_text ds cs) ≡ whole → after ≡ with_digit given d → with_characters after (digits_of_text ds rest) ≡ whole
+text_digit ds cs rest c d given after whole is found ten before pushed =
+    ap (λ g. with_characters g (digits_of_text ds rest)) (given_again given after d ten pushed)
+    ∙ sym (ap (with_characters given) (text_first ds cs rest c d is found)) ∙ before
 
--- ---- the digits before a fraction
+pub text_other : (ds cs rest : List ℕ) (c : ℕ) (given whole : DigitsGiven) → cs ≡ c ∷ rest → None ≡ digit_of ds c → with_characters given (digits_of_text ds cs) ≡ whole → with_characters given (digits_of_text ds rest) ≡ whole
+text_other ds cs rest c given whole is none before =
+    sym (ap (λ t. with_characters given (digits_of_text ds t)) is ∙ ap (λ o. with_characters given (map character (cons_option o (filter_map (digit_of ds) rest)))) (sym none)) ∙ before
 
-pub whole_last : (ds sep cs rest items after whole : List ℕ) (c d : ℕ) → cs ≡ c ∷ rest → Some d ≡ digit_of ds c → true ≡ begins_fraction ds sep rest → items ++ whole_in ds sep cs ≡ whole → after ≡ items ++ (48 + d) ∷ [] → after ≡ whole
-whole_last ds sep cs rest items after whole c d is found begins before pushed =
-    pushed ∙ sym (ap (λ t. items ++ whole_in ds sep t) is ∙ ap (λ o. items ++ whole_then o (begins_fraction ds sep rest) (whole_in ds sep rest)) (sym found) ∙ ap (λ b. items ++ whole_then (Some d) b (whole_in ds sep rest)) (sym begins)) ∙ before
+pub text_end : (ds cs : List ℕ) (given whole : DigitsGiven) → cs ≡ [] → with_characters given (digits_of_text ds cs) ≡ whole → given ≡ whole
+text_end ds cs given whole is before = sym (ap (λ t. with_characters given (digits_of_text ds t)) is) ∙ before
 
-pub whole_digit : (ds sep cs rest items after whole : List ℕ) (c d : ℕ) → cs ≡ c ∷ rest → Some d ≡ digit_of ds c → false ≡ begins_fraction ds sep rest → items ++ whole_in ds sep cs ≡ whole → after ≡ items ++ (48 + d) ∷ [] → after ++ whole_in ds sep rest ≡ whole
-whole_digit ds sep cs rest items after whole c d is found begins before pushed =
-    ap (λ t. t ++ whole_in ds sep rest) pushed ∙ append_assoc items ((48 + d) ∷ []) (whole_in ds sep rest)
-    ∙ sym (ap (λ t. items ++ whole_in ds sep t) is ∙ ap (λ o. items ++ whole_then o (begins_fraction ds sep rest) (whole_in ds sep rest)) (sym found) ∙ ap (λ b. items ++ whole_then (Some d) b (whole_in ds sep rest)) (sym begins)) ∙ before
+-- where a digit behind eight is left, there are more than eight
+pub text_many : (ds cs rest text : List ℕ) (c d : ℕ) (given first : DigitsGiven) → cs ≡ c ∷ rest → Some d ≡ digit_of ds c → with_characters given (digits_of_text ds cs) ≡ with_characters first (digits_of_text ds text) → 8 ≤ given.count → 8 < first.count + length (digits_of_text ds text)
+text_many ds cs rest text c d given first is found before many =
+    let size : length (digits_of_text ds cs) ≡ suc (length (digits_of_text ds rest)) = ap length (text_first ds cs rest c d is found) in
+    omega (arith, size, same_count given first (digits_of_text ds cs) (digits_of_text ds text) before, many)
 
-pub whole_other : (ds sep cs rest items whole : List ℕ) (c : ℕ) → cs ≡ c ∷ rest → None ≡ digit_of ds c → items ++ whole_in ds sep cs ≡ whole → items ++ whole_in ds sep rest ≡ whole
-whole_other ds sep cs rest items whole c is none before =
-    sym (ap (λ t. items ++ whole_in ds sep t) is ∙ ap (λ o. items ++ whole_then o (begins_fraction ds sep rest) (whole_in ds sep rest)) (sym none)) ∙ before
+-- those before a fraction
 
-pub whole_end : (ds sep cs items whole : List ℕ) → cs ≡ [] → items ++ whole_in ds sep cs ≡ whole → items ≡ whole
-whole_end ds sep cs items whole is before = sym (ap (λ t. items ++ whole_in ds sep t) is ∙ append-nil items) ∙ before
+whole_first : (ds sep cs rest : List ℕ) (c d : ℕ) (b : Bool) → cs ≡ c ∷ rest → Some d ≡ digit_of ds c → b ≡ begins_fraction ds sep rest → whole_in ds sep cs ≡ whole_then (Some d) b (whole_in ds sep rest)
+whole_first ds sep cs rest c d b is found begins =
+    ap (whole_in ds sep) is ∙ ap (λ o. whole_then o (begins_fraction ds sep rest) (whole_in ds sep rest)) (sym found) ∙ ap (λ e. whole_then (Some d) e (whole_in ds sep rest)) (sym begins)
+
+pub whole_last : (ds sep cs rest : List ℕ) (c d : ℕ) (given after whole : DigitsGiven) → cs ≡ c ∷ rest → Some d ≡ digit_of ds c → d < 10 → true ≡ begins_fraction ds sep rest → with_characters given (whole_in ds sep cs) ≡ whole → after ≡ with_digit given d → after ≡ whole
+whole_last ds sep cs rest c d given after whole is found ten begins before pushed =
+    given_again given after d ten pushed ∙ sym (ap (with_characters given) (whole_first ds sep cs rest c d true is found begins)) ∙ before
+
+pub whole_digit : (ds sep cs rest : List ℕ) (c d : ℕ) (given after whole : DigitsGiven) → cs ≡ c ∷ rest → Some d ≡ digit_of ds c → d < 10 → false ≡ begins_fraction ds sep rest → with_characters given (whole_in ds sep cs) ≡ whole → after ≡ with_digit given d → with_characters after (whole_in ds sep rest) ≡ whole
+whole_digit ds sep cs rest c d given after whole is found ten begins before pushed =
+    ap (λ g. with_characters g (whole_in ds sep rest)) (given_again given after d ten pushed)
+    ∙ sym (ap (with_characters given) (whole_first ds sep cs rest c d false is found begins)) ∙ before
+
+pub whole_other : (ds sep cs rest : List ℕ) (c : ℕ) (given whole : DigitsGiven) → cs ≡ c ∷ rest → None ≡ digit_of ds c → with_characters given (whole_in ds sep cs) ≡ whole → with_characters given (whole_in ds sep rest) ≡ whole
+whole_other ds sep cs rest c given whole is none before =
+    sym (ap (λ t. with_characters given (whole_in ds sep t)) is ∙ ap (λ o. with_characters given (whole_then o (begins_fraction ds sep rest) (whole_in ds sep rest))) (sym none)) ∙ before
+
+pub whole_end : (ds sep cs : List ℕ) (given whole : DigitsGiven) → cs ≡ [] → with_characters given (whole_in ds sep cs) ≡ whole → given ≡ whole
+whole_end ds sep cs given whole is before = sym (ap (λ t. with_characters given (whole_in ds sep t)) is) ∙ before
+
+some_first : (d : ℕ) (b : Bool) (rest : List ℕ) → 0 < length (whole_then (Some d) b rest)
+some_first d true rest = omega arith
+some_first d false rest = omega arith
+
+pub whole_many : (ds sep cs rest text : List ℕ) (c d : ℕ) (given first : DigitsGiven) → cs ≡ c ∷ rest → Some d ≡ digit_of ds c → with_characters given (whole_in ds sep cs) ≡ with_characters first (whole_in ds sep text) → 8 ≤ given.count → 8 < first.count + length (whole_in ds sep text)
+whole_many ds sep cs rest text c d given first is found before many =
+    let size : length (whole_in ds sep cs) ≡ length (whole_then (Some d) (begins_fraction ds sep rest) (whole_in ds sep rest)) = ap length (whole_first ds sep cs rest c d (begins_fraction ds sep rest) is found refl) in
+    let some = some_first d (begins_fraction ds sep rest) (whole_in ds sep rest) in
+    omega (arith, size, some, same_count given first (whole_in ds sep cs) (whole_in ds sep text) before, many)
 
 -- and the fraction
 
@@ -132,26 +155,3 @@ fraction_other ds sep cs rest whole c is none before =
 
 pub fraction_end : (ds sep cs whole : List ℕ) → cs ≡ [] → fraction_in ds sep cs ≡ whole → [] ≡ whole
 fraction_end ds sep cs whole is before = sym (ap (fraction_in ds sep) is) ∙ before
-
--- a digit stands where a fraction begins
-begins_some : (ds sep cs : List ℕ) → begins_fraction ds sep cs ≡ true → 0 < length (filter_map (digit_of ds) cs)
-begins_some ds [] [] begins = absurd (false≢true begins)
-begins_some ds [] (c ∷ cs) begins = let more = longer_by (digit_of ds c) (filter_map (digit_of ds) cs) begins in omega (arith, more)
-begins_some ds (p ∷ ps) [] begins = absurd (false≢true begins)
-begins_some ds (p ∷ ps) (c ∷ cs) begins =
-    let inner = begins_some ds ps cs (second_true (p == c) _ begins) in at_least (digit_of ds c) (filter_map (digit_of ds) cs) inner
-  where
-    second_true : (a b : Bool) → (a && b) ≡ true → b ≡ true
-    second_true true b both = both
-    second_true false b both = absurd (false≢true both)
-
-    at_least : (o : Option ℕ) (es : List ℕ) → 0 < length es → 0 < length (cons_option o es)
-    at_least None es some = some
-    at_least (Some d) es some = omega arith
-
-pub fraction_some : (ds sep rest fraction : List ℕ) → true ≡ begins_fraction ds sep rest → digits_of_text ds rest ≡ fraction → 0 < length fraction
-fraction_some ds sep rest fraction begins is =
-    let some = begins_some ds sep rest (sym begins) in
-    let size : length (digits_of_text ds rest) ≡ length (filter_map (digit_of ds) rest) = length-map (filter_map (digit_of ds) rest) character in
-    let same : length (digits_of_text ds rest) ≡ length fraction = ap length is in
-    omega (arith, some, size, same)

@@ -1,3 +1,4 @@
+pub mod GatheredDigits
 pub mod PlainReading
 pub mod Readable
 pub mod ReadErrors

@@ -1,6 +1,6 @@
 // The digits of a table.
 
-ghost use Rattle.std.specs.Prelude.{◌≡◌, ◌≤◌, ◌<◌, [], ◌∷◌, length, IfSome, IfNone, is_some, is_none, filter_map};
+ghost use Rattle.std.specs.Prelude.{◌≡◌, ◌≤◌, ◌<◌, true, [], ◌∷◌, length, IfSome, IfNone, is_some, is_none, filter_map};
 ghost use Rattle.std.specs.List.{list_all};
 ghost use Rattle.std.specs.Str.{chars};
 ghost use Rattle.icu_decimal_reading.specs.PlainReading.{begins_fraction};
@@ -13,22 +13,31 @@ fn place_of(table: &[char], character: char) -> Option<usize>
     table.iter().position(|digit| *digit == character)
 }
 
-// Which digit a character is.
+// Which digit a character is, in a table where no digit stands twice.
+//
+// In most tables the characters follow one another, so that the distance from the first one is the digit.
+#[tactic(auto, using(crate::proofs::ScanLemmas::digit_here))]
 pub(crate) fn digit_in(table: &[char; 10], character: char) -> Option<u8>
+    requires { all_differ table.now ≡ true }
     ensures value { result ≡ digit_of table.now character }
     ensures ten { IfSome result (λ d. d < 10) }
 {
+    let distance = (character as u32).wrapping_sub(table[0] as u32);
+    if distance < 10 && table[distance as usize] == character {
+        return Some(distance as u8);
+    }
     match place_of(table, character) {
         Some(place) => Some(place as u8),
         None => None,
     }
 }
 
-// Whether a character is a digit.
-pub(crate) fn is_digit(table: &[char; 10], character: char) -> bool
+// Whether a character is a digit, in a table where no digit stands twice.
+fn is_digit(table: &[char; 10], character: char) -> bool
+    requires { all_differ table.now ≡ true }
     ensures { result ≡ is_some (digit_of table.now character) }
 {
-    place_of(table, character).is_some()
+    digit_in(table, character).is_some()
 }
 
 // Whether no digit stands twice.
@@ -64,7 +73,7 @@ pub(crate) fn has_none(table: &[char; 10], text: &str) -> bool
 {
     let mut left = text;
     while let Some((character, rest)) = split_character(left) {
-        if is_digit(table, character) {
+        if place_of(table, character).is_some() {
             return false;
         }
         left = rest;
@@ -75,6 +84,7 @@ pub(crate) fn has_none(table: &[char; 10], text: &str) -> bool
 // How many digits stand in a text.
 #[tactic(auto, using(crate::proofs::StepLemmas::count_digit, crate::proofs::StepLemmas::count_other, crate::proofs::StepLemmas::count_end))]
 pub(crate) fn count_in(table: &[char; 10], text: &str) -> usize
+    requires { all_differ table.now ≡ true }
     ensures value { result ≡ length (filter_map (digit_of table.now) (chars text.now)) }
     ensures bound { result ≤ length text.now }
 {
@@ -92,6 +102,7 @@ pub(crate) fn count_in(table: &[char; 10], text: &str) -> usize
 // Whether a separator stands at the front of a text, and a digit behind it.
 #[tactic(auto, using(crate::proofs::StepLemmas::begins_more, crate::proofs::StepLemmas::begins_apart, crate::proofs::StepLemmas::begins_short, crate::proofs::StepLemmas::begins_digit, crate::proofs::StepLemmas::begins_end))]
 pub(crate) fn does_fraction_follow(table: &[char; 10], separator: &str, text: &str) -> bool
+    requires { all_differ table.now ≡ true }
     ensures { result ≡ begins_fraction table.now (chars separator.now) (chars text.now) }
 {
     let mut left = text;

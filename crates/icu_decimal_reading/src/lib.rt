@@ -14,11 +14,12 @@
 
 mod digits;
 mod error;
+mod gathered;
 pub mod laws;
 mod reading;
 mod scanning;
 mod symbols;
 
 pub use error::ReadError;
-pub use reading::read_plain;
+pub use reading::{read_plain, read_readable};
 pub use symbols::is_readable;

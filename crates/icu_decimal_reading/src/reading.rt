@@ -46,21 +46,18 @@ fn with_sign_of(formatter: &DecimalFormatter<'_>, number: Decimal, text: &str) -
     None
 }
 
-// The reading that the definition has.
-#[tactic(auto, using(crate::proofs::ReadingLemmas::reading_unreadable, crate::proofs::ReadingLemmas::reading_past, crate::proofs::ReadingLemmas::reading_signed))]
+// The reading that the definition has, of a formatter whose symbols are readable.
+#[tactic(auto, using(crate::proofs::ReadingLemmas::digits_differ, crate::proofs::ReadingLemmas::reading_past, crate::proofs::ReadingLemmas::reading_signed))]
 fn read_as_defined(
     alloc: Global,
     formatter: &DecimalFormatter<'_>,
     text: &str,
 ) -> Result<Decimal, ReadError>
-    ensures unreadable { IsErrOf result ReadError.Unreadable → is_readable_by (tables_of formatter.now) ≡ false }
+    requires { is_readable_by (tables_of formatter.now) ≡ true }
+    ensures unreadable { ¬ (IsErrOf result ReadError.Unreadable) }
     ensures memory { IsErrOf result ReadError.Memory → HasManyDigits (tables_of formatter.now) text.now }
     ensures reading { IsAnswered result (plain_reading (tables_of formatter.now) text.now) }
-    ensures readable { is_readable_by (tables_of formatter.now) ≡ false → IsErrOf result ReadError.Unreadable }
 {
-    if !is_readable(formatter) {
-        return Err(ReadError::Unreadable);
-    }
     let symbols = formatter.symbols();
     let number = match number_in(alloc, formatter.digits(), symbols.decimal_separator(), text) {
         Ok(number) => number,
@@ -72,12 +69,34 @@ fn read_as_defined(
     }
 }
 
+/// As `read_plain`, of a formatter whose symbols are known to be readable: in English `-1,234.50` is -1234.50.
+///
+/// The condition is `is_readable`, which looks through all symbols: a caller who reads many texts with one formatter makes the
+/// test once. `NotWritten` where the formatter writes no decimal so; `Memory` where memory for the digits was refused. It is taken
+/// where more than eight digits stand in the text.
+#[tactic(auto, using(crate::proofs::LawLemmas::answered_value))]
+pub fn read_readable(
+    alloc: Global,
+    formatter: &DecimalFormatter<'_>,
+    text: &str,
+) -> Result<Decimal, ReadError>
+    requires { is_readable_by (tables_of formatter.now) ≡ true }
+    ensures unreadable { ¬ (IsErrOf result ReadError.Unreadable) }
+    ensures not_written { IsErrOf result ReadError.NotWritten → HasNoNumber (tables_of formatter.now) text.now }
+    ensures memory { IsErrOf result ReadError.Memory → HasManyDigits (tables_of formatter.now) text.now }
+    ensures value { IfOk result (λ v. IsPlainText (tables_of formatter.now) text.now v) }
+    ensures reading { IsAnswered result (plain_reading (tables_of formatter.now) text.now) }
+{
+    are_tables(formatter);
+    read_as_defined(alloc, formatter, text)
+}
+
 /// The decimal whose text under the formatter this is: in English `-1,234.50` is -1234.50, shown down to magnitude -2.
 ///
 /// Sign, digits and visible range are those of the one decimal that the formatter writes so. `Unreadable` where `is_readable`
 /// is false; `NotWritten` where the formatter writes no decimal so, as `98,7654` or `1234` in English; `Memory` where memory for
 /// the digits was refused. It is taken where more than eight digits stand in the text.
-#[tactic(auto, using(crate::proofs::LawLemmas::answered_value))]
+#[tactic(auto, using(crate::proofs::ReadingLemmas::reading_unreadable))]
 pub fn read_plain(
     alloc: Global,
     formatter: &DecimalFormatter<'_>,
@@ -89,6 +108,8 @@ pub fn read_plain(
     ensures value { IfOk result (λ v. IsPlainText (tables_of formatter.now) text.now v) }
     ensures reading { IsAnswered result (plain_reading (tables_of formatter.now) text.now) }
 {
-    are_tables(formatter);
-    read_as_defined(alloc, formatter, text)
+    if !is_readable(formatter) {
+        return Err(ReadError::Unreadable);
+    }
+    read_readable(alloc, formatter, text)
 }

@@ -1,25 +1,21 @@
-use Rattle.std.proofs.Common.{rules, ◌≡◌, ◌<◌, ◌∙◌, ℕ, List, length}
+use Rattle.std.proofs.Common.{rules}
 use Rattle.std.specs.Str.{chars}
-use Rattle.icu_decimal_reading.specs.PlainReading.{fraction_in, whole_in}
-use Rattle.icu_decimal_reading.proofs.NumberLemmas.{fraction_digits_are, some_whole, whole_digits_are}
+use Rattle.icu_decimal_reading.specs.PlainReading.{digits_of_text, fraction_in, whole_in}
+use Rattle.icu_decimal_reading.proofs.GatheredLemmas.{count_grows, many_both, number_is}
 use Rattle.icu_decimal_reading.proofs.scanning.number_in.Goals as goal
 
-pub returns-clause-value : goal.returns-clause-value
-returns-clause-value c =
-    let ds : List ℕ = c.args.table.now in
-    let sep : List ℕ = chars c.args.separator.now in
-    let cs : List ℕ = chars c.args.text.now in
-    let ten : length ds ≡ 10 = search rules in
-    let some : 0 < length c.in_ok-spelled.spelled.items = search rules in
-    c.number_of_digits.ensures.value (whole_in ds sep cs) (fraction_in ds sep cs) (whole_digits_are ds sep cs ten) (fraction_digits_are ds sep cs ten)
-    (some_whole ds sep cs c.in_ok-spelled.spelled.items c.in_ok-spelled.ensures.value some) (c.as_slice.ensures ∙ c.in_ok-spelled.ensures.value)
+pub returns-in_err-gather_all-clause-memory : goal.returns-in_err-gather_all-clause-memory
+returns-in_err-gather_all-clause-memory c = λ _.
+    many_both c.args.table.now (chars c.args.separator.now) (chars c.args.text.now) (chars c.in_ok-fraction.fraction.now) c.in_ok-gathered.gathered c.gather_whole.new.gathered
+    c.in_ok-gathered.ensures.value c.in_ok-fraction.ensures.value c.in_ok-fraction.ensures.fraction c.in_err-gather_all.ensures.room
 
-pub returns-clause-within : goal.returns-clause-within
-returns-clause-within c =
-    let ds : List ℕ = c.args.table.now in
-    let sep : List ℕ = chars c.args.separator.now in
-    let cs : List ℕ = chars c.args.text.now in
-    let ten : length ds ≡ 10 = search rules in
-    let some : 0 < length c.in_ok-spelled.spelled.items = search rules in
-    c.number_of_digits.ensures.within (whole_in ds sep cs) (fraction_in ds sep cs) (whole_digits_are ds sep cs ten) (fraction_digits_are ds sep cs ten)
-    (some_whole ds sep cs c.in_ok-spelled.spelled.items c.in_ok-spelled.ensures.value some) (c.as_slice.ensures ∙ c.in_ok-spelled.ensures.value)
+pub into_number-requires-clause-shown : goal.into_number-requires-clause-shown
+into_number-requires-clause-shown c =
+    count_grows c.gather_whole.new.gathered c.gather_all.new.gathered (digits_of_text c.args.table.now (chars c.in_ok-fraction.fraction.now)) c.count-whole.result
+    c.in_ok-gather_all.ensures.value c.count-whole.ensures
+
+pub returns-in-Some-clause-value : goal.returns-in-Some-clause-value
+returns-in-Some-clause-value c =
+    number_is (whole_in c.args.table.now (chars c.args.separator.now) (chars c.args.text.now)) (fraction_in c.args.table.now (chars c.args.separator.now) (chars c.args.text.now))
+    c.in_ok-gathered.gathered c.gather_whole.new.gathered c.gather_all.new.gathered c.in_ok-gathered.ensures.value c.in_ok-fraction.ensures.value
+    (search rules) c.count-whole.result c.in-Some.number c.new.result c.count-whole.ensures (search rules) c.in-Some.ensures.within c.in-Some.ensures.value c.new.ensures.sign c.new.ensures.value

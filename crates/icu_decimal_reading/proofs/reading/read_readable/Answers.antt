@@ -1,6 +1,6 @@
 use Rattle.icu_decimal_text.specs.HeldTables.{tables_of}
 use Rattle.icu_decimal_reading.proofs.LawLemmas.{answered_not_written}
-use Rattle.icu_decimal_reading.proofs.reading.read_plain.Goals as goal
+use Rattle.icu_decimal_reading.proofs.reading.read_readable.Goals as goal
 
 pub returns-clause-not_written : goal.returns-clause-not_written
 returns-clause-not_written c = λ missing.
