@@ -1,13 +1,16 @@
 -- What a reader must believe: which tables are asked for, plural rules, patterns, the value that compact text shows, and the
 -- text of a number with its parts.
+pub use Rattle.icu_decimal_compact.specs.AbstractText
 pub use Rattle.icu_decimal_compact.specs.CompactTables
 pub use Rattle.icu_decimal_compact.specs.CompactText
 pub use Rattle.icu_decimal_compact.specs.ExactText
 pub use Rattle.icu_decimal_compact.specs.FoundCompactTables
+pub use Rattle.icu_decimal_compact.specs.WriteFaults
 pub use Rattle.icu_decimal_patterns.specs.Elements
 pub use Rattle.icu_decimal_patterns.specs.KeptEntries
 pub use Rattle.icu_decimal_patterns.specs.Pattern
 pub use Rattle.icu_decimal_patterns.specs.SlotsJson
+pub use Rattle.icu_decimal_patterns.specs.TableJson
 pub use Rattle.icu_decimal_plurals.specs.Categories
 pub use Rattle.icu_decimal_plurals.specs.ConditionGrammar
 pub use Rattle.icu_decimal_plurals.specs.Conditions
@@ -48,6 +51,8 @@ pub use Rattle.icu_decimal_provider.specs.SameSymbols
 pub use Rattle.icu_decimal_text.specs.SameAffixes
 pub use Rattle.icu_decimal_text.specs.SamePlain
 -- Statements of laws.
+pub use Rattle.icu_decimal_compact.specs.AbstractLaws
+pub use Rattle.icu_decimal_patterns.specs.TableLaws
 pub use Rattle.icu_decimal_reading.specs.ReadingLaws
 pub use Rattle.icu_decimal_shown.specs.ExactLaws
 pub use Rattle.icu_decimal_shown.specs.ShownLaws

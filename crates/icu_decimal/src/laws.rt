@@ -1,5 +1,8 @@
-//! Laws, beside the clauses of the calls: those of the tables, of the text, and of the values that compact text shows.
+//! Laws, beside the clauses of the calls: those of the tables, of the text, of the patterns of compact text, of the values that
+//! it shows, and of what abstract formatters write.
 
+pub use icu_decimal_compact::laws as abstract_formatter;
+pub use icu_decimal_patterns::laws as patterns;
 pub use icu_decimal_provider::laws as tables;
 pub use icu_decimal_reading::laws as reading;
 pub use icu_decimal_shown::laws as shown;

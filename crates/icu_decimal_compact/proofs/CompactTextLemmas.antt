@@ -11,7 +11,7 @@ use Rattle.icu_decimal_text.specs.Affixes.{AffixTexts, affixes_of, as_part, pref
 use Rattle.icu_decimal_text.specs.PlainText.{PlainNumber, prefix_text, suffix_text, unsigned_events, unsigned_text}
 use Rattle.icu_decimal_text.proofs.TextLemmas.{text_joined, unsigned_is_text}
 use Rattle.icu_decimal_compact.specs.CompactTables.{CompactTables}
-use Rattle.icu_decimal_compact.specs.CompactText.{CompactNumber, compact_decimal_events, compact_decimal_text, compact_events, compact_formatted, compact_of, compact_text, text_in}
+use Rattle.icu_decimal_compact.specs.CompactText.{compact_decimal_events, compact_decimal_text, compact_formatted, compact_of, compact_text, text_in}
 use Rattle.icu_decimal_compact.specs.TakenText.{without_parts}
 
 -- what holds of each answer of one kind holds of an Ok

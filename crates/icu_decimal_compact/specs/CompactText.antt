@@ -1,7 +1,7 @@
 -- The compact text of a number: what is shown for it, written plainly in the pattern of its entry, between the affixes of the sign.
 -- UTS 35, part 3 (numbers), "Compact Number Formats"; docs/compact-text.md, "The text".
 -- Cited by `format`, `format_to_string` and `FormattedUnsignedCompactDecimal`, and by the laws.
-use Rattle.std.specs.Prelude.{ℕ, zero, suc, ◌+◌, ◌-◌, ◌%◌, ◌^◌, ◌==◌, cond, max, List, [], ◌∷◌, ◌++◌, Option, None, Some, option_map}
+use Rattle.std.specs.Prelude.{ℕ, zero, suc, ◌-◌, ◌%◌, ◌^◌, ◌==◌, cond, max, List, [], ◌∷◌, ◌++◌, Option, None, Some, option_map}
 use Rattle.std.specs.Option.{option_and_then}
 use Rattle.writeable.specs.AnnotatedText.{Event, bytes}
 use Rattle.fixed_decimal.specs.Number.{Number}
@@ -11,11 +11,11 @@ use Rattle.icu_decimal_patterns.specs.KeptEntries.{CompactTable, Patterns}
 use Rattle.icu_decimal_patterns.specs.Pattern.{PatternText, literal, around}
 use Rattle.icu_decimal_plurals.specs.Operands.{Operands, operands_of}
 use Rattle.icu_decimal_shown.specs.declared.entry.CompactEntry.{CompactEntry}
-use Rattle.icu_decimal_shown.specs.Choice.{Choice, chosen, is_carried}
+use Rattle.icu_decimal_shown.specs.Choice.{chosen, is_carried}
 use Rattle.icu_decimal_shown.specs.ShownValue.{top}
 use Rattle.icu_decimal_shown.specs.Significand.{plain_one}
 use Rattle.icu_decimal_text.specs.Affixes.{WithSign, affixes_of, events_with_sign}
-use Rattle.icu_decimal_text.specs.PlainText.{PlainNumber, Tables, prefix_text, suffix_text, unsigned_text}
+use Rattle.icu_decimal_text.specs.PlainText.{PlainNumber, prefix_text, suffix_text, unsigned_text}
 use Rattle.icu_decimal_compact.specs.CompactTables.{CompactTables}
 
 -- ---- the digits shown

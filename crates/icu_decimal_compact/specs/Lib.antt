@@ -3,9 +3,13 @@ pub mod CompactTables
 pub mod FoundCompactTables
 pub mod CompactText
 pub mod ExactText
+pub mod AbstractText
+pub mod WriteFaults
 -- what a contract sees of a type
 pub mod HeldCompact
 pub mod HeldSink
 pub mod TakenText
 -- steps
 pub mod PatternAt
+-- statements of laws
+pub mod AbstractLaws

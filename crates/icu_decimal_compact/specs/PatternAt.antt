@@ -1,7 +1,7 @@
 -- The pattern beside the entry that an index names, and a significand in it.
 -- Defined in docs/compact-text.md, "The text".
 -- Cited by private steps of the formatter alone.
-use Rattle.std.specs.Prelude.{ℕ, Option, None, Some, option_map}
+use Rattle.std.specs.Prelude.{ℕ, Option, option_map}
 use Rattle.std.specs.List.{slice_get}
 use Rattle.std.specs.Option.{option_and_then}
 use Rattle.fixed_decimal.specs.Number.{Number}

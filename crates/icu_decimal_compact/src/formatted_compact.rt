@@ -2,11 +2,13 @@
 
 ghost use Rattle.std.specs.Prelude.{◌≡◌, option_map};
 ghost use Rattle.fixed_decimal.specs.declared.Sign.{Sign};
+ghost use Rattle.icu_decimal_plurals.specs.Operands.{operands_of};
 ghost use Rattle.icu_decimal_text.specs.HeldTables.{tables_of};
 
 use crate::text_alone::TextAlone;
 use fixed_decimal::{Decimal, Sign, UnsignedDecimal};
 use icu_decimal_patterns::pattern::{Interpolated, Pattern};
+use icu_decimal_plurals::PluralOperands;
 use icu_decimal_text::{DecimalFormatter, FormattedUnsignedDecimal};
 use std::fmt;
 use std::marker::Model;
@@ -65,6 +67,13 @@ impl<'l> FormattedUnsignedCompactDecimal<'l> {
         ensures { result ≡ self.now.exponent }
     {
         self.exponent
+    }
+
+    // The plural operands of the number with that exponent.
+    pub(crate) fn operands(&self) -> PluralOperands
+        ensures { result ≡ operands_of self.now.plain.number self.now.exponent }
+    {
+        PluralOperands::from_significand_and_exponent(self.significand(), self.exponent())
     }
 }
 

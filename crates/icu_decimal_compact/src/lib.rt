@@ -12,11 +12,17 @@
 //! ```
 #![tactic(auto)]
 
+mod abstract_formatter;
 mod compact_formatter;
+mod error;
 mod exact;
 mod formatted_compact;
+pub mod laws;
+mod lent;
 mod loading;
 mod text_alone;
 
+pub use abstract_formatter::AbstractFormatter;
 pub use compact_formatter::CompactDecimalFormatter;
+pub use error::WriteFault;
 pub use formatted_compact::FormattedUnsignedCompactDecimal;

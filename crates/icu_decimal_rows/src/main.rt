@@ -3,10 +3,13 @@
 
 #![tactic(auto)]
 
+mod abstract_formatter;
+mod compact;
 mod plurals;
 mod rows;
 mod shown;
 mod stop;
+mod tables;
 
 use std::io;
 

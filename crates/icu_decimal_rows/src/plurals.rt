@@ -10,8 +10,8 @@ fn category_of(word: &str) -> Result<PluralCategory, Stop> {
     PluralCategory::get_for_cldr_bytes(word.as_bytes()).ok_or(Stop::Unknown)
 }
 
-// The rules of a text: parts with semicolons between, each a category, a colon and a condition.
-fn rules_of(alloc: Global, text: &str) -> Result<PluralRules, Stop> {
+/// The rules of a text: parts with semicolons between, each a category, a colon and a condition.
+pub fn rules_of(alloc: Global, text: &str) -> Result<PluralRules, Stop> {
     let mut given = Vec::new(alloc);
     if !text.is_empty() {
         for part in text.split(';') {

@@ -1,8 +1,36 @@
 //! Rows and their answers.
 
+use crate::compact::Setting;
 use crate::stop::Stop;
-use crate::{plurals, shown};
+use crate::{abstract_formatter, compact, plurals, shown, tables};
 use std::alloc::{AllocError, Global};
+
+// The answer of a call of a formatter: behind its name stand what the formatter is made of and what the call is passed.
+fn answer_of_formatter(
+    alloc: Global,
+    call: &str,
+    setting: Setting<'_>,
+    passed: &[&str],
+) -> Result<String, Stop> {
+    match passed {
+        [one] => match call {
+            "significand" => compact::significand(alloc, setting, one),
+            "can_show" => compact::can_show(alloc, setting, one),
+            "compact_exponent_for_magnitude" => compact::exponent(alloc, setting, one),
+            "plural_operands" => abstract_formatter::plural(alloc, setting, one),
+            _ => Err(Stop::Unknown),
+        },
+        [one, other] => match call {
+            "format" => compact::format(alloc, setting, one, other),
+            "format_parts" => compact::parts(alloc, setting, one, other),
+            "format_with_exponent" => compact::exact(alloc, setting, one, other),
+            "format_with_exponent_parts" => compact::exact_parts(alloc, setting, one, other),
+            "write_sign" => abstract_formatter::written(alloc, setting, one, other),
+            _ => Err(Stop::Unknown),
+        },
+        _ => Err(Stop::Unknown),
+    }
+}
 
 // The answer of a row, by the call that it begins with.
 fn answer(alloc: Global, row: &str) -> Result<String, Stop> {
@@ -21,6 +49,16 @@ fn answer(alloc: Global, row: &str) -> Result<String, Stop> {
         }
         ["exponent_for_magnitude", entries, magnitude] => {
             shown::exponent(alloc, entries, magnitude)
+        }
+        ["table", zero, table] => tables::kept(alloc, zero, table),
+        [call, form, grouping, rules, table, passed @ ..] => {
+            let setting = Setting {
+                form,
+                grouping,
+                rules,
+                table,
+            };
+            answer_of_formatter(alloc, call, setting, passed)
         }
         _ => Err(Stop::Unknown),
     }

@@ -1,16 +1,11 @@
 //! Answers of the calls of shown values.
 
-use crate::stop::Stop;
+use crate::stop::{Stop, byte_of};
 use fixed_decimal::UnsignedDecimal;
 use icu_decimal_shown::{
     CompactEntry, can_show, exact_entry, exponent_for_magnitude, exponent_in_range, show,
 };
 use std::alloc::Global;
-
-// A number from 0 to 255.
-fn byte_of(text: &str) -> Result<u8, Stop> {
-    text.parse::<u8>().or(Err(Stop::Unknown))
-}
 
 // The entries of a text: parts with semicolons between, each a type, a colon and an exponent.
 fn entries_of(alloc: Global, text: &str) -> Result<Vec<CompactEntry>, Stop> {

@@ -36,6 +36,12 @@ impl From<ParseError> for Stop {
     }
 }
 
+impl From<writeable::Error> for Stop {
+    fn from(_refused: writeable::Error) -> Stop {
+        Stop::Memory
+    }
+}
+
 impl From<DataError> for Stop {
     fn from(refused: DataError) -> Stop {
         match refused {
@@ -43,4 +49,9 @@ impl From<DataError> for Stop {
             error => Stop::Refused(error),
         }
     }
+}
+
+/// The number from 0 to 255 that a text spells.
+pub fn byte_of(text: &str) -> Result<u8, Stop> {
+    text.parse::<u8>().or(Err(Stop::Unknown))
 }

@@ -1,4 +1,4 @@
-use Rattle.std.proofs.Common.{◌≡◌, ◌∙◌, ap, subst}
+use Rattle.std.proofs.Common.{◌∙◌, ap, subst}
 use Rattle.icu_decimal_text.specs.HeldTables.{tables_of}
 use Rattle.icu_decimal_shown.specs.Entries.{Rises}
 use Rattle.icu_decimal_shown.specs.Significand.{Shows}

@@ -1,4 +1,3 @@
-use Rattle.writeable.specs.AnnotatedText.{opening}
 use Rattle.writeable.proofs.AnnotatedTextLemmas.{text_of_opening}
 use Rattle.icu_decimal_compact.specs.TakenText.{no_text_taken}
 use Rattle.icu_decimal_compact.proofs.text_alone.PartlessSinkSink.open_part.Goals as goal

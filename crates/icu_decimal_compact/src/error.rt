@@ -1,0 +1,47 @@
+//! Why a number is not written.
+
+ghost use Rattle.std.specs.Prelude.{◌≡◌};
+ghost use Rattle.icu_decimal_compact.specs.declared.error.WriteFault.TheVariants.{Memory, Sink};
+ghost use Rattle.icu_decimal_compact.specs.WriteFaults.{write_fault_number};
+
+use std::alloc::AllocError;
+use thiserror::Error;
+
+/// Why an abstract formatter does not write a number.
+#[derive(Clone, Copy, Debug, Drop, PartialEq, Eq, Error)]
+pub enum WriteFault {
+    /// The sink refused; it has taken a beginning.
+    #[error("the sink refused")]
+    Sink,
+    /// A request for memory was refused: the number has more than eight digits. Nothing was written.
+    #[error("out of memory")]
+    Memory,
+}
+
+impl WriteFault {
+    /// The number of the error: 1 of `Sink`, 2 of `Memory`. It takes no memory.
+    pub fn number(&self) -> u8
+        ensures { result ≡ write_fault_number self.now }
+    {
+        match *self {
+            WriteFault::Sink => 1,
+            WriteFault::Memory => 2,
+        }
+    }
+}
+
+impl From<AllocError> for WriteFault {
+    ghost from_gives = { λ _ e. e ≡ Memory };
+
+    fn from(_refused: AllocError) -> WriteFault {
+        WriteFault::Memory
+    }
+}
+
+impl From<writeable::Error> for WriteFault {
+    ghost from_gives = { λ _ e. e ≡ Sink };
+
+    fn from(_refused: writeable::Error) -> WriteFault {
+        WriteFault::Sink
+    }
+}
