@@ -19,8 +19,8 @@ use Rattle.icu_locale_core.proofs.PlainPieces.{tag_plain, joined-pieces}
 use Rattle.icu_locale_core.proofs.NormalTags.{read_again}
 use Rattle.icu_decimal.specs.declared.options.GroupingStrategy.{GroupingStrategy}
 use Rattle.locale_numbers_book.specs.Book.{BookTables}
-use Rattle.locale_numbers_book.specs.Tables.{symbols_under, digits_under}
-use Rattle.locale_numbers.specs.NumberReading.{Reading, number, beyond, nothing, reading_of}
+use Rattle.locale_numbers_book.specs.Tables.{symbols_under, digits_under, rules_under}
+use Rattle.locale_numbers.specs.NumberReading.{reading_of}
 use Rattle.locale_numbers.specs.ReadAnswer.{read_with}
 use Rattle.locale_numbers.specs.Request.{Asked, tab, fields, form_named, grouping_named, sign_named, takes, request_by, request_in, request_of}
 use Rattle.locale_numbers.specs.Cutting.{is_separator}
@@ -28,10 +28,13 @@ use Rattle.locale_numbers.specs.RoundingField.{rounding_named}
 use Rattle.locale_numbers.specs.declared.sign_field.SignAsked.{SignAsked}
 use Rattle.locale_numbers.specs.declared.rounding_field.RoundingAsked.{RoundingAsked}
 use Rattle.locale_numbers.specs.declared.request.Form.{Form}
-use Rattle.locale_numbers.specs.declared.request.Form.TheVariants.{Plain, Read}
-use Rattle.locale_numbers.specs.Changing.{changed}
+use Rattle.locale_numbers.specs.declared.request.Form.TheVariants.{Plain, Compact, Exact, Read}
+use Rattle.locale_numbers.specs.declared.request.PatternLength.{PatternLength}
+use Rattle.locale_numbers.specs.CompactAnswer.{compact_with, found_compact, patterns_under}
+use Rattle.locale_numbers.specs.CompactReading.{compact_reading_of}
 use Rattle.locale_numbers.specs.Wanted.{wanted_of}
-use Rattle.locale_numbers.specs.Answer.{found_in, answer_with, answer_to, answer_tagged, answer_asked}
+use Rattle.locale_numbers.specs.Answer.{found_in, answer_with, answer_to, exact_to, answer_tagged, answer_asked}
+use Rattle.locale_numbers.proofs.FoundCompactLemmas.{compact_alike}
 use Rattle.locale_numbers.proofs.FoundLemmas.{found_alike}
 use Rattle.locale_numbers.proofs.WantedLemmas.{asks_of}
 use Rattle.locale_numbers.specs.Laws.{AreAlike, AlikeTagsAreAnsweredAlike, NormalTextIsAnsweredAlike}
@@ -143,25 +146,31 @@ module _ (book : BookTables) (text other : List ℕ) (alike : AreAnsweredAlike b
 
 -- ---- alike tags
 
--- the preferences of alike tags find the same tables
+-- the locales of their preferences are one in the form with the language first
+locales_same : (m n : TagMeaning) → AreAlike m n → language_priority (preferences_of m).locale ≡ language_priority (preferences_of n).locale
+locales_same m n a =
+    λ i. record { language = a.language i; script = a.script i; region = a.region i; variant = a.variant i; subdivision = a.subdivision i }
+
+-- so their preferences find the same tables
 found_same : (book : BookTables) (m n : TagMeaning) → AreAlike m n → (grouping : GroupingStrategy)
     → found_in book (preferences_of m) grouping ≡ found_in book (preferences_of n) grouping
 found_same book m n a grouping =
-    let locales : language_priority (preferences_of m).locale ≡ language_priority (preferences_of n).locale =
-    λ i. record { language = a.language i; script = a.script i; region = a.region i; variant = a.variant i; subdivision = a.subdivision i } in
-    found_alike (symbols_under book) (digits_under book) grouping (preferences_of m) (preferences_of n) locales a.numbering_system
+    found_alike (symbols_under book) (digits_under book) grouping (preferences_of m) (preferences_of n) (locales_same m n a) a.numbering_system
 
--- so a number is written alike
-plain_alike : (book : BookTables) (m n : TagMeaning) → AreAlike m n → (grouping : GroupingStrategy) (sign : SignAsked) (rounding : RoundingAsked) (reading : Reading)
-    → answer_to book (preferences_of m) grouping sign rounding reading ≡ answer_to book (preferences_of n) grouping sign rounding reading
-plain_alike book m n a grouping sign rounding nothing = refl
-plain_alike book m n a grouping sign rounding beyond = refl
-plain_alike book m n a grouping sign rounding (number value) =
-    ap (λ tables. answer_with tables (changed rounding sign value)) (found_same book m n a grouping)
+compact_same : (book : BookTables) (m n : TagMeaning) → AreAlike m n → (length : PatternLength) (grouping : GroupingStrategy)
+    → found_compact length book (preferences_of m) grouping ≡ found_compact length book (preferences_of n) grouping
+compact_same book m n a length grouping =
+    compact_alike (symbols_under book) (digits_under book) (rules_under book) (patterns_under length book) grouping (preferences_of m) (preferences_of n)
+    (locales_same m n a) a.numbering_system
 
 asks_alike : (book : BookTables) (text other : List ℕ) (m n : TagMeaning) → AreAlike m n → AreAnsweredAlike book text other (Some (preferences_of m)) (Some (preferences_of n))
-asks_alike book text other m n a Plain grouping sign rounding digits = plain_alike book m n a grouping sign rounding (reading_of digits)
-asks_alike book text other m n a Read grouping sign rounding digits = ap (λ tables. read_with tables digits) (found_same book m n a grouping)
+asks_alike book text other m n a Plain grouping sign rounding digits =
+    ap (λ found. answer_to (answer_with found) sign rounding (reading_of digits)) (found_same book m n a grouping)
+asks_alike book text other m n a (Compact length) grouping sign rounding digits =
+    ap (λ found. answer_to (compact_with found) sign rounding (reading_of digits)) (compact_same book m n a length grouping)
+asks_alike book text other m n a (Exact length) grouping sign rounding digits =
+    ap (λ found. exact_to found sign (compact_reading_of digits)) (compact_same book m n a length grouping)
+asks_alike book text other m n a Read grouping sign rounding digits = ap (λ found. read_with found digits) (found_same book m n a grouping)
 
 pub alike_tags : AlikeTagsAreAnsweredAlike
 alike_tags book text other rest m n first second a =

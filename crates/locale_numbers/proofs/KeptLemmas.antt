@@ -1,16 +1,24 @@
--- Which tables the formatter of a key has.
-use Rattle.std.proofs.Common.{◌≡◌, ℕ, List, Some, Result, ap, ◌∙◌}
+-- Which tables the formatter of a key has, and what is answered where there are none.
+use Rattle.std.proofs.Common.{◌≡◌, ℕ, List, Some, Result, Ok, Err, is_ok, false, refl, ap, ◌∙◌}
+use Rattle.fixed_decimal.specs.Number.{Number}
+use Rattle.fixed_decimal.specs.SignedValue.{SignedValue}
 use Rattle.icu_locale_core.specs.TagPreferences.{Preferences}
 use Rattle.icu_decimal.specs.declared.error.DataError.{DataError}
 use Rattle.icu_decimal.specs.declared.options.DecimalFormatterOptions.{DecimalFormatterOptions}
 use Rattle.icu_decimal.specs.declared.options.GroupingStrategy.{GroupingStrategy}
+use Rattle.icu_decimal.specs.CompactTables.{CompactTables}
 use Rattle.icu_decimal.specs.FoundTables.{found_tables}
 use Rattle.icu_decimal.specs.Identifiers.{Identifier}
 use Rattle.icu_decimal.specs.PlainText.{Tables}
 use Rattle.icu_decimal.specs.Symbols.{Symbols}
 use Rattle.locale_numbers_book.specs.Book.{BookTables}
 use Rattle.locale_numbers_book.specs.Tables.{symbols_under, digits_under}
-use Rattle.locale_numbers.specs.Answer.{found_in}
+use Rattle.locale_numbers.specs.Answer.{answer_with, found_in, refused}
+use Rattle.locale_numbers.specs.CompactAnswer.{compact_with, found_compact}
+use Rattle.locale_numbers.specs.FormatterKeys.{answer_of_kind, finds_kind}
+use Rattle.locale_numbers.specs.declared.formatter_key.Kind.{Kind}
+use Rattle.locale_numbers.specs.declared.formatter_key.Kind.TheVariants.{Plain, Compact}
+use Rattle.locale_numbers.specs.declared.refusal.Refusal.TheVariants as refusal
 
 -- tables that answer as a book does are found as in the book
 pub found_by : (symbols : Identifier → Result Symbols DataError) (digits : Identifier → Result (List ℕ) DataError) (book : BookTables) (p : Preferences) (grouping : GroupingStrategy) (options : DecimalFormatterOptions) (found : Result Tables DataError)
@@ -25,3 +33,18 @@ found_by symbols digits book p grouping options found symbols_agree digits_agree
     ∙ ap (λ (o : DecimalFormatterOptions). found_tables symbols digits p o.grouping_strategy) made
     ∙ ap (λ s. found_tables s digits p (Some grouping)) symbols_are
     ∙ ap (λ d. found_tables (symbols_under book) d p (Some grouping)) digits_are
+
+-- ---- where no tables are found, each kind answers so
+
+none_plain : (found : Result Tables DataError) (value : SignedValue Number) → is_ok found ≡ false → answer_with found value ≡ refused refusal.Table
+none_plain (Ok tables) value none = absurd (cc)
+none_plain (Err error) value none = refl
+
+none_compact : (found : Result CompactTables DataError) (value : SignedValue Number) → is_ok found ≡ false → compact_with found value ≡ refused refusal.Table
+none_compact (Ok tables) value none = absurd (cc)
+none_compact (Err error) value none = refl
+
+pub none_of_kind : (kind : Kind) (book : BookTables) (p : Preferences) (grouping : GroupingStrategy) (value : SignedValue Number)
+    → finds_kind kind book p grouping ≡ false → answer_of_kind kind book p grouping value ≡ refused refusal.Table
+none_of_kind Plain book p grouping value none = none_plain (found_in book p grouping) value none
+none_of_kind (Compact length) book p grouping value none = none_compact (found_compact length book p grouping) value none

@@ -24,7 +24,7 @@ behind_sign text rest sign whole starts = at (parts_of rest) (parts_right rest)
     at None lacks = no_signed_text text rest sign whole starts lacks
     at (Some parts) spells = test parts (is_within parts) refl spells
 
-reading_is : (text : List ℕ) → IsReading text (reading_of text)
+pub reading_is : (text : List ℕ) → IsReading text (reading_of text)
 reading_is [] = behind_sign [] [] Unsigned refl (λ _. tt)
 reading_is (c ∷ cs) = at (c == plus) (c == minus) refl refl
   where

@@ -1,28 +1,33 @@
 -- What is read back is written again, and what was written reads back: `specs/Laws.antt`.
-use Rattle.std.proofs.Common.{◌≡◌, ℕ, true, List, [], drop, get_or, Option, Some, None, Result, Ok, Err, refl, sym, ap, ◌∙◌, subst, arith}
+use Rattle.std.proofs.Common.{◌≡◌, ℕ, List, drop, get_or, Option, Some, None, Result, Ok, Err, refl, sym, ap, ◌∙◌, subst, arith}
 use Rattle.std.specs.Str.{IsUtf8}
+use Rattle.fixed_decimal.specs.CompactText.{CompactValue}
 use Rattle.fixed_decimal.specs.Number.{Number}
 use Rattle.fixed_decimal.specs.SignedText.{ReadsSigned, signed_text_of}
 use Rattle.fixed_decimal.specs.SignedValue.{SignedValue}
 use Rattle.fixed_decimal.specs.TextLaws.{IsDecimal}
 use Rattle.fixed_decimal.proofs.SignedReadOnceLemmas.{signed_printed}
 use Rattle.icu_decimal.specs.declared.error.DataError.{DataError}
-use Rattle.icu_decimal.specs.declared.options.GroupingStrategy.{GroupingStrategy}
 use Rattle.icu_decimal.specs.declared.options.GroupingStrategy.TheVariants.{Auto, Always}
 use Rattle.icu_decimal.specs.Choice.{first_found}
+use Rattle.icu_decimal.specs.CompactTables.{CompactTables}
+use Rattle.icu_decimal.specs.FoundCompactTables.{patterns_identifiers, rules_identifiers, with_plain}
 use Rattle.icu_decimal.specs.FoundTables.{with_digits, with_symbols}
 use Rattle.icu_decimal.specs.Identifiers.{digits_identifiers, symbols_identifiers}
+use Rattle.icu_decimal.specs.KeptEntries.{CompactTable}
 use Rattle.icu_decimal.specs.PlainReading.{IsPlainText, PlainReading, decimal, not_written, plain_reading, unreadable}
 use Rattle.icu_decimal.specs.PlainText.{Tables, decimal_text}
-use Rattle.icu_decimal.specs.Readable.{is_readable_by}
 use Rattle.icu_decimal.specs.ReadingLaws.{HasOneReading as HasOnePlainReading, ReadIsWrittenAgain as TextIsWrittenAgain, TextsHaveOneDecimal, WrittenReadsBack as TextReadsBack}
+use Rattle.icu_decimal.specs.Rules.{Rules}
 use Rattle.icu_decimal.specs.Symbols.{Symbols}
 use Rattle.icu_locale_core.specs.TagPreferences.{Preferences}
 use Rattle.locale_numbers_book.specs.Book.{BookTables}
-use Rattle.locale_numbers_book.specs.Tables.{digits_under, symbols_under}
-use Rattle.locale_numbers.specs.Answer.{answer_asked, answer_in, answer_tagged, answer_to, answer_with, found_in, refused, written}
-use Rattle.locale_numbers.specs.Changing.{changed}
-use Rattle.locale_numbers.specs.Laws.{AutoIsAnsweredAsAlways, FindsTables, IsAtMagnitude, ReadIsWrittenAgain, RoundedIsWrittenAgain, WrittenReadsBack, grouped_by, plain_request, reading_request}
+use Rattle.locale_numbers_book.specs.Tables.{digits_under, rules_under, symbols_under}
+use Rattle.locale_numbers.specs.Answer.{answer_asked, answer_in, answer_tagged, answer_to, answer_with, exact_to, found_in, refused, written}
+use Rattle.locale_numbers.specs.Changing.{changed, signed_as}
+use Rattle.locale_numbers.specs.CompactAnswer.{compact_with, exact_with, found_compact, patterns_under}
+use Rattle.locale_numbers.specs.CompactReading.{CompactReading, compact_beyond, compact_nothing, compact_number, compact_reading_of}
+use Rattle.locale_numbers.specs.Laws.{AutoIsAnsweredAsAlways, FindsTables, ReadIsWrittenAgain, RoundedIsWrittenAgain, WrittenReadsBack, grouped_by, plain_request, reading_request}
 use Rattle.locale_numbers.specs.NumberReading.{Reading, beyond, nothing, number, reading_of}
 use Rattle.locale_numbers.specs.ReadAnswer.{read_answer, read_with}
 use Rattle.locale_numbers.specs.Request.{Asked}
@@ -30,11 +35,12 @@ use Rattle.locale_numbers.specs.Wanted.{wanted_of}
 use Rattle.locale_numbers.specs.declared.refusal.Refusal.{Refusal}
 use Rattle.locale_numbers.specs.declared.refusal.Refusal.TheVariants as refusal
 use Rattle.locale_numbers.specs.declared.request.Form.{Form}
-use Rattle.locale_numbers.specs.declared.request.Form.TheVariants.{Plain, Read}
+use Rattle.locale_numbers.specs.declared.request.Form.TheVariants.{Plain, Compact, Exact, Read}
+use Rattle.locale_numbers.specs.declared.request.PatternLength.{PatternLength}
 use Rattle.locale_numbers.specs.declared.rounding_field.RoundingAsked.{RoundingAsked}
-use Rattle.locale_numbers.specs.declared.rounding_field.RoundingAsked.TheVariants.{Unrounded, At}
+use Rattle.locale_numbers.specs.declared.rounding_field.RoundingAsked.TheVariants.{Unrounded}
 use Rattle.locale_numbers.specs.declared.sign_field.SignAsked.{SignAsked}
-use Rattle.locale_numbers.specs.declared.sign_field.SignAsked.TheVariants.{Keep, Show}
+use Rattle.locale_numbers.specs.declared.sign_field.SignAsked.TheVariants.{Keep}
 use Rattle.locale_numbers.proofs.NumberBounds.{changed_again, changed_is_decimal, reading_is_decimal}
 use Rattle.locale_numbers.proofs.NumberReadingLemmas.{signed_number}
 
@@ -76,15 +82,56 @@ twins_read : (one two : Result Tables DataError) → AreTwins one two → (text 
 twins_read one two (found symbols digits) text = refl
 twins_read one two (failed error) text = refl
 
-twins_answer : (book : BookTables) (p : Preferences) (sign : SignAsked) (rounding : RoundingAsked) (reading : Reading)
-    → answer_to book p Auto sign rounding reading ≡ answer_to book p Always sign rounding reading
-twins_answer book p sign rounding nothing = refl
-twins_answer book p sign rounding beyond = refl
-twins_answer book p sign rounding (number value) = twins_write (found_in book p Auto) (found_in book p Always) (twins_of book p) (changed rounding sign value)
+-- the same of compact tables
+data AreCompactTwins : Result CompactTables DataError → Result CompactTables DataError → Type 0 where
+  compact_found : (symbols : Symbols) (digits : List ℕ) (rules : Rules) (patterns : CompactTable)
+      → AreCompactTwins
+      (Ok (record { plain = record { symbols = symbols; digits = digits; strategy = Auto }; rules = rules; patterns = patterns }))
+      (Ok (record { plain = record { symbols = symbols; digits = digits; strategy = Always }; rules = rules; patterns = patterns }))
+  compact_failed : (error : DataError) → AreCompactTwins (Err error) (Err error)
+
+twin_plain : (one two : Result Tables DataError) → AreTwins one two → (rules : Result Rules DataError) (patterns : Result CompactTable DataError)
+    → AreCompactTwins (with_plain one rules patterns) (with_plain two rules patterns)
+twin_plain one two (found symbols digits) (Ok rules) (Ok patterns) = compact_found symbols digits rules patterns
+twin_plain one two (found symbols digits) (Ok rules) (Err error) = compact_failed error
+twin_plain one two (found symbols digits) (Err error) patterns = compact_failed error
+twin_plain one two (failed error) rules patterns = compact_failed error
+
+compact_twins_of : (length : PatternLength) (book : BookTables) (p : Preferences) → AreCompactTwins (found_compact length book p Auto) (found_compact length book p Always)
+compact_twins_of length book p =
+    twin_plain (found_in book p Auto) (found_in book p Always) (twins_of book p)
+    (first_found (rules_under book) (rules_identifiers p)) (first_found (patterns_under length book) (patterns_identifiers p))
+
+twins_show : (one two : Result CompactTables DataError) → AreCompactTwins one two → (value : SignedValue Number) → compact_with one value ≡ compact_with two value
+twins_show one two (compact_found symbols digits rules patterns) value = refl
+twins_show one two (compact_failed error) value = refl
+
+twins_exact : (one two : Result CompactTables DataError) → AreCompactTwins one two → (value : CompactValue) → exact_with one value ≡ exact_with two value
+twins_exact one two (compact_found symbols digits rules patterns) value = refl
+twins_exact one two (compact_failed error) value = refl
+
+twins_answer : (one two : SignedValue Number → List ℕ) → ((value : SignedValue Number) → one value ≡ two value)
+    → (sign : SignAsked) (rounding : RoundingAsked) (reading : Reading) → answer_to one sign rounding reading ≡ answer_to two sign rounding reading
+twins_answer one two same sign rounding nothing = refl
+twins_answer one two same sign rounding beyond = refl
+twins_answer one two same sign rounding (number value) = same (changed rounding sign value)
+
+twins_exactly : (one two : Result CompactTables DataError) → AreCompactTwins one two → (sign : SignAsked) (reading : CompactReading) → exact_to one sign reading ≡ exact_to two sign reading
+twins_exactly one two twins sign compact_nothing = refl
+twins_exactly one two twins sign compact_beyond = refl
+twins_exactly one two twins sign (compact_number value) =
+    twins_exact one two twins (record { significand = signed_as sign value.significand; exponent = value.exponent })
 
 auto_in : (book : BookTables) (p : Preferences) (asked : Asked) (form : Form)
     → answer_in form book p (grouped_by Auto asked) ≡ answer_in form book p (grouped_by Always asked)
-auto_in book p asked Plain = twins_answer book p asked.sign asked.rounding (reading_of asked.text)
+auto_in book p asked Plain =
+    twins_answer (answer_with (found_in book p Auto)) (answer_with (found_in book p Always))
+    (twins_write (found_in book p Auto) (found_in book p Always) (twins_of book p)) asked.sign asked.rounding (reading_of asked.text)
+auto_in book p asked (Compact length) =
+    twins_answer (compact_with (found_compact length book p Auto)) (compact_with (found_compact length book p Always))
+    (twins_show (found_compact length book p Auto) (found_compact length book p Always) (compact_twins_of length book p)) asked.sign asked.rounding (reading_of asked.text)
+auto_in book p asked (Exact length) =
+    twins_exactly (found_compact length book p Auto) (found_compact length book p Always) (compact_twins_of length book p) asked.sign (compact_reading_of asked.text)
 auto_in book p asked Read = twins_read (found_in book p Auto) (found_in book p Always) (twins_of book p) asked.text
 
 auto_tagged : (book : BookTables) (asked : Asked) (p : Option Preferences)
@@ -124,14 +171,14 @@ module _ (book : BookTables) (asked : Asked) (tables : Tables) (finds : FindsTab
       → answer_asked book (Some (plain_request asked rounding digits)) ≡ written (decimal_text tables (changed rounding Keep value))
   plain_found rounding digits value is =
       ap (λ p. answer_tagged book p (plain_request asked rounding digits)) finds.tag
-      ∙ ap (answer_to book finds.preferences asked.grouping Keep rounding) is
+      ∙ ap (answer_to (answer_with (found_in book finds.preferences asked.grouping)) Keep rounding) is
       ∙ ap (λ found. answer_with found (changed rounding Keep value)) finds.found
 
   read_of : (text digits : List ℕ) → answer_asked book (Some (reading_request asked text)) ≡ written digits → IsRead tables text digits
   read_of text digits same = read_by tables text digits (plain_reading tables text) refl (sym (read_found text) ∙ same)
 
   written_by : (text : List ℕ) (reading : Reading) → reading_of asked.text ≡ reading
-      → answer_to book finds.preferences asked.grouping asked.sign asked.rounding reading ≡ written text → IsWritten tables asked text
+      → answer_to (answer_with (found_in book finds.preferences asked.grouping)) asked.sign asked.rounding reading ≡ written text → IsWritten tables asked text
   written_by text nothing is same = absurd (refused_no refusal.Number text same)
   written_by text beyond is same = absurd (refused_no refusal.Limit text same)
   written_by text (number value) is same = record {

@@ -6,12 +6,15 @@ use Rattle.fixed_decimal.specs.Number.{Number}
 use Rattle.fixed_decimal.specs.SignedValue.{SignedValue}
 use Rattle.icu_decimal.specs.declared.error.DataError.{DataError}
 use Rattle.icu_decimal.specs.declared.options.GroupingStrategy.{GroupingStrategy}
+use Rattle.icu_decimal.specs.CompactTables.{CompactTables}
 use Rattle.icu_decimal.specs.FoundTables.{found_tables}
 use Rattle.icu_decimal.specs.PlainText.{Tables, decimal_text}
 use Rattle.icu_locale_core.specs.TagPreferences.{Preferences}
 use Rattle.locale_numbers_book.specs.Book.{BookTables}
 use Rattle.locale_numbers_book.specs.Tables.{symbols_under, digits_under}
-use Rattle.locale_numbers.specs.Changing.{changed}
+use Rattle.locale_numbers.specs.Changing.{changed, signed_as}
+use Rattle.locale_numbers.specs.CompactAnswer.{compact_with, exact_with, found_compact}
+use Rattle.locale_numbers.specs.CompactReading.{CompactReading, compact_beyond, compact_nothing, compact_number, compact_reading_of}
 pub use Rattle.locale_numbers.specs.AnswerLine.{refused, written}
 use Rattle.locale_numbers.specs.NumberReading.{Reading, number, beyond, nothing, reading_of}
 use Rattle.locale_numbers.specs.ReadAnswer.{read_with}
@@ -20,7 +23,7 @@ use Rattle.locale_numbers.specs.Wanted.{wanted_of}
 use Rattle.locale_numbers.specs.declared.sign_field.SignAsked.{SignAsked}
 use Rattle.locale_numbers.specs.declared.rounding_field.RoundingAsked.{RoundingAsked}
 use Rattle.locale_numbers.specs.declared.request.Form.{Form}
-use Rattle.locale_numbers.specs.declared.request.Form.TheVariants.{Plain, Read}
+use Rattle.locale_numbers.specs.declared.request.Form.TheVariants.{Plain, Compact, Exact, Read}
 use Rattle.locale_numbers.specs.declared.refusal.Refusal.TheVariants as refusal
 
 -- the tables of a book that preferences find, with a grouping
@@ -32,16 +35,27 @@ abbrev pub answer_with : Result Tables DataError → SignedValue Number → List
 answer_with (Err error) value = refused refusal.Table
 answer_with (Ok tables) value = written (decimal_text tables value)
 
--- the answer of the form `plain` to what a tag and the rest of a request ask for, by what the text says
-abbrev pub answer_to : BookTables → Preferences → GroupingStrategy → SignAsked → RoundingAsked → Reading → List ℕ
-answer_to book preferences grouping sign rounding nothing = refused refusal.Number
-answer_to book preferences grouping sign rounding beyond = refused refusal.Limit
-answer_to book preferences grouping sign rounding (number value) =
-    answer_with (found_in book preferences grouping) (changed rounding sign value)
+-- the answer to a number's text: what is answered to the number, once it is rounded and has the sign that is asked for
+abbrev pub answer_to : (SignedValue Number → List ℕ) → SignAsked → RoundingAsked → Reading → List ℕ
+answer_to answer sign rounding nothing = refused refusal.Number
+answer_to answer sign rounding beyond = refused refusal.Limit
+answer_to answer sign rounding (number value) = answer (changed rounding sign value)
+
+-- the answer to the text of an exact form: what is answered to its exponent and its significand, once this has the sign that is asked for
+abbrev pub exact_to : Result CompactTables DataError → SignAsked → CompactReading → List ℕ
+exact_to found sign compact_nothing = refused refusal.Number
+exact_to found sign compact_beyond = refused refusal.Limit
+exact_to found sign (compact_number value) =
+    exact_with found (record { significand = signed_as sign value.significand; exponent = value.exponent })
 
 -- the answer to what a tag and a request ask for, by the form
 abbrev pub answer_in : Form → BookTables → Preferences → Asked → List ℕ
-answer_in Plain book preferences asked = answer_to book preferences asked.grouping asked.sign asked.rounding (reading_of asked.text)
+answer_in Plain book preferences asked =
+    answer_to (answer_with (found_in book preferences asked.grouping)) asked.sign asked.rounding (reading_of asked.text)
+answer_in (Compact length) book preferences asked =
+    answer_to (compact_with (found_compact length book preferences asked.grouping)) asked.sign asked.rounding (reading_of asked.text)
+answer_in (Exact length) book preferences asked =
+    exact_to (found_compact length book preferences asked.grouping) asked.sign (compact_reading_of asked.text)
 answer_in Read book preferences asked = read_with (found_in book preferences asked.grouping) asked.text
 
 -- the answer by what the tag prefers, where it is a tag

@@ -5,13 +5,16 @@ use Rattle.std.specs.Prelude.{◌≡◌, ℕ, Bool, List, [], map, min, Option, 
 use Rattle.fixed_decimal.specs.Number.{Number}
 use Rattle.fixed_decimal.specs.SignedValue.{SignedValue}
 use Rattle.icu_decimal.specs.declared.options.GroupingStrategy.{GroupingStrategy}
+use Rattle.icu_decimal.specs.HeldCompact.{compact_tables_of}
 use Rattle.icu_decimal.specs.HeldTables.{tables_of}
 use Rattle.icu_decimal.specs.PlainText.{decimal_text}
 use Rattle.icu_locale_core.specs.TagPreferences.{Preferences}
 use Rattle.locale_numbers_book.specs.Book.{BookTables}
 use Rattle.locale_numbers_cache.specs.Cached.{most, used}
 use Rattle.locale_numbers_cache.specs.Recent.{misses}
-use Rattle.locale_numbers.specs.Answer.{found_in, written}
+use Rattle.locale_numbers.specs.Answer.{answer_with, found_in, written}
+use Rattle.locale_numbers.specs.CompactAnswer.{compact_answer, compact_with, found_compact}
+use Rattle.locale_numbers.specs.CompactReading.{CompactReading, compact_beyond, compact_nothing, compact_number, compact_reading_of}
 use Rattle.locale_numbers.specs.NumberReading.{Reading, number, beyond, nothing, reading_of}
 use Rattle.locale_numbers.specs.Request.{Asked, request_of}
 use Rattle.locale_numbers.specs.Wanted.{wanted_of}
@@ -21,11 +24,13 @@ use Rattle.locale_numbers.specs.declared.formatter_key.FormatterKey.{FormatterKe
 use Rattle.locale_numbers.specs.declared.formatter_key.Kind.{Kind}
 use Rattle.locale_numbers.specs.declared.formatter_key.Kind.TheVariants as kind
 use Rattle.locale_numbers.specs.declared.kept_formatter.KeptFormatter.{KeptFormatter}
-use Rattle.locale_numbers.specs.declared.kept_formatter.KeptFormatter.TheVariants.{Plain}
+use Rattle.locale_numbers.specs.declared.kept_formatter.KeptFormatter.TheVariants.{Plain, Compact}
 
 -- the kind of tables that a form is written with; what is read back is read with those of plain text
 abbrev pub kind_of : Form → Kind
 kind_of form.Plain = kind.Plain
+kind_of (form.Compact length) = kind.Compact length
+kind_of (form.Exact length) = kind.Compact length
 kind_of form.Read = kind.Plain
 
 -- the key of what a tag prefers, a form and a grouping
@@ -38,9 +43,17 @@ key_text key (number value) = Some key
 key_text key beyond = None
 key_text key nothing = None
 
+-- the same of the text of an exact form
+abbrev pub key_exact : FormatterKey → CompactReading → Option FormatterKey
+key_exact key (compact_number value) = Some key
+key_exact key compact_beyond = None
+key_exact key compact_nothing = None
+
 -- the key that a form asks for: any text may be one to read back
 abbrev pub key_in : Form → FormatterKey → List ℕ → Option FormatterKey
 key_in form.Plain key text = key_text key (reading_of text)
+key_in (form.Compact length) key text = key_text key (reading_of text)
+key_in (form.Exact length) key text = key_exact key (compact_reading_of text)
 key_in form.Read key text = Some key
 
 -- the key of a request by what its tag prefers, where it is a tag
@@ -57,17 +70,40 @@ key_asked (Some asked) = key_tagged asked (wanted_of asked.tag)
 abbrev pub key_of : List ℕ → Option FormatterKey
 key_of line = key_asked (request_of line)
 
--- whether a book has the tables of a key
-abbrev pub finds : BookTables → FormatterKey → Bool
-finds book key = is_ok (found_in book key.preferences key.grouping)
+-- whether a book has the tables of a kind
+abbrev pub finds_kind : Kind → BookTables → Preferences → GroupingStrategy → Bool
+finds_kind kind.Plain book preferences grouping = is_ok (found_in book preferences grouping)
+finds_kind (kind.Compact length) book preferences grouping = is_ok (found_compact length book preferences grouping)
 
--- the formatter has the tables of the key
+-- whether it has those of a key
+abbrev pub finds : BookTables → FormatterKey → Bool
+finds book key = finds_kind key.kind book key.preferences key.grouping
+
+-- the formatter is of the kind, and has the tables that are found
+abbrev pub HasKind : Kind → BookTables → Preferences → GroupingStrategy → KeptFormatter → Type 0
+HasKind kind.Plain book preferences grouping (Plain formatter) = found_in book preferences grouping ≡ Ok (tables_of formatter)
+HasKind kind.Plain book preferences grouping (Compact formatter) = ⊥
+HasKind (kind.Compact length) book preferences grouping (Plain formatter) = ⊥
+HasKind (kind.Compact length) book preferences grouping (Compact formatter) = found_compact length book preferences grouping ≡ Ok (compact_tables_of formatter)
+
+-- the formatter is the one of the key
 abbrev pub IsMadeFor : BookTables → FormatterKey → KeptFormatter → Type 0
-IsMadeFor book key (Plain formatter) = found_in book key.preferences key.grouping ≡ Ok (tables_of formatter)
+IsMadeFor book key formatter = HasKind key.kind book key.preferences key.grouping formatter
+
+-- the formatter is one of plain numbers
+abbrev pub IsPlain : KeptFormatter → Type 0
+IsPlain (Plain formatter) = Unit {0}
+IsPlain (Compact formatter) = ⊥
 
 -- the answer of a formatter to a number
 abbrev pub answer_by : KeptFormatter → SignedValue Number → List ℕ
 answer_by (Plain formatter) value = written (decimal_text (tables_of formatter) value)
+answer_by (Compact formatter) value = compact_answer (compact_tables_of formatter) value
+
+-- the answer to a number with the tables of a kind, where they are found
+abbrev pub answer_of_kind : Kind → BookTables → Preferences → GroupingStrategy → SignedValue Number → List ℕ
+answer_of_kind kind.Plain book preferences grouping = answer_with (found_in book preferences grouping)
+answer_of_kind (kind.Compact length) book preferences grouping = compact_with (found_compact length book preferences grouping)
 
 -- how many formatters are made for these lines, where so many may be kept: one for each use of a key that is not kept
 abbrev pub makes : (FormatterKey → FormatterKey → Bool) → BookTables → ℕ → List (List ℕ) → ℕ

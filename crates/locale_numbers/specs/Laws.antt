@@ -3,6 +3,7 @@
 -- Cited by the functions of `laws`.
 use Rattle.std.specs.Prelude.{◌≡◌, ◌<◌, ◌↔◌, List, ℕ, ℤ, ◌∷◌, ◌++◌, true, Some, Ok}
 use Rattle.std.specs.Str.{IsUtf8}
+use Rattle.fixed_decimal.specs.CompactText.{IsBeyondCompact, IsNoCompactText, ReadsCompact}
 use Rattle.fixed_decimal.specs.Number.{Number, place}
 use Rattle.fixed_decimal.specs.SignedRounding.{RoundsSigned}
 use Rattle.fixed_decimal.specs.SignedValue.{SignedValue}
@@ -20,6 +21,7 @@ use Rattle.icu_locale_core.specs.Meaning.{TagMeaning, MeansTag}
 use Rattle.icu_locale_core.specs.NormalText.{normal_text}
 use Rattle.icu_locale_core.specs.TagPreferences.{Preferences, least_of, keyword_piece, keyword_subdivision, numbering_key, subdivision_key}
 use Rattle.locale_numbers_book.specs.Book.{BookTables}
+use Rattle.locale_numbers.specs.CompactReading.{CompactReading, compact_beyond, compact_nothing, compact_number, compact_reading_of}
 use Rattle.locale_numbers.specs.NumberReading.{Reading, number, beyond, nothing, reading_of}
 use Rattle.locale_numbers.specs.Request.{tab, Asked}
 use Rattle.locale_numbers.specs.Rounded.{rounded}
@@ -41,6 +43,15 @@ IsReading text nothing = IsNoSignedText text
 -- each text has one reading, and the function answers it
 abbrev pub HasOneReading : Type 0
 HasOneReading = (text : List ℕ) (reading : Reading) → IsReading text reading ↔ (reading ≡ reading_of text)
+
+-- the same of a text of a compact number
+abbrev pub IsCompactReading : List ℕ → CompactReading → Type 0
+IsCompactReading text (compact_number value) = ReadsCompact text value
+IsCompactReading text compact_beyond = IsBeyondCompact text
+IsCompactReading text compact_nothing = IsNoCompactText text
+
+abbrev pub HasOneCompactReading : Type 0
+HasOneCompactReading = (text : List ℕ) (reading : CompactReading) → IsCompactReading text reading ↔ (reading ≡ compact_reading_of text)
 
 -- ---- roundings
 

@@ -2,11 +2,13 @@ pub mod Answer
 pub mod AnswerLine
 pub mod AnswerSink
 pub mod AnswerSinkLaws
-pub mod AskedBook
 pub mod Changing
+pub mod CompactAnswer
+pub mod CompactReading
 pub mod Cutting
 pub mod Fault
 pub mod FormatterKeys
+pub mod HeldRequest
 pub mod Laws
 pub mod NumberReading
 pub mod Program

@@ -6,7 +6,6 @@ use Rattle.serde_json.specs.Data.{Data}
 use Rattle.locale_numbers_book.specs.Json.{Reads}
 use Rattle.locale_numbers_book.specs.Book.{BookTables, IsBook}
 use Rattle.locale_numbers_book.specs.Refusal.{IsRefused}
-use Rattle.locale_numbers_book.specs.declared.BookError.{BookError}
 use Rattle.locale_numbers_book.specs.declared.BookError.TheVariants as refusal
 use Rattle.locale_numbers_engine.specs.declared.RunError.TheVariants as run
 use Rattle.locale_numbers.specs.declared.fault.ProgramFault.{ProgramFault}

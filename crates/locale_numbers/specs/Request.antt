@@ -13,7 +13,8 @@ use Rattle.locale_numbers.specs.declared.sign_field.SignAsked.TheVariants.{Keep,
 use Rattle.locale_numbers.specs.declared.rounding_field.RoundingAsked.{RoundingAsked}
 use Rattle.locale_numbers.specs.declared.rounding_field.RoundingAsked.TheVariants.{Unrounded, At}
 use Rattle.locale_numbers.specs.declared.request.Form.{Form}
-use Rattle.locale_numbers.specs.declared.request.Form.TheVariants.{Plain, Read}
+use Rattle.locale_numbers.specs.declared.request.Form.TheVariants.{Plain, Compact, Exact, Read}
+use Rattle.locale_numbers.specs.declared.request.PatternLength.TheVariants.{Short, Long}
 
 -- the code of a tab
 abbrev pub tab : ℕ
@@ -27,6 +28,10 @@ fields line = cut_at tab line
 abbrev pub form_named : List ℕ → Option Form
 form_named word =
     if bytes_eq word (codes "plain") then Some Plain
+    else if bytes_eq word (codes "short") then Some (Compact Short)
+    else if bytes_eq word (codes "long") then Some (Compact Long)
+    else if bytes_eq word (codes "exact-short") then Some (Exact Short)
+    else if bytes_eq word (codes "exact-long") then Some (Exact Long)
     else if bytes_eq word (codes "read") then Some Read
     else None
 
@@ -60,9 +65,12 @@ abbrev pub keeps_digits : RoundingAsked → Bool
 keeps_digits Unrounded = true
 keeps_digits (At position mode increment) = false
 
--- whether a form takes a sign and a rounding: what is read back is the number that was written, so neither is chosen there
+-- whether a form takes a sign and a rounding: an exact form shows the digits that are given, so nothing is rounded there; what
+-- is read back is the number that was written, so neither is chosen there
 abbrev pub takes : Form → SignAsked → RoundingAsked → Bool
 takes Plain sign rounding = true
+takes (Compact length) sign rounding = true
+takes (Exact length) sign rounding = keeps_digits rounding
 takes Read sign rounding = keeps_sign sign && keeps_digits rounding
 
 -- a request as it is asked: a tag, a form, a grouping, a sign, a rounding and the text of a number

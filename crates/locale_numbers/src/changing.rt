@@ -20,8 +20,8 @@ fn round(value: &mut Decimal, rounding: RoundingAsked) -> Result<(), AllocError>
     }
 }
 
-// Chooses the sign of a number, where that is asked for.
-fn choose_sign(value: &mut Decimal, sign: SignAsked)
+/// Chooses the sign of a number, where that is asked for. It takes no memory.
+pub(crate) fn choose_sign(value: &mut Decimal, sign: SignAsked)
     ensures { value.new ≡ signed_as sign value.old }
 {
     match sign {

@@ -2,7 +2,7 @@
 ghost use Rattle.std.specs.Prelude.{◌≡◌};
 ghost use Rattle.locale_numbers.specs.FormatterKeys.{kind_of};
 
-use crate::request::Form;
+use crate::request::{Form, PatternLength};
 use icu_decimal::DecimalFormatterPreferences;
 use icu_decimal::options::GroupingStrategy;
 use locale_numbers_cache::CacheKey;
@@ -12,6 +12,8 @@ use locale_numbers_cache::CacheKey;
 pub(crate) enum Kind {
     /// Symbols and digits alone.
     Plain,
+    /// These, plural rules and the patterns of a length.
+    Compact(PatternLength),
 }
 
 /// What a formatter is kept under: what a tag prefers, a kind and a grouping. Tags that prefer the same have one key.
@@ -39,5 +41,7 @@ pub(crate) fn kind_by(form: Form) -> Kind
 {
     match form {
         Form::Plain | Form::Read => Kind::Plain,
+        Form::Compact(length) => Kind::Compact(length),
+        Form::Exact(length) => Kind::Compact(length),
     }
 }

@@ -1,21 +1,29 @@
 //! What is kept under a key, and how it is made.
 ghost use Rattle.std.specs.Prelude.{◌≡◌};
 ghost use Rattle.std.specs.Result.{result_map_both};
+ghost use Rattle.icu_decimal.specs.HeldCompact.{compact_tables_of};
 ghost use Rattle.icu_decimal.specs.HeldTables.{tables_of};
 ghost use Rattle.locale_numbers.specs.Answer.{found_in};
+ghost use Rattle.locale_numbers.specs.CompactAnswer.{found_compact};
 
 use crate::formatter_key::{FormatterKey, Kind};
+use crate::formatters::Formatters;
+use crate::request::PatternLength;
 use crate::tables::Tables;
-use icu_decimal::DecimalFormatter;
-use icu_decimal::options::DecimalFormatterOptions;
+use icu_decimal::options::{CompactDecimalFormatterOptions, DecimalFormatterOptions};
+use icu_decimal::preferences::CompactDecimalFormatterPreferences;
 use icu_decimal::provider::DataError;
+use icu_decimal::{CompactDecimalFormatter, DecimalFormatter, DecimalFormatterPreferences};
 use locale_numbers_cache::Maker;
+use std::alloc::AllocError;
 
 /// A formatter that is kept. It borrows its tables.
 #[derive(Clone, Copy)]
 pub(crate) enum KeptFormatter<'a> {
     /// One of plain numbers.
     Plain(DecimalFormatter<'a>),
+    /// One of compact numbers.
+    Compact(CompactDecimalFormatter<'a>),
 }
 
 /// One that makes the formatters of keys, with these tables.
@@ -39,6 +47,37 @@ fn plain_formatter<'a, T: Tables>(
     )
 }
 
+// The same preferences, for compact numbers.
+fn compact_preferences(plain: DecimalFormatterPreferences) -> CompactDecimalFormatterPreferences
+    ensures { result ≡ plain }
+{
+    CompactDecimalFormatterPreferences {
+        locale_preferences: plain.locale_preferences,
+        numbering_system: plain.numbering_system,
+    }
+}
+
+// The compact formatter of a key's preferences and grouping, with the patterns of a length.
+fn compact_formatter<'a, T: Tables>(
+    tables: &'a T,
+    length: PatternLength,
+    key: FormatterKey,
+) -> Result<CompactDecimalFormatter<'a>, DataError>
+    ensures { result_map_both compact_tables_of (λ error. error) result
+        ≡ found_compact length (T.book tables.now) key.preferences key.grouping }
+{
+    let preferences = compact_preferences(key.preferences);
+    let options = CompactDecimalFormatterOptions::from(key.grouping);
+    match length {
+        PatternLength::Short => {
+            CompactDecimalFormatter::try_new_short_unstable(tables, preferences, options)
+        }
+        PatternLength::Long => {
+            CompactDecimalFormatter::try_new_long_unstable(tables, preferences, options)
+        }
+    }
+}
+
 impl<'a, T: Tables> Maker<FormatterKey, KeptFormatter<'a>> for FormatterMaker<'a, T> {
     ghost use Rattle.locale_numbers.specs.FormatterKeys.{finds, IsMadeFor};
 
@@ -52,6 +91,29 @@ impl<'a, T: Tables> Maker<FormatterKey, KeptFormatter<'a>> for FormatterMaker<'a
                 Ok(formatter) => Some(KeptFormatter::Plain(formatter)),
                 Err(_) => None,
             },
+            Kind::Compact(length) => match compact_formatter(self.tables, length, key) {
+                Ok(formatter) => Some(KeptFormatter::Compact(formatter)),
+                Err(_) => None,
+            },
         }
     }
+}
+
+/// It keeps none: each is made when it is asked for.
+impl<'a, T: Tables> Formatters<'a> for FormatterMaker<'a, T> {
+    ghost use Rattle.std.specs.Prelude.{⊤, refl};
+
+    ghost book = { λ s. T.book s.tables.now };
+
+    ghost is_ready = { λ s. ⊤ };
+
+    ghost counted_over = { λ s keys. 0 };
+
+    ghost may_take_memory = { λ s. ⊥ };
+
+    fn formatter(&mut self, key: FormatterKey) -> Result<Option<KeptFormatter<'a>>, AllocError> {
+        Ok(self.make(key))
+    }
+
+    ghost counts_none = { λ s more. refl };
 }

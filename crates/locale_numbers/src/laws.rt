@@ -1,6 +1,6 @@
 //! Laws over the definitions that the clauses of this crate cite. Each function is a proof: it
 //! computes nothing.
-ghost use Rattle.locale_numbers.specs.Laws.{HasOneReading, HasOneRounding, AlikeTagsAreAnsweredAlike, NormalTextIsAnsweredAlike, AutoIsAnsweredAsAlways, ReadIsWrittenAgain, RoundedIsWrittenAgain, WrittenReadsBack};
+ghost use Rattle.locale_numbers.specs.Laws.{HasOneReading, HasOneCompactReading, HasOneRounding, AlikeTagsAreAnsweredAlike, NormalTextIsAnsweredAlike, AutoIsAnsweredAsAlways, ReadIsWrittenAgain, RoundedIsWrittenAgain, WrittenReadsBack};
 
 use icu_decimal::laws::reading::{
     both_trips, plain_reading_is_the_reading, texts_have_one_decimal,
@@ -15,6 +15,11 @@ pub use locale_numbers_engine::laws::{
 /// `fixed_decimal` say of a text is what the answer to a line goes by.
 pub fn texts_have_one_reading()
     ensures { HasOneReading }
+{}
+
+/// The same of texts of compact numbers, which exact forms are asked with.
+pub fn compact_texts_have_one_reading()
+    ensures { HasOneCompactReading }
 {}
 
 /// Each rounding of a number has one end: what the relation of `fixed_decimal` names is what the answer to a line goes by.

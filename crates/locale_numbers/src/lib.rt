@@ -13,17 +13,22 @@
 
 #![tactic(auto)]
 
+mod answer_line;
 mod answer_sink;
 mod answering;
-mod asked_book;
 mod changing;
+mod compact_answer;
 mod cutting;
 mod digits;
+mod exact_answer;
 mod fault;
 mod formatter_key;
+mod formatters;
 mod kept;
 mod kept_formatter;
 pub mod laws;
+mod line_answerer;
+mod number_answer;
 mod program_run;
 mod read_answer;
 mod refusal;
@@ -34,7 +39,6 @@ mod sign_field;
 mod starting;
 mod tables;
 mod tag_reader;
-mod wanted;
 mod words;
 
 pub use answering::answer;

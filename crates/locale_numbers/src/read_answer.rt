@@ -1,16 +1,21 @@
 //! The form `read`: the number that a text was written from, as an answer.
-ghost use Rattle.std.specs.Prelude.{◌≡◌, ◌++◌, IsOk, OnOk, OnErr, string_bytes};
+ghost use Rattle.std.specs.Prelude.{◌≡◌, ◌∷◌, ◌++◌, List, Option, Some, IsOk, OnOk, OnErr, string_bytes};
 ghost use Rattle.std.specs.Str.{IsUtf8};
 ghost use Rattle.fixed_decimal.specs.SignedText.{signed_text_of};
 ghost use Rattle.icu_decimal.specs.HeldTables.{tables_of};
 ghost use Rattle.icu_decimal.specs.PlainReading.{HasManyDigits, plain_reading};
 ghost use Rattle.locale_numbers_engine.specs.Growth.{Grows};
+ghost use Rattle.locale_numbers.specs.Answer.{found_in};
 ghost use Rattle.locale_numbers.specs.AnswerLine.{written};
 ghost use Rattle.locale_numbers.specs.AnswerSink.{HasRoom};
-ghost use Rattle.locale_numbers.specs.ReadAnswer.{read_answer};
+ghost use Rattle.locale_numbers.specs.ReadAnswer.{HasManyDigitsWith, read_answer, read_with};
+ghost use Rattle.locale_numbers.specs.declared.formatter_key.FormatterKey.{FormatterKey};
+ghost use Rattle.locale_numbers.specs.declared.formatter_key.Kind.{Kind};
 
-use crate::answer_sink::push_written;
-use crate::answering::push_refusal;
+use crate::answer_line::{push_answer, push_refusal};
+use crate::formatter_key::FormatterKey;
+use crate::formatters::Formatters;
+use crate::kept_formatter::KeptFormatter;
 use crate::refusal::Refusal;
 use fixed_decimal::Decimal;
 use icu_decimal::error::ReadError;
@@ -34,15 +39,12 @@ fn push_value(value: &Decimal, out: &mut String) -> Result<(), AllocError>
     ensures err { OnErr result (Grows (string_bytes out.old) (string_bytes out.new)) }
     ensures room { HasRoom out.old (written (signed_text_of value.now)) → IsOk result }
 {
-    out.push_str("ok\t")?;
-    push_written(out, value)
+    push_answer(out, value)
 }
 
-/// Puts the answer to a text that is read back under a formatter behind what `out` holds.
-///
-/// It is the number whose plain text this is, printed with its sign and the digits shown, or the word `unreadable` or
-/// `not-written`. Where there is room for the answer, only a text of more than eight digits may be out of memory.
-pub(crate) fn push_read(
+// Puts the answer to a text that is read back under a formatter behind what `out` holds: the number whose plain text this is,
+// printed with its sign and the digits shown, or the word `unreadable` or `not-written`.
+fn push_read(
     alloc: Global,
     formatter: &DecimalFormatter<'_>,
     text: &str,
@@ -51,6 +53,8 @@ pub(crate) fn push_read(
     ensures text { OnOk result (string_bytes out.new
         ≡ string_bytes out.old ++ read_answer (plain_reading (tables_of formatter.now) text.now)) }
     ensures err { OnErr result (Grows (string_bytes out.old) (string_bytes out.new)) }
+
+    // Where there is room for the answer, only a text of more than eight digits may be out of memory.
     ensures room { HasRoom out.old (read_answer (plain_reading (tables_of formatter.now) text.now))
         → ¬ (HasManyDigits (tables_of formatter.now) text.now) → IsOk result }
 {
@@ -59,5 +63,38 @@ pub(crate) fn push_read(
         Err(ReadError::Unreadable) => push_refusal(out, Refusal::Unreadable),
         Err(ReadError::NotWritten) => push_refusal(out, Refusal::NotWritten),
         Err(ReadError::Memory) => Err(AllocError),
+    }
+}
+
+/// Puts the answer to a text that the formatter of a key reads back behind what `out` holds.
+///
+/// It fails only where it is out of memory; a part of the answer may then stand there.
+pub(crate) fn push_reading<'a, F: Formatters<'a>>(
+    alloc: Global,
+    formatters: &mut F,
+    key: FormatterKey,
+    text: &str,
+    out: &mut String,
+) -> Result<(), AllocError>
+    requires ready { F.is_ready formatters.old }
+    requires plain { key.kind ≡ Kind.Plain }
+    ensures text { OnOk result (string_bytes out.new
+        ≡ string_bytes out.old ++ read_with (found_in (F.book formatters.old) key.preferences key.grouping) text.now) }
+    ensures err { OnErr result (Grows (string_bytes out.old) (string_bytes out.new)) }
+
+    // Where there is room for the answer, and handing out a formatter takes none, only a text of more than eight digits may be
+    // out of memory.
+    ensures room { HasRoom out.old (read_with (found_in (F.book formatters.old) key.preferences key.grouping) text.now)
+        → ¬ (F.may_take_memory formatters.old)
+        → ¬ (HasManyDigitsWith (found_in (F.book formatters.old) key.preferences key.grouping) text.now) → IsOk result }
+    ensures counted { OnOk result ((more : List (Option FormatterKey)) →
+        F.counted_over formatters.old (Some key ∷ more) ≡ F.counted_over formatters.new more) }
+    ensures same { F.book formatters.new ≡ F.book formatters.old }
+    ensures ready { F.is_ready formatters.new }
+{
+    match formatters.formatter(key)? {
+        Some(KeptFormatter::Plain(plain)) => push_read(alloc, &plain, text, out),
+        Some(KeptFormatter::Compact(_)) => unreachable!(),
+        None => push_refusal(out, Refusal::Table),
     }
 }

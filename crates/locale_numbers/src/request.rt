@@ -10,11 +10,24 @@ use icu_decimal::options::GroupingStrategy;
 
 const TAB: u8 = b'\t';
 
+/// Which patterns a compact number is written with.
+#[derive(Clone, Copy, Debug, PartialEq, Eq, Hash)]
+pub(crate) enum PatternLength {
+    /// The short ones, as of `1.6K`.
+    Short,
+    /// The long ones, as of `1.6 thousand`.
+    Long,
+}
+
 /// What is written for a number.
 #[derive(Clone, Copy, Debug, PartialEq, Eq)]
 pub(crate) enum Form {
     /// Its digits, grouped.
     Plain,
+    /// What it is shown as in patterns of this length, and the value shown.
+    Compact(PatternLength),
+    /// Its digits and its exponent, as they are, in patterns of this length.
+    Exact(PatternLength),
     /// The number itself, read back from such a text.
     Read,
 }
@@ -42,6 +55,14 @@ fn form_by(word: &[u8]) -> Option<Form>
 {
     if word == b"plain".as_slice() {
         Some(Form::Plain)
+    } else if word == b"short".as_slice() {
+        Some(Form::Compact(PatternLength::Short))
+    } else if word == b"long".as_slice() {
+        Some(Form::Compact(PatternLength::Long))
+    } else if word == b"exact-short".as_slice() {
+        Some(Form::Exact(PatternLength::Short))
+    } else if word == b"exact-long".as_slice() {
+        Some(Form::Exact(PatternLength::Long))
     } else if word == b"read".as_slice() {
         Some(Form::Read)
     } else {
@@ -85,7 +106,8 @@ fn takes(form: Form, sign: SignAsked, rounding: RoundingAsked) -> bool
     ensures { result ≡ takes form sign rounding }
 {
     match form {
-        Form::Plain => true,
+        Form::Plain | Form::Compact(_) => true,
+        Form::Exact(_) => keeps_digits(rounding),
         Form::Read => keeps_sign(sign) && keeps_digits(rounding),
     }
 }

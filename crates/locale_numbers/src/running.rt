@@ -6,6 +6,8 @@ ghost use Rattle.locale_numbers.specs.FormatterKeys.{makes};
 
 use crate::formatter_key::FormatterKey;
 use crate::kept::Kept;
+use crate::kept_formatter::FormatterMaker;
+use crate::line_answerer::LineAnswerer;
 use crate::tables::Tables;
 use locale_numbers_cache::{FormatterCache, LastKey};
 use locale_numbers_engine::{ByteReader, ByteWriter, Report, RunError, run_with};
@@ -68,11 +70,14 @@ pub fn run<T: Tables, R: ByteReader, W: ByteWriter>(
         (R.failed reader.new ≡ false) × (W.failed writer.new ≡ false) }
 {
     let formatters = FormatterCache::new(alloc, capacity)?;
-    let mut kept = Kept {
-        alloc,
-        tables,
+    let kept = Kept {
+        maker: FormatterMaker { tables },
         formatters,
+    };
+    let mut answerer = LineAnswerer {
+        alloc,
+        kept,
         last: LastKey::new(alloc),
     };
-    run_with(alloc, &mut kept, reader, writer)
+    run_with(alloc, &mut answerer, reader, writer)
 }

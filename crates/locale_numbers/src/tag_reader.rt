@@ -1,15 +1,47 @@
-//! What a tag prefers, read for formatters that are kept.
-ghost use Rattle.std.specs.Prelude.{◌≡◌, IfOk};
+//! What a tag prefers.
+ghost use Rattle.std.specs.Prelude.{◌≡◌, false, IfOk, IfSome, IsOk};
+ghost use Rattle.icu_locale_core.specs.Pieces.{pieces};
+ghost use Rattle.icu_locale_core.specs.SingleModes.{single};
+ghost use Rattle.icu_locale_core.specs.SingleVariant.{SingleMeaning, MeansSingle, single_tag};
+ghost use Rattle.icu_locale_core.specs.Subtags.{is_true};
+ghost use Rattle.icu_locale_core.specs.TagPreferences.{preferences_of};
 ghost use Rattle.locale_numbers.specs.Wanted.{wanted_of};
 
-use crate::wanted::read_wanted;
 use icu_decimal::DecimalFormatterPreferences;
+use icu_locale_core::parser::SingleParts;
+use icu_locale_core::preferences::LocalePreferences;
+use icu_locale_core::preferences::extensions::unicode::keywords::NumberingSystem;
+use icu_locale_core::subtags::Subtag;
 use icu_locale_core::{Locale, ParseError};
 use locale_numbers_cache::KeyReader;
 use std::alloc::{AllocError, Global};
 
+// The numbering system that a subtag of a value names.
+#[tactic(auto, using(crate::proofs::WantedLemmas::system_named, crate::proofs::WantedLemmas::system_refused))]
+fn system_named(subtag: Option<Subtag>) -> Option<NumberingSystem>
+    requires { IfSome subtag (λ s. is_true s ≡ false) }
+    ensures { result ≡ subtag }
+{
+    match NumberingSystem::try_from(subtag?) {
+        Ok(system) => Some(system),
+        Err(_) => unreachable!(),
+    }
+}
+
+// What a tag of one variant and one keyword at most prefers.
+fn preferences_in(parts: SingleParts) -> DecimalFormatterPreferences
+    requires { IfSome (preferences_of (single_tag (single parts))).numbering_system (λ s. is_true s ≡ false) }
+    ensures { result ≡ preferences_of (single_tag (single parts)) }
+{
+    let (locale_preferences, subtag) = LocalePreferences::from_single_parts(parts);
+    DecimalFormatterPreferences {
+        locale_preferences,
+        numbering_system: system_named(subtag),
+    }
+}
+
 // What a tag of any form prefers.
-fn read_whole(alloc: Global, tag: &[u8]) -> Result<Option<DecimalFormatterPreferences>, AllocError>
+fn read_any(alloc: Global, tag: &[u8]) -> Result<Option<DecimalFormatterPreferences>, AllocError>
     ensures { IfOk result (λ preferences. preferences ≡ wanted_of tag.now) }
 {
     match Locale::try_from_utf8(alloc, tag) {
@@ -23,23 +55,17 @@ fn read_whole(alloc: Global, tag: &[u8]) -> Result<Option<DecimalFormatterPrefer
 
 /// What a tag prefers, or `None` where the bytes are no tag.
 ///
-/// A tag of one variant and one keyword at most that asks for no numbering system takes no memory. Any other takes memory, and
-/// fails for want of it alone.
+/// A tag of one variant and one keyword at most takes no memory. Any other takes memory, and fails for want of it alone.
 pub(crate) fn read_preferences(
     alloc: Global,
     tag: &[u8],
 ) -> Result<Option<DecimalFormatterPreferences>, AllocError>
-    ensures { IfOk result (λ preferences. preferences ≡ wanted_of tag.now) }
+    ensures value { IfOk result (λ preferences. preferences ≡ wanted_of tag.now) }
+    ensures room { (m : SingleMeaning) → MeansSingle (pieces tag.now) m → IsOk result }
 {
-    let Some(wanted) = read_wanted(alloc, tag)? else {
-        return Ok(None);
-    };
-    match wanted.numbering_system {
-        None => Ok(Some(DecimalFormatterPreferences {
-            locale_preferences: wanted.locale,
-            numbering_system: None,
-        })),
-        Some(_) => read_whole(alloc, tag),
+    match Locale::try_from_utf8_with_single_variant_single_keyword_unicode_extension(tag) {
+        Ok(parts) => Ok(Some(preferences_in(parts))),
+        Err(_) => read_any(alloc, tag),
     }
 }
 

@@ -43,6 +43,33 @@ const LATIN_EGYPT: &str = r#"[[["en","","latn","-","","+","",".",",",3,3,1],
 const BENGALI: &str = r#"[[["bn","","beng","-","","+","",".",",",3,2,1]],
  [["beng","০১২৩৪৫৬৭৮৯"]],[],[],[]]"#;
 
+// Trillions, and no smaller pattern.
+const TRILLIONS: &str = r#"[[["en","","latn","-","","+","",".",",",3,3,1]],[["latn","0123456789"]],
+ [["en",[["other",""]]]],[["en","",[[12,12,[["other",["","T"]]]]],null]],[]]"#;
+
+// Thousands and millions with one pattern.
+const ONE_PATTERN: &str =
+    r#"[[["en","","latn","-","","+","",".",",",3,3,1]],[["latn","0123456789"]],
+ [["en",[["other",""]]]],
+ [["en","",[[3,3,[["other",["","K"]]]],[6,6,[["other",["","K"]]]]],null]],[]]"#;
+
+// Millions from ten of them on.
+const LATE_MILLION: &str =
+    r#"[[["en","","latn","-","","+","",".",",",3,3,1]],[["latn","0123456789"]],
+ [["en",[["other",""]]]],
+ [["en","",[[3,3,[["other",["","K"]]]],[7,6,[["other",["","M"]]]]],null]],[]]"#;
+
+// The sample book, with long patterns of thousands alone.
+const LONG_THOUSANDS: &str =
+    r#"[[["en","","latn","-","","+","",".",",",3,3,1]],[["latn","0123456789"]],
+ [["en",[["one","i = 1 and v = 0 @integer 1"],["other"," @integer 0, 2"]]]],[],
+ [["en","",[[3,3,[["1",["a thousand"]],["other",["","-thousands"]]]]],null]]]"#;
+
+// Patterns without plural rules.
+const NO_RULES: &str =
+    r#"[[["en","","latn","-","","+","",".",",",3,3,1]],[["latn","0123456789"]],[],
+ [["en","",[[3,3,[["other",["","K"]]]]],null]],[]]"#;
+
 /// The text of the book with this name.
 pub fn book_named(name: &str) -> Option<&'static str> {
     match name {
@@ -55,6 +82,11 @@ pub fn book_named(name: &str) -> Option<&'static str> {
         "other-system" => Some(OTHER_SYSTEM),
         "latin-egypt" => Some(LATIN_EGYPT),
         "bengali" => Some(BENGALI),
+        "trillions" => Some(TRILLIONS),
+        "one-pattern" => Some(ONE_PATTERN),
+        "late-million" => Some(LATE_MILLION),
+        "long-thousands" => Some(LONG_THOUSANDS),
+        "no-rules" => Some(NO_RULES),
         _ => None,
     }
 }

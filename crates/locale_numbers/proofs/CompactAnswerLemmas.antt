@@ -1,0 +1,131 @@
+-- The text of what a compact formatter writes.
+use Rattle.std.proofs.Common.{◌≡◌, ◌<◌, nat_lt, Bool, false, cond, List, ◌∷◌, ◌++◌, arith, ℕ, Option, None, Some, is_none, option_map, true, refl, sym, ap, ◌∙◌}
+use Rattle.std.proofs.lemmas.Bool.Decides.{nat_tests}
+use Rattle.std.proofs.lemmas.List.{append-nil}
+use Rattle.writeable.specs.AnnotatedText.{Event, bytes, closing, opening, text_of}
+use Rattle.writeable.specs.PartName.{PartName}
+use Rattle.writeable.proofs.AnnotatedTextLemmas.{text_of_bytes, text_of_closing, text_of_opening}
+use Rattle.fixed_decimal.specs.CompactText.{CompactValue, compact_text_of}
+use Rattle.fixed_decimal.specs.Number.{Number}
+use Rattle.fixed_decimal.specs.Rounding.{count_limit}
+use Rattle.fixed_decimal.specs.SignedValue.{SignedValue}
+use Rattle.icu_decimal.specs.Affixes.{AffixTexts, WithSign, affixes_of, as_part, events_with_sign, prefix_events, suffix_events}
+use Rattle.icu_decimal.specs.CompactTables.{CompactTables}
+use Rattle.icu_decimal.specs.CompactText.{CompactNumber, compact_decimal_events, compact_decimal_text, compact_events, compact_formatted, compact_of, compact_text, pattern_of, text_in}
+use Rattle.icu_decimal.specs.ExactForms.{IsInRange, exact_place}
+use Rattle.icu_decimal.specs.ExactText.{exact_events, exact_formatted, exact_text, written_text, written_under}
+use Rattle.icu_decimal.specs.Operands.{operands_of}
+use Rattle.icu_decimal.specs.Pattern.{InPattern, PatternText, around, interpolated_events, literal, optional_events}
+use Rattle.icu_decimal.specs.PlainText.{PlainNumber, prefix_text, suffix_text, unsigned_events, unsigned_text}
+use Rattle.icu_decimal.specs.ShownChoice.{CanShow, exact_entry, shown_under}
+use Rattle.icu_decimal.proofs.TextLemmas.{text_joined, unsigned_is_text}
+use Rattle.locale_numbers.specs.AnswerLine.{refused, written}
+use Rattle.locale_numbers.specs.CompactAnswer.{can_be_shown, compact_answer, exact_answer, exact_written, is_in_range, text_and_value, value_shown}
+use Rattle.locale_numbers.specs.Request.{tab}
+use Rattle.locale_numbers.specs.declared.refusal.Refusal.TheVariants as refusal
+
+-- ---- affixes
+
+part_is : (part : PartName) (text : List ℕ) → text_of (as_part part text) ≡ text
+part_is part text =
+    text_joined (opening part) (bytes text ++ closing)
+    ∙ ap (λ x. x ++ text_of (bytes text ++ closing)) (text_of_opening part)
+    ∙ text_joined (bytes text) closing
+    ∙ ap (λ x. text_of (bytes text) ++ x) text_of_closing
+    ∙ append-nil (text_of (bytes text))
+    ∙ text_of_bytes text
+
+prefix_is : (affixes : Option AffixTexts) → text_of (prefix_events affixes) ≡ prefix_text affixes
+prefix_is None = refl
+prefix_is (Some affixes) = part_is affixes.part affixes.prefix
+
+suffix_is : (affixes : Option AffixTexts) → text_of (suffix_events affixes) ≡ suffix_text affixes
+suffix_is None = refl
+suffix_is (Some affixes) = part_is affixes.part affixes.suffix
+
+-- a value between them
+affixed_is : {T : Type 0} (events : T → List Event) (s : WithSign T) (text : List ℕ) → text_of (events s.value) ≡ text
+    → text_of (events_with_sign events s) ≡ prefix_text s.affixes ++ (text ++ suffix_text s.affixes)
+affixed_is events s text is =
+    let inner : List Event = events s.value ++ suffix_events s.affixes in
+    text_joined (prefix_events s.affixes) inner
+    ∙ ap (λ x. x ++ text_of inner) (prefix_is s.affixes)
+    ∙ ap (λ x. prefix_text s.affixes ++ x) (text_joined (events s.value) (suffix_events s.affixes)
+    ∙ ap (λ x. x ++ text_of (suffix_events s.affixes)) is
+    ∙ ap (λ x. text ++ x) (suffix_is s.affixes))
+
+-- ---- what a number is shown as
+
+pub compact_is : (t : CompactTables) (d : SignedValue Number) → text_of (compact_decimal_events (compact_formatted t d)) ≡ compact_decimal_text t d
+compact_is t d = affixed_is compact_events (compact_formatted t d) (compact_text (compact_of t d.absolute)) (text_of_bytes (compact_text (compact_of t d.absolute)))
+
+-- ---- exact forms
+
+in_pattern : (p : Option PatternText) (n : PlainNumber) → text_of (optional_events p (unsigned_events n)) ≡ text_in p (unsigned_text n.tables n.number)
+in_pattern None n = unsigned_is_text n
+in_pattern (Some (literal text)) n = text_of_bytes text
+in_pattern (Some (around before after)) n =
+    text_joined (bytes before) (unsigned_events n ++ bytes after)
+    ∙ ap (λ x. x ++ text_of (unsigned_events n ++ bytes after)) (text_of_bytes before)
+    ∙ ap (λ x. before ++ x) (text_joined (unsigned_events n) (bytes after)
+    ∙ ap (λ x. x ++ text_of (bytes after)) (unsigned_is_text n)
+    ∙ ap (λ x. unsigned_text n.tables n.number ++ x) (text_of_bytes after))
+
+-- a significand in a pattern, or in none, between the affixes of its sign
+written_is : (t : CompactTables) (d : SignedValue Number) (p : Option PatternText)
+    → text_of (exact_events (record { value = record { pattern = p; value = record { number = d.absolute; tables = t.plain } }; affixes = affixes_of t.plain.symbols.strings d.sign }))
+    ≡ prefix_text (affixes_of t.plain.symbols.strings d.sign) ++ (text_in p (unsigned_text t.plain d.absolute) ++ suffix_text (affixes_of t.plain.symbols.strings d.sign))
+written_is t d p =
+    let shown : WithSign (InPattern PlainNumber) = record { value = record { pattern = p; value = record { number = d.absolute; tables = t.plain } }; affixes = affixes_of t.plain.symbols.strings d.sign } in
+    affixed_is (interpolated_events unsigned_events) shown (text_in p (unsigned_text t.plain d.absolute)) (in_pattern p shown.value.value)
+
+module _ {A B C : Type 0} (f : A → B) (g : A → C) where
+  some_as : (h : B → C) → ((a : A) → h (f a) ≡ g a) → (found : Option A) (b : B) → option_map f found ≡ Some b → option_map g found ≡ Some (h b)
+  some_as h same None b is = absurd (cc)
+  some_as h same (Some a) b is = let made : f a ≡ b = cc in ap Some (sym (same a) ∙ ap h made)
+
+  none_as : (found : Option A) → is_none (option_map f found) ≡ true → option_map g found ≡ None
+  none_as None is = refl
+  none_as (Some a) is = absurd (cc)
+
+-- what is written has the text of the definition
+pub exact_is : (t : CompactTables) (d : SignedValue Number) (x : ℕ) (shown : WithSign (InPattern PlainNumber)) → exact_formatted t d x ≡ Some shown → exact_text t d x ≡ Some (text_of (exact_events shown))
+exact_is t d x shown is =
+    some_as (written_under t d) (written_text t d) (λ s. text_of (exact_events s)) (λ entry. written_is t d (pattern_of t entry (operands_of d.absolute 0)))
+    (exact_entry 32768 t.patterns.entries d.absolute.count x) shown is
+
+-- and where nothing is, there is no text
+pub exact_none : (t : CompactTables) (d : SignedValue Number) (x : ℕ) → is_none (exact_formatted t d x) ≡ true → exact_text t d x ≡ None
+exact_none t d x is = none_as (written_under t d) (written_text t d) (exact_entry 32768 t.patterns.entries d.absolute.count x) is
+
+-- ---- the answers
+
+below_test : (a b : ℕ) → a < b → nat_lt a b ≡ true
+below_test a b h = grind (arith, nat_tests)
+
+pub can_test : (t : CompactTables) (d : SignedValue Number) → CanShow t.patterns.entries d.absolute.count → can_be_shown t d ≡ true
+can_test t d can = below_test (shown_under 32768 t.patterns.entries d.absolute.count) count_limit can.below
+
+by_test : (b : Bool) (text other : List ℕ) → b ≡ true → text ≡ cond b text other
+by_test true text other is = refl
+by_test false text other is = absurd (cc)
+
+-- the text and the value behind a tab are the answer
+pub compact_put : (t : CompactTables) (d : SignedValue Number) (text : WithSign CompactNumber) (shown : CompactValue) → can_be_shown t d ≡ true → text ≡ compact_formatted t d
+    → shown ≡ record { significand = record { sign = d.sign; absolute = text.value.plain.number }; exponent = text.value.exponent }
+    → written (text_of (compact_decimal_events text) ++ tab ∷ text_of (bytes (compact_text_of shown))) ≡ compact_answer t d
+compact_put t d text shown can is value =
+    let same : shown ≡ value_shown t d =
+    value ∙ ap (λ (s : WithSign CompactNumber). record { significand = record { sign = d.sign; absolute = s.value.plain.number }; exponent = s.value.exponent }) is in
+    ap (λ s. written (text_of (compact_decimal_events s) ++ tab ∷ text_of (bytes (compact_text_of shown)))) is
+    ∙ ap (λ x. written (x ++ tab ∷ text_of (bytes (compact_text_of shown)))) (compact_is t d)
+    ∙ ap (λ x. written (compact_decimal_text t d ++ tab ∷ x)) (text_of_bytes (compact_text_of shown))
+    ∙ ap (λ s. written (compact_decimal_text t d ++ tab ∷ compact_text_of s)) same
+    ∙ by_test (can_be_shown t d) (written (text_and_value t d)) (refused refusal.Range) can
+
+-- the text of an exact form is the answer
+pub exact_put : (t : CompactTables) (v : CompactValue) (shown : WithSign (InPattern PlainNumber)) → IsInRange v.significand.absolute.count v.exponent
+    → exact_formatted t v.significand v.exponent ≡ Some shown → written (text_of (exact_events shown)) ≡ exact_answer t v
+exact_put t v shown within is =
+    ap exact_written (sym (exact_is t v.significand v.exponent shown is))
+    ∙ by_test (is_in_range v) (exact_written (exact_text t v.significand v.exponent)) (refused refusal.Range) (below_test (exact_place v.significand.absolute.count v.exponent) 65536 within)

@@ -1,0 +1,14 @@
+use Rattle.std.specs.Prelude.{string_bytes, string_capacity}
+use Rattle.locale_numbers.proofs.AnsweringLemmas.{answer_fits, answer_put, on_ok_by}
+use Rattle.locale_numbers.proofs.answer_line.push_answer.Goals as goal
+
+pub returns-clause-text : goal.returns-clause-text
+returns-clause-text g c =
+    on_ok_by c.push_written.result
+    (answer_put _ (string_bytes c.args.out.now) _ _ c.in_ok-push_str.ensures.bytes)
+    c.push_written.ensures.text
+
+pub returns-clause-room : goal.returns-clause-room
+returns-clause-room g c = λ room.
+    c.push_written.ensures.room
+    (answer_fits _ (string_bytes c.args.out.now) _ (string_capacity c.args.out.now) _ c.in_ok-push_str.ensures.bytes c.in_ok-push_str.ensures.capacity room)

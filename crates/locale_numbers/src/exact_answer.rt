@@ -1,0 +1,118 @@
+//! The exact forms: a significand and an exponent, as they are given.
+ghost use Rattle.std.specs.Prelude.{◌≡◌, ◌∷◌, ◌++◌, List, Option, Some, IfOk, OnOk, OnErr, IsErrOf, string_bytes};
+ghost use Rattle.fixed_decimal.specs.CompactText.{ReadsLongCompact};
+ghost use Rattle.icu_decimal.specs.HeldCompact.{compact_tables_of};
+ghost use Rattle.locale_numbers_engine.specs.Growth.{Grows};
+ghost use Rattle.locale_numbers.specs.Answer.{exact_to};
+ghost use Rattle.locale_numbers.specs.CompactAnswer.{exact_answer, exact_with, found_compact};
+ghost use Rattle.locale_numbers.specs.CompactReading.{compact_beyond, compact_nothing, compact_number, compact_reading_of};
+ghost use Rattle.locale_numbers.specs.FormatterKeys.{key_exact};
+ghost use Rattle.locale_numbers.specs.declared.formatter_key.FormatterKey.{FormatterKey};
+ghost use Rattle.locale_numbers.specs.declared.formatter_key.Kind.{Kind};
+
+use crate::answer_line::{push_answer, push_refusal};
+use crate::changing::choose_sign;
+use crate::formatter_key::FormatterKey;
+use crate::formatters::Formatters;
+use crate::kept_formatter::KeptFormatter;
+use crate::refusal::Refusal;
+use crate::request::PatternLength;
+use crate::sign_field::SignAsked;
+use fixed_decimal::{CompactDecimal, Decimal, ParseError};
+use icu_decimal::CompactDecimalFormatter;
+use std::alloc::{AllocError, Global};
+
+// The compact number that a text says.
+fn read_compact(alloc: Global, text: &str) -> Result<CompactDecimal, ParseError>
+    ensures value { IfOk result (λ value. compact_reading_of text.now ≡ compact_number value) }
+    ensures limit { IsErrOf result ParseError.Limit → compact_reading_of text.now ≡ compact_beyond }
+    ensures syntax { IsErrOf result ParseError.Syntax → compact_reading_of text.now ≡ compact_nothing }
+
+    // A text that says no number of more than eight digits is never told as out of memory.
+    ensures memory { IsErrOf result ParseError.Memory → ReadsLongCompact text.now }
+{
+    CompactDecimal::try_from_str(alloc, text)
+}
+
+// Puts a significand with its exponent, as a compact formatter writes both, behind what `out` holds; or the word `range`, where
+// their magnitude is beyond that of a decimal; or the word `exponent`, where the formatter has another exponent for it.
+fn push_exact(
+    formatter: &CompactDecimalFormatter<'_>,
+    significand: &Decimal,
+    exponent: u8,
+    out: &mut String,
+) -> Result<(), AllocError>
+    ensures text { OnOk result (string_bytes out.new
+        ≡ string_bytes out.old ++ exact_answer (compact_tables_of formatter.now) (record { significand = significand.now; exponent = exponent })) }
+    ensures err { OnErr result (Grows (string_bytes out.old) (string_bytes out.new)) }
+{
+    if !formatter.exponent_in_range(significand, exponent) {
+        return push_refusal(out, Refusal::Range);
+    }
+    match formatter.format_with_exponent(significand, exponent) {
+        Ok(text) => push_answer(out, &text),
+        Err(_) => push_refusal(out, Refusal::Exponent),
+    }
+}
+
+// Puts a significand with its exponent, as the formatter of a key writes both, behind what `out` holds.
+fn push_significand<'a, F: Formatters<'a>>(
+    formatters: &mut F,
+    length: PatternLength,
+    key: FormatterKey,
+    significand: &Decimal,
+    exponent: u8,
+    out: &mut String,
+) -> Result<(), AllocError>
+    requires ready { F.is_ready formatters.old }
+    requires compact { key.kind ≡ Kind.Compact length }
+    ensures text { OnOk result (string_bytes out.new
+        ≡ string_bytes out.old ++ exact_with (found_compact length (F.book formatters.old) key.preferences key.grouping)
+        (record { significand = significand.now; exponent = exponent })) }
+    ensures err { OnErr result (Grows (string_bytes out.old) (string_bytes out.new)) }
+    ensures counted { OnOk result ((more : List (Option FormatterKey)) →
+        F.counted_over formatters.old (Some key ∷ more) ≡ F.counted_over formatters.new more) }
+    ensures same { F.book formatters.new ≡ F.book formatters.old }
+    ensures ready { F.is_ready formatters.new }
+{
+    match formatters.formatter(key)? {
+        Some(KeptFormatter::Compact(compact)) => push_exact(&compact, significand, exponent, out),
+        Some(KeptFormatter::Plain(_)) => unreachable!(),
+        None => push_refusal(out, Refusal::Table),
+    }
+}
+
+/// Puts the answer to the text of an exact form, with the formatter of a key, behind what `out` holds.
+///
+/// It fails only where it is out of memory; a part of the answer may then stand there.
+pub(crate) fn push_exact_text<'a, F: Formatters<'a>>(
+    alloc: Global,
+    formatters: &mut F,
+    length: PatternLength,
+    key: FormatterKey,
+    sign: SignAsked,
+    text: &str,
+    out: &mut String,
+) -> Result<(), AllocError>
+    requires ready { F.is_ready formatters.old }
+    requires compact { key.kind ≡ Kind.Compact length }
+    ensures text { OnOk result (string_bytes out.new
+        ≡ string_bytes out.old ++ exact_to (found_compact length (F.book formatters.old) key.preferences key.grouping) sign (compact_reading_of text.now)) }
+    ensures err { OnErr result (Grows (string_bytes out.old) (string_bytes out.new)) }
+    ensures counted { OnOk result ((more : List (Option FormatterKey)) →
+        F.counted_over formatters.old (key_exact key (compact_reading_of text.now) ∷ more) ≡ F.counted_over formatters.new more) }
+    ensures same { F.book formatters.new ≡ F.book formatters.old }
+    ensures ready { F.is_ready formatters.new }
+{
+    match read_compact(alloc, text) {
+        Ok(value) => {
+            let exponent = value.exponent();
+            let mut significand = value.into_significand();
+            choose_sign(&mut significand, sign);
+            push_significand(formatters, length, key, &significand, exponent, out)
+        }
+        Err(ParseError::Syntax) => push_refusal(out, Refusal::Number),
+        Err(ParseError::Limit) => push_refusal(out, Refusal::Limit),
+        Err(ParseError::Memory) => Err(AllocError),
+    }
+}

@@ -1,0 +1,130 @@
+// The forms that write a number.
+ghost use Rattle.std.specs.Prelude.{◌≡◌, ◌∷◌, ◌++◌, List, Option, Some, IsOk, IfOk, OnOk, OnErr, IsErrOf, string_bytes};
+ghost use Rattle.fixed_decimal.specs.Number.{Number};
+ghost use Rattle.fixed_decimal.specs.SignedText.{ReadsLongSigned};
+ghost use Rattle.icu_decimal.specs.HeldTables.{tables_of};
+ghost use Rattle.icu_decimal.specs.PlainText.{decimal_text};
+ghost use Rattle.locale_numbers_engine.specs.Growth.{Grows};
+ghost use Rattle.locale_numbers.specs.Answer.{written, answer_to};
+ghost use Rattle.locale_numbers.specs.AnswerSink.{HasRoom};
+ghost use Rattle.locale_numbers.specs.Changing.{MayGrowRead};
+ghost use Rattle.locale_numbers.specs.FormatterKeys.{IsPlain, answer_by, answer_of_kind, key_text};
+ghost use Rattle.locale_numbers.specs.NumberReading.{number, beyond, nothing, reading_of};
+ghost use Rattle.locale_numbers.specs.declared.formatter_key.FormatterKey.{FormatterKey};
+ghost use Rattle.locale_numbers.specs.declared.formatter_key.Kind.{Kind};
+
+use crate::answer_line::{push_answer, push_refusal};
+use crate::changing::change;
+use crate::compact_answer::push_compact;
+use crate::formatter_key::FormatterKey;
+use crate::formatters::Formatters;
+use crate::kept_formatter::KeptFormatter;
+use crate::refusal::Refusal;
+use crate::rounding_field::RoundingAsked;
+use crate::sign_field::SignAsked;
+use fixed_decimal::{Decimal, ParseError};
+use icu_decimal::DecimalFormatter;
+use std::alloc::{AllocError, Global};
+
+// The number that a text says.
+fn read_number(alloc: Global, text: &[u8]) -> Result<Decimal, ParseError>
+    ensures value { IfOk result (λ value. reading_of text.now ≡ number value) }
+    ensures limit { IsErrOf result ParseError.Limit → reading_of text.now ≡ beyond }
+    ensures syntax { IsErrOf result ParseError.Syntax → reading_of text.now ≡ nothing }
+
+    // A text that says no number of more than eight digits is never told as out of memory.
+    ensures memory { IsErrOf result ParseError.Memory → ReadsLongSigned text.now }
+{
+    Decimal::try_from_utf8(alloc, text)
+}
+
+// Puts a number, as a formatter writes it, behind what `out` holds.
+fn push_formatted(
+    formatter: &DecimalFormatter<'_>,
+    value: &Decimal,
+    out: &mut String,
+) -> Result<(), AllocError>
+    ensures text { OnOk result (string_bytes out.new
+        ≡ string_bytes out.old ++ written (decimal_text (tables_of formatter.now) value.now)) }
+    ensures err { OnErr result (Grows (string_bytes out.old) (string_bytes out.new)) }
+    ensures room { HasRoom out.old (written (decimal_text (tables_of formatter.now) value.now)) → IsOk result }
+{
+    push_answer(out, &formatter.format(value))
+}
+
+// Puts a number, as a formatter of any kind writes it, behind what `out` holds.
+fn push_with(
+    formatter: &KeptFormatter<'_>,
+    value: &Decimal,
+    out: &mut String,
+) -> Result<(), AllocError>
+    ensures text { OnOk result (string_bytes out.new ≡ string_bytes out.old ++ answer_by formatter.now value.now) }
+    ensures err { OnErr result (Grows (string_bytes out.old) (string_bytes out.new)) }
+    ensures room { HasRoom out.old (answer_by formatter.now value.now) → IsPlain formatter.now → IsOk result }
+{
+    match formatter {
+        KeptFormatter::Plain(plain) => push_formatted(plain, value, out),
+        KeptFormatter::Compact(compact) => push_compact(compact, value, out),
+    }
+}
+
+// Puts a number, as the formatter of a key writes it, behind what `out` holds.
+fn push_number<'a, F: Formatters<'a>>(
+    formatters: &mut F,
+    key: FormatterKey,
+    value: &Decimal,
+    out: &mut String,
+) -> Result<(), AllocError>
+    requires { F.is_ready formatters.old }
+    ensures text { OnOk result (string_bytes out.new
+        ≡ string_bytes out.old ++ answer_of_kind key.kind (F.book formatters.old) key.preferences key.grouping value.now) }
+    ensures err { OnErr result (Grows (string_bytes out.old) (string_bytes out.new)) }
+    ensures room { HasRoom out.old (answer_of_kind key.kind (F.book formatters.old) key.preferences key.grouping value.now)
+        → key.kind ≡ Kind.Plain → ¬ (F.may_take_memory formatters.old) → IsOk result }
+    ensures counted { OnOk result ((more : List (Option FormatterKey)) →
+        F.counted_over formatters.old (Some key ∷ more) ≡ F.counted_over formatters.new more) }
+    ensures same { F.book formatters.new ≡ F.book formatters.old }
+    ensures ready { F.is_ready formatters.new }
+{
+    match formatters.formatter(key)? {
+        Some(formatter) => push_with(&formatter, value, out),
+        None => push_refusal(out, Refusal::Table),
+    }
+}
+
+/// Puts the answer to a number's text, with the formatter of a key, behind what `out` holds.
+///
+/// It fails only where it is out of memory; a part of the answer may then stand there.
+pub(crate) fn push_text<'a, F: Formatters<'a>>(
+    alloc: Global,
+    formatters: &mut F,
+    key: FormatterKey,
+    sign: SignAsked,
+    rounding: RoundingAsked,
+    text: &[u8],
+    out: &mut String,
+) -> Result<(), AllocError>
+    requires { F.is_ready formatters.old }
+    ensures text { OnOk result (string_bytes out.new
+        ≡ string_bytes out.old ++ answer_to (answer_of_kind key.kind (F.book formatters.old) key.preferences key.grouping) sign rounding (reading_of text.now)) }
+    ensures err { OnErr result (Grows (string_bytes out.old) (string_bytes out.new)) }
+
+    // In plain form, where there is room for the answer, and handing out a formatter takes none, only a number of more than
+    // eight digits may be out of memory, and a rounding to multiples of 25 that may lengthen one of eight.
+    ensures room { HasRoom out.old (answer_to (answer_of_kind key.kind (F.book formatters.old) key.preferences key.grouping) sign rounding (reading_of text.now))
+        → key.kind ≡ Kind.Plain → ¬ (F.may_take_memory formatters.old) → ¬ (ReadsLongSigned text.now) → ¬ (MayGrowRead rounding (reading_of text.now)) → IsOk result }
+    ensures counted { OnOk result ((more : List (Option FormatterKey)) →
+        F.counted_over formatters.old (key_text key (reading_of text.now) ∷ more) ≡ F.counted_over formatters.new more) }
+    ensures same { F.book formatters.new ≡ F.book formatters.old }
+    ensures ready { F.is_ready formatters.new }
+{
+    match read_number(alloc, text) {
+        Ok(mut value) => {
+            change(&mut value, rounding, sign)?;
+            push_number(formatters, key, &value, out)
+        }
+        Err(ParseError::Syntax) => push_refusal(out, Refusal::Number),
+        Err(ParseError::Limit) => push_refusal(out, Refusal::Limit),
+        Err(ParseError::Memory) => Err(AllocError),
+    }
+}
