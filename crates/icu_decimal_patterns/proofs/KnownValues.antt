@@ -119,13 +119,13 @@ one_text text = array (item (string text) no_items)
 abbrev two_texts : List ℕ → List ℕ → Data
 two_texts before after = array (item (string before) (item (string after) no_items))
 
-abbrev row : ℕ → ℕ → List ℕ → Data
-row log10_type exponent text =
+abbrev one_type : ℕ → ℕ → List ℕ → Data
+one_type log10_type exponent text =
     array (item (number (unsigned log10_type)) (item (number (unsigned exponent)) (item (array (item (slot (codes "other") (two_texts [] text)) no_items)) no_items)))
 
 -- `[[3,3,[["other",["","K"]]]],[6,6,[["other",["","M"]]]]]`
 abbrev english : Data
-english = array (item (row 3 3 (codes "K")) (item (row 6 6 (codes "M")) no_items))
+english = array (item (one_type 3 3 (codes "K")) (item (one_type 6 6 (codes "M")) no_items))
 
 abbrev entry : ℕ → CompactEntry
 entry log10_type = record { log10_type = log10_type; exponent = log10_type }
@@ -145,16 +145,16 @@ no_rows = refl
 not_an_array : types_of null ≡ None
 not_an_array = refl
 
-equal_types : types_of (array (item (row 3 3 (codes "K")) (item (row 3 3 (codes "M")) no_items))) ≡ None
+equal_types : types_of (array (item (one_type 3 3 (codes "K")) (item (one_type 3 3 (codes "M")) no_items))) ≡ None
 equal_types = refl
 
-falling_types : types_of (array (item (row 6 3 (codes "K")) (item (row 3 3 (codes "M")) no_items))) ≡ None
+falling_types : types_of (array (item (one_type 6 3 (codes "K")) (item (one_type 3 3 (codes "M")) no_items))) ≡ None
 falling_types = refl
 
-greatest_type : types_of (array (item (row 255 255 (codes "K")) no_items)) ≡ Some (typed 255 255 (codes "K") ∷ [])
+greatest_type : types_of (array (item (one_type 255 255 (codes "K")) no_items)) ≡ Some (typed 255 255 (codes "K") ∷ [])
 greatest_type = refl
 
-no_byte : types_of (array (item (row 256 3 (codes "K")) no_items)) ≡ None
+no_byte : types_of (array (item (one_type 256 3 (codes "K")) no_items)) ≡ None
 no_byte = refl
 
 two_fields : types_of (array (item (array (item (number (unsigned 3)) (item (number (unsigned 3)) no_items))) no_items)) ≡ None
