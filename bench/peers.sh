@@ -31,7 +31,7 @@ if [ -z "$program" ]; then
 fi
 
 python3 - "$book" "$lines" "$made" "$program" "$peer" <<'PYTHON'
-import os, random, subprocess, sys, time
+import decimal, os, random, subprocess, sys, time
 
 book, count, made, program, peer = sys.argv[1:]
 count = int(count)
@@ -49,11 +49,17 @@ def digits(rng, least, most):
 
 
 def write(name, form, tags, least, most):
+    """The file of the lines of a row: for the form read, the texts that the program writes for such numbers."""
     rng = random.Random(name)
     path = f"{made}/peers-{name.replace(' ', '-').replace(',', '')}-{count}.txt"
+    asked = [rng.choice(tags) for _ in range(count)]
+    given = [digits(rng, least, most) for _ in asked]
+    if form == "read":
+        plain = "".join(f"{tag}\tplain\tauto\tkeep\t-\t{number}\n" for tag, number in zip(asked, given))
+        ran = subprocess.run(COMMANDS["here"], input=plain.encode(), stdout=subprocess.PIPE, check=True)
+        given = [line.split("\t")[1] for line in ran.stdout.decode().split("\n")[:-1]]
     with open(path, "w", encoding="utf-8") as out:
-        for _ in range(count):
-            out.write(f"{rng.choice(tags)}\t{form}\tauto\tkeep\t-\t{digits(rng, least, most)}\n")
+        out.writelines(f"{tag}\t{form}\tauto\tkeep\t-\t{text}\n" for tag, text in zip(asked, given))
     return path
 
 
@@ -85,13 +91,17 @@ def held(command, source):
     return found / 1024
 
 
-def texts(path):
+def answers(path, form):
+    """Each answer's first word and its text; of a number that was read its value, however it is spelled."""
     with open(path, "rb") as given:
-        return [line.split(b"\t")[:2] for line in given.read().split(b"\n")[:-1]]
+        found = [line.split(b"\t")[:2] for line in given.read().split(b"\n")[:-1]]
+    if form == "read":
+        return [(word, decimal.Decimal(text.decode()) if word == b"ok" else text) for word, text in found]
+    return found
 
 
 start = {name: spent(command, os.devnull) for name, command in COMMANDS.items()}
-print(f"{'lines':<36}{'speed':>8}{'memory':>8}{'here MB':>9}{'there MB':>10}{'same text':>11}")
+print(f"{'lines':<36}{'speed':>8}{'memory':>8}{'here MB':>9}{'there MB':>10}{'same':>11}")
 for name, form, tags, least, most in [
     ("short numbers, one locale", "plain", ONE, 1, 8),
     ("short numbers, twenty locales", "plain", TWENTY, 1, 8),
@@ -99,11 +109,13 @@ for name, form, tags, least, most in [
     ("long numbers, twenty locales", "plain", TWENTY, 100, 200),
     ("compact, one locale", "short", ONE, 1, 14),
     ("compact, twenty locales", "short", TWENTY, 1, 14),
+    ("read back, one locale", "read", ONE, 1, 8),
+    ("read back, twenty locales", "read", TWENTY, 1, 8),
 ]:
     source = write(name, form, tags, least, most)
     took = {it: max(spent(command, source, f"{made}/peers.{it}") - start[it], 1e-3) for it, command in COMMANDS.items()}
     memory = {it: held(command, source) for it, command in COMMANDS.items()}
-    here, there = texts(f"{made}/peers.here"), texts(f"{made}/peers.there")
+    here, there = answers(f"{made}/peers.here", form), answers(f"{made}/peers.there", form)
     same = sum(a == b for a, b in zip(here, there)) / count
     print(
         f"{name:<36}{took['there'] / took['here']:>8.2f}{memory['there'] / memory['here']:>8.2f}"

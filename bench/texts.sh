@@ -1,9 +1,9 @@
 #!/bin/sh
 # Times small texts beside byte loops for the same calls, in one run, and prints the one over the other. With a commit, it then
-# builds one program, which reads and prints tags of three subtags, over the small texts as they are and as they were at that
+# builds one program, which reads and prints tags of three subtags, over the crates as they are and as they were at that
 # commit, runs the two in turns, and prints the one over the other. It works on copies of the crates, and proves and builds what
 # is not there yet.
-# usage: bench/texts.sh [COMMIT]     (e9d7478^ went through them byte by byte)
+# usage: bench/texts.sh [COMMIT]     (e9d7478^ went through small texts byte by byte)
 set -eu
 top=$(cd "$(dirname "$0")/.." && pwd)
 made=${TMPDIR:-/tmp}/tinystr_bench      # outside the repository: a check of all crates reads every .rt file below it
@@ -17,25 +17,26 @@ cp "$top/bench/texts/main.rt.txt" "$made/crates/tinystr_bench/src/main.rt"
 (cd "$made/crates/tinystr_bench" && rt run)
 [ $# -gt 0 ] || exit 0
 
-# The second program, in a folder that holds small texts and their line of crates.txt.
+# The second program, in a folder that holds the crates below it and their lines of crates.txt.
+path='tinystr_words tinystr writeable icu_locale_core_grammar icu_locale_core_subtags icu_locale_core_sets icu_locale_core_langid'
 build() {
-    mkdir -p "$1/crates/tags/src"
-    for crate in writeable icu_locale_core_grammar icu_locale_core_subtags icu_locale_core_sets icu_locale_core_langid; do
-        cp -au "$top/crates/$crate" "$1/crates/"
-        grep -E "^$crate:" "$top/crates.txt"
-    done >"$1/lines"
-    grep -E '^(tinystr_words|tinystr):' "$1/before.txt" | cat - "$1/lines" >"$1/crates.txt"
+    for crate in $path; do
+        grep -E "^$crate:" "$1/all.txt"
+    done >"$1/crates.txt"
     echo 'tags: anyhow icu_locale_core_langid writeable' >>"$1/crates.txt"
+    mkdir -p "$1/crates/tags/src"
     cp "$top/bench/texts/tags.rt.txt" "$1/crates/tags/src/main.rt"
     (cd "$1/crates/tags" && rt run >/dev/null)
 }
 now=$made/now
 before=$made/before
-mkdir -p "$now/crates" "$before/crates"
-cp -au "$top/crates/tinystr_words" "$top/crates/tinystr" "$now/crates/"
-cp "$top/crates.txt" "$now/before.txt"
-(cd "$top" && git archive "$1" crates/tinystr crates/tinystr_words) | tar -x -C "$before"
-(cd "$top" && git show "$1:crates.txt") >"$before/before.txt"
+mkdir -p "$now/crates" "$before"
+for crate in $path; do
+    cp -au "$top/crates/$crate" "$now/crates/"
+    (cd "$top" && git archive "$1" "crates/$crate") | tar -x -C "$before"
+done
+cp "$top/crates.txt" "$now/all.txt"
+(cd "$top" && git show "$1:crates.txt") >"$before/all.txt"
 build "$now"
 build "$before"
 : >"$made/now.times"

@@ -1,10 +1,15 @@
 // Answers request lines by ICU4C's number formatter: forms plain, short and long, rounding `-`, each as
-// `ok`, a tab and the text. Any other line is `err`, a tab and a word. A formatter is kept for each locale,
-// form, grouping and sign.
+// `ok`, a tab and the text. The form read takes a text and answers the decimal number that ICU4C's strict
+// parser finds in the whole of it. Any other line is `err`, a tab and a word. A formatter is kept for each
+// locale, form, grouping and sign, and a parser for each locale.
+#include <unicode/fmtable.h>
 #include <unicode/numberformatter.h>
+#include <unicode/numfmt.h>
+#include <unicode/parsepos.h>
 #include <unicode/unistr.h>
 
 #include <iostream>
+#include <memory>
 #include <string>
 #include <string_view>
 #include <unordered_map>
@@ -49,6 +54,27 @@ static bool make(const std::vector<std::string_view>& field, LocalizedNumberForm
     return U_SUCCESS(code);
 }
 
+// The number that the whole text spells in the locale, or nothing.
+static bool read(std::string_view tag, std::string_view text, std::string& number) {
+    static std::unordered_map<std::string, std::unique_ptr<icu::NumberFormat>> kept;
+    UErrorCode code = U_ZERO_ERROR;
+    auto& parser = kept[std::string(tag)];
+    if (parser == nullptr) {
+        parser.reset(icu::NumberFormat::createInstance(icu::Locale::forLanguageTag({tag.data(), int32_t(tag.size())}, code), code));
+        if (U_FAILURE(code)) return false;
+        parser->setLenient(false);
+    }
+    const icu::UnicodeString given = icu::UnicodeString::fromUTF8({text.data(), int32_t(text.size())});
+    icu::ParsePosition end;
+    icu::Formattable found;
+    parser->parse(given, found, end);
+    if (end.getErrorIndex() >= 0 || end.getIndex() != given.length()) return false;
+    const icu::StringPiece decimal = found.getDecimalNumber(code);
+    if (U_FAILURE(code)) return false;
+    number.assign(decimal.data(), decimal.size());
+    return true;
+}
+
 int main() {
     std::ios::sync_with_stdio(false);
     std::cin.tie(nullptr);
@@ -57,14 +83,18 @@ int main() {
     while (std::getline(std::cin, line)) {
         const auto field = fields(line);
         const LocalizedNumberFormatter* formatter = nullptr;
-        if (field.size() == 6 && field[4] == "-") {
+        const bool is_read = field.size() == 6 && field[1] == "read";
+        if (field.size() == 6 && field[4] == "-" && !is_read) {
             const std::string key = line.substr(0, field[4].data() - line.data());
             auto found = kept.find(key);
             if (LocalizedNumberFormatter made; found == kept.end() && make(field, made))
                 found = kept.emplace(key, std::move(made)).first;
             if (found != kept.end()) formatter = &found->second;
         }
-        if (formatter == nullptr) {
+        if (is_read) {
+            if (read(field[0], field[5], text)) answers.append("ok\t").append(text).push_back('\n');
+            else answers += "err\tnot-written\n";
+        } else if (formatter == nullptr) {
             answers += "err\tshape\n";
         } else {
             UErrorCode code = U_ZERO_ERROR;

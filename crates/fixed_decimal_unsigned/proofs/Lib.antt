@@ -28,3 +28,5 @@ pub mod KnownRanges
 pub mod KnownRoundings
 pub mod WritingLemmas
 pub mod ShownDigitsLemmas
+pub mod BlockLemmas
+pub mod TextBlockLemmas

@@ -1,8 +1,6 @@
 -- What digits spell: one more digit, zeros at the end, and the digits kept.
-use Rattle.std.proofs.Common.{◌≡◌, ℕ, zero, suc, ◌+◌, ◌*◌, ◌%◌, ◌^◌, ◌<◌, ◌≤◌, min, List, [], ◌∷◌, ◌++◌, length, get_or, take, drop, refl, sym, ap, ◌∙◌, arith, add-one, drop-cons}
-use Rattle.std.proofs.lemmas.Int.Digits.{digits_value_more, digits_value_push, number_push}
-use Rattle.std.proofs.lemmas.List.{append_assoc, drop_all}
-use Rattle.std.specs.Int.Digits.{number_from_digits}
+use Rattle.std.proofs.Common.{◌≡◌, ℕ, zero, suc, ◌+◌, ◌*◌, ◌%◌, ◌^◌, ◌<◌, min, List, [], ◌∷◌, ◌++◌, length, get_or, take, sym, ap, ◌∙◌, arith}
+use Rattle.std.proofs.lemmas.Int.Digits.{digits_value_more, digits_value_push}
 use Rattle.std.proofs.lemmas.Nat.{mod-mul-add}
 use Rattle.std.proofs.lemmas.Bool.Decides.{nat_tests}
 use Rattle.std.specs.Char.{digit_value}
@@ -60,28 +58,3 @@ value_last front c h ne =
     let value : spelled (front ++ (c ∷ [])) % 10 ≡ digit_value c = ap (λ x. x % 10) (digits_value_push 10 front c) ∙ mod-mul-add (spelled front) 10 (digit_value c) ten in
     let some : 0 < digit_value c = digit_positive c ten ne in
     omega arith
-
-pub value_after_drop : (text : List ℕ) (i n : ℕ) → i < length text → digits_value_after 10 n (drop i text) ≡ digits_value_after 10 (n * 10 + digit_value (get_or text i 0)) (drop (i + 1) text)
-value_after_drop text i n l = ap (digits_value_after 10 n) (drop-cons text i 0 l) ∙ ap (λ k. digits_value_after 10 (n * 10 + digit_value (get_or text i 0)) (drop k text)) (sym (add-one i))
-
-pub begins_at : (text : List ℕ) (i n : ℕ) → n + i ≡ 0 → 0 < digit_value (get_or text 0 0) → 0 < digit_value (get_or text i 0)
-begins_at text zero n e first = first
-begins_at text (suc i) n e first = absurd (omega arith)
-
-pub value_after_two : (text : List ℕ) (i n : ℕ) → i + 1 < length text
-    → digits_value_after 10 n (drop i text) ≡ digits_value_after 10 ((n * 10 + digit_value (get_or text i 0)) * 10 + digit_value (get_or text (i + 1) 0)) (drop (i + 2) text)
-value_after_two text i n l =
-    let next : i + 1 + 1 ≡ i + 2 = omega arith in
-    value_after_drop text i n (omega arith) ∙ value_after_drop text (i + 1) (n * 10 + digit_value (get_or text i 0)) l
-    ∙ ap (λ k. digits_value_after 10 ((n * 10 + digit_value (get_or text i 0)) * 10 + digit_value (get_or text (i + 1) 0)) (drop k text)) next
-
-pub value_after_all : (text : List ℕ) (i n : ℕ) → length text ≤ i → digits_value_after 10 n (drop i text) ≡ n
-value_after_all text i n l = ap (digits_value_after 10 n) (drop_all i text l)
-
-pub two_pushed : (ds : List ℕ) (a b : ℕ) → number_from_digits 10 (ds ++ a ∷ b ∷ []) ≡ (number_from_digits 10 ds * 10 + a) * 10 + b
-two_pushed ds a b =
-    ap (number_from_digits 10) (sym (append_assoc ds (a ∷ []) (b ∷ []))) ∙ number_push 10 (ds ++ a ∷ []) b ∙ ap (λ n. n * 10 + b) (number_push 10 ds a)
-
-pub first_of_two : (ds : List ℕ) (a b : ℕ) → (0 < length ds → 0 < get_or ds 0 0) → (length ds ≡ 0 → 0 < a) → 0 < get_or (ds ++ a ∷ b ∷ []) 0 0
-first_of_two [] a b f s = s refl
-first_of_two (d ∷ ds) a b f s = f (omega arith)

@@ -1,7 +1,9 @@
 // Changes of the bytes that hold two digits each.
-ghost use Rattle.std.specs.Prelude.{◌≡◌, ◌<◌, ◌≤◌, length, slice_set, drop};
+ghost use Rattle.std.specs.Prelude.{◌≡◌, ◌+◌, ◌<◌, ◌≤◌, ◌++◌, length, map, slice_set, drop};
+ghost use Rattle.std.specs.Char.{digit_value};
 ghost use Rattle.fixed_decimal_unsigned.specs.DigitWord.{word_bytes};
-ghost use Rattle.fixed_decimal_unsigned.specs.Packed.{shifted};
+ghost use Rattle.fixed_decimal_unsigned.specs.NumberText.{AreDigits, character};
+ghost use Rattle.fixed_decimal_unsigned.specs.Packed.{halves, packed, shifted};
 
 use crate::digits::INLINE;
 use smallvec::SmallVec;
@@ -20,6 +22,59 @@ pub fn bytes_of_word(alloc: Global, word: u32, count: usize) -> SmallVec<u8, INL
         2 => SmallVec::from_buf_and_len(alloc, [bytes[2], bytes[3], 0, 0], 2),
         3 => SmallVec::from_buf_and_len(alloc, [bytes[1], bytes[2], bytes[3], 0], 3),
         _ => SmallVec::from_buf(alloc, bytes),
+    }
+}
+
+// The value of a digit's character.
+pub fn digit_of(c: u8) -> u8
+    requires { digit_value c < 10 }
+    ensures { result ≡ digit_value c }
+{
+    c - b'0'
+}
+
+// The bytes that hold the digits of a block of text.
+#[tactic(auto, using(crate::proofs::SpelledLemmas::digits_at, crate::proofs::BlockLemmas::byte_more, crate::proofs::BlockLemmas::bytes_whole))]
+pub fn bytes_of_block(text: &[u8]) -> [u8; 32]
+    requires text_digits { AreDigits text.now }
+    requires block { length text.now ≡ 64 }
+    ensures { result ≡ packed (map digit_value text.now) }
+{
+    let mut bytes = [0; 32];
+    let mut index = 0;
+    while index < 32 {
+        let upper = digit_of(text[2 * index]);
+        let lower = digit_of(text[2 * index + 1]);
+        bytes[index] = upper * 16 + lower;
+        index += 1;
+    }
+    bytes
+}
+
+// The text of the digits that lie in a block of bytes.
+#[tactic(auto, using(crate::proofs::TextBlockLemmas::two_more, crate::proofs::TextBlockLemmas::text_whole))]
+pub fn text_of_block(bytes: &[u8]) -> [u8; 64]
+    requires { length bytes.now ≡ 32 }
+    ensures { result ≡ map character (halves bytes.now) }
+{
+    let mut text = [b'0'; 64];
+    let mut index = 0;
+    while index < 32 {
+        text[2 * index] = b'0' + bytes[index] / 16;
+        text[2 * index + 1] = b'0' + bytes[index] % 16;
+        index += 1;
+    }
+    text
+}
+
+// Adds bytes, for which there is room, behind those that are there.
+pub fn push_bytes(kept: &mut SmallVec<u8, INLINE>, bytes: &[u8])
+    requires { length kept.old.items + length bytes.now ≤ kept.old.capacity }
+    ensures items { kept.new.items ≡ kept.old.items ++ bytes.now }
+    ensures capacity { kept.old.capacity ≤ kept.new.capacity }
+{
+    for byte in bytes {
+        kept.push_reserved(*byte);
     }
 }
 

@@ -1,12 +1,16 @@
 // The digits of a number: this file alone knows how they lie in memory.
 ghost use Rattle.std.specs.Prelude.{◌≡◌, ◌==◌, ◌+◌, ◌%◌, ◌<◌, ◌≤◌, [], ◌∷◌, ◌++◌, length, slice_index, take, drop, IsOk, IfOk, OnOk, OnErr};
-ghost use Rattle.std.specs.Prelude.{◌^◌, ◌↔◌, IsTrue};
+ghost use Rattle.std.specs.Prelude.{◌^◌, ◌↔◌, IsTrue, map};
 ghost use Rattle.std.specs.Bool.{Decides};
+ghost use Rattle.std.specs.Char.{digit_value};
 ghost use Rattle.std.specs.Int.Digits.{AllBelowBase};
 ghost use Rattle.std.specs.Iterator.{YieldsFirst, item_count};
 ghost use Rattle.fixed_decimal_unsigned.specs.DigitWord.{word_digits};
+ghost use Rattle.fixed_decimal_unsigned.specs.NumberText.{AreDigits, character};
 
-use crate::digit_bytes::{bytes_of_word, drop_bytes, set_byte, shift_half};
+use crate::digit_bytes::{
+    bytes_of_block, bytes_of_word, drop_bytes, push_bytes, set_byte, shift_half, text_of_block,
+};
 use smallvec::SmallVec;
 use std::alloc::{AllocError, Global};
 use std::iter::FusedIterator;
@@ -14,6 +18,9 @@ use std::marker::Model;
 
 // How many bytes lie inline: eight digits need no memory.
 pub const INLINE: usize = 4;
+
+// So many digits are read, or written, by one step: a whole count of bytes.
+pub const BLOCK: usize = 64;
 
 // A list of digits below ten, two to a byte, the higher one in the upper half.
 #[derive(Debug, Drop)]
@@ -131,6 +138,18 @@ impl Digits {
         }
     }
 
+    // The text of a block of digits, from an even index on.
+    #[tactic(auto, using(crate::proofs::PackedChanges::bytes_length))]
+    pub fn block(&self, index: usize) -> [u8; 64]
+        requires even { index % 2 ≡ 0 }
+        requires within { index + 64 ≤ length self.now.items }
+        ensures { result ≡ map character (take 64 (drop index self.now.items)) }
+    {
+        let (_, rest) = self.kept.as_slice().split_at(index / 2);
+        let (front, _) = rest.split_at(BLOCK / 2);
+        text_of_block(front)
+    }
+
     // Adds a digit behind the last.
     pub fn push(&mut self, digit: u8) -> Result<(), AllocError>
         requires { digit < 10 }
@@ -224,6 +243,19 @@ impl Digits {
             self.push_lower(first);
             self.push_upper(second);
         }
+    }
+
+    // Adds the digits of a block of text, for which there is room, behind an even count.
+    pub fn push_block(&mut self, text: &[u8])
+        requires text_digits { AreDigits text.now }
+        requires block { length text.now ≡ 64 }
+        requires room { length self.old.items + 64 ≤ self.old.capacity }
+        requires even { length self.old.items % 2 ≡ 0 }
+        ensures items { self.new.items ≡ self.old.items ++ map digit_value text.now }
+        ensures capacity { self.old.capacity ≤ self.new.capacity }
+    {
+        push_bytes(&mut self.kept, &bytes_of_block(text));
+        self.count += BLOCK;
     }
 
     // Keeps an even count of the first digits.

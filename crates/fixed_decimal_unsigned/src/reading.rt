@@ -7,7 +7,8 @@ ghost use Rattle.fixed_decimal_unsigned.specs.NumberText.{AreDigits, spelled, Ar
 ghost use Rattle.fixed_decimal_unsigned.specs.BorrowedParts.{parts_of};
 ghost use Rattle.fixed_decimal_unsigned.specs.Range.{IsLong};
 
-use crate::digits::Digits;
+use crate::digit_bytes::digit_of;
+use crate::digits::{BLOCK, Digits};
 use crate::error::ParseError;
 use crate::places::ONES;
 use crate::text_parts::TextParts;
@@ -19,14 +20,6 @@ const EXPONENT_CAP: usize = 65536;
 
 // So many digits fit in a word, and need no memory.
 const INLINE_DIGITS: usize = 8;
-
-// The value of a digit's character.
-fn digit_of(c: u8) -> u8
-    requires { digit_value c < 10 }
-    ensures { result ≡ digit_value c }
-{
-    c - b'0'
-}
 
 /// The number that digits spell, or 65536 where it is larger: 12 of `012`.
 #[tactic(auto, using(crate::proofs::SpelledLemmas::digits_at, crate::proofs::SpelledLemmas::capped_more))]
@@ -79,62 +72,54 @@ fn without_front_zeros(text: &[u8]) -> &[u8]
     kept
 }
 
-// Adds a digit, for which there is room, behind those that are there.
-#[tactic(auto, using(std::proofs::lemmas::Int::Digits::number_push))]
-fn push_digit(digits: &mut Digits, digit: u8)
-    requires ten { digit < 10 }
-    requires tens { AllBelowBase 10 digits.old.items }
-    requires first { 0 < length digits.old.items → 0 < slice_index digits.old.items 0 }
-    requires start { length digits.old.items ≡ 0 → 0 < digit }
-    requires room { length digits.old.items < digits.old.capacity }
-    ensures value { number_from_digits 10 digits.new.items ≡ number_from_digits 10 digits.old.items * 10 + digit }
-    ensures tens { AllBelowBase 10 digits.new.items }
-    ensures first { 0 < slice_index digits.new.items 0 }
-    ensures length { length digits.new.items ≡ length digits.old.items + 1 }
-    ensures capacity { digits.new.capacity ≡ digits.old.capacity }
-{
-    digits.push_reserved(digit);
-}
-
-// Adds two digits, for which there is room, behind those that are there.
-#[tactic(auto, using(crate::proofs::SpelledLemmas::two_pushed, crate::proofs::SpelledLemmas::first_of_two, crate::proofs::PackedChanges::below_two))]
-fn push_two_digits(digits: &mut Digits, upper: u8, lower: u8)
-    requires upper_ten { upper < 10 }
-    requires lower_ten { lower < 10 }
-    requires tens { AllBelowBase 10 digits.old.items }
-    requires first { 0 < length digits.old.items → 0 < slice_index digits.old.items 0 }
-    requires start { length digits.old.items ≡ 0 → 0 < upper }
-    requires room { length digits.old.items + 2 ≤ digits.old.capacity }
-    ensures value { number_from_digits 10 digits.new.items ≡ (number_from_digits 10 digits.old.items * 10 + upper) * 10 + lower }
-    ensures tens { AllBelowBase 10 digits.new.items }
-    ensures first { 0 < slice_index digits.new.items 0 }
-    ensures length { length digits.new.items ≡ length digits.old.items + 2 }
-    ensures capacity { digits.new.capacity ≡ digits.old.capacity }
-{
-    digits.push_two(upper, lower);
-}
-
-// Adds the digits of a text, for which there is room, behind those that are there.
-#[tactic(auto, using(crate::proofs::SpelledLemmas::digits_at, crate::proofs::SpelledLemmas::value_after_drop, crate::proofs::SpelledLemmas::value_after_two, crate::proofs::SpelledLemmas::value_after_all, crate::proofs::SpelledLemmas::begins_at))]
-fn push_digits(digits: &mut Digits, text: &[u8])
+// Adds the digits of a text, for which there is room, two at a time behind those that are there.
+#[tactic(auto, using(crate::proofs::SpelledLemmas::digits_at, crate::proofs::BlockLemmas::two_left, crate::proofs::BlockLemmas::one_left, crate::proofs::BlockLemmas::none_left))]
+fn push_pairs(digits: &mut Digits, text: &[u8])
     requires text_digits { AreDigits text.now }
-    requires text_first { length digits.old.items ≡ 0 → 0 < length text.now → 0 < digit_value (slice_index text.now 0) }
-    requires tens { AllBelowBase 10 digits.old.items }
-    requires first { 0 < length digits.old.items → 0 < slice_index digits.old.items 0 }
     requires room { length digits.old.items + length text.now ≤ digits.old.capacity }
-    ensures value { number_from_digits 10 digits.new.items ≡ digits_value_after 10 (number_from_digits 10 digits.old.items) text.now }
-    ensures tens { AllBelowBase 10 digits.new.items }
-    ensures first { 0 < length digits.new.items → 0 < slice_index digits.new.items 0 }
-    ensures length { length digits.new.items ≡ length digits.old.items + length text.now }
+    ensures items { digits.new.items ≡ digits.old.items ++ map digit_value text.now }
     ensures capacity { digits.new.capacity ≡ digits.old.capacity }
 {
     let mut at = 0;
     while at + 1 < text.len() {
-        push_two_digits(digits, digit_of(text[at]), digit_of(text[at + 1]));
+        digits.push_two(digit_of(text[at]), digit_of(text[at + 1]));
         at += 2;
     }
     if at < text.len() {
-        push_digit(digits, digit_of(text[at]));
+        digits.push_reserved(digit_of(text[at]));
+    }
+}
+
+// Adds the digits of a text, for which there is room, in blocks behind an even count.
+fn push_blocks(digits: &mut Digits, text: &[u8])
+    requires text_digits { AreDigits text.now }
+    requires room { length digits.old.items + length text.now ≤ digits.old.capacity }
+    requires even { length digits.old.items % 2 ≡ 0 }
+    ensures items { digits.new.items ≡ digits.old.items ++ map digit_value text.now }
+    ensures capacity { digits.old.capacity ≤ digits.new.capacity }
+{
+    let mut rest = text;
+    while rest.len() >= BLOCK {
+        let (front, back) = rest.split_at(BLOCK);
+        digits.push_block(front);
+        rest = back;
+    }
+    push_pairs(digits, rest);
+}
+
+// Adds the digits of a text, for which there is room, behind those that are there.
+#[tactic(auto, using(crate::proofs::SpelledLemmas::digits_behind, crate::proofs::BlockLemmas::first_left))]
+fn push_text(digits: &mut Digits, text: &[u8])
+    requires text_digits { AreDigits text.now }
+    requires room { length digits.old.items + length text.now ≤ digits.old.capacity }
+    ensures items { digits.new.items ≡ digits.old.items ++ map digit_value text.now }
+    ensures capacity { digits.old.capacity ≤ digits.new.capacity }
+{
+    if digits.len() % 2 == 0 {
+        push_blocks(digits, text);
+    } else if let Some((first, rest)) = text.split_first() {
+        digits.push_reserved(digit_of(*first));
+        push_blocks(digits, rest);
     }
 }
 
@@ -236,8 +221,21 @@ fn few_digits(alloc: Global, whole: &[u8], rest: &[u8]) -> Digits
     Digits::of_word(alloc, word, whole.len() + rest.len())
 }
 
+// The digits that two texts spell one behind the other, more than eight.
+fn many_digits(alloc: Global, whole: &[u8], rest: &[u8]) -> Result<Digits, AllocError>
+    requires whole_digits { AreDigits whole.now }
+    requires rest_digits { AreDigits rest.now }
+    requires count { length whole.now + length rest.now < 2 ^ 64 }
+    ensures items { IfOk result (λ d. d.items ≡ map digit_value (whole.now ++ rest.now)) }
+    ensures room { OnErr result (8 < length whole.now + length rest.now) }
+{
+    let mut digits = Digits::with_room(alloc, whole.len() + rest.len())?;
+    push_text(&mut digits, whole);
+    push_text(&mut digits, rest);
+    Ok(digits)
+}
+
 // The digits that two texts spell one behind the other.
-#[tactic(auto, using(crate::proofs::MantissaLemmas::spelled_after))]
 fn gathered(alloc: Global, integer: &[u8], fraction: &[u8]) -> Result<Digits, AllocError>
     requires integer_digits { AreDigits integer.now }
     requires fraction_digits { AreDigits fraction.now }
@@ -254,9 +252,7 @@ fn gathered(alloc: Global, integer: &[u8], fraction: &[u8]) -> Result<Digits, Al
     if count <= INLINE_DIGITS {
         return Ok(few_digits(alloc, whole, rest));
     }
-    let mut digits = Digits::with_room(alloc, count)?;
-    push_digits(&mut digits, whole);
-    push_digits(&mut digits, rest);
+    let digits = many_digits(alloc, whole, rest)?;
     Ok(digits)
 }
 

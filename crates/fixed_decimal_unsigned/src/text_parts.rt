@@ -1,8 +1,10 @@
 // A text taken apart: digits, a fraction, an exponent.
-ghost use Rattle.std.specs.Prelude.{◌≡◌, false, ◌++◌, ◌∷◌, [], length, MatchOption, IfSome, IfNone, IsTrue, ◌↔◌};
+ghost use Rattle.std.specs.Prelude.{◌≡◌, false, ◌≤◌, ◌++◌, ◌∷◌, [], length, take, MatchOption, IfSome, IfNone, IsTrue, ◌↔◌};
 ghost use Rattle.fixed_decimal_unsigned.specs.NumberText.{AreDigits, behind_point, SpellsExponent, Spells, IsNoText, minus_if};
 ghost use Rattle.fixed_decimal_unsigned.specs.TextParts.{StartsNoDigit, StartsNoPoint, IsNoFraction, IsNoExponent, StartsNoMinus, IsMark};
 ghost use Rattle.fixed_decimal_unsigned.specs.BorrowedParts.{parts_of};
+
+use crate::digits::BLOCK;
 
 // The parts of a text, borrowed from it.
 #[derive(Clone, Copy)]
@@ -13,6 +15,32 @@ pub struct TextParts<'a> {
     pub exponent: &'a [u8],
 }
 
+// Whether each character is a digit.
+fn are_digits(text: &[u8]) -> bool
+    ensures { IsTrue result → AreDigits text.now }
+{
+    let mut all = true;
+    for c in text {
+        all = all & c.is_ascii_digit();
+    }
+    all
+}
+
+// How many characters whole blocks of digits make up that the text begins with.
+fn digits_in_blocks(text: &[u8]) -> usize
+    ensures within { result ≤ length text.now }
+    ensures digits { AreDigits (take result text.now) }
+{
+    let mut count = 0;
+    while text.len() - count >= BLOCK {
+        if !are_digits(&text[count..count + BLOCK]) {
+            return count;
+        }
+        count += BLOCK;
+    }
+    count
+}
+
 // The digits that a text begins with, and the rest.
 #[tactic(auto, using(std::proofs::lemmas::Int::Digits::digits_more, std::proofs::lemmas::List::take_all))]
 fn split_digits(text: &[u8]) -> (&[u8], &[u8])
@@ -20,10 +48,12 @@ fn split_digits(text: &[u8]) -> (&[u8], &[u8])
     ensures digits { AreDigits result.0.now }
     ensures rest { StartsNoDigit result.1.now }
 {
-    for (index, c) in text.iter().enumerate() {
-        if !c.is_ascii_digit() {
-            return (&text[..index], &text[index..]);
+    let mut count = digits_in_blocks(text);
+    while count < text.len() {
+        if !text[count].is_ascii_digit() {
+            return (&text[..count], &text[count..]);
         }
+        count += 1;
     }
     (text, &[])
 }

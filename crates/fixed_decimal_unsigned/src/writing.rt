@@ -1,17 +1,21 @@
-ghost use Rattle.std.specs.Prelude.{◌≡◌, ℕ, ◌+◌, ◌-◌, ◌<◌, ◌≤◌, ◌++◌, codes, false, is_err, length, map, take, OnOk, OnErr, Some};
+ghost use Rattle.std.specs.Prelude.{◌≡◌, ℕ, ◌+◌, ◌-◌, ◌<◌, ◌≤◌, ◌++◌, codes, false, is_err, length, map, take, IfSome, OnOk, OnErr, Some};
 ghost use Rattle.std.specs.Str.{IsAscii};
 ghost use Rattle.writeable.specs.AnnotatedText.{bytes};
 ghost use Rattle.writeable.specs.Taking.{HasBegun};
 ghost use Rattle.fixed_decimal_unsigned.specs.Number.{digit, digits_down, whole_digits, fraction_digits};
 ghost use Rattle.fixed_decimal_unsigned.specs.NumberText.{character, behind_point, text_of};
 
+use crate::digits::BLOCK;
 use crate::places::{ONES, magnitude_of};
 use crate::unsigned_decimal::UnsignedDecimal;
 use std::fmt;
 use writeable::{Error, LengthHint, Sink, Writeable, display};
 
-// How many digits are written by one call of the sink at most.
-const PIECE: u16 = 32;
+// A text of so many bytes at most is written by one call of the sink.
+const SHORT: u16 = 32;
+
+// How many digits of a longer text are written by one call of the sink at most.
+const PIECE: u16 = 64;
 
 // The character of the digit at a place.
 fn character_at(number: &UnsignedDecimal, place: u16) -> u8
@@ -22,8 +26,8 @@ fn character_at(number: &UnsignedDecimal, place: u16) -> u8
 }
 
 // Puts the characters of so many digits into a piece, from an index on: the highest first, down to the one at `base`.
-fn spell(number: &UnsignedDecimal, base: u16, size: u16, piece: &mut [u8; 32], from: u16)
-    requires room { from + size ≤ 32 }
+fn spell(number: &UnsignedDecimal, base: u16, size: u16, piece: &mut [u8; 64], from: u16)
+    requires room { from + size ≤ 64 }
     requires places { base + size ≤ 65536 }
     ensures { take (from + size) piece.new ≡ take from piece.old ++ map character (digits_down number.now.count base size) }
 {
@@ -36,7 +40,7 @@ fn spell(number: &UnsignedDecimal, base: u16, size: u16, piece: &mut [u8; 32], f
 
 // Puts the text of a number into a piece, and says how long it is.
 #[tactic(auto, using(crate::proofs::WritingLemmas::spelled_whole, crate::proofs::WritingLemmas::spelled_both))]
-fn spell_text(number: &UnsignedDecimal, piece: &mut [u8; 32]) -> u16
+fn spell_text(number: &UnsignedDecimal, piece: &mut [u8; 64]) -> u16
     requires { number.now.high ≤ number.now.low + 30 }
     ensures fits { result ≤ 32 }
     ensures text { take result piece.new ≡ text_of number.now }
@@ -60,6 +64,53 @@ fn ascii_text(characters: &[u8]) -> &str
     unsafe { str::from_utf8_unchecked(characters) }
 }
 
+// The text of a block of digits, down to the one at `base`, where they are kept in bytes of their own.
+fn block_at(number: &UnsignedDecimal, base: u16) -> Option<[u8; 64]>
+    ensures { IfSome result (λ text. text ≡ map character (digits_down number.now.count base 64)) }
+{
+    let past = base as usize + BLOCK;
+    let first = number.top as usize + 1;
+    if past > first {
+        return None;
+    }
+    let index = first - past;
+    if index % 2 == 0 && index + BLOCK <= number.digits.len() {
+        return Some(number.digits.block(index));
+    }
+    None
+}
+
+// A piece that begins with so many digits of a number, from the highest down to the one at `base`.
+fn piece_of(number: &UnsignedDecimal, base: u16, size: u16) -> [u8; 64]
+    requires few { size ≤ 64 }
+    requires places { base + size ≤ 65536 }
+    ensures { take size result ≡ map character (digits_down number.now.count base size) }
+{
+    if size == PIECE {
+        if let Some(text) = block_at(number, base) {
+            return text;
+        }
+    }
+    let mut piece = [b'0'; 64];
+    spell(number, base, size, &mut piece, 0);
+    piece
+}
+
+// How many of the digits that are left are written next: one, where the ones behind it begin a byte.
+fn piece_size(number: &UnsignedDecimal, base: u16, left: u16) -> u16
+    requires { 0 < left }
+    ensures some { 0 < result }
+    ensures few { result ≤ 64 }
+    ensures within { result ≤ left }
+{
+    let past = base as usize + left as usize;
+    let first = number.top as usize + 1;
+    if past < first && (first - past) % 2 == 1 {
+        return 1;
+    }
+    left.min(PIECE)
+}
+
 // Writes so many digits of a number, from the highest down to the one at `base`, by one call of the sink.
 fn write_piece<S: Sink>(
     number: &UnsignedDecimal,
@@ -68,14 +119,13 @@ fn write_piece<S: Sink>(
     sink: &mut S,
 ) -> Result<(), Error>
     requires fine { S.refused sink.old ≡ false }
-    requires few { size ≤ 32 }
+    requires few { size ≤ 64 }
     requires places { base + size ≤ 65536 }
     ensures ok { OnOk result (S.takes sink.old (bytes (map character (digits_down number.now.count base size))) sink.new) }
     ensures refused { S.refused sink.new ≡ is_err result }
     ensures begun { OnErr result (HasBegun S.takes S.lacks_room sink.old (bytes (map character (digits_down number.now.count base size))) sink.new) }
 {
-    let mut piece = [b'0'; 32];
-    spell(number, base, size, &mut piece, 0);
+    let piece = piece_of(number, base, size);
     sink.write_str(ascii_text(&piece[..size as usize]))
 }
 
@@ -94,7 +144,7 @@ fn write_digits<S: Sink>(
 {
     let mut left = count;
     while left > 0 {
-        let size = left.min(PIECE);
+        let size = piece_size(number, base, left);
         left -= size;
         write_piece(number, base + left, size, sink)?;
     }
@@ -150,7 +200,7 @@ fn write_short<S: Sink>(number: &UnsignedDecimal, sink: &mut S) -> Result<(), Er
     ensures refused { S.refused sink.new ≡ is_err result }
     ensures begun { OnErr result (HasBegun S.takes S.lacks_room sink.old (bytes (text_of number.now)) sink.new) }
 {
-    let mut piece = [b'0'; 32];
+    let mut piece = [b'0'; 64];
     let length = spell_text(number, &mut piece);
     sink.write_str(ascii_text(&piece[..length as usize]))
 }
@@ -179,7 +229,7 @@ impl Writeable for UnsignedDecimal {
 
     #[tactic(auto, using(crate::proofs::WritingLemmas::text_events))]
     fn write_to<S: Sink>(&self, sink: &mut S) -> Result<(), Error> {
-        if self.high - self.low < PIECE - 1 {
+        if self.high - self.low < SHORT - 1 {
             return write_short(self, sink);
         }
         write_whole(self, sink)?;

@@ -37,6 +37,7 @@ pub use Rattle.icu_decimal_shown.specs.ShownValue
 pub use Rattle.icu_decimal_text.specs.Affixes
 pub use Rattle.icu_decimal_text.specs.FoundTables
 pub use Rattle.icu_decimal_text.specs.Grouper
+pub use Rattle.icu_decimal_text.specs.PartIntervals
 pub use Rattle.icu_decimal_text.specs.PlainText
 -- What a formatter holds.
 pub use Rattle.icu_decimal_compact.specs.HeldCompact
@@ -59,4 +60,5 @@ pub use Rattle.icu_decimal_shown.specs.ShownLaws
 pub use Rattle.icu_decimal_provider.specs.Laws
 pub use Rattle.icu_decimal_provider.specs.SameSymbolsLaws
 pub use Rattle.icu_decimal_text.specs.GroupLaws
+pub use Rattle.icu_decimal_text.specs.PartLaws
 pub use Rattle.icu_decimal_text.specs.TextLaws

@@ -1,57 +1,70 @@
 //! Answers of the calls of abstract formatters, by a plain one and by a compact one.
 
-use crate::compact::{Setting, formatter_of, strategy_of};
 use crate::stop::Stop;
-use crate::tables::OneLocale;
-use fixed_decimal::{Decimal, UnsignedDecimal};
-use icu_decimal::options::DecimalFormatterOptions;
+use fixed_decimal::{Decimal, Sign, UnsignedDecimal};
+use icu_decimal::AbstractFormatter;
 use icu_decimal::plurals::PluralRules;
-use icu_decimal::preferences::DecimalFormatterPreferences;
-use icu_decimal::{AbstractFormatter, DecimalFormatter};
 use std::alloc::Global;
 use writeable::TextSink;
 
-// The plain formatter of a row.
-fn plain_of<'p>(
-    provider: &'p OneLocale,
-    setting: Setting<'_>,
-) -> Result<DecimalFormatter<'p>, Stop> {
-    let preferences = DecimalFormatterPreferences::default();
-    let options = DecimalFormatterOptions::from(strategy_of(setting.grouping)?);
-    Ok(DecimalFormatter::try_new_unstable(provider, preferences, options)?)
+// A text that says that a number is out of range.
+fn out_of_range(alloc: Global) -> Result<String, Stop> {
+    Ok(String::from_str(alloc, "range")?)
 }
 
-// The text of a number without its sign, or none where it is out of range.
-fn unsigned_text<F: AbstractFormatter>(
+// What was written, and a text behind it.
+fn with_behind(alloc: Global, is_written: bool, text: &str, behind: &str) -> Result<String, Stop> {
+    if !is_written {
+        return Err(Stop::Memory);
+    }
+    Ok(format!(in alloc; "{text}{behind}")?)
+}
+
+// The text of a number without its sign, and a text behind it; or none where the number is out of range.
+fn with_unit<F: AbstractFormatter>(
     alloc: Global,
     formatter: &F,
     number: &UnsignedDecimal,
+    unit: &str,
 ) -> Result<Option<String>, Stop> {
     if !formatter.can_write(number) {
         return Ok(None);
     }
     let mut sink = TextSink::new(alloc);
-    match formatter.write_unsigned(number, &mut sink) {
-        Ok(()) => Ok(Some(String::from_str(alloc, sink.text())?)),
-        Err(_) => Err(Stop::Memory),
-    }
+    let is_written = formatter.write_unsigned(number, &mut sink).is_ok();
+    let text = with_behind(alloc, is_written, sink.text(), unit);
+    drop(sink);
+    Ok(Some(text?))
+}
+
+// A text between the affixes of a sign.
+fn with_sign<F: AbstractFormatter>(
+    alloc: Global,
+    formatter: &F,
+    text: &str,
+    sign: Sign,
+) -> Result<String, Stop> {
+    let mut sink = TextSink::new(alloc);
+    let is_written = formatter.write_sign(&text, sign, &mut sink).is_ok();
+    let text = with_behind(alloc, is_written, sink.text(), "");
+    drop(sink);
+    text
 }
 
 // The number without its sign, a text behind it, and the affixes of the sign round both.
-fn with_unit<F: AbstractFormatter>(
+fn whole<F: AbstractFormatter>(
     alloc: Global,
     formatter: &F,
     number: &Decimal,
     unit: &str,
 ) -> Result<String, Stop> {
-    let Some(mut text) = unsigned_text(alloc, formatter, &number.absolute)? else {
-        return Ok(String::from_str(alloc, "range")?);
-    };
-    text.push_str(unit)?;
-    let mut sink = TextSink::new(alloc);
-    match formatter.write_sign(&text.as_str(), number.sign, &mut sink) {
-        Ok(()) => Ok(String::from_str(alloc, sink.text())?),
-        Err(_) => Err(Stop::Memory),
+    match with_unit(alloc, formatter, &number.absolute, unit)? {
+        Some(text) => {
+            let whole = with_sign(alloc, formatter, text.as_str(), number.sign);
+            drop(text);
+            whole
+        }
+        None => out_of_range(alloc),
     }
 }
 
@@ -63,45 +76,49 @@ fn category<F: AbstractFormatter>(
     number: &UnsignedDecimal,
 ) -> Result<String, Stop> {
     if !formatter.can_write(number) {
-        return Ok(String::from_str(alloc, "range")?);
+        return out_of_range(alloc);
     }
     let operands = formatter.plural_operands(number)?;
     Ok(String::from_str(alloc, rules.category_for(&operands).as_str())?)
 }
 
-/// A number with a text behind it, between the affixes of its sign.
-pub fn written(
+// A number with a text behind it, between the affixes of its sign.
+fn written<F: AbstractFormatter>(
     alloc: Global,
-    setting: Setting<'_>,
+    formatter: &F,
     unit: &str,
     number: &str,
 ) -> Result<String, Stop> {
-    let provider = OneLocale::new(alloc, setting.rules, setting.table)?;
     let number = Decimal::try_from_str(alloc, number)?;
-    if setting.form == "plain" {
-        with_unit(alloc, &plain_of(&provider, setting)?, &number, unit)
-    } else {
-        with_unit(alloc, &formatter_of(&provider, setting)?, &number, unit)
-    }
+    let text = whole(alloc, formatter, &number, unit);
+    drop(number);
+    text
 }
 
-/// The category of what is shown for a number.
-pub fn plural(alloc: Global, setting: Setting<'_>, number: &str) -> Result<String, Stop> {
-    let provider = OneLocale::new(alloc, setting.rules, setting.table)?;
+// The category of what is shown for the number of a text.
+fn plural<F: AbstractFormatter>(
+    alloc: Global,
+    formatter: &F,
+    rules: &PluralRules,
+    number: &str,
+) -> Result<String, Stop> {
     let number = UnsignedDecimal::try_from_str(alloc, number)?;
-    if setting.form == "plain" {
-        category(
-            alloc,
-            &plain_of(&provider, setting)?,
-            provider.rules(),
-            &number,
-        )
-    } else {
-        category(
-            alloc,
-            &formatter_of(&provider, setting)?,
-            provider.rules(),
-            &number,
-        )
+    let word = category(alloc, formatter, rules, &number);
+    drop(number);
+    word
+}
+
+/// The answer of a call of any formatter.
+pub fn answer<F: AbstractFormatter>(
+    alloc: Global,
+    formatter: &F,
+    rules: &PluralRules,
+    call: &str,
+    passed: &[&str],
+) -> Result<String, Stop> {
+    match passed {
+        [number] if call == "plural_operands" => plural(alloc, formatter, rules, number),
+        [unit, number] if call == "write_sign" => written(alloc, formatter, unit, number),
+        _ => Err(Stop::Unknown),
     }
 }

@@ -5,6 +5,7 @@
 
 mod abstract_formatter;
 mod compact;
+mod formatters;
 mod plurals;
 mod rows;
 mod shown;

@@ -12,7 +12,7 @@ use Rattle.icu_decimal_provider.specs.Symbols.{SymbolStrings, english_strings}
 use Rattle.icu_decimal_text.specs.Affixes.{affixes_of, decimal_part, events_with_sign, prefix_events, suffix_events}
 use Rattle.icu_decimal_text.specs.PlainText.{Tables, fraction_events, fraction_text, integer_events, whole_text}
 
-abbrev sizes_of : ℕ → ℕ → ℕ → GroupingSizes
+abbrev pub sizes_of : ℕ → ℕ → ℕ → GroupingSizes
 sizes_of primary secondary least = record { primary = primary; secondary = secondary; min_grouping = least }
 
 -- digits with a comma between each two groups
@@ -135,13 +135,13 @@ plus_sign = refl
 
 -- The text of a number, by its digits before and behind the point.
 
-abbrev latin_digits : List ℕ
+abbrev pub latin_digits : List ℕ
 latin_digits = codes "0123456789"
 
-abbrev with_sizes : GroupingSizes → Tables
+abbrev pub with_sizes : GroupingSizes → Tables
 with_sizes sizes = record { symbols = record { strings = english_strings; grouping_sizes = sizes }; digits = latin_digits; strategy = Auto }
 
-abbrev english : Tables
+abbrev pub english : Tables
 english = with_sizes (sizes_of 3 3 1)
 
 four_digits : whole_text english (1 ∷ 2 ∷ 3 ∷ 4 ∷ []) ≡ codes "1,234"
@@ -171,7 +171,7 @@ negative whole fraction =
     let affixes = affixes_of english_strings Negative in
     annotated (prefix_events affixes ++ ((integer_events english whole ++ fraction_events english fraction) ++ suffix_events affixes))
 
-abbrev part_at : ℕ → ℕ → List ℕ → Interval
+abbrev pub part_at : ℕ → ℕ → List ℕ → Interval
 part_at start end value = record { start = start; end = end; part = decimal_part value }
 
 all_parts : negative (9 ∷ 8 ∷ 7 ∷ 6 ∷ 5 ∷ 4 ∷ []) (3 ∷ 2 ∷ 1 ∷ [])

@@ -1,5 +1,9 @@
+pub mod EventPartLemmas
 pub mod GrouperLemmas
 pub mod HintLemmas
+pub mod KnownParts
 pub mod KnownValues
+pub mod PartLemmas
 pub mod PlainTextLemmas
+pub mod SeparatorLemmas
 pub mod TextLemmas

@@ -28,7 +28,7 @@ text_between part es =
     ∙ ap (λ text. text_of es ++ text) text_of_closing
     ∙ append-nil (text_of es)
 
-text_of_part : (part : PartName) (text : List ℕ) → text_of (as_part part text) ≡ text
+pub text_of_part : (part : PartName) (text : List ℕ) → text_of (as_part part text) ≡ text
 text_of_part part text = text_between part (bytes text) ∙ text_of_bytes text
 
 -- Digits in groups.
@@ -81,11 +81,13 @@ text_grouped t group f g (d ∷ ds) same =
 text_digit : (table : List ℕ) (d : ℕ) → text_of (digit_events table d) ≡ digit_text table d
 text_digit table d = text_of_bytes (digit_text table d)
 
-text_whole : (t : Tables) (ds : List ℕ) → text_of (integer_events t ds) ≡ whole_text t ds
-text_whole t ds =
-    text_between (decimal_part (codes "integer")) (whole_events t ds)
-    ∙ text_grouped t (group_part t) (digit_events t.digits) (digit_text t.digits) ds (text_digit t.digits)
+pub text_inside : (t : Tables) (ds : List ℕ) → text_of (whole_events t ds) ≡ whole_text t ds
+text_inside t ds =
+    text_grouped t (group_part t) (digit_events t.digits) (digit_text t.digits) ds (text_digit t.digits)
     ∙ ap (λ separator. grouped t separator (map (digit_text t.digits) ds)) (text_of_part (decimal_part (codes "group")) t.symbols.strings.grouping_separator)
+
+pub text_whole : (t : Tables) (ds : List ℕ) → text_of (integer_events t ds) ≡ whole_text t ds
+text_whole t ds = text_between (decimal_part (codes "integer")) (whole_events t ds) ∙ text_inside t ds
 
 text_fraction : (t : Tables) (ds : List ℕ) → text_of (fraction_events t ds) ≡ fraction_text t ds
 text_fraction t [] = refl
@@ -105,7 +107,7 @@ unsigned_is_text p =
     ∙ ap (λ text. text ++ text_of fraction) (text_whole p.tables (whole_digits p.number))
     ∙ ap (λ text. whole_text p.tables (whole_digits p.number) ++ text) (text_fraction p.tables (fraction_digits p.number))
 
-text_prefix : (affixes : Option AffixTexts) → text_of (prefix_events affixes) ≡ prefix_text affixes
+pub text_prefix : (affixes : Option AffixTexts) → text_of (prefix_events affixes) ≡ prefix_text affixes
 text_prefix None = refl
 text_prefix (Some affixes) = text_of_part affixes.part affixes.prefix
 

@@ -6,6 +6,8 @@ pub mod HeldAffixes
 pub mod HeldSizes
 pub mod HeldTables
 pub mod LaterGroups
+pub mod PartIntervals
+pub mod PartLaws
 pub mod PlainText
 pub mod SameAffixes
 pub mod SamePlain

@@ -1,5 +1,6 @@
 ghost use Rattle.icu_decimal_text.specs.GroupLaws.{GroupsAreCut, GroupsAreSeparated};
 ghost use Rattle.std.specs.Prelude.{◌≡◌, ◌↔◌, IsTrue};
+ghost use Rattle.icu_decimal_text.specs.PartLaws.{DecimalHasParts, SeparatorsStandBetween, UnsignedHasParts};
 ghost use Rattle.icu_decimal_text.specs.TextLaws.{DecimalIsText, FindTheSameTables, UnsignedIsText};
 
 use icu_decimal_provider::laws::same_preferences;
@@ -16,6 +17,15 @@ pub fn groups_law()
 pub fn text_law()
     ensures unsigned { UnsignedIsText }
     ensures decimal { DecimalIsText }
+{}
+
+/// A law: the intervals that are listed for a number are those of its parts, with a sign and without, and no others: of
+/// `-1,234.5` in English `minusSign` from byte 0 to 1, `integer` from 1 to 6, in it `group` from 2 to 3, `decimal` from 6 to 7
+/// and `fraction` from 7 to 8. A separator stands behind the groups before it and in front of those behind it.
+pub fn parts_law()
+    ensures unsigned { UnsignedHasParts }
+    ensures decimal { DecimalHasParts }
+    ensures separators { SeparatorsStandBetween }
 {}
 
 /// A law: true exactly of equal preferences, which find the same tables of every provider, with the same options.

@@ -4,7 +4,6 @@ pub mod LanguageTextLemmas
 pub mod NormalizingLemmas
 pub mod OneVariantReader
 pub mod OneVariantSteps
-pub mod RoomLemmas
 pub mod SingleFrontLemmas
 pub mod SingleLawLemmas
 pub mod SingleStageLemmas

@@ -1,20 +1,48 @@
 //! Reading language identifiers from pieces.
 
-ghost use Rattle.std.specs.Prelude.{◌≡◌, ◌⊎◌, ℕ, false, List, IfOk, IfErr, IsOk, OnErr};
+ghost use Rattle.std.specs.Prelude.{◌≡◌, ◌⊎◌, ℕ, false, List, [], ◌∷◌, IfOk, IfErr, IsOk, OnErr, MatchOption};
+ghost use Rattle.std.specs.List.{list_any};
 ghost use Rattle.std.specs.Result.{IsErrOf};
 ghost use Rattle.icu_locale_core_grammar.specs.declared.error.ParseError.{ParseError};
+ghost use Rattle.icu_locale_core_grammar.specs.Subtags.{is_variant};
 ghost use Rattle.icu_locale_core_grammar.specs.Pieces.{pieces};
-ghost use Rattle.icu_locale_core_langid.specs.LanguageStep.{StopsWith};
+ghost use Rattle.icu_locale_core_langid.specs.LanguageStep.{StopsBehind, StopsWith};
 ghost use Rattle.icu_locale_core_langid.specs.Modes.{ReadsInMode, HasFaultInMode, may_leave};
 ghost use Rattle.icu_locale_core_langid.specs.Room.{may_grow};
 
 use crate::language_identifier::LanguageIdentifier;
 use crate::language_stage::LanguageStage;
 use crate::modes::ParserMode;
-use crate::stepping::language_after;
+use crate::stepping::put_piece;
 use icu_locale_core_grammar::ParseError;
-use icu_locale_core_subtags::{Step, SubtagIterator};
+use icu_locale_core_subtags::{Language, SubtagIterator};
 use std::alloc::{AllocError, Global};
+
+// The next piece, and the pieces behind it.
+fn next_piece<'a>(from: &SubtagIterator<'a>) -> Option<(&'a [u8], SubtagIterator<'a>)>
+    ensures { MatchOption result (from.now ≡ []) (λ next. from.now ≡ next.0.now ∷ next.1) }
+{
+    let (behind, piece) = from.again().next_const();
+    Some((piece?, behind))
+}
+
+// Puts the next pieces into a stage, as long as they fit, and gives those that are left.
+fn put_pieces<'a>(
+    id: &mut LanguageStage,
+    from: SubtagIterator<'a>,
+) -> Result<SubtagIterator<'a>, AllocError>
+    ensures stops { IfOk result (StopsBehind id.old from.entry id.new) }
+    ensures room { list_any is_variant from.entry ≡ false → IsOk result }
+{
+    let mut rest = from;
+    while let Some((piece, behind)) = next_piece(&rest) {
+        if !put_piece(id, piece)? {
+            return Ok(rest);
+        }
+        rest = behind;
+    }
+    Ok(rest)
+}
 
 // The longest front that the steps of a language part take, and the pieces left.
 fn read_front<'a>(
@@ -24,18 +52,15 @@ fn read_front<'a>(
     ensures stops { IfOk result (λ r. StopsWith from.entry r.0 r.1) }
     ensures room { may_grow from.entry ≡ false → IsOk result }
 {
-    let mut stage = None;
-    let mut rest = from.again();
-    for piece in from {
-        match language_after(alloc, stage, piece)? {
-            Step::Taken(next) => {
-                stage = next;
-                rest.next();
-            }
-            Step::Refused(same) => return Ok((same, rest)),
-        }
-    }
-    Ok((stage, rest))
+    let Some((first, behind)) = next_piece(&from) else {
+        return Ok((None, from));
+    };
+    let Ok(language) = Language::try_from_utf8(first) else {
+        return Ok((None, from));
+    };
+    let mut id = LanguageStage::from_language(alloc, language);
+    let rest = put_pieces(&mut id, behind)?;
+    Ok((Some(id), rest))
 }
 
 // Whether the mode may leave these pieces.

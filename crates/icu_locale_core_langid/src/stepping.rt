@@ -3,6 +3,7 @@
 ghost use Rattle.std.specs.Prelude.{◌≡◌, false, Some, None, Option, IfOk, IsOk, if◌then◌else◌};
 ghost use Rattle.icu_locale_core_grammar.specs.Subtags.{title, upper, lower, is_variant};
 ghost use Rattle.icu_locale_core_grammar.specs.TagStages.{fits_script, fits_region, fits_variant, with_piece, language_after as stage_after};
+ghost use Rattle.icu_locale_core_langid.specs.LanguageStep.{PutsPiece};
 ghost use Rattle.icu_locale_core_langid.specs.Room.{grows_at};
 ghost use Rattle.icu_locale_core_subtags.specs.Steps.{IsStep};
 
@@ -52,31 +53,39 @@ fn fitting_variant(id: &LanguageStage, piece: &[u8]) -> Option<Variant>
     }
 }
 
-// The stage with one more piece.
+// Puts one more piece into the stage, and says whether it fits; where it does not, the stage stays.
 #[tactic(auto, unfolding(icu_locale_core_grammar::specs::TagStages::with_piece))]
+pub(crate) fn put_piece(id: &mut LanguageStage, piece: &[u8]) -> Result<bool, AllocError>
+    ensures step { IfOk result (PutsPiece id.old piece.now id.new) }
+    ensures room { fits_variant id.old piece.now ≡ false → IsOk result }
+{
+    if let Some(script) = fitting_script(id, piece) {
+        id.script = Some(script);
+        return Ok(true);
+    }
+    if let Some(region) = fitting_region(id, piece) {
+        id.region = Some(region);
+        return Ok(true);
+    }
+    match fitting_variant(id, piece) {
+        Some(variant) => {
+            id.variants.push(variant)?;
+            Ok(true)
+        }
+        None => Ok(false),
+    }
+}
+
+// The stage with one more piece.
 fn piece_after(id: LanguageStage, piece: &[u8]) -> Result<Step<LanguageStage>, AllocError>
     ensures step { IfOk result (IsStep with_piece (λ i. i) id piece.now) }
     ensures room { fits_variant id piece.now ≡ false → IsOk result }
 {
     let mut id = id;
-    match fitting_script(&id, piece) {
-        Some(script) => {
-            id.script = Some(script);
-            Ok(Step::Taken(id))
-        }
-        None => match fitting_region(&id, piece) {
-            Some(region) => {
-                id.region = Some(region);
-                Ok(Step::Taken(id))
-            }
-            None => match fitting_variant(&id, piece) {
-                Some(variant) => {
-                    id.variants.push(variant)?;
-                    Ok(Step::Taken(id))
-                }
-                None => Ok(Step::Refused(id)),
-            },
-        },
+    if put_piece(&mut id, piece)? {
+        Ok(Step::Taken(id))
+    } else {
+        Ok(Step::Refused(id))
     }
 }
 

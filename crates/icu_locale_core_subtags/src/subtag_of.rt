@@ -44,13 +44,10 @@ impl<R: SubtagRule<N>, const N: usize> SubtagOf<R, N> {
         if !R::accepts(code_units) {
             return Err(R::fault());
         }
-        match TinyAsciiStr::try_from_utf8(code_units) {
-            Ok(text) => Ok(SubtagOf {
-                text: R::normal(text),
-                rule: PhantomData,
-            }),
-            Err(_) => Err(R::fault()),
-        }
+        Ok(SubtagOf {
+            text: R::normal(TinyAsciiStr::of_text(code_units)),
+            rule: PhantomData,
+        })
     }
 
     /// The text in normal case: of the language that `EN` reads as it is `en`.

@@ -79,45 +79,18 @@ refused_text text Memory only json = tt
 abbrev pub keys_of : {K V : Type 0} → List (K × V) → List K
 keys_of pairs = map (λ pair. pair.0) pairs
 
-keys_more : {K V : Type 0} (pairs : List (K × V)) (k : K) (v : V) → keys_of (pairs ++ (k, v) ∷ []) ≡ keys_of pairs ++ k ∷ []
+pub keys_more : {K V : Type 0} (pairs : List (K × V)) (k : K) (v : V) → keys_of (pairs ++ (k, v) ∷ []) ≡ keys_of pairs ++ k ∷ []
 keys_more [] k v = refl
 keys_more (pair ∷ pairs) k v = ap (λ rest. pair.0 ∷ rest) (keys_more pairs k v)
 
 module _ {K V : Type 0} (same : K → K → Bool) where
-  among_keys : (k : K) (pairs : List (K × V)) → list_any (same k) (keys_of pairs) ≡ is_some (table_at same k pairs)
+  pub among_keys : (k : K) (pairs : List (K × V)) → list_any (same k) (keys_of pairs) ≡ is_some (table_at same k pairs)
   among_keys k [] = refl
   among_keys k (pair ∷ pairs) =
       elim (same k pair.0) as (λ b. (b || list_any (same k) (keys_of pairs)) ≡ is_some (if b then Some pair.1 else table_at same k pairs)) [
         | true ↦ refl
         | false ↦ among_keys k pairs
       ]
-
-module _ {K V : Type 0} (same : K → K → Bool) (key : Data → Option K) (fault : Data → Option BookError) where
-  abbrev faults_from : List (K × V) → List Value → Option BookError
-  faults_from pairs values = first_fault_behind same key fault (keys_of pairs) (items_view values)
-
-  -- an entry with no fault and a new key is passed
-  pub passed : (values : List Value) (i : ℕ) (value : Value) (pairs : List (K × V)) (k : K) (v : V) → i < length values → value ≡ get_or values i value
-      → fault (view value) ≡ None → key (view value) ≡ Some k → table_at same k pairs ≡ None
-      → faults_from pairs (drop i values) ≡ faults_from (pairs ++ (k, v) ∷ []) (drop (i + 1) values)
-  passed values i value pairs k v below is sound keyed fresh =
-      let new : list_any (same k) (keys_of pairs) ≡ false = among_keys same k pairs ∙ ap is_some fresh in
-      ap (faults_from pairs) (next_item values i value below is) ∙ rw (sound, keyed, new, keys_more pairs k v) refl
-
-  -- the fault of an entry is that of the array
-  pub stopped : (values : List Value) (i : ℕ) (value : Value) (pairs : List (K × V)) (e : BookError) → i < length values → value ≡ get_or values i value
-      → IsTold (fault (view value)) e → IsTold (faults_from pairs (drop i values)) e
-  stopped values i value pairs e below is told =
-      told_at _ _ e (sym (ap (faults_from pairs) (next_item values i value below is)))
-      (told_first _ _ e (told_first (fault (view value)) _ e told))
-
-  -- and so is a key that stands already
-  pub doubled : (values : List Value) (i : ℕ) (value : Value) (pairs : List (K × V)) (k : K) → i < length values → value ≡ get_or values i value
-      → fault (view value) ≡ None → key (view value) ≡ Some k → is_some (table_at same k pairs) ≡ true
-      → faults_from pairs (drop i values) ≡ Some Duplicate
-  doubled values i value pairs k below is sound keyed there =
-      let old : list_any (same k) (keys_of pairs) ≡ true = among_keys same k pairs ∙ there in
-      ap (faults_from pairs) (next_item values i value below is) ∙ rw (sound, keyed, old) refl
 
 -- ---- where memory may be wanting
 

@@ -3,8 +3,11 @@ pub mod TagLemmas
 pub mod KeyLemmas
 pub mod TableLemmas
 pub mod FaultLemmas
+pub mod AddLemmas
+pub mod FormLemmas
 pub mod RulesLemmas
 pub mod CompactLemmas
+pub mod CompactFaults
 pub mod BookLemmas
 pub mod KnownValues
 pub mod KnownFaults

@@ -86,12 +86,12 @@ next_item values i value below is =
     let at_suc : drop i values ≡ get_or values i value ∷ drop (suc i) values = drop-cons values i value below in
     rw add-one (at_suc ∙ ap (λ x. x ∷ drop (suc i) values) (sym is))
 
-module _ {E : Type 0} (read : Data → Option E) where
-  moved : (entry : E) (done : List E) (left : Option (List E))
-      → option_map (λ (rest : List E). done ++ rest) (option_map {T = List E} {U = List E} (λ rest. entry ∷ rest) left) ≡ option_map (λ (rest : List E). (done ++ entry ∷ []) ++ rest) left
-  moved entry done None = refl
-  moved entry done (Some rest) = ap Some (sym (append_assoc done (entry ∷ []) rest))
+pub moved : {E : Type 0} (entry : E) (done : List E) (left : Option (List E))
+    → option_map (λ (rest : List E). done ++ rest) (option_map {T = List E} {U = List E} (λ rest. entry ∷ rest) left) ≡ option_map (λ (rest : List E). (done ++ entry ∷ []) ++ rest) left
+moved entry done None = refl
+moved entry done (Some rest) = ap Some (sym (append_assoc done (entry ∷ []) rest))
 
+module _ {E : Type 0} (read : Data → Option E) where
   pub one_more : (values : List Value) (i : ℕ) (value : Value) (entry : E) (done : List E) → i < length values → value ≡ get_or values i value → read (view value) ≡ Some entry
       → all_of read (items_view values) ≡ option_map (λ (rest : List E). done ++ rest) (all_of read (items_view (drop i values)))
       → all_of read (items_view values) ≡ option_map (λ (rest : List E). (done ++ entry ∷ []) ++ rest) (all_of read (items_view (drop (i + 1) values)))

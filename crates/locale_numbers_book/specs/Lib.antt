@@ -7,8 +7,11 @@ pub mod Keys
 pub mod RulesEntries
 pub mod CompactEntries
 pub mod Faults
+pub mod CompactSteps
 pub mod Book
 pub mod Refusal
 pub mod Laws
 pub mod Room
 pub mod Tables
+pub mod Adding
+pub mod Arrays

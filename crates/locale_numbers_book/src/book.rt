@@ -3,7 +3,8 @@ ghost use Rattle.std.specs.Prelude.{◌≡◌, true, IfOk, IsErrOf, IfErr};
 ghost use Rattle.std.specs.Option.{option_copied};
 ghost use Rattle.std.specs.Result.{result_map_both};
 ghost use Rattle.icu_decimal.specs.Choice.{answered};
-ghost use Rattle.serde_json.specs.View.{view};
+ghost use Rattle.serde_json.specs.View.{items_view, view};
+ghost use Rattle.locale_numbers_book.specs.Arrays.{of_arrays};
 ghost use Rattle.serde_json.specs.Data.{Data};
 ghost use Rattle.locale_numbers_book.specs.Book.{IsBook};
 ghost use Rattle.locale_numbers_book.specs.Faults.{book_fault};
@@ -12,9 +13,7 @@ ghost use Rattle.locale_numbers_book.specs.Refusal.{IsRefused, IsTold};
 ghost use Rattle.locale_numbers_book.specs.Room.{book_may_grow};
 
 use crate::BookError;
-use crate::json::{
-    compact_table, digits_table, has_form, items_at, rules_table, symbols_table, value_of,
-};
+use crate::json::{Arrays, arrays_of, table_of, value_of};
 use icu_decimal::plurals::PluralRules;
 use icu_decimal::provider::{
     CompactPatterns, DataError, DataIdentifier, DataProvider, DecimalCompactLongV1,
@@ -52,23 +51,25 @@ fn found<T>(there: Option<&T>) -> Result<&T, DataError>
     there.ok_or(DataError::IdentifierNotFound)
 }
 
-/// The book that a JSON value is.
-#[tactic(auto, using(crate::proofs::BookLemmas::grows_short, crate::proofs::BookLemmas::grows_long))]
-fn book_of(alloc: Global, value: &Value) -> Result<Book, BookError>
-    ensures value { IfOk result (IsBook (view value.now)) }
-    ensures fault { IfErr result (λ fault. IsTold (book_fault (view value.now)) fault) }
-
-    // A value of another form is never told as out of memory.
-    ensures room { IsErrOf result BookError.Memory → book_may_grow (view value.now) ≡ true }
+/// The book of five arrays.
+#[tactic(auto, using(crate::proofs::BookLemmas::or_second, crate::proofs::BookLemmas::or_fourth, crate::proofs::BookLemmas::or_fifth))]
+fn tables_of(alloc: Global, arrays: Arrays) -> Result<Book, BookError>
+    ensures value { IfOk result (IsBook (of_arrays (items_view arrays.symbols.items) (items_view arrays.digits.items) (items_view arrays.rules.items) (items_view arrays.short.items) (items_view arrays.long.items))) }
+    ensures fault { IfErr result (λ fault. IsTold (book_fault (of_arrays (items_view arrays.symbols.items) (items_view arrays.digits.items) (items_view arrays.rules.items) (items_view arrays.short.items) (items_view arrays.long.items))) fault) }
+    ensures room { IsErrOf result BookError.Memory → book_may_grow (of_arrays (items_view arrays.symbols.items) (items_view arrays.digits.items) (items_view arrays.rules.items) (items_view arrays.short.items) (items_view arrays.long.items)) ≡ true }
 {
-    if !has_form(value) {
-        return Err(BookError::Shape);
-    }
-    let symbols = symbols_table(alloc, items_at(value, 0))?;
-    let digits = digits_table(alloc, items_at(value, 1))?;
-    let rules = rules_table(alloc, items_at(value, 2))?;
-    let short = compact_table(alloc, items_at(value, 3))?;
-    match compact_table(alloc, items_at(value, 4)) {
+    let Arrays {
+        symbols,
+        digits,
+        rules,
+        short,
+        long,
+    } = arrays;
+    let symbols = table_of(alloc, symbols)?;
+    let digits = table_of(alloc, digits)?;
+    let rules = table_of(alloc, rules)?;
+    let short = table_of(alloc, short)?;
+    match table_of(alloc, long) {
         Ok(long) => Ok(Book {
             symbols,
             digits,
@@ -77,6 +78,20 @@ fn book_of(alloc: Global, value: &Value) -> Result<Book, BookError>
             long,
         }),
         Err(fault) => Err(fault),
+    }
+}
+
+/// The book that a JSON value is.
+fn book_of(alloc: Global, value: Value) -> Result<Book, BookError>
+    ensures value { IfOk result (IsBook (view value)) }
+    ensures fault { IfErr result (λ fault. IsTold (book_fault (view value)) fault) }
+
+    // A value of another form is never told as out of memory.
+    ensures room { IsErrOf result BookError.Memory → book_may_grow (view value) ≡ true }
+{
+    match arrays_of(alloc, value) {
+        Some(arrays) => tables_of(alloc, arrays),
+        None => Err(BookError::Shape),
     }
 }
 
@@ -96,7 +111,7 @@ impl Book {
         ensures refused { IfErr result (λ fault. IsRefused bytes.now fault) }
     {
         match value_of(alloc, bytes) {
-            Ok(value) => book_of(alloc, &value),
+            Ok(value) => book_of(alloc, value),
             Err(fault) => Err(fault),
         }
     }

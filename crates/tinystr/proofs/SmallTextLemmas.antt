@@ -2,9 +2,10 @@
 use Rattle.std.proofs.Common.{◌≡◌, ℕ, suc, zero, ◌+◌, ◌-◌, ◌<◌, ◌≤◌, min, true, false, not, List, [], ◌∷◌, ◌++◌, length, take, drop, replicate, refl, sym, ap, arith, one-add, ◌∙◌}
 use Rattle.std.specs.List.{list_all, position_or_len}
 use Rattle.std.specs.Str.{IsAscii}
+use Rattle.std.proofs.Math.Seq.{take-append-add}
 use Rattle.std.proofs.lemmas.Bool.{and_parts, and_from}
 use Rattle.std.proofs.lemmas.Bool.Decides.{nat_tests}
-use Rattle.std.proofs.lemmas.List.{append_assoc, length-append, length-take, drop-replicate, drop-drop, drop_at, take_at, take_min}
+use Rattle.std.proofs.lemmas.List.{append_assoc, append-nil, length-append, length-take, length-replicate, take-replicate, drop-replicate, drop-drop, drop_at, take_at, take_min}
 use Rattle.std.proofs.lemmas.List.Folds.{length-prefix_len, list_all-append}
 use Rattle.std.proofs.lemmas.Str.Ascii.{IsAscii-cons, IsAscii-nil}
 use Rattle.tinystr.specs.SmallText.{NUL, is_nul, is_text_byte, IsSmall, IsForm, padded, text_of}
@@ -121,3 +122,20 @@ take-joined (suc q) (b ∷ bs) text =
 pub front_gives_form : (n : ℕ) (text bytes : List ℕ) → bytes ≡ text ++ drop (length text) (replicate n NUL) → bytes ≡ padded n text
 unfolding padded
 front_gives_form n text bytes e = e ∙ ap (λ l. text ++ l) (drop-replicate (length text) n NUL)
+
+-- the first bytes of a text filled up with NULs to eight, written over NULs
+pub word_gives_form : (n : ℕ) (text eight bytes : List ℕ) → n ≤ 8 → length text ≤ n → eight ≡ text ++ replicate (8 - length text) NUL
+    → bytes ≡ take 0 (replicate n NUL) ++ (take n eight ++ drop (0 + length (take n eight)) (replicate n NUL)) → bytes ≡ padded n text
+unfolding padded
+word_gives_form n text eight bytes narrow fits made e =
+    let nuls = replicate (8 - length text) NUL in
+    let whole : length eight ≡ 8 = ap length made ∙ omega (arith, length-append text nuls, length-replicate {A = ℕ}, narrow, fits) in
+    let long : 0 + length (take n eight) ≡ n = omega (arith, length-take n eight, whole, narrow) in
+    let same : n - n ≡ 0 = omega arith in
+    let none : drop n (replicate n NUL) ≡ [] = drop-replicate n n NUL ∙ ap (λ k. replicate k NUL) same in
+    let behind : drop (0 + length (take n eight)) (replicate n NUL) ≡ [] = ap (λ k. drop k (replicate n NUL)) long ∙ none in
+    let more : n ≡ length text + (n - length text) = omega (arith, fits) in
+    let front : take n eight ≡ text ++ replicate (n - length text) NUL =
+    ap (take n) made ∙ ap (λ k. take k (text ++ nuls)) more ∙ take-append-add text nuls (n - length text)
+    ∙ ap (λ l. text ++ l) (take-replicate (n - length text) (8 - length text) NUL (omega (arith, narrow))) in
+    e ∙ ap (λ l. take n eight ++ l) behind ∙ append-nil (take n eight) ∙ front

@@ -4,10 +4,9 @@ ghost use Rattle.std.specs.Prelude.{◌≡◌, ◌≤◌, ◌<◌, length, ◌==
 ghost use Rattle.std.specs.List.{All};
 ghost use Rattle.tinystr.specs.SmallText.{IsSmall, IsForm, padded, text_of};
 
-use crate::bytes::text_len;
+use crate::bytes::{form_of, text_len};
 use std::marker::Model;
 use std::str;
-use tinystr_words::put_at;
 
 /// A text of at most N bytes, each 1 to 127, held in the value itself.
 #[derive(Clone, Copy)]
@@ -54,14 +53,16 @@ impl<const N: usize> TinyAsciiStr<N> {
         TinyAsciiStr { bytes: code_units }
     }
 
-    /// The value of a text that is known to fit.
-    pub(crate) fn of_text(text: &[u8]) -> Self
+    /// The text of these bytes, which the caller knows to be one that fits: `[97, 98]` is `ab`.
+    ///
+    /// Bytes that may be no text, or too many, go to `try_from_utf8`.
+    pub fn of_text(text: &[u8]) -> Self
         requires { IsSmall N text.now }
         ensures { result ≡ text.now }
     {
-        let mut bytes = [0; N];
-        put_at(&mut bytes, 0, text);
-        TinyAsciiStr { bytes }
+        TinyAsciiStr {
+            bytes: form_of(text),
+        }
     }
 
     /// The text as a `&str`: `as_str` of `tEsT` is `"tEsT"`.

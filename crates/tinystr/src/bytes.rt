@@ -4,13 +4,13 @@ ghost use Rattle.std.specs.Prelude.{◌≡◌, ◌≤◌, ◌++◌, length, drop
 ghost use Rattle.std.specs.Char.{is_ascii_uppercase, is_ascii_lowercase};
 ghost use Rattle.std.specs.Str.{IsAscii};
 ghost use Rattle.tinystr_words.specs.Words.{or_nul};
-ghost use Rattle.tinystr.specs.SmallText.{IsForm, text_of};
+ghost use Rattle.tinystr.specs.SmallText.{IsForm, IsSmall, padded, text_of};
 ghost use Rattle.tinystr.specs.Lossy.{kept_or_replacement};
 ghost use Rattle.tinystr.specs.Classes.{is_in_class, is_not_uppercase, is_not_lowercase};
 ghost use Rattle.tinystr.specs.Case.{titlecase};
 
 use crate::AsciiByte;
-use tinystr_words::{Lowercase, ToLowercase, Uppercase};
+use tinystr_words::{Lowercase, ToLowercase, Uppercase, put_at, short_word};
 
 /// How many bytes the text of a form has.
 pub(crate) fn text_len(bytes: &[u8]) -> usize
@@ -19,6 +19,20 @@ pub(crate) fn text_len(bytes: &[u8]) -> usize
     ensures bound { result ≤ length bytes.now }
 {
     tinystr_words::text_len(bytes)
+}
+
+/// The form of a text that fits. Up to eight bytes it goes by one word, which is never written and read again.
+pub(crate) fn form_of<const N: usize>(text: &[u8]) -> [u8; N]
+    requires { IsSmall N text.now }
+    ensures { result ≡ padded N text.now }
+{
+    let mut bytes = [0; N];
+    if N <= 8 {
+        put_at(&mut bytes, 0, &short_word(text).to_le_bytes()[..N]);
+    } else {
+        put_at(&mut bytes, 0, text);
+    }
+    bytes
 }
 
 /// Whether the first byte is no lower-case letter, and the rest are no upper-case ones.

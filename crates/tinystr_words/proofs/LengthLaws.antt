@@ -17,7 +17,7 @@ nuls_count [] h = refl
 nuls_count (zero ∷ xs) h = nuls_count xs h
 nuls_count (suc x ∷ xs) h = let e : false ≡ true = h in cc
 
-power_step : (c : ℕ) → 2 ^ (8 * suc c) ≡ 256 * 2 ^ (8 * c)
+pub power_step : (c : ℕ) → 2 ^ (8 * suc c) ≡ 256 * 2 ^ (8 * c)
 power_step c = let e : 8 * suc c ≡ 8 + 8 * c = omega arith in ap (λ k. 2 ^ k) e ∙ pow-add 2 8 (8 * c)
 
 -- each byte is below 256

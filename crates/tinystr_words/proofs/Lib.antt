@@ -2,3 +2,4 @@ pub mod Lanes
 pub mod FlagLaws
 pub mod LengthLaws
 pub mod CutLaws
+pub mod ShortLaws

@@ -16,4 +16,4 @@ pub use classes::{
     Digits, Letters, LettersAndDigits, Lowercase, Uppercase, WordClass, is_all, is_none,
 };
 pub use slices::{all, are_same, change, none, put_at, text_len};
-pub use words::word_len;
+pub use words::{short_word, word_len};

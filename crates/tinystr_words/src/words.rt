@@ -22,3 +22,19 @@ pub(crate) fn word_at(bytes: &[u8]) -> u64
     put_at(&mut eight, 0, bytes);
     u64::from_le_bytes(eight)
 }
+
+/// The word of at most eight bytes, filled up with NULs: of `[97, 98]` it is 25185.
+///
+/// It takes them one by one, which costs least where their count is not known beforehand.
+pub fn short_word(bytes: &[u8]) -> u64
+    requires { length bytes.now ≤ 8 }
+    ensures { word_bytes result ≡ filled bytes.now }
+{
+    let mut word = 0;
+    let mut left = bytes.len();
+    while left > 0 {
+        left -= 1;
+        word = word * 256 + u64::from(bytes[left]);
+    }
+    word
+}

@@ -1,17 +1,19 @@
 //! Entries of compact patterns.
-ghost use Rattle.std.specs.Prelude.{◌≡◌, true, ◌&&◌, IfOk, IsErrOf, IfErr, OnOk, Some, None, is_some, map, option_map};
+ghost use Rattle.std.specs.Prelude.{◌≡◌, true, IfOk, IsErrOf, IfErr, OnOk, Some, None, is_some, map, option_map};
 ghost use Rattle.std.specs.BTreeMap.{insert_entry};
 ghost use Rattle.std.specs.Ordering.{nat_cmp};
 ghost use Rattle.serde_json.specs.View.{view, items_view};
 ghost use Rattle.icu_decimal.specs.KeptEntries.{of_type};
 ghost use Rattle.icu_decimal.specs.SlotsJson.{slots_of};
-ghost use Rattle.locale_numbers_book.specs.CompactEntries.{row_in, rows_in, zero_in, rise_from, table_made, compact_entry};
-ghost use Rattle.locale_numbers_book.specs.Entries.{all_of, field_at, entry_key, has_count, is_text_at};
+ghost use Rattle.locale_numbers_book.specs.CompactEntries.{row_in, rows_in, zero_in, rise_from, table_made, compact_of, compact_entry};
+ghost use Rattle.locale_numbers_book.specs.CompactSteps.{has_table_shape, key_fault, table_fault, types_fault};
+ghost use Rattle.locale_numbers_book.specs.Entries.{all_of, field_at, entry_key};
 ghost use Rattle.locale_numbers_book.specs.Faults.{compact_fault};
 ghost use Rattle.locale_numbers_book.specs.Refusal.{IsTold};
 ghost use Rattle.locale_numbers_book.specs.Room.{compact_may_grow};
 
 use super::entries::has_count;
+use super::entry::Entry;
 use super::fields::{is_text_at, locale, size, system_or_none};
 use super::rules::array_at;
 use super::texts::has_plain_patterns;
@@ -178,14 +180,126 @@ fn table(
     }
 }
 
+/// The table of types and of the patterns below them, or what is wrong with them.
+fn table_from(
+    alloc: Global,
+    rows: Vec<Row>,
+    zero: Option<&PluralElements<Pattern>>,
+) -> Result<CompactPatterns, BookError>
+    ensures value { IfOk result (λ table. table_made (option_map (λ patterns. patterns.now) zero.entry) (map of_type rows.items) ≡ Some table) }
+    ensures rise { OnOk result (rise_from 0 rows.items ≡ true) }
+    ensures fault { IfErr result (λ fault. IsTold (types_fault (option_map (λ patterns. patterns.now) zero.entry) rows.items) fault) }
+{
+    if !types_rise(rows.as_slice()) {
+        return Err(BookError::Types);
+    }
+    match table(alloc, rows, zero) {
+        Ok(found) => match found {
+            Some(table) => Ok(table),
+            None => Err(BookError::Exponents),
+        },
+        Err(_) => Err(BookError::Memory),
+    }
+}
+
+/// The table of an entry with these types, or what is wrong with it.
+fn table_with(alloc: Global, entry: &Value, rows: Vec<Row>) -> Result<CompactPatterns, BookError>
+    requires { field_at rows_in 2 (view entry.now) ≡ Some rows.items }
+    ensures value { IfOk result (λ table. compact_of (view entry.now) ≡ Some table) }
+    ensures sound { OnOk result (table_fault (view entry.now) ≡ None) }
+    ensures fault { IfErr result (λ fault. IsTold (table_fault (view entry.now)) fault) }
+{
+    match entry_zero(alloc, entry) {
+        Ok(found) => match found {
+            Some(zero) => {
+                let made = table_from(alloc, rows, zero.as_ref());
+                drop(zero);
+                made
+            }
+            None => Err(BookError::Shape),
+        },
+        Err(_) => Err(BookError::Memory),
+    }
+}
+
+/// The table of an entry, or what is wrong with its types and patterns.
+fn entry_table(alloc: Global, entry: &Value) -> Result<CompactPatterns, BookError>
+    ensures value { IfOk result (λ table. compact_of (view entry.now) ≡ Some table) }
+    ensures sound { OnOk result (table_fault (view entry.now) ≡ None) }
+    ensures fault { IfErr result (λ fault. IsTold (table_fault (view entry.now)) fault) }
+{
+    match entry_rows(alloc, entry) {
+        Ok(found) => match found {
+            Some(rows) => table_with(alloc, entry, rows),
+            None => Err(BookError::Shape),
+        },
+        Err(_) => Err(BookError::Memory),
+    }
+}
+
+/// Whether types stand in an entry.
+fn has_rows(alloc: Global, entry: &Value) -> Result<bool, AllocError>
+    ensures { IfOk result (λ holds. holds ≡ is_some (field_at rows_in 2 (view entry.now))) }
+{
+    match entry_rows(alloc, entry) {
+        Ok(found) => Ok(found.is_some()),
+        Err(_) => Err(AllocError),
+    }
+}
+
+/// Whether patterns below all types stand in an entry, or null.
+fn has_zero(alloc: Global, entry: &Value) -> Result<bool, AllocError>
+    ensures { IfOk result (λ holds. holds ≡ is_some (field_at zero_in 3 (view entry.now))) }
+{
+    match entry_zero(alloc, entry) {
+        Ok(found) => {
+            let holds = found.is_some();
+            drop(found);
+            Ok(holds)
+        }
+        Err(_) => Err(AllocError),
+    }
+}
+
+/// Whether types and patterns of an entry have their form.
+fn has_table_shape(alloc: Global, entry: &Value) -> Result<bool, AllocError>
+    ensures { IfOk result (λ holds. holds ≡ has_table_shape (view entry.now)) }
+{
+    Ok(has_rows(alloc, entry)? && has_zero(alloc, entry)?)
+}
+
+/// The locale and the system of an entry of plain patterns, or what is wrong with them.
+fn plain_key(alloc: Global, entry: &Value) -> Result<DataIdentifier, BookError>
+    ensures key { IfOk result (λ key. entry_key (view entry.now) ≡ Some key) }
+    ensures sound { OnOk result (key_fault (view entry.now) ≡ None) }
+    ensures fault { IfErr result (λ fault. IsTold (key_fault (view entry.now)) fault) }
+{
+    let Ok(found) = locale(alloc, entry, 0) else {
+        return Err(BookError::Memory);
+    };
+    let Some(locale) = found else {
+        return Err(BookError::Tag);
+    };
+    let Some(asked) = system_or_none(entry, 1) else {
+        return Err(BookError::System);
+    };
+    if !has_plain_patterns(entry) {
+        return Err(BookError::Text);
+    }
+    Ok(DataIdentifier::for_marker_attributes_and_locale(asked, locale))
+}
+
 /// Whether an entry has four fields, of which the first two are texts.
 fn has_frame(entry: &Value) -> bool
-    ensures { result ≡ (has_count 4 (view entry.now) && is_text_at 0 (view entry.now) && is_text_at 1 (view entry.now)) }
+    ensures { result ≡ compact_may_grow (view entry.now) }
 {
     has_count(entry, 4) && is_text_at(entry, 0) && is_text_at(entry, 1)
 }
 
 /// The table of patterns of an entry, with its key.
+///
+/// A fault of the key comes behind one of the form: only then are types and patterns read to see which it is.
+#[tactic(auto, using(crate::proofs::CompactFaults::sound_whole, crate::proofs::CompactFaults::told_table, crate::proofs::CompactFaults::told_key, crate::proofs::CompactFaults::no_shape, crate::proofs::CompactFaults::no_frame))]
 pub fn compact_entry(
     alloc: Global,
     entry: &Value,
@@ -201,41 +315,40 @@ pub fn compact_entry(
     if !has_frame(entry) {
         return Err(BookError::Shape);
     }
-    let Ok(found) = entry_rows(alloc, entry) else {
-        return Err(BookError::Memory);
-    };
-    let Some(rows) = found else {
-        return Err(BookError::Shape);
-    };
-    let Ok(found) = entry_zero(alloc, entry) else {
-        return Err(BookError::Memory);
-    };
-    let Some(zero) = found else {
-        return Err(BookError::Shape);
-    };
-    let Ok(found) = locale(alloc, entry, 0) else {
-        return Err(BookError::Memory);
-    };
-    let Some(locale) = found else {
-        return Err(BookError::Tag);
-    };
-    let Some(asked) = system_or_none(entry, 1) else {
-        return Err(BookError::System);
-    };
-    if !has_plain_patterns(entry) {
-        return Err(BookError::Text);
+    match plain_key(alloc, entry) {
+        Ok(key) => match entry_table(alloc, entry) {
+            Ok(table) => Ok((key, table)),
+            Err(fault) => Err(fault),
+        },
+        Err(fault) => match has_table_shape(alloc, entry) {
+            Ok(true) => Err(fault),
+            Ok(false) => Err(BookError::Shape),
+            Err(_) => Err(BookError::Memory),
+        },
     }
-    if !types_rise(rows.as_slice()) {
-        return Err(BookError::Types);
-    }
-    let Ok(found) = table(alloc, rows, zero.as_ref()) else {
-        return Err(BookError::Memory);
-    };
-    match found {
-        Some(table) => Ok((
-            DataIdentifier::for_marker_attributes_and_locale(asked, locale),
-            table,
-        )),
-        None => Err(BookError::Exponents),
+}
+
+impl Entry for CompactPatterns {
+    ghost use Rattle.locale_numbers_book.specs.CompactEntries.{compact_entry};
+    ghost use Rattle.locale_numbers_book.specs.Entries.{entry_key};
+    ghost use Rattle.locale_numbers_book.specs.Faults.{compact_fault};
+    ghost use Rattle.locale_numbers_book.specs.Room.{compact_may_grow};
+
+    type Key = DataIdentifier;
+
+    ghost meaning = { compact_entry };
+
+    ghost key_in = { entry_key };
+
+    ghost fault_in = { compact_fault };
+
+    ghost may_grow = { compact_may_grow };
+
+    #[tactic(auto, using(crate::proofs::FaultLemmas::compact_sound))]
+    fn read(alloc: Global, entry: &Value) -> Result<(DataIdentifier, CompactPatterns), BookError> {
+        match compact_entry(alloc, entry) {
+            Ok(read) => Ok(read),
+            Err(fault) => Err(fault),
+        }
     }
 }

@@ -7,6 +7,7 @@ ghost use Rattle.locale_numbers_book.specs.Faults.{has_symbols_shape, symbols_fa
 ghost use Rattle.locale_numbers_book.specs.Refusal.{IsTold};
 ghost use Rattle.locale_numbers_book.specs.Room.{symbols_may_grow, digits_may_grow};
 
+use super::entry::Entry;
 use super::fields::{digits, has_text, is_text_at, locale, size, symbol, system, system_or_none};
 use crate::BookError;
 use icu_decimal::provider::{
@@ -170,5 +171,53 @@ pub fn digits_entry(
     match found {
         Some(digits) => Ok((system, digits)),
         None => Err(BookError::Digits),
+    }
+}
+
+impl Entry for DecimalSymbols {
+    ghost use Rattle.locale_numbers_book.specs.Entries.{entry_key, symbols_entry};
+    ghost use Rattle.locale_numbers_book.specs.Faults.{symbols_fault};
+    ghost use Rattle.locale_numbers_book.specs.Room.{symbols_may_grow};
+
+    type Key = DataIdentifier;
+
+    ghost meaning = { symbols_entry };
+
+    ghost key_in = { entry_key };
+
+    ghost fault_in = { symbols_fault };
+
+    ghost may_grow = { symbols_may_grow };
+
+    #[tactic(auto, using(crate::proofs::FaultLemmas::symbols_sound))]
+    fn read(alloc: Global, entry: &Value) -> Result<(DataIdentifier, DecimalSymbols), BookError> {
+        match symbols_entry(alloc, entry) {
+            Ok(read) => Ok(read),
+            Err(fault) => Err(fault),
+        }
+    }
+}
+
+impl Entry for [char; 10] {
+    ghost use Rattle.locale_numbers_book.specs.Entries.{digits_entry, digits_key};
+    ghost use Rattle.locale_numbers_book.specs.Faults.{digits_fault};
+    ghost use Rattle.locale_numbers_book.specs.Room.{digits_may_grow};
+
+    type Key = TinyAsciiStr<8>;
+
+    ghost meaning = { digits_entry };
+
+    ghost key_in = { digits_key };
+
+    ghost fault_in = { digits_fault };
+
+    ghost may_grow = { digits_may_grow };
+
+    #[tactic(auto, using(crate::proofs::FaultLemmas::digits_sound))]
+    fn read(alloc: Global, entry: &Value) -> Result<(TinyAsciiStr<8>, [char; 10]), BookError> {
+        match digits_entry(alloc, entry) {
+            Ok(read) => Ok(read),
+            Err(fault) => Err(fault),
+        }
     }
 }

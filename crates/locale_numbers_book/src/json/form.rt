@@ -1,22 +1,25 @@
 //! The outer form of a book.
-ghost use Rattle.std.specs.Prelude.{◌≡◌};
+ghost use Rattle.std.specs.Prelude.{◌≡◌, true, false, IfSome, None, option_map, drop};
+ghost use Rattle.std.specs.Vec.Iter.{into_iter_items};
+ghost use Rattle.serde_json.specs.Data.{array};
+ghost use Rattle.serde_json.specs.Find.{as_array};
 ghost use Rattle.serde_json.specs.View.{view, items_view};
 ghost use Rattle.locale_numbers_book.specs.Faults.{has_form, is_array_at, items_at};
+ghost use Rattle.locale_numbers_book.specs.Arrays.{of_arrays};
 
 use super::entries::has_count;
 use serde_json::Value;
+use std::alloc::Global;
+use std::vec::IntoIter;
 
-/// The items of the array at a place of a value; none where there is no array.
-pub fn items_at(value: &Value, place: usize) -> &[Value]
-    ensures { items_view result.now ≡ items_at place (view value.now) }
-{
-    match value.get(place) {
-        Some(item) => match item.as_array() {
-            Some(items) => items.as_slice(),
-            None => &[],
-        },
-        None => &[],
-    }
+/// The entries of the five arrays of a book.
+#[derive(Drop)]
+pub struct Arrays {
+    pub symbols: Vec<Value>,
+    pub digits: Vec<Value>,
+    pub rules: Vec<Value>,
+    pub short: Vec<Value>,
+    pub long: Vec<Value>,
 }
 
 fn is_array_at(value: &Value, place: usize) -> bool
@@ -29,7 +32,7 @@ fn is_array_at(value: &Value, place: usize) -> bool
 }
 
 /// Whether a value is an array of five arrays.
-pub fn has_form(value: &Value) -> bool
+fn has_form(value: &Value) -> bool
     ensures { result ≡ has_form (view value.now) }
 {
     has_count(value, 5)
@@ -38,4 +41,64 @@ pub fn has_form(value: &Value) -> bool
         && is_array_at(value, 2)
         && is_array_at(value, 3)
         && is_array_at(value, 4)
+}
+
+/// The items of an array.
+fn items_of(value: Value) -> Option<Vec<Value>>
+    ensures { option_map (λ items. items_view items.items) result ≡ as_array (view value) }
+{
+    match value {
+        Value::Array(items) => Some(items),
+        _ => None,
+    }
+}
+
+/// The items of the array that comes next; none where no array does.
+fn next_items(alloc: Global, values: &mut IntoIter<Value>) -> Vec<Value>
+    ensures first { items_view result.items ≡ items_at 0 (array (items_view (into_iter_items values.old))) }
+    ensures rest { into_iter_items values.new ≡ drop 1 (into_iter_items values.old) }
+{
+    match values.next() {
+        Some(value) => match items_of(value) {
+            Some(items) => items,
+            None => Vec::new(alloc),
+        },
+        None => Vec::new(alloc),
+    }
+}
+
+/// The arrays that five values are.
+fn arrays_in(alloc: Global, values: Vec<Value>) -> Arrays
+    requires { has_form (array (items_view values.items)) ≡ true }
+    ensures { array (items_view values.items) ≡ of_arrays (items_view result.symbols.items) (items_view result.digits.items) (items_view result.rules.items)
+        (items_view result.short.items) (items_view result.long.items) }
+{
+    let mut values = values.into_iter();
+    let symbols = next_items(alloc, &mut values);
+    let digits = next_items(alloc, &mut values);
+    let rules = next_items(alloc, &mut values);
+    let short = next_items(alloc, &mut values);
+    let long = next_items(alloc, &mut values);
+    Arrays {
+        symbols,
+        digits,
+        rules,
+        short,
+        long,
+    }
+}
+
+/// The five arrays that a value is, taken out of it, or none where it is of another form.
+pub fn arrays_of(alloc: Global, value: Value) -> Option<Arrays>
+    ensures some { IfSome result (λ arrays. view value ≡ of_arrays (items_view arrays.symbols.items) (items_view arrays.digits.items) (items_view arrays.rules.items)
+        (items_view arrays.short.items) (items_view arrays.long.items)) }
+    ensures none { result ≡ None → has_form (view value) ≡ false }
+{
+    if !has_form(&value) {
+        return None;
+    }
+    match items_of(value) {
+        Some(values) => Some(arrays_in(alloc, values)),
+        None => None,
+    }
 }

@@ -1,6 +1,7 @@
 //! JSON values as entries of a book.
 mod compact;
 mod entries;
+mod entry;
 mod fields;
 mod form;
 mod rules;
@@ -8,6 +9,6 @@ mod tables;
 mod texts;
 mod value;
 
-pub use form::{has_form, items_at};
-pub use tables::{compact_table, digits_table, rules_table, symbols_table};
+pub use form::{Arrays, arrays_of};
+pub use tables::table_of;
 pub use value::value_of;

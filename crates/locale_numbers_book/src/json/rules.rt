@@ -11,6 +11,7 @@ ghost use Rattle.locale_numbers_book.specs.Room.{rules_may_grow};
 ghost use Rattle.locale_numbers_book.specs.RulesEntries.{category_in, condition_in, conditions_in, rules_entry, rules_key};
 
 use super::entries::has_count;
+use super::entry::Entry;
 use super::fields::{is_text_at, locale, text_at};
 use crate::BookError;
 use icu_decimal::plurals::{PluralCategory, PluralRules};
@@ -130,5 +131,29 @@ pub fn rules_entry(alloc: Global, entry: &Value) -> Result<(DataLocale, PluralRu
             DataError::Memory => Err(BookError::Memory),
             _ => Err(BookError::Condition),
         },
+    }
+}
+
+impl Entry for PluralRules {
+    ghost use Rattle.locale_numbers_book.specs.Faults.{rules_fault};
+    ghost use Rattle.locale_numbers_book.specs.Room.{rules_may_grow};
+    ghost use Rattle.locale_numbers_book.specs.RulesEntries.{rules_entry, rules_key};
+
+    type Key = DataLocale;
+
+    ghost meaning = { rules_entry };
+
+    ghost key_in = { rules_key };
+
+    ghost fault_in = { rules_fault };
+
+    ghost may_grow = { rules_may_grow };
+
+    #[tactic(auto, using(crate::proofs::FaultLemmas::rules_sound))]
+    fn read(alloc: Global, entry: &Value) -> Result<(DataLocale, PluralRules), BookError> {
+        match rules_entry(alloc, entry) {
+            Ok(read) => Ok(read),
+            Err(fault) => Err(fault),
+        }
     }
 }

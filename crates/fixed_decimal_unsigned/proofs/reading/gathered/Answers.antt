@@ -16,6 +16,17 @@ returns-then-count-le-INLINE_DIGITS-clause-first c =
     subst (λ ds. 0 < length ds → 0 < get_or ds 0 0) (sym c.few_digits.ensures)
     (first_of_both parts.0.now parts.1.now c.without_leading_zeros.ensures.integer_first c.without_leading_zeros.ensures.fraction_first)
 
+pub returns-clause-value : goal.returns-clause-value
+returns-clause-value c =
+    let parts = c.without_leading_zeros.result in
+    ap (number_from_digits 10) c.in_ok-digits.ensures.items ∙ spelled_both parts.0.now parts.1.now ∙ sym c.without_leading_zeros.ensures.value
+
+pub returns-clause-first : goal.returns-clause-first
+returns-clause-first c =
+    let parts = c.without_leading_zeros.result in
+    subst (λ ds. 0 < length ds → 0 < get_or ds 0 0) (sym c.in_ok-digits.ensures.items)
+    (first_of_both parts.0.now parts.1.now c.without_leading_zeros.ensures.integer_first c.without_leading_zeros.ensures.fraction_first)
+
 pub returns-in_err-digits-clause-room : goal.returns-in_err-digits-clause-room
 returns-in_err-digits-clause-room c =
     let parts = c.without_leading_zeros.result in

@@ -1,6 +1,9 @@
-use Rattle.std.proofs.Common.{take}
+use Rattle.std.proofs.Common.{◌-◌, length, take}
 use Rattle.fixed_decimal_unsigned.specs.NumberText.{AreDigits}
 use Rattle.fixed_decimal_unsigned.proofs.text_parts.split_digits.Given as goal
 
-abbrev pub invariant-loop-index : goal.invariant-loop-index
-invariant-loop-index l = AreDigits (take l.index l.text)
+abbrev pub invariant-loop-count : goal.invariant-loop-count
+invariant-loop-count l = AreDigits (take l.count l.text)
+
+abbrev pub decreases-loop-count : goal.decreases-loop-count
+decreases-loop-count l = length l.text - l.count

@@ -6,7 +6,7 @@ use Rattle.fixed_decimal_unsigned.proofs.writing.spell.Given as goal
 abbrev pub invariant-loop-done : goal.invariant-loop-done
 invariant-loop-done l = record {
   done : l.done ≤ l.size;
-  room : length l.piece ≡ 32;
+  room : length l.piece ≡ 64;
   spelled : take (l.from + l.done) l.piece ++ map character (digits_down l.number.count l.base (l.size - l.done)) ≡ take l.from l.initial.piece ++ map character (digits_down l.number.count l.base l.size);
 }
 

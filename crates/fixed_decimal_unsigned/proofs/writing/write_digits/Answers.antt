@@ -12,8 +12,8 @@ loop-left-preserved g c =
     let count = c.args.number.now.count in
     let base = c.args.base in
     let left = c.loop-left.left in
-    let size = c.min-size.result in
-    let whole : left ≡ size + (left - size) = omega (arith, c.min-size.ensures) in
+    let size = c.piece_size-size.result in
+    let whole : left ≡ size + (left - size) = omega (arith, c.piece_size-size.ensures.within) in
     record {
       left = let before = c.loop-left.invariant.left in omega (arith, before);
       writing = writing_goes_on g.S.Sink.takes g.S.Sink.refused g.met.S.Sink.joins _ _ _ _ (bytes (map character (digits_down count (base + (left - size)) size))) (bytes (map character (digits_down count base (left - size))))
@@ -25,8 +25,8 @@ returns-in_err-write_piece-clause-begun g c =
     let count = c.args.number.now.count in
     let base = c.args.base in
     let left = c.loop-left.left in
-    let size = c.min-size.result in
-    let whole : left ≡ size + (left - size) = omega (arith, c.min-size.ensures) in
+    let size = c.piece_size-size.result in
+    let whole : left ≡ size + (left - size) = omega (arith, c.piece_size-size.ensures.within) in
     on_err c.from_residual.result
     (writing_stops g.S.Sink.takes g.S.Sink.refused g.met.S.Sink.joins g.S.Sink.lacks_room g.met.S.Sink.lacks_more _ _ _ _ (bytes (map character (digits_down count (base + (left - size)) size))) (bytes (map character (digits_down count base (left - size))))
     (rw (next_piece count base left size (left - size) whole) at c.loop-left.invariant.writing) c.in_err-write_piece.ensures.begun)

@@ -1,17 +1,9 @@
-use Rattle.std.proofs.Common.{subst}
-use Rattle.icu_locale_core_grammar.specs.TagStages.{language_after}
-use Rattle.icu_locale_core_subtags.specs.Steps.{IsStep}
-use Rattle.icu_locale_core_langid.proofs.SteppingLemmas.{one_more_taken, same_left}
-use Rattle.icu_locale_core_langid.proofs.RoomLemmas.{may_grow_more}
+use Rattle.std.proofs.Common.{[], None, ap, ◌∙◌}
+use Rattle.icu_locale_core_langid.specs.Parts.{with_parts}
+use Rattle.icu_locale_core_langid.proofs.SteppingLemmas.{stops_in_front}
 use Rattle.icu_locale_core_langid.proofs.parser.read_front.Goals as goal
 
-pub loop-piece-preserved : goal.loop-piece-preserved
-loop-piece-preserved c =
-    let left = c.loop-piece.piece-iterator in
-    let first = c.in-Some.ensures.steps in
-    let next = subst (IsStep language_after (λ l. l) c.loop-piece.stage c.in-Some.piece.now) c.in-Taken.is c.in_ok-next.ensures.step in
-    record {
-      same = same_left c.loop-piece.rest left c.next.new.self c.next-in-Taken.new.self c.in-Some.piece.now c.next-in-Taken.result c.loop-piece.invariant.same first c.next-in-Taken.ensures.steps;
-      took = one_more_taken language_after c.args.from left c.next.new.self c.loop-piece.stage c.in-Taken.next c.in-Some.piece.now c.loop-piece.invariant.took first next;
-      may = may_grow_more c.args.from left c.next.new.self c.loop-piece.stage c.in-Taken.next c.in-Some.piece.now c.loop-piece.invariant.may first next;
-    }
+pub returns-clause-stops : goal.returns-clause-stops
+returns-clause-stops c =
+    stops_in_front c.args.from c.in-Some.behind c.in_ok-rest.rest c.in-Some.first.now _ c.put_pieces.new.id c.in-Some.ensures c.in-Ok.ensures.0
+    (c.from_language-id.ensures ∙ ap (λ language. with_parts language None None []) c.in-Ok.ensures.1) c.in_ok-rest.ensures.stops

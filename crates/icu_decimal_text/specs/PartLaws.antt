@@ -1,0 +1,20 @@
+-- The intervals that are listed for a number are those of its parts, and no others; separators stand inside the integer digits.
+-- Defined in docs/formatters.md, "Formatted numbers".
+-- Cited by `laws::parts_law`.
+use Rattle.std.specs.Prelude.{◌≡◌, ℕ, ◌<◌, List, ◌++◌, length, take, drop}
+use Rattle.writeable.specs.AnnotatedText.{annotated}
+use Rattle.fixed_decimal.specs.Number.{Number}
+use Rattle.fixed_decimal.specs.SignedValue.{SignedValue}
+use Rattle.icu_decimal_text.specs.PartIntervals.{decimal_annotated, groups_text, unsigned_annotated}
+use Rattle.icu_decimal_text.specs.PlainText.{PlainNumber, Tables, decimal_events, formatted, unsigned_events}
+
+abbrev pub UnsignedHasParts : Type 0
+UnsignedHasParts = (p : PlainNumber) → annotated (unsigned_events p) ≡ unsigned_annotated p.tables p.number
+
+abbrev pub DecimalHasParts : Type 0
+DecimalHasParts = (t : Tables) (d : SignedValue Number) → annotated (decimal_events (formatted t d)) ≡ decimal_annotated t d
+
+-- behind the text of the first k groups stands the separator, and behind it the text of the other groups
+abbrev pub SeparatorsStandBetween : Type 0
+SeparatorsStandBetween = (separator : List ℕ) (gs : List (List (List ℕ))) (k : ℕ) → 0 < k → k < length gs
+    → groups_text separator gs ≡ groups_text separator (take k gs) ++ (separator ++ groups_text separator (drop k gs))
