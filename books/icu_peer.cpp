@@ -76,6 +76,10 @@ static bool read(std::string_view tag, std::string_view text, std::string& numbe
 }
 
 int main() {
+    // A locale that ICU does not have is answered as root is, and not as the locale of this machine.
+    UErrorCode code = U_ZERO_ERROR;
+    icu::Locale::setDefault(icu::Locale::getRoot(), code);
+    if (U_FAILURE(code)) return 1;
     std::ios::sync_with_stdio(false);
     std::cin.tie(nullptr);
     std::unordered_map<std::string, LocalizedNumberFormatter> kept;
