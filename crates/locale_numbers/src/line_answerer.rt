@@ -1,4 +1,4 @@
-//! The answerer of a run: it keeps formatters, and the tag that was read last, from line to line.
+//! The answerer of a run: it keeps formatters, and the tags that were read, from line to line.
 
 use crate::answer_line::push_refusal;
 use crate::answering::answer_request;
@@ -9,30 +9,31 @@ use crate::request::read_request;
 use crate::tables::Tables;
 use crate::tag_reader::TagReader;
 use icu_decimal::DecimalFormatterPreferences;
-use locale_numbers_cache::LastKey;
+use locale_numbers_cache::ReadKeys;
 use locale_numbers_engine::Answerer;
 use std::alloc::{AllocError, Global};
 
-/// Formatters that are kept, and the tag that was read last.
+/// Formatters that are kept, and the tags that were read.
 #[derive(Drop)]
 pub(crate) struct LineAnswerer<'a, T: Tables> {
     /// Where lines take memory.
     pub alloc: Global,
     /// The formatters.
     pub kept: Kept<'a, T>,
-    /// The tag that was read last, and what it prefers.
-    pub last: LastKey<Option<DecimalFormatterPreferences>>,
+    /// The tags that were read, and what each prefers.
+    pub read: ReadKeys<Option<DecimalFormatterPreferences>>,
 }
 
 impl<'a, T: Tables> Answerer for LineAnswerer<'a, T> {
     ghost use Rattle.std.specs.Prelude.{map};
+    ghost use Rattle.std.specs.List.{All};
     ghost use Rattle.locale_numbers_cache.specs.Cached.{IsSound, made_over};
     ghost use Rattle.locale_numbers_cache.specs.LastRead.{IsRead};
     ghost use Rattle.locale_numbers.specs.Answer.{answer_of};
     ghost use Rattle.locale_numbers.specs.FormatterKeys.{IsMadeFor, finds, key_of};
     ghost use Rattle.locale_numbers.specs.Wanted.{wanted_of};
 
-    ghost is_ready = { λ s. IsSound (finds (T.book s.kept.maker.tables.now)) (IsMadeFor (T.book s.kept.maker.tables.now)) s.kept.formatters × IsRead wanted_of s.last };
+    ghost is_ready = { λ s. IsSound (finds (T.book s.kept.maker.tables.now)) (IsMadeFor (T.book s.kept.maker.tables.now)) s.kept.formatters × All (IsRead wanted_of) s.read };
 
     ghost answer_of = { λ s line. answer_of (T.book s.kept.maker.tables.now) line };
 
@@ -43,7 +44,7 @@ impl<'a, T: Tables> Answerer for LineAnswerer<'a, T> {
             return push_refusal(out, Refusal::Shape);
         };
         let reader = TagReader { alloc: self.alloc };
-        let Some(preferences) = self.last.key_of(&reader, request.tag)? else {
+        let Some(preferences) = self.read.key_of(&reader, request.tag)? else {
             return push_refusal(out, Refusal::Tag);
         };
         answer_request(self.alloc, &mut self.kept, preferences, &request, out)

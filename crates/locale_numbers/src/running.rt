@@ -9,7 +9,7 @@ use crate::kept::Kept;
 use crate::kept_formatter::FormatterMaker;
 use crate::line_answerer::LineAnswerer;
 use crate::tables::Tables;
-use locale_numbers_cache::{FormatterCache, LastKey};
+use locale_numbers_cache::{FormatterCache, ReadKeys};
 use locale_numbers_engine::{ByteReader, ByteWriter, Report, RunError, run_with};
 use std::alloc::Global;
 
@@ -77,7 +77,7 @@ pub fn run<T: Tables, R: ByteReader, W: ByteWriter>(
     let mut answerer = LineAnswerer {
         alloc,
         kept,
-        last: LastKey::new(alloc),
+        read: ReadKeys::new(alloc)?,
     };
     run_with(alloc, &mut answerer, reader, writer)
 }

@@ -5,7 +5,7 @@ use crate::key_reader::KeyReader;
 use std::alloc::{AllocError, Global};
 use std::marker::Model;
 
-/// The bytes that were read last, beside their key: a line that begins as the one before is not read again.
+/// The bytes that came to a place last, beside their key.
 #[derive(Drop)]
 pub struct LastKey<K: Copy> {
     bytes: Vec<u8>,

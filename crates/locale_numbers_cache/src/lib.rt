@@ -18,9 +18,10 @@ mod last_key;
 pub mod laws;
 mod maker;
 mod promoting;
+mod read_keys;
 
 pub use cache_key::CacheKey;
 pub use formatter_cache::FormatterCache;
 pub use key_reader::KeyReader;
-pub use last_key::LastKey;
 pub use maker::Maker;
+pub use read_keys::ReadKeys;
