@@ -6,7 +6,7 @@ ghost use Rattle.locale_numbers.specs.Program.{Says, OfText, OfBook, IsRefusal, 
 use crate::fault::ProgramFault;
 use crate::running::run;
 use crate::words::Words;
-use locale_numbers_book::{Book, BookError, SAMPLE_BOOK};
+use locale_numbers_book::{Book, BookError, SAMPLE_BOOK, book_from};
 use locale_numbers_engine::{ByteReader, ByteWriter, RunError};
 use std::alloc::Global;
 use std::io::Read;
@@ -38,12 +38,23 @@ fn read_file<F: Files>(rt: &F, alloc: Global, path: &str) -> Result<Vec<u8>, Pro
     }
 }
 
-// The book that bytes are.
-fn book_of(alloc: Global, bytes: &[u8]) -> Result<Book, ProgramFault>
-    ensures says { IfOk result (λ book. Says bytes.now book) }
-    ensures refused { IfErr result (IsRefusal bytes.now) }
+// The sample book.
+fn sample_book(alloc: Global) -> Result<Book, ProgramFault>
+    ensures says { IfOk result (λ book. Says SAMPLE_BOOK.now book) }
+    ensures refused { IfErr result (IsRefusal SAMPLE_BOOK.now) }
 {
-    match Book::from_json(alloc, bytes) {
+    match Book::from_json(alloc, SAMPLE_BOOK.as_bytes()) {
+        Ok(book) => Ok(book),
+        Err(refusal) => Err(ProgramFault::Book(refusal)),
+    }
+}
+
+// The book that the bytes of a file are.
+fn file_book(alloc: Global, bytes: Vec<u8>) -> Result<Book, ProgramFault>
+    ensures says { IfOk result (λ book. Says bytes.items book) }
+    ensures refused { IfErr result (IsRefusal bytes.items) }
+{
+    match book_from(alloc, bytes) {
         Ok(book) => Ok(book),
         Err(refusal) => Err(ProgramFault::Book(refusal)),
     }
@@ -56,9 +67,9 @@ fn read_book<F: Files>(rt: &F, alloc: Global, path: Option<&str>) -> Result<Book
     ensures early { IfErr result IsBeforeLines }
 {
     match path {
-        None => book_of(alloc, SAMPLE_BOOK.as_bytes()),
+        None => sample_book(alloc),
         Some(path) => match read_file(rt, alloc, path) {
-            Ok(bytes) => book_of(alloc, &bytes),
+            Ok(bytes) => file_book(alloc, bytes),
             Err(fault) => Err(fault),
         },
     }

@@ -117,6 +117,17 @@ impl Book {
     }
 }
 
+/// The book that a JSON text is, as by [`Book::from_json`]. The text is let go before the tables are made, so that the two never
+/// take memory together.
+pub fn book_from(alloc: Global, bytes: Vec<u8>) -> Result<Book, BookError>
+    ensures value { IfOk result (λ book. (value : Data) × Reads bytes.items value × IsBook value book) }
+    ensures refused { IfErr result (λ fault. IsRefused bytes.items fault) }
+{
+    let read = value_of(alloc, &bytes);
+    drop(bytes);
+    book_of(alloc, read?)
+}
+
 /// The symbols of the entry with this locale and this system, or with none where the attributes are empty.
 ///
 /// In `SAMPLE_BOOK`, `en` with no system has `.` and `,`; `en` with `thai` has no entry, nor has `en-US`. `IdentifierNotFound`:

@@ -12,6 +12,6 @@ pub mod laws;
 mod sample_book;
 mod table;
 
-pub use book::Book;
+pub use book::{Book, book_from};
 pub use error::BookError;
 pub use sample_book::SAMPLE_BOOK;
