@@ -1,7 +1,6 @@
--- How many things are made for the keys that lines use, and the places of bytes, as the page on requests gives them.
-use Rattle.std.proofs.Common.{◌≡◌, ℕ, Bool, codes, ◌==◌, not, List, [], ◌∷◌, Option, Some, None, nat_eq, refl}
+-- How many things are made for the keys that lines use, as the page on requests gives them.
+use Rattle.std.proofs.Common.{◌≡◌, ℕ, Bool, ◌==◌, not, List, [], ◌∷◌, Option, Some, None, nat_eq, refl}
 use Rattle.locale_numbers_cache.specs.Cached.{cached, made_over}
-use Rattle.locale_numbers_cache.specs.LastRead.{place}
 use Rattle.locale_numbers_cache.specs.Laws.{kept_after, last_used}
 
 -- the key 9 is one for which nothing is found
@@ -77,10 +76,3 @@ last_of_five = refl
 -- the count stays at the greatest
 pub at_most : made_over {F = ℕ} nat_eq found (cached [] 1 (18446744073709551615)) (Some 1 ∷ Some 2 ∷ []) ≡ 18446744073709551615
 at_most = refl
-
-pub place_of_en : place (codes "en") ≡ 169
-place_of_en = refl
-
--- 169, then 164, 49, 578
-pub place_of_longer : place (codes "en-US") ≡ 578
-place_of_longer = refl

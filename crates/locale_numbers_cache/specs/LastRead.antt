@@ -1,16 +1,12 @@
 -- Bytes kept beside the key that was read from them: it is the one that would be read now.
 -- Defined in docs/requests.md, "What a cache keeps".
 -- Cited by `ReadKeys::key_of`.
-use Rattle.std.specs.Prelude.{ℕ, ◌≡◌, ◌+◌, ◌*◌, ◌%◌, List, [], ◌∷◌, Option, Some, None}
+use Rattle.std.specs.Prelude.{ℕ, ◌≡◌, ◌%◌, List, Option, Some, None}
+use Rattle.std.specs.Hash.FoldHasher.{initial, write, finish}
 
--- the place that the bytes lead to, from one of 1,024 places
-abbrev pub place_from : ℕ → List ℕ → ℕ
-place_from named [] = named
-place_from named (byte ∷ bytes) = place_from ((named * 31 + byte) % 1024) bytes
-
--- the place of the bytes
+-- the place of the bytes, of 1,024
 abbrev pub place : List ℕ → ℕ
-place bytes = place_from 0 bytes
+place bytes = finish (write initial bytes) % 1024
 
 module _ {K : Type 0} where
   -- what is kept for the bytes is the key that these have

@@ -5,6 +5,7 @@ ghost use Rattle.locale_numbers_cache.specs.LastRead.{IsRead, Remembers, place};
 use crate::key_reader::KeyReader;
 use crate::last_key::LastKey;
 use std::alloc::{AllocError, Global};
+use std::hash::{FoldHasher, Hasher};
 use std::marker::Model;
 
 /// How many places there are.
@@ -13,21 +14,19 @@ const PLACES: usize = 1024;
 /// The longest bytes that are kept: longer ones are read each time.
 const LONGEST: usize = 256;
 
-/// The place of the bytes: of two tags with one place the one that was read last is kept.
+/// The place of the bytes, by a hash of them: of bytes with one place those that were read last are kept.
 fn place_of(bytes: &[u8]) -> usize
     ensures value { result ≡ place bytes.now }
     ensures within { result < 1024 }
 {
-    let mut named: usize = 0;
-    for byte in bytes {
-        named = (named * 31 + usize::from(*byte)) % PLACES;
-    }
-    named
+    let mut hasher = FoldHasher::default();
+    hasher.write(bytes);
+    (hasher.finish() % PLACES as u64) as usize
 }
 
 /// Bytes that were read before, each beside its key: they are not read again.
 ///
-/// There are 1,024 places, and the bytes say which is theirs.
+/// There are 1,024 places, and a hash of the bytes says which is theirs.
 #[derive(Drop)]
 pub struct ReadKeys<K: Copy> {
     places: Vec<LastKey<K>>,
