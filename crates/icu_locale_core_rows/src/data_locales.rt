@@ -16,10 +16,10 @@ use std::cmp::Ordering;
 pub fn data_locale(alloc: Global, call: Call<'_>) -> Answer {
     match call.name {
         "default" => printed(alloc, &DataLocale::default()),
-        "From<&Locale>" => of_lent_locale(alloc, &Locale::try_from_str(alloc, call.first)?),
+        "From<&Locale>" => of_lent_locale(alloc, Locale::try_from_str(alloc, call.first)?),
         "From<Locale>" => of_locale(alloc, Locale::try_from_str(alloc, call.first)?),
         "From<&LanguageIdentifier>" => {
-            of_lent_identifier(alloc, &LanguageIdentifier::try_from_str(alloc, call.first)?)
+            of_lent_identifier(alloc, LanguageIdentifier::try_from_str(alloc, call.first)?)
         }
         "From<LanguageIdentifier>" => {
             of_identifier(alloc, LanguageIdentifier::try_from_str(alloc, call.first)?)
@@ -33,16 +33,20 @@ pub fn data_locale(alloc: Global, call: Call<'_>) -> Answer {
     }
 }
 
-fn of_lent_locale(alloc: Global, locale: &Locale) -> Answer {
-    printed(alloc, &DataLocale::from(locale))
+fn of_lent_locale(alloc: Global, locale: Locale) -> Answer {
+    let data_locale = DataLocale::from(&locale);
+    drop(locale);
+    printed(alloc, &data_locale)
 }
 
 fn of_locale(alloc: Global, locale: Locale) -> Answer {
     printed(alloc, &DataLocale::from(locale))
 }
 
-fn of_lent_identifier(alloc: Global, id: &LanguageIdentifier) -> Answer {
-    printed(alloc, &DataLocale::from(id))
+fn of_lent_identifier(alloc: Global, id: LanguageIdentifier) -> Answer {
+    let data_locale = DataLocale::from(&id);
+    drop(id);
+    printed(alloc, &data_locale)
 }
 
 fn of_identifier(alloc: Global, id: LanguageIdentifier) -> Answer {
@@ -54,7 +58,9 @@ fn with_subdivision(alloc: Global, subdivision: SubdivisionId) -> Answer {
     let mut data_locale = DataLocale::default();
     data_locale.subdivision = Some(subdivision);
     let locale = data_locale.into_locale(alloc)?;
-    two_texts(printed(alloc, &data_locale), held(alloc, &locale))
+    let text = held(alloc, &locale);
+    drop(locale);
+    two_texts(printed(alloc, &data_locale), text)
 }
 
 fn held(alloc: Global, locale: &Locale) -> Answer {
@@ -77,17 +83,21 @@ impl TagPart for DataLocale {
         self.total_cmp(other)
     }
 
-    fn answer(self, alloc: Global, call: Call<'_>) -> Answer {
-        match call.name {
-            "try_clone" => copied(alloc, &self, Ok(self)),
-            "strict_cmp" => debug(alloc, self.strict_cmp(call.second.as_bytes())),
-            "into_locale" => made(alloc, self.into_locale(alloc)),
-            "is_unknown" => debug(alloc, self.is_unknown()),
-            "{:?}" => debug(alloc, self),
-            "parts" => parts_of(alloc, self),
-            "same_data_locales" => is_same(alloc, &self, call.second),
-            _ => Err(Unanswered::NotUnderstood),
-        }
+    fn answer(&mut self, alloc: Global, call: Call<'_>) -> Answer {
+        of_data_locale(alloc, call, *self)
+    }
+}
+
+fn of_data_locale(alloc: Global, call: Call<'_>, data_locale: DataLocale) -> Answer {
+    match call.name {
+        "try_clone" => copied(alloc, &data_locale, Ok(data_locale)),
+        "strict_cmp" => debug(alloc, data_locale.strict_cmp(call.second.as_bytes())),
+        "into_locale" => made(alloc, data_locale.into_locale(alloc)),
+        "is_unknown" => debug(alloc, data_locale.is_unknown()),
+        "{:?}" => debug(alloc, data_locale),
+        "parts" => parts_of(alloc, data_locale),
+        "same_data_locales" => is_same(alloc, &data_locale, call.second),
+        _ => Err(Unanswered::NotUnderstood),
     }
 }
 

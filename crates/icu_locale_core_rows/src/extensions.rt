@@ -1,6 +1,8 @@
 //! Rows of extensions.
 
-use crate::answers::{debug, joined, made, printed, shown, shown_or_hyphen, text, two_texts};
+use crate::answers::{
+    debug, filled, joined, last_printed, made, printed, shown, shown_or_hyphen, text, two_texts,
+};
 use crate::bytes::number_of;
 use crate::call::Call;
 use crate::part::{TagPart, copied, hash_of, part};
@@ -18,7 +20,7 @@ use std::cmp::Ordering;
 /// The answer to a call of the extension `u`.
 pub fn unicode(alloc: Global, call: Call<'_>) -> Answer {
     match call.name {
-        "new" => printed(alloc, &Unicode::new(alloc)),
+        "new" => last_printed(alloc, Unicode::new(alloc)),
         _ => part::<Unicode>(alloc, call),
     }
 }
@@ -36,23 +38,23 @@ impl TagPart for Unicode {
         self.total_cmp(other)
     }
 
-    fn answer(mut self, alloc: Global, call: Call<'_>) -> Answer {
+    fn answer(&mut self, alloc: Global, call: Call<'_>) -> Answer {
         match call.name {
-            "try_clone" => copied(alloc, &self, self.try_clone()),
+            "try_clone" => copied(alloc, self, self.try_clone()),
             "is_empty" => debug(alloc, self.is_empty()),
-            "extend" => extended(alloc, self, Unicode::try_from_str(alloc, call.second)?),
+            "extend" => extended(alloc, self, call.second),
             "clear" => {
                 self.clear();
-                printed(alloc, &self)
+                printed(alloc, self)
             }
             _ => Err(Unanswered::NotUnderstood),
         }
     }
 }
 
-fn extended(alloc: Global, mut unicode: Unicode, other: Unicode) -> Answer {
-    unicode.extend(other)?;
-    printed(alloc, &unicode)
+fn extended(alloc: Global, unicode: &mut Unicode, other: &str) -> Answer {
+    unicode.extend(Unicode::try_from_str(alloc, other)?)?;
+    printed(alloc, unicode)
 }
 
 impl TagPart for Transform {
@@ -68,13 +70,13 @@ impl TagPart for Transform {
         self.total_cmp(other)
     }
 
-    fn answer(mut self, alloc: Global, call: Call<'_>) -> Answer {
+    fn answer(&mut self, alloc: Global, call: Call<'_>) -> Answer {
         match call.name {
-            "try_clone" => copied(alloc, &self, self.try_clone()),
+            "try_clone" => copied(alloc, self, self.try_clone()),
             "is_empty" => debug(alloc, self.is_empty()),
             "clear" => {
                 self.clear();
-                printed(alloc, &self)
+                printed(alloc, self)
             }
             _ => Err(Unanswered::NotUnderstood),
         }
@@ -94,10 +96,13 @@ impl TagPart for Other {
         self.total_cmp(other)
     }
 
-    fn answer(self, alloc: Global, call: Call<'_>) -> Answer {
+    fn answer(&mut self, alloc: Global, call: Call<'_>) -> Answer {
         match call.name {
-            "clear" => printed(alloc, &emptied(self)),
-            _ => of_other(alloc, call.name, &self),
+            "clear" => {
+                self.clear();
+                printed(alloc, self)
+            }
+            _ => of_other(alloc, call.name, self),
         }
     }
 }
@@ -109,32 +114,28 @@ fn of_other(alloc: Global, name: &str, other: &Other) -> Answer {
         "get_ext_byte" => debug(alloc, other.get_ext_byte()),
         "get_ext_str" => text(alloc, other.get_ext_str()),
         "as_slice" => joined(alloc, other.as_slice()),
-        "clear_total_cmp" => emptied_order(alloc, other, other.try_clone()?),
+        "clear_total_cmp" => emptied_order(alloc, other),
         "is_empty" => debug(alloc, other.is_empty()),
         _ => Err(Unanswered::NotUnderstood),
     }
 }
 
 // Whether a copy that was emptied is empty, and its order before the whole.
-fn emptied_order(alloc: Global, whole: &Other, copy: Other) -> Answer {
-    let other = emptied(copy);
-    two_texts(
-        debug(alloc, other.is_empty()),
-        debug(alloc, other.total_cmp(whole)),
-    )
+fn emptied_order(alloc: Global, whole: &Other) -> Answer {
+    let other = emptied(whole.try_clone()?);
+    let is_empty = other.is_empty();
+    let order = other.total_cmp(whole);
+    drop(other);
+    two_texts(debug(alloc, is_empty), debug(alloc, order))
 }
 
 /// The answer to a call of private pieces.
 pub fn private_pieces(alloc: Global, call: Call<'_>) -> Answer {
     match call.name {
-        "new" => printed(alloc, &Private::new(alloc)),
+        "new" => last_printed(alloc, Private::new(alloc)),
         "new_single" => one_piece(alloc, private::Subtag::try_from_str(call.first)?),
         "try_from_iter" => shown(alloc, collected(alloc, call.first)),
-        "push_alike" => alike(
-            alloc,
-            &two_pieces(alloc, call.first, call.second)?,
-            &collected(alloc, call.third)?,
-        ),
+        "push_alike" => push_alike(alloc, call),
         _ => part::<Private>(alloc, call),
     }
 }
@@ -152,16 +153,24 @@ fn two_pieces(alloc: Global, first: &str, second: &str) -> Result<Private, Unans
     let first = private::Subtag::try_from_str(first)?;
     let second = private::Subtag::try_from_str(second)?;
     let mut pieces = Private::new_single(alloc, first)?;
-    pieces.push(second)?;
-    Ok(pieces)
+    let pushed = pieces.push(second);
+    Ok(filled(pieces, pushed)?)
 }
 
-// Whether two values are equal, and whether they have one hash.
-fn alike(alloc: Global, one: &Private, other: &Private) -> Answer {
-    two_texts(
-        debug(alloc, one == other),
-        debug(alloc, hash_of(one) == hash_of(other)),
-    )
+fn push_alike(alloc: Global, call: Call<'_>) -> Answer {
+    let pieces = two_pieces(alloc, call.first, call.second)?;
+    let answer = alike(alloc, &pieces, call.third);
+    drop(pieces);
+    answer
+}
+
+// Whether the pieces of a text are equal to these, and whether they have one hash.
+fn alike(alloc: Global, one: &Private, other: &str) -> Answer {
+    let other = collected(alloc, other)?;
+    let is_equal = *one == other;
+    let has_one_hash = hash_of(one) == hash_of(&other);
+    drop(other);
+    two_texts(debug(alloc, is_equal), debug(alloc, has_one_hash))
 }
 
 impl TagPart for Private {
@@ -177,19 +186,19 @@ impl TagPart for Private {
         self.cmp(other)
     }
 
-    fn answer(mut self, alloc: Global, call: Call<'_>) -> Answer {
+    fn answer(&mut self, alloc: Global, call: Call<'_>) -> Answer {
         match call.name {
-            "try_clone" => copied(alloc, &self, self.try_clone()),
+            "try_clone" => copied(alloc, self, self.try_clone()),
             "len" => debug(alloc, self.len()),
             "iter" => debug(alloc, self.iter().count()),
             "first" => shown_or_hyphen(alloc, self.first()),
             "get" => shown_or_hyphen(alloc, self.get(number_of(call.second)?)),
             "as_slice" => joined(alloc, self.as_slice()),
-            "partial_cmp" => private_order(alloc, &self, call.second),
+            "partial_cmp" => private_order(alloc, self, call.second),
             "is_empty" => debug(alloc, self.is_empty()),
             "clear" => {
                 self.clear();
-                printed(alloc, &self)
+                printed(alloc, self)
             }
             _ => Err(Unanswered::NotUnderstood),
         }
@@ -198,60 +207,66 @@ impl TagPart for Private {
 
 fn private_order(alloc: Global, one: &Private, other: &str) -> Answer {
     let other = Private::try_from_str(alloc, other)?;
-    debug(alloc, one.partial_cmp(&other))
+    let order = one.partial_cmp(&other);
+    drop(other);
+    debug(alloc, order)
 }
 
 /// The answer to a call of all extensions of a tag.
 pub fn extensions(alloc: Global, call: Call<'_>) -> Answer {
     match call.name {
-        "new" => printed(alloc, &Extensions::new(alloc)),
+        "new" => last_printed(alloc, Extensions::new(alloc)),
         "from_unicode" => of_unicode(alloc, Unicode::try_from_str(alloc, call.first)?),
         _ => part::<Extensions>(alloc, call),
     }
 }
 
 fn of_unicode(alloc: Global, unicode: Unicode) -> Answer {
-    printed(alloc, &Extensions::from_unicode(alloc, unicode))
+    last_printed(alloc, Extensions::from_unicode(alloc, unicode))
+}
+
+fn extensions_of(locale: Locale) -> Extensions {
+    let Locale { id, extensions } = locale;
+    drop(id);
+    extensions
 }
 
 /// Extensions are read of a whole tag.
 impl TagPart for Extensions {
     fn of_text(alloc: Global, text: &str) -> Result<Self, ParseError> {
-        let Locale { id: _, extensions } = Locale::try_from_str(alloc, text)?;
-        Ok(extensions)
+        Ok(extensions_of(Locale::try_from_str(alloc, text)?))
     }
 
     fn of_bytes(alloc: Global, bytes: &[u8]) -> Result<Self, ParseError> {
-        let Locale { id: _, extensions } = Locale::try_from_utf8(alloc, bytes)?;
-        Ok(extensions)
+        Ok(extensions_of(Locale::try_from_utf8(alloc, bytes)?))
     }
 
     fn order(&self, other: &Self) -> Ordering {
         self.total_cmp(other)
     }
 
-    fn answer(mut self, alloc: Global, call: Call<'_>) -> Answer {
+    fn answer(&mut self, alloc: Global, call: Call<'_>) -> Answer {
         match call.name {
-            "try_clone" => copied(alloc, &self, self.try_clone()),
+            "try_clone" => copied(alloc, self, self.try_clone()),
             "is_empty" => debug(alloc, self.is_empty()),
             "push" => with_others(alloc, self, call.second),
             "retain_by_type" => retained(alloc, self, call.second),
             "clear" => {
                 self.clear();
-                printed(alloc, &self)
+                printed(alloc, self)
             }
             _ => Err(Unanswered::NotUnderstood),
         }
     }
 }
 
-fn with_others(alloc: Global, mut extensions: Extensions, others: &str) -> Answer {
+fn with_others(alloc: Global, extensions: &mut Extensions, others: &str) -> Answer {
     push_others(alloc, &mut extensions.other, others)?;
-    printed(alloc, &extensions)
+    printed(alloc, extensions)
 }
 
 // The extensions of which the closure keeps `u` alone, or all but `a`.
-fn retained(alloc: Global, mut extensions: Extensions, what: &str) -> Answer {
+fn retained(alloc: Global, extensions: &mut Extensions, what: &str) -> Answer {
     match what {
         "u" => extensions.retain_by_type(|kind| match kind {
             ExtensionType::Unicode => true,
@@ -263,7 +278,7 @@ fn retained(alloc: Global, mut extensions: Extensions, what: &str) -> Answer {
         }),
         _ => return Err(Unanswered::NotUnderstood),
     }
-    printed(alloc, &extensions)
+    printed(alloc, extensions)
 }
 
 /// Pushes the other extensions that stand between spaces, of which a singleton alone is an emptied one.
@@ -280,7 +295,9 @@ fn other_of(alloc: Global, text: &str) -> Result<Other, Unanswered> {
         return Ok(Other::try_from_str(alloc, text)?);
     }
     let whole = format!(in alloc; "{text}-foo")?;
-    Ok(emptied(Other::try_from_str(alloc, whole.as_str())?))
+    let read = Other::try_from_str(alloc, whole.as_str());
+    drop(whole);
+    Ok(emptied(read?))
 }
 
 fn emptied(mut other: Other) -> Other {

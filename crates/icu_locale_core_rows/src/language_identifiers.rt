@@ -1,9 +1,11 @@
 //! Rows of language identifiers.
 
-use crate::answers::{debug, json_text, printed, shown, text, two_texts};
-use crate::bytes::{json_of, unescaped};
+use crate::answers::{
+    debug, json_text, last_printed, printed, shown, text, two_texts, written_text,
+};
+use crate::bytes::unescaped;
 use crate::call::Call;
-use crate::part::{TagPart, copied, part};
+use crate::part::{JsonPart, TagPart, copied, of_json, part};
 use crate::single::{mode_of, one_variant};
 use crate::steps::language_behind;
 use crate::unanswered::{Answer, Unanswered};
@@ -14,6 +16,7 @@ use icu_locale_core::parser::{
 };
 use icu_locale_core::subtags::{Language, Region, Script};
 use icu_locale_core::{LanguageIdentifier, ParseError, TryFromLocaleBytes};
+use serde_json::Value;
 use std::alloc::Global;
 use std::cmp::Ordering;
 use std::str;
@@ -25,7 +28,7 @@ pub fn language_identifier(alloc: Global, call: Call<'_>) -> Answer {
         "try_from_locale_bytes" => of_locale_bytes(alloc, call.first),
         "normalize" => normalized(alloc, LanguageIdentifier::normalize(alloc, call.first)),
         "normalize_utf8" => normalized_bytes(alloc, call.first),
-        "from_json" => of_json(alloc, call.first),
+        "from_json" => of_json::<LanguageIdentifier>(alloc, call.first),
         "try_from_utf8_with_single_variant" => one_variant(
             alloc,
             LanguageIdentifier::try_from_utf8_with_single_variant(call.first.as_bytes()),
@@ -43,20 +46,16 @@ pub fn language_identifier(alloc: Global, call: Call<'_>) -> Answer {
 
 fn of_locale_bytes(alloc: Global, bytes: &str) -> Answer {
     let bytes = unescaped(alloc, bytes)?;
-    shown(
-        alloc,
-        LanguageIdentifier::try_from_locale_bytes(alloc, &bytes),
-    )
+    let read = LanguageIdentifier::try_from_locale_bytes(alloc, &bytes);
+    drop(bytes);
+    shown(alloc, read)
 }
 
 fn normalized_bytes(alloc: Global, bytes: &str) -> Answer {
     let bytes = unescaped(alloc, bytes)?;
-    normalized(alloc, LanguageIdentifier::normalize_utf8(alloc, &bytes))
-}
-
-fn of_json(alloc: Global, json: &str) -> Answer {
-    let value = json_of(alloc, json)?;
-    shown(alloc, LanguageIdentifier::from_json(alloc, &value))
+    let text = normalized(alloc, LanguageIdentifier::normalize_utf8(alloc, &bytes));
+    drop(bytes);
+    text
 }
 
 fn in_mode(alloc: Global, text: &str, mode: ParserMode) -> Answer {
@@ -90,7 +89,10 @@ fn behind_the_end(alloc: Global, mode: ParserMode) -> Answer {
 fn behind_refusal(alloc: Global, pieces: &str, mode: ParserMode) -> Answer {
     let mut iter = SubtagIterator::new(pieces.as_bytes());
     match parse_language_identifier_from_iter(alloc, &mut iter, mode) {
-        Ok(_) => text(alloc, "-"),
+        Ok(id) => {
+            drop(id);
+            text(alloc, "-")
+        }
         Err(_) => piece_text(alloc, iter.peek().unwrap_or(b"-")),
     }
 }
@@ -105,24 +107,30 @@ fn piece_text(alloc: Global, piece: &[u8]) -> Answer {
 // The answer to a call that makes a language identifier of its parts.
 fn of_parts(alloc: Global, call: Call<'_>) -> Answer {
     match call.name {
-        "unknown" => printed(alloc, &LanguageIdentifier::unknown(alloc)),
+        "unknown" => last_printed(alloc, LanguageIdentifier::unknown(alloc)),
         "from_language" => {
             let language = Language::try_from_str(call.first)?;
-            printed(alloc, &LanguageIdentifier::from_language(alloc, language))
+            last_printed(alloc, LanguageIdentifier::from_language(alloc, language))
         }
         "from_script" => {
             let script = Script::try_from_str(call.first)?;
-            printed(alloc, &LanguageIdentifier::from_script(alloc, Some(script)))
+            last_printed(alloc, LanguageIdentifier::from_script(alloc, Some(script)))
         }
         "from_region" => {
             let region = Region::try_from_str(call.first)?;
-            printed(alloc, &LanguageIdentifier::from_region(alloc, Some(region)))
+            last_printed(alloc, LanguageIdentifier::from_region(alloc, Some(region)))
         }
         "from_triple" => {
             let triple = language_and_region(call.first, call.second)?;
-            printed(alloc, &LanguageIdentifier::from_triple(alloc, triple))
+            last_printed(alloc, LanguageIdentifier::from_triple(alloc, triple))
         }
         _ => part::<LanguageIdentifier>(alloc, call),
+    }
+}
+
+impl JsonPart for LanguageIdentifier {
+    fn of_json(alloc: Global, value: &Value) -> Result<Self, ParseError> {
+        Self::from_json(alloc, value)
     }
 }
 
@@ -139,20 +147,24 @@ impl TagPart for LanguageIdentifier {
         self.total_cmp(other)
     }
 
-    fn answer(self, alloc: Global, call: Call<'_>) -> Answer {
-        match call.name {
-            "try_clone" => copied(alloc, &self, self.try_clone()),
-            "strict_cmp" => debug(alloc, self.strict_cmp(call.second.as_bytes())),
-            "normalizing_eq" => debug(alloc, self.normalizing_eq(call.second)),
-            "is_unknown" => debug(alloc, self.is_unknown()),
-            "as_ref" => printed(alloc, self.as_ref()),
-            "to_json" => json_text(alloc, self.to_json(alloc)),
-            "triple" => one_variant(alloc, Ok(triple_of(&self))),
-            "parts" => parts_of(alloc, &self),
-            "inner_length" => debug(alloc, self.inner_length()),
-            "write_inner_to" => inner_text(alloc, &self),
-            _ => Err(Unanswered::NotUnderstood),
-        }
+    fn answer(&mut self, alloc: Global, call: Call<'_>) -> Answer {
+        of_identifier(alloc, call, self)
+    }
+}
+
+fn of_identifier(alloc: Global, call: Call<'_>, id: &LanguageIdentifier) -> Answer {
+    match call.name {
+        "try_clone" => copied(alloc, id, id.try_clone()),
+        "strict_cmp" => debug(alloc, id.strict_cmp(call.second.as_bytes())),
+        "normalizing_eq" => debug(alloc, id.normalizing_eq(call.second)),
+        "is_unknown" => debug(alloc, id.is_unknown()),
+        "as_ref" => printed(alloc, id.as_ref()),
+        "to_json" => json_text(alloc, id.to_json(alloc)),
+        "triple" => one_variant(alloc, Ok(triple_of(id))),
+        "parts" => parts_of(alloc, id),
+        "inner_length" => debug(alloc, id.inner_length()),
+        "write_inner_to" => inner_text(alloc, id),
+        _ => Err(Unanswered::NotUnderstood),
     }
 }
 
@@ -172,8 +184,6 @@ fn parts_of(alloc: Global, id: &LanguageIdentifier) -> Answer {
 // The text within `t`.
 fn inner_text(alloc: Global, id: &LanguageIdentifier) -> Answer {
     let mut sink = TextSink::new(alloc);
-    match id.write_inner_to(&mut sink) {
-        Ok(()) => text(alloc, sink.text()),
-        Err(_) => Err(Unanswered::Memory),
-    }
+    let written = id.write_inner_to(&mut sink).is_ok();
+    written_text(alloc, written, sink)
 }

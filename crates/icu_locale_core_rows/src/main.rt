@@ -31,9 +31,21 @@ use std::io::{self, BufRead, BufReader};
 fn main(rt: HostRuntime) -> io::Result<()> {
     let alloc = rt.alloc();
     for line in BufReader::new(alloc, rt.reader())?.lines(alloc) {
-        let line = line?;
-        let text = answer(alloc, line.as_str())?;
-        println!(rt; "{line}\t{text}")?;
+        repeated(&rt, line?)?;
     }
     Ok(())
+}
+
+// Repeats a row with its answer.
+fn repeated(rt: &HostRuntime, row: String) -> io::Result<()> {
+    let printed = with_answer(rt, row.as_str());
+    drop(row);
+    printed
+}
+
+fn with_answer(rt: &HostRuntime, row: &str) -> io::Result<()> {
+    let text = answer(rt.alloc(), row)?;
+    let printed = println!(rt; "{row}\t{text}");
+    drop(text);
+    printed
 }

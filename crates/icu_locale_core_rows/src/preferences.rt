@@ -11,8 +11,8 @@ use std::alloc::Global;
 /// The answer to a call of preferences, which are those of the locale of a text.
 pub fn preferences(alloc: Global, call: Call<'_>) -> Answer {
     match call.name {
-        "from_locale_strict" => strictly(alloc, &Locale::try_from_str(alloc, call.first)?),
-        "numbering_system" => system_of(alloc, &Locale::try_from_str(alloc, call.first)?),
+        "from_locale_strict" => strictly(alloc, Locale::try_from_str(alloc, call.first)?),
+        "numbering_system" => system_of(alloc, Locale::try_from_str(alloc, call.first)?),
         "default" => made(alloc, LocalePreferences::default().to_locale(alloc)),
         "==" | "extend" | "same_preferences" => of_two(alloc, call),
         _ => of_one(alloc, call, preferences_of(alloc, call.first)?),
@@ -22,16 +22,21 @@ pub fn preferences(alloc: Global, call: Call<'_>) -> Answer {
 // The preferences of the locale of a text.
 fn preferences_of(alloc: Global, text: &str) -> Result<LocalePreferences, ParseError> {
     let locale = Locale::try_from_str(alloc, text)?;
-    Ok(LocalePreferences::from(&locale))
+    let preferences = LocalePreferences::from(&locale);
+    drop(locale);
+    Ok(preferences)
 }
 
-fn strictly(alloc: Global, locale: &Locale) -> Answer {
-    let preferences = LocalePreferences::from_locale_strict(locale)?;
-    made(alloc, preferences.to_locale(alloc))
+fn strictly(alloc: Global, locale: Locale) -> Answer {
+    let preferences = LocalePreferences::from_locale_strict(&locale);
+    drop(locale);
+    made(alloc, preferences?.to_locale(alloc))
 }
 
-fn system_of(alloc: Global, locale: &Locale) -> Answer {
-    shown_or_hyphen(alloc, numbering_system(locale).as_ref())
+fn system_of(alloc: Global, locale: Locale) -> Answer {
+    let system = numbering_system(&locale);
+    drop(locale);
+    shown_or_hyphen(alloc, system.as_ref())
 }
 
 fn of_two(alloc: Global, call: Call<'_>) -> Answer {

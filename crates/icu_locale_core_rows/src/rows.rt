@@ -106,7 +106,7 @@ fn of_subtags(alloc: Global, call: Call<'_>) -> Answer {
 // The answer to a call of a keyword with a type.
 fn of_keywords(alloc: Global, call: Call<'_>) -> Answer {
     match call.name {
-        "try_from" => tried(alloc, call.kind, &Value::try_from_str(alloc, call.first)?),
+        "try_from" => tried(alloc, call.kind, Value::try_from_str(alloc, call.first)?),
         "try_from_subtag" => of_subtag(alloc, call),
         "as_str" => word_of(alloc, call.kind, call.first),
         _ => of_keyword(alloc, call),

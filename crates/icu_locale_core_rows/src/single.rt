@@ -1,14 +1,17 @@
 //! Rows of the readers of one variant and one keyword at most.
 
+use crate::answers::filled;
 use crate::call::Call;
 use crate::unanswered::{Answer, Unanswered};
 use icu_locale_core::ParseError;
+use icu_locale_core::extensions::unicode::Key;
 use icu_locale_core::parser::{
     OneVariantParts, ParserMode, SingleParts, SubtagIterator,
     parse_language_identifier_with_single_variant,
     parse_locale_with_single_variant_single_keyword_unicode_extension_from_iter,
     parse_locale_with_single_variant_single_keyword_unicode_keyword_extension,
 };
+use icu_locale_core::subtags::{Subtag, SubtagOf, SubtagRule};
 use std::alloc::{AllocError, Global};
 
 /// The mode of this name.
@@ -49,11 +52,21 @@ pub fn in_mode(alloc: Global, call: Call<'_>) -> Answer {
 pub fn single(alloc: Global, read: Result<SingleParts, ParseError>) -> Answer {
     let (language, script, region, variant, keyword) = read?;
     let mut text = texts_of(alloc, &(language, script, region, variant))?;
-    if let Some((key, value)) = keyword {
-        push_part(&mut text, Some(key.as_str()))?;
-        push_part(&mut text, value.as_ref().map(|value| value.as_str()))?;
+    let pushed = push_keyword(&mut text, &keyword);
+    Ok(filled(text, pushed)?)
+}
+
+fn push_keyword(
+    text: &mut String,
+    keyword: &Option<(Key, Option<Subtag>)>,
+) -> Result<(), AllocError> {
+    match keyword {
+        Some((key, value)) => {
+            push_part(text, Some(key))?;
+            push_part(text, value.as_ref())
+        }
+        None => Ok(()),
     }
-    Ok(text)
 }
 
 /// The texts of the parts of a language identifier, with `-` for each that is missing: `en - US -`.
@@ -62,15 +75,26 @@ pub fn one_variant(alloc: Global, read: Result<OneVariantParts, ParseError>) -> 
 }
 
 fn texts_of(alloc: Global, parts: &OneVariantParts) -> Result<String, AllocError> {
-    let (language, script, region, variant) = parts;
-    let mut text = String::from_str(alloc, language.as_str())?;
-    push_part(&mut text, script.as_ref().map(|script| script.as_str()))?;
-    push_part(&mut text, region.as_ref().map(|region| region.as_str()))?;
-    push_part(&mut text, variant.as_ref().map(|variant| variant.as_str()))?;
-    Ok(text)
+    let mut text = String::new(alloc);
+    let pushed = push_parts(&mut text, parts);
+    filled(text, pushed)
 }
 
-fn push_part(text: &mut String, part: Option<&str>) -> Result<(), AllocError> {
+fn push_parts(text: &mut String, parts: &OneVariantParts) -> Result<(), AllocError> {
+    let (language, script, region, variant) = parts;
+    text.push_str(language.as_str())?;
+    push_part(text, script.as_ref())?;
+    push_part(text, region.as_ref())?;
+    push_part(text, variant.as_ref())
+}
+
+fn push_part<R: SubtagRule<N>, const N: usize>(
+    text: &mut String,
+    part: Option<&SubtagOf<R, N>>,
+) -> Result<(), AllocError> {
     text.push_str(" ")?;
-    text.push_str(part.unwrap_or("-"))
+    match part {
+        Some(part) => text.push_str(part.as_str()),
+        None => text.push_str("-"),
+    }
 }

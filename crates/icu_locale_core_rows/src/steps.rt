@@ -1,6 +1,6 @@
 //! Rows of readers that go piece by piece, by steps that the inner crates alone have.
 
-use crate::answers::{debug, printed, text, two_texts};
+use crate::answers::{debug, last_printed, text, two_texts};
 use crate::unanswered::Answer;
 use icu_locale_core_entries::{
     EntriesOf, EntryKind, HeadedStage, NoHead, Step, headed_after, headed_finish,
@@ -31,7 +31,7 @@ fn language_stage(alloc: Global, front: &str) -> Result<Option<LanguageStage>, A
 
 fn settled(alloc: Global, stage: Option<LanguageStage>) -> Answer {
     match stage {
-        Some(stage) => printed(alloc, &stage.settled()),
+        Some(stage) => last_printed(alloc, stage.settled()),
         None => text(alloc, "-"),
     }
 }
@@ -55,7 +55,7 @@ fn stage_of<K: EntryKind>(alloc: Global, pieces: &str) -> Result<HeadedStage<(),
 
 fn finished<K: EntryKind>(alloc: Global, read: Option<((), EntriesOf<K>)>) -> Answer {
     match read {
-        Some((_, map)) => printed(alloc, &map),
+        Some((_, map)) => last_printed(alloc, map),
         None => text(alloc, "-"),
     }
 }

@@ -1,6 +1,6 @@
 //! Rows of keywords with a type of their own, and of subdivisions.
 
-use crate::answers::{debug, printed, shown_or_hyphen, text, two_texts};
+use crate::answers::{debug, last_shown_or_hyphen, printed, shown_or_hyphen, text, two_texts};
 use crate::call::Call;
 use crate::part::{TagPart, copied, hash_of, part};
 use crate::unanswered::{Answer, Unanswered};
@@ -45,7 +45,9 @@ fn alike<P: PreferenceKey + Copy + PartialEq + Hash>(alloc: Global, call: Call<'
 // The preference that the value of a text states.
 fn stated<P: PreferenceKey + Copy>(alloc: Global, text: &str) -> Result<P, Unanswered> {
     let value = Value::try_from_str(alloc, text)?;
-    Ok(P::try_from_value(&value)?)
+    let stated = P::try_from_value(&value);
+    drop(value);
+    Ok(stated?)
 }
 
 // The preference that the value of a text states at a key.
@@ -54,14 +56,17 @@ fn stated_at<P: PreferenceKey + Copy>(
     key: &str,
     text: &str,
 ) -> Result<Option<P>, Unanswered> {
+    let key = Key::try_from_str(key)?;
     let value = Value::try_from_str(alloc, text)?;
-    Ok(P::try_from_key_value(&Key::try_from_str(key)?, &value)?)
+    let stated = P::try_from_key_value(&key, &value);
+    drop(value);
+    Ok(stated?)
 }
 
 // The value of a preference.
 fn written<P: PreferenceKey>(alloc: Global, stated: &P) -> Answer {
     let value = stated.unicode_extension_value(alloc)?;
-    shown_or_hyphen(alloc, value.as_ref())
+    last_shown_or_hyphen(alloc, value)
 }
 
 /// The answer to a call of a keyword whose values are words.
@@ -91,7 +96,13 @@ pub fn currency(alloc: Global, call: Call<'_>) -> Answer {
 }
 
 /// The keyword of this type that `try_from` reads of a value: the subtag, the region and the suffix, or the case.
-pub fn tried(alloc: Global, kind: &str, value: &Value) -> Answer {
+pub fn tried(alloc: Global, kind: &str, value: Value) -> Answer {
+    let answer = tried_of(alloc, kind, &value);
+    drop(value);
+    answer
+}
+
+fn tried_of(alloc: Global, kind: &str, value: &Value) -> Answer {
     match kind {
         "NumberingSystem" => text(alloc, NumberingSystem::try_from(value)?.as_str()),
         "CurrencyType" => text(alloc, CurrencyType::try_from(value)?.as_str()),
@@ -163,13 +174,17 @@ impl TagPart for SubdivisionId {
         self.cmp(other)
     }
 
-    fn answer(self, alloc: Global, call: Call<'_>) -> Answer {
-        match call.name {
-            "try_clone" => copied(alloc, &self, Ok(self)),
-            "region" => printed(alloc, &self.region),
-            "suffix" => printed(alloc, &self.suffix),
-            "into_subtag" => printed(alloc, &self.into_subtag()),
-            _ => Err(Unanswered::NotUnderstood),
-        }
+    fn answer(&mut self, alloc: Global, call: Call<'_>) -> Answer {
+        of_subdivision(alloc, call, *self)
+    }
+}
+
+fn of_subdivision(alloc: Global, call: Call<'_>, id: SubdivisionId) -> Answer {
+    match call.name {
+        "try_clone" => copied(alloc, &id, Ok(id)),
+        "region" => printed(alloc, &id.region),
+        "suffix" => printed(alloc, &id.suffix),
+        "into_subtag" => printed(alloc, &id.into_subtag()),
+        _ => Err(Unanswered::NotUnderstood),
     }
 }

@@ -1,6 +1,8 @@
 //! Rows of the values of keywords and fields.
 
-use crate::answers::{change, debug, joined, made, printed, shown_or_hyphen};
+use crate::answers::{
+    change, debug, joined, last_printed, last_shown_or_hyphen, made, printed, shown_or_hyphen,
+};
 use crate::bytes::number_of;
 use crate::call::Call;
 use crate::part::{TagPart, copied, part};
@@ -14,9 +16,10 @@ use std::cmp::Ordering;
 /// The answer to a call of the values of keywords, or of fields.
 pub fn value<K: EntryKind>(alloc: Global, call: Call<'_>) -> Answer {
     match call.name {
-        "new_empty" => printed(alloc, &ValueOf::<K>::new_empty(alloc)),
+        "new_empty" => last_printed(alloc, ValueOf::<K>::new_empty(alloc)),
         "from_subtag" => of_subtag::<K>(alloc, call.first),
         "try_from_iter" => of_subtags::<K>(alloc, call),
+        "into_single_subtag" => single_subtag::<K>(alloc, call.first),
         _ => part::<ValueOf<K>>(alloc, call),
     }
 }
@@ -41,6 +44,12 @@ fn of_subtags<K: EntryKind>(alloc: Global, call: Call<'_>) -> Answer {
     )
 }
 
+// The subtag of the value that has no other.
+fn single_subtag<K: EntryKind>(alloc: Global, text: &str) -> Answer {
+    let value = ValueOf::<K>::try_from_str(alloc, text)?;
+    last_shown_or_hyphen(alloc, value.into_single_subtag())
+}
+
 impl<K: EntryKind> TagPart for ValueOf<K> {
     fn of_text(alloc: Global, text: &str) -> Result<Self, ParseError> {
         Self::try_from_str(alloc, text)
@@ -54,18 +63,17 @@ impl<K: EntryKind> TagPart for ValueOf<K> {
         self.cmp(other)
     }
 
-    fn answer(mut self, alloc: Global, call: Call<'_>) -> Answer {
+    fn answer(&mut self, alloc: Global, call: Call<'_>) -> Answer {
         match call.name {
-            "try_clone" => copied(alloc, &self, self.try_clone()),
+            "try_clone" => copied(alloc, self, self.try_clone()),
             "is_empty" => debug(alloc, self.is_empty()),
             "eq_str" => debug(alloc, self.eq_str(call.second)),
             "get_subtag" => shown_or_hyphen(alloc, self.get_subtag(number_of(call.second)?)),
             "remove_subtag" => without_subtag(alloc, self, number_of(call.second)?),
             "as_single_subtag" => shown_or_hyphen(alloc, self.as_single_subtag()),
-            "into_single_subtag" => shown_or_hyphen(alloc, self.into_single_subtag().as_ref()),
             "clear" => {
                 self.clear();
-                printed(alloc, &self)
+                printed(alloc, self)
             }
             _ => with_subtag(alloc, call, self),
         }
@@ -73,16 +81,16 @@ impl<K: EntryKind> TagPart for ValueOf<K> {
 }
 
 // The subtag that stood at the place, and the value without it.
-fn without_subtag<K: EntryKind>(alloc: Global, mut value: ValueOf<K>, place: usize) -> Answer {
+fn without_subtag<K: EntryKind>(alloc: Global, value: &mut ValueOf<K>, place: usize) -> Answer {
     let old = value.remove_subtag(place);
-    change(alloc, old.as_ref(), &value)
+    change(alloc, old, value)
 }
 
 // The answer to a call of a value with one more subtag.
-fn with_subtag<K: EntryKind>(alloc: Global, call: Call<'_>, mut value: ValueOf<K>) -> Answer {
+fn with_subtag<K: EntryKind>(alloc: Global, call: Call<'_>, value: &mut ValueOf<K>) -> Answer {
     value.push_subtag(Subtag::try_from_str(call.second)?)?;
     match call.name {
-        "push_subtag" => printed(alloc, &value),
+        "push_subtag" => printed(alloc, value),
         "subtag_count" => debug(alloc, value.subtag_count()),
         "is_well_formed" => debug(alloc, value.is_well_formed()),
         "as_subtags_slice" => joined(alloc, value.as_subtags_slice()),

@@ -3,14 +3,21 @@
 use crate::unanswered::Answer;
 use icu_locale_core::ParseError;
 use icu_locale_core::subtags::{Language, Region, Script};
-use std::alloc::Global;
+use std::alloc::{AllocError, Global};
 use std::borrow::CowStr;
 
 /// How a text was brought into normal text: `borrowed en-US` where it is it, `owned en-US` of another.
 pub fn normalized(alloc: Global, normal: Result<CowStr<'_, Global>, ParseError>) -> Answer {
-    match normal? {
-        CowStr::Borrowed(text) => Ok(format!(in alloc; "borrowed {text}")?),
-        CowStr::Owned(text) => Ok(format!(in alloc; "owned {text}")?),
+    let normal = normal?;
+    let text = held(alloc, &normal);
+    drop(normal);
+    Ok(text?)
+}
+
+fn held(alloc: Global, normal: &CowStr<'_, Global>) -> Result<String, AllocError> {
+    match normal {
+        CowStr::Borrowed(text) => format!(in alloc; "borrowed {text}"),
+        CowStr::Owned(text) => format!(in alloc; "owned {text}"),
     }
 }
 
