@@ -294,7 +294,9 @@ fn other_of(alloc: Global, text: &str) -> Result<Other, Unanswered> {
     if text.len() > 1 {
         return Ok(Other::try_from_str(alloc, text)?);
     }
-    let whole = format!(in alloc; "{text}-foo")?;
+    let mut whole = String::from_str(alloc, text)?;
+    let pushed = whole.push_str("-foo");
+    let whole = filled(whole, pushed)?;
     let read = Other::try_from_str(alloc, whole.as_str());
     drop(whole);
     Ok(emptied(read?))

@@ -176,9 +176,9 @@ fn triple_of(id: &LanguageIdentifier) -> OneVariantParts {
 // The language, the script and the region, and how many variants there are, twice counted.
 fn parts_of(alloc: Global, id: &LanguageIdentifier) -> Answer {
     let front = one_variant(alloc, Ok((id.language, id.script, id.region, None)));
-    let count = id.variants.len();
-    let same = id.variants.iter().count();
-    two_texts(front, Ok(format!(in alloc; "{count} {same}")?))
+    let count = debug(alloc, id.variants.len());
+    let same = debug(alloc, id.variants.iter().count());
+    two_texts(front, two_texts(count, same))
 }
 
 // The text within `t`.

@@ -1,6 +1,6 @@
 //! Rows that every part of a tag has: read from a text, printed, copied and compared.
 
-use crate::answers::{debug, printed, shown, text};
+use crate::answers::{debug, printed, shown, text, two_texts};
 use crate::bytes::{json_of, unescaped};
 use crate::call::Call;
 use crate::unanswered::Answer;
@@ -106,11 +106,11 @@ fn of_one<T: TagPart>(alloc: Global, call: Call<'_>, value: &mut T) -> Answer {
 
 // The lowest and the highest length that the hint tells, with `-` where it tells no highest.
 fn hint(alloc: Global, hint: LengthHint) -> Answer {
-    let low = hint.low;
-    match hint.high {
-        Some(high) => Ok(format!(in alloc; "{low} {high}")?),
-        None => Ok(format!(in alloc; "{low} -")?),
-    }
+    let high = match hint.high {
+        Some(high) => debug(alloc, high),
+        None => text(alloc, "-"),
+    };
+    two_texts(debug(alloc, hint.low), high)
 }
 
 /// The text of the copy of a value, which is equal.

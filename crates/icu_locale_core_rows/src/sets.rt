@@ -164,11 +164,8 @@ fn pushed<R: SubtagRule<8>>(
     subtag: SubtagOf<R, 8>,
 ) -> Answer {
     let changed = set.push(subtag)?;
-    let count = set.len();
-    two_texts(
-        Ok(format!(in alloc; "{changed} {count}")?),
-        joined(alloc, set.as_slice()),
-    )
+    let counted = two_texts(debug(alloc, changed), debug(alloc, set.len()));
+    two_texts(counted, joined(alloc, set.as_slice()))
 }
 
 // Whether the subtag was there, and the set without it.

@@ -134,6 +134,13 @@ pub fn word_of(alloc: Global, kind: &str, of: &str) -> Answer {
         "EmojiPresentationStyle" => {
             text(alloc, stated::<EmojiPresentationStyle>(alloc, of)?.as_str())
         }
+        _ => word_of_order_or_break(alloc, kind, of),
+    }
+}
+
+// The word of a case of how texts are ordered, or of how lines break.
+fn word_of_order_or_break(alloc: Global, kind: &str, of: &str) -> Answer {
+    match kind {
         "LineBreakStyle" => text(alloc, stated::<LineBreakStyle>(alloc, of)?.as_str()),
         "CollationCaseFirst" => text(alloc, stated::<CollationCaseFirst>(alloc, of)?.as_str()),
         "CollationNumericOrdering" => {

@@ -1,23 +1,24 @@
 //! What rows of locales, language identifiers and data locales share.
 
+use crate::answers::{text, two_texts};
 use crate::unanswered::Answer;
 use icu_locale_core::ParseError;
 use icu_locale_core::subtags::{Language, Region, Script};
-use std::alloc::{AllocError, Global};
+use std::alloc::Global;
 use std::borrow::CowStr;
 
 /// How a text was brought into normal text: `borrowed en-US` where it is it, `owned en-US` of another.
 pub fn normalized(alloc: Global, normal: Result<CowStr<'_, Global>, ParseError>) -> Answer {
     let normal = normal?;
-    let text = held(alloc, &normal);
+    let shown = held(alloc, &normal);
     drop(normal);
-    Ok(text?)
+    shown
 }
 
-fn held(alloc: Global, normal: &CowStr<'_, Global>) -> Result<String, AllocError> {
+fn held(alloc: Global, normal: &CowStr<'_, Global>) -> Answer {
     match normal {
-        CowStr::Borrowed(text) => format!(in alloc; "borrowed {text}"),
-        CowStr::Owned(text) => format!(in alloc; "owned {text}"),
+        CowStr::Borrowed(whole) => two_texts(text(alloc, "borrowed"), text(alloc, whole)),
+        CowStr::Owned(whole) => two_texts(text(alloc, "owned"), text(alloc, whole.as_str())),
     }
 }
 
