@@ -94,9 +94,12 @@ pub fn held_in_room<W: Writeable>(
     room: usize,
 ) -> Result<String, AllocError> {
     let mut sink = Bounded::new(alloc, room);
-    let answer = value.write_to(&mut sink);
-    if answer.is_err() != sink.has_refused() {
-        return String::from_str(alloc, "neither taken nor refused");
-    }
-    held(alloc, sink.text(), sink.has_refused())
+    let is_refused = value.write_to(&mut sink).is_err();
+    let held = if is_refused == sink.has_refused() {
+        held(alloc, sink.text(), is_refused)
+    } else {
+        String::from_str(alloc, "neither taken nor refused")
+    };
+    drop(sink);
+    held
 }

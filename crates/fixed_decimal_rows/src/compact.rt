@@ -1,4 +1,4 @@
-use crate::number::Number;
+use crate::number::{Number, text_of, told};
 use crate::step::{Step, number_of, split_word};
 use crate::stop::Stop;
 use fixed_decimal::{CompactDecimal, Decimal, ParseError};
@@ -29,12 +29,20 @@ impl Number for CompactDecimal {
         self.try_clone()
     }
 
-    fn finish(self, alloc: Global, step: Step<'_>) -> Result<String, Stop> {
+    fn tell(&self, alloc: Global, step: Step<'_>) -> Result<Option<String>, Stop> {
         match step.name {
-            "exponent" => Ok(format!(in alloc; "{}", self.exponent())?),
-            "significand" => Ok(self.significand().write_to_string(alloc)?),
-            "into_significand" => Ok(self.into_significand().write_to_string(alloc)?),
-            _ => Err(Stop::Unknown),
+            "exponent" => told(alloc, &self.exponent()),
+            "significand" => Ok(Some(self.significand().write_to_string(alloc)?)),
+            _ => Ok(None),
+        }
+    }
+
+    fn finish(self, alloc: Global, step: Step<'_>) -> Result<String, Stop> {
+        if step.name == "into_significand" {
+            text_of(alloc, self.into_significand())
+        } else {
+            drop(self);
+            Err(Stop::Unknown)
         }
     }
 }

@@ -10,8 +10,8 @@ fn overlap<N: Display>(alloc: Global, first: &N, second: &UnsignedDecimal) -> Re
     Ok(format!(in alloc; "Overlap: {first} and {second}")?)
 }
 
-/// The answer of `concatenate_end`, which left this number.
-pub fn left<N: Display>(
+// The answer where this number was left.
+fn left_text<N: Display>(
     alloc: Global,
     number: &N,
     done: &Result<(), ConcatenateError<UnsignedDecimal>>,
@@ -23,8 +23,8 @@ pub fn left<N: Display>(
     }
 }
 
-/// The answer of `concatenated_end`.
-pub fn given<N: Display>(
+// The answer where this sum was given.
+fn given_text<N: Display>(
     alloc: Global,
     sum: &Result<N, ConcatenateError<(N, UnsignedDecimal)>>,
 ) -> Result<String, Stop> {
@@ -33,4 +33,26 @@ pub fn given<N: Display>(
         Err(ConcatenateError::Overlap((first, second))) => overlap(alloc, first, second),
         Err(ConcatenateError::Memory(_)) => Err(Stop::Memory),
     }
+}
+
+/// The answer of `concatenate_end`, which left this number.
+pub fn left<N: Display + Drop>(
+    alloc: Global,
+    number: N,
+    done: Result<(), ConcatenateError<UnsignedDecimal>>,
+) -> Result<String, Stop> {
+    let text = left_text(alloc, &number, &done);
+    drop(done);
+    drop(number);
+    text
+}
+
+/// The answer of `concatenated_end`.
+pub fn given<N: Display + Drop>(
+    alloc: Global,
+    sum: Result<N, ConcatenateError<(N, UnsignedDecimal)>>,
+) -> Result<String, Stop> {
+    let text = given_text(alloc, &sum);
+    drop(sum);
+    text
 }

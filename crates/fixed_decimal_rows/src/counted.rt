@@ -1,6 +1,7 @@
 //! Roundings whose turns are counted. A count takes no bytes, so a row sees the number alone.
 ghost use Rattle.std.specs.Prelude.{◌≡◌, ◌+◌, ◌<◌, ◌≤◌};
 
+use crate::number::text_of;
 use crate::step::number_of;
 use crate::stop::Stop;
 use fixed_decimal::{
@@ -9,7 +10,6 @@ use fixed_decimal::{
 use std::alloc::{AllocError, Global};
 use std::marker::Brand;
 use std::sync::ledger::{Blank, Ledger};
-use writeable::Writeable;
 
 // Rounds, with the turns counted in the ledger of a blank.
 fn round_in_ledger<L: Ledger>(
@@ -47,8 +47,13 @@ fn round_byte<L: Ledger>(
 {
     let mut number = UnsignedDecimal::from_u8(alloc, byte)?;
     let mode = UnsignedRoundingMode::Expand;
-    number.round_counted(1, mode, RoundingIncrement::MultiplesOf1, turns)?;
-    Ok(number)
+    match number.round_counted(1, mode, RoundingIncrement::MultiplesOf1, turns) {
+        Ok(()) => Ok(number),
+        Err(refused) => {
+            drop(number);
+            Err(refused)
+        }
+    }
 }
 
 // The number of a byte rounded so, with the turns counted in the ledger of a blank.
@@ -70,6 +75,7 @@ pub fn byte_answer(alloc: Global, fields: &[&str]) -> Result<String, Stop> {
     let Some(byte) = fields.first() else {
         return Err(Stop::Unknown);
     };
-    let number = counted_byte::<Brand>(alloc, number_of(byte)?, Blank::new(1))?;
-    Ok(number.write_to_string(alloc)?)
+    let byte = number_of(byte)?;
+    let number = counted_byte::<Brand>(alloc, byte, Blank::new(1))?;
+    text_of(alloc, number)
 }

@@ -1,12 +1,11 @@
-use crate::number::Number;
-use crate::rounding::Rounding;
+use crate::number::{Number, text_of};
+use crate::rounding::{Passed, Rounding};
 use crate::step::{Step, number_of, split_word, unescaped};
 use crate::stop::Stop;
 use crate::words::{sign_display_of, sign_of};
 use crate::{concatenation, counted, in_place, integers};
-use fixed_decimal::{Decimal, ParseError, UnsignedDecimal};
+use fixed_decimal::{Decimal, ParseError, Sign, SignDisplay, UnsignedDecimal};
 use std::alloc::{AllocError, Global};
-use writeable::Writeable;
 
 // A decimal of a sign and an absolute value.
 fn of_parts(alloc: Global, words: &str) -> Result<Decimal, Stop> {
@@ -48,7 +47,10 @@ fn trimmed(number: Decimal, name: &str) -> Result<Decimal, Stop> {
         "trimmed_start" => Ok(number.trimmed_start()),
         "trimmed_end" => Ok(number.trimmed_end()),
         "trimmed_end_if_integer" => Ok(number.trimmed_end_if_integer()),
-        _ => Err(Stop::Unknown),
+        _ => {
+            drop(number);
+            Err(Stop::Unknown)
+        }
     }
 }
 
@@ -64,7 +66,10 @@ fn at_position(number: Decimal, name: &str, position: i16) -> Result<Decimal, St
         "trunced" => Ok(number.trunced(position)),
         "ceiled" => Ok(number.ceiled(position)),
         "floored" => Ok(number.floored(position)),
-        _ => Err(Stop::Unknown),
+        _ => {
+            drop(number);
+            Err(Stop::Unknown)
+        }
     }
 }
 
@@ -75,44 +80,83 @@ fn by_mode(number: Decimal, name: &str, it: Rounding) -> Result<Decimal, Stop> {
         "rounded_with_mode_and_increment" => {
             Ok(number.rounded_with_mode_and_increment(it.position, it.mode, it.increment)?)
         }
-        _ => Err(Stop::Unknown),
+        _ => {
+            drop(number);
+            Err(Stop::Unknown)
+        }
     }
 }
 
-// The number that a consuming call leaves whose name is of none about signs.
-fn left_by(number: Decimal, step: Step<'_>) -> Result<Decimal, Stop> {
-    let (position, words) = split_word(step.passed);
-    if position.is_empty() {
-        return trimmed(number, step.name);
+// What a consuming call is passed: a choice of sign, or words of another kind.
+#[derive(Clone, Copy)]
+enum Consuming<'a> {
+    Sign(Sign),
+    SignDisplay(SignDisplay),
+    Other(&'a str, Passed),
+}
+
+// The consuming call that a step is.
+fn consuming_of(step: Step<'_>) -> Result<Consuming<'_>, Stop> {
+    match step.name {
+        "with_sign" => Ok(Consuming::Sign(sign_of(step.passed)?)),
+        "with_sign_display" => Ok(Consuming::SignDisplay(sign_display_of(step.passed)?)),
+        name => Ok(Consuming::Other(name, Passed::of(step.passed)?)),
     }
-    let position = number_of::<i16>(position)?;
-    if words.is_empty() {
-        return at_position(number, step.name, position);
-    }
-    let rounding = Rounding::of(step.passed)?;
-    by_mode(number, step.name, rounding)
 }
 
 // The number that a consuming call leaves.
-fn left_by_any(number: Decimal, step: Step<'_>) -> Result<Decimal, Stop> {
-    match step.name {
-        "with_sign" => Ok(number.with_sign(sign_of(step.passed)?)),
-        "with_sign_display" => Ok(number.with_sign_display(sign_display_of(step.passed)?)),
-        _ => left_by(number, step),
+fn left_by(number: Decimal, call: Consuming<'_>) -> Result<Decimal, Stop> {
+    match call {
+        Consuming::Sign(sign) => Ok(number.with_sign(sign)),
+        Consuming::SignDisplay(display) => Ok(number.with_sign_display(display)),
+        Consuming::Other(name, Passed::Nothing) => trimmed(number, name),
+        Consuming::Other(name, Passed::Position(position)) => at_position(number, name, position),
+        Consuming::Other(name, Passed::Mode(rounding)) => by_mode(number, name, rounding),
+    }
+}
+
+// The answer of a consuming call: the text of the number that it leaves.
+fn consumed(alloc: Global, number: Decimal, call: Consuming<'_>) -> Result<String, Stop> {
+    match left_by(number, call) {
+        Ok(left) => text_of(alloc, left),
+        Err(stop) => Err(stop),
+    }
+}
+
+// The same, by the step.
+fn consumed_by(alloc: Global, number: Decimal, step: Step<'_>) -> Result<String, Stop> {
+    match consuming_of(step) {
+        Ok(call) => consumed(alloc, number, call),
+        Err(stop) => {
+            drop(number);
+            Err(stop)
+        }
     }
 }
 
 // The answer of `concatenate_end` of the absolute value.
 fn concatenate_end(alloc: Global, mut number: Decimal, other: &str) -> Result<String, Stop> {
-    let other = UnsignedDecimal::try_from_str(alloc, other)?;
-    let done = number.concatenate_end(other);
-    concatenation::left(alloc, &number, &done)
+    match UnsignedDecimal::try_from_str(alloc, other) {
+        Ok(other) => {
+            let done = number.concatenate_end(other);
+            concatenation::left(alloc, number, done)
+        }
+        Err(refused) => {
+            drop(number);
+            Err(Stop::from(refused))
+        }
+    }
 }
 
 // The answer of `concatenated_end`.
 fn concatenated_end(alloc: Global, number: Decimal, other: &str) -> Result<String, Stop> {
-    let other = UnsignedDecimal::try_from_str(alloc, other)?;
-    concatenation::given(alloc, &number.concatenated_end(other))
+    match UnsignedDecimal::try_from_str(alloc, other) {
+        Ok(other) => concatenation::given(alloc, number.concatenated_end(other)),
+        Err(refused) => {
+            drop(number);
+            Err(Stop::from(refused))
+        }
+    }
 }
 
 impl Number for Decimal {
@@ -149,15 +193,18 @@ impl Number for Decimal {
         Ok(true)
     }
 
-    fn finish(self, alloc: Global, step: Step<'_>) -> Result<String, Stop> {
-        if let Some(answer) = in_place::answer(alloc, &self, step)? {
-            return Ok(answer);
-        }
+    fn tell(&self, alloc: Global, step: Step<'_>) -> Result<Option<String>, Stop> {
         match step.name {
-            "sign" => Ok(format!(in alloc; "{:?}", self.sign())?),
+            "sign" => Ok(Some(format!(in alloc; "{:?}", self.sign())?)),
+            _ => in_place::answer(alloc, self, step),
+        }
+    }
+
+    fn finish(self, alloc: Global, step: Step<'_>) -> Result<String, Stop> {
+        match step.name {
             "concatenate_end" => concatenate_end(alloc, self, step.passed),
             "concatenated_end" => concatenated_end(alloc, self, step.passed),
-            _ => Ok(left_by_any(self, step)?.write_to_string(alloc)?),
+            _ => consumed_by(alloc, self, step),
         }
     }
 }

@@ -1,16 +1,16 @@
 //! Numbers made of their digits, given one after another.
-ghost use Rattle.std.specs.Prelude.{◌≡◌, length, IfOk};
+ghost use Rattle.std.specs.Prelude.{◌≡◌, length, IfOk, OnOk};
 
 use crate::step::{number_of, split_word};
 use crate::stop::Stop;
 use fixed_decimal::{GivenDigits, UnsignedDecimal};
 use std::alloc::Global;
 
-// The digits of a word, given one after another.
-fn given(alloc: Global, word: &str) -> Result<GivenDigits, Stop>
-    ensures { IfOk result (λ digits. digits.count ≡ length word.now) }
+// Gives the digits of a word, one after another.
+fn give(digits: &mut GivenDigits, word: &str) -> Result<(), Stop>
+    requires { digits.old.count ≡ 0 }
+    ensures { OnOk result (digits.new.count ≡ length word.now) }
 {
-    let mut digits = GivenDigits::with_room(alloc, word.len())?;
     for character in word.as_bytes() {
         let digit = character.wrapping_sub(b'0');
         if digit > 9 {
@@ -18,7 +18,21 @@ fn given(alloc: Global, word: &str) -> Result<GivenDigits, Stop>
         }
         digits.push(digit)?;
     }
-    Ok(digits)
+    Ok(())
+}
+
+// The digits of a word.
+fn given(alloc: Global, word: &str) -> Result<GivenDigits, Stop>
+    ensures { IfOk result (λ digits. digits.count ≡ length word.now) }
+{
+    let mut digits = GivenDigits::with_room(alloc, word.len())?;
+    match give(&mut digits, word) {
+        Ok(()) => Ok(digits),
+        Err(stop) => {
+            drop(digits);
+            Err(stop)
+        }
+    }
 }
 
 /// The number of a word's digits, of which as many as the second word says stand behind the point.

@@ -22,25 +22,40 @@ pub trait Number: Display + Drop + PartialEq + Sized + Writeable {
         Ok(false)
     }
 
-    /// The answer of a call that only the type has, and that changes nothing or consumes the number.
+    /// What a call tells that only the type has; `None` where the type has no such call.
+    fn tell(&self, _alloc: Global, _step: Step<'_>) -> Result<Option<String>, Stop> {
+        Ok(None)
+    }
+
+    /// The answer of a call that only the type has, and that consumes the number.
     fn finish(self, _alloc: Global, _step: Step<'_>) -> Result<String, Stop> {
+        drop(self);
         Err(Stop::Unknown)
+    }
+}
+
+// The number of the text of bytes, by `try_from_str`.
+fn read_bytes<N: Number>(alloc: Global, bytes: &[u8]) -> Result<N, Stop> {
+    match str::from_utf8(bytes) {
+        Ok(text) => Ok(N::read(alloc, text)?),
+        Err(_) => Err(Stop::Unknown),
     }
 }
 
 // The number that the bytes of a text spell, by `try_from_str`.
 fn read_escaped<N: Number>(alloc: Global, text: &str) -> Result<N, Stop> {
     let bytes = unescaped(alloc, text)?;
-    match str::from_utf8(bytes.as_slice()) {
-        Ok(text) => Ok(N::read(alloc, text)?),
-        Err(_) => Err(Stop::Unknown),
-    }
+    let number = read_bytes(alloc, bytes.as_slice());
+    drop(bytes);
+    number
 }
 
 // The number that a long text spells, by `try_from_str`.
 fn read_long<N: Number>(alloc: Global, word: &str) -> Result<N, Stop> {
     let text = long_text(alloc, word)?;
-    Ok(N::read(alloc, text.as_str())?)
+    let number = N::read(alloc, text.as_str());
+    drop(text);
+    Ok(number?)
 }
 
 // The number that a row begins with.
@@ -72,6 +87,13 @@ pub fn ends<T: Display>(alloc: Global, low: &T, high: &T) -> Result<Option<Strin
     Ok(Some(format!(in alloc; "{low} to {high}")?))
 }
 
+/// The text of a number.
+pub fn text_of<W: Writeable + Drop>(alloc: Global, number: W) -> Result<String, Stop> {
+    let text = number.write_to_string(alloc);
+    drop(number);
+    Ok(text?)
+}
+
 // The two ends of a length hint.
 fn hint_of<N: Number>(alloc: Global, number: &N) -> Result<Option<String>, Stop> {
     let hint = number.writeable_length_hint();
@@ -93,7 +115,7 @@ fn has_long_text<N: Number>(alloc: Global, number: &N, word: &str) -> Result<boo
     Ok(number.write_to_string(alloc)?.as_str() == text.as_str())
 }
 
-// The answer of a call that each type has, or `None` where it is none of these.
+// The answer of a call that changes nothing, or `None` where it is none of these.
 fn common_answer<N: Number>(
     alloc: Global,
     number: &N,
@@ -105,11 +127,11 @@ fn common_answer<N: Number>(
         "to_string" => told(alloc, number),
         "writeable_length_hint" => hint_of(alloc, number),
         "write_to" => Ok(Some(held_in_room(alloc, number, number_of(step.passed)?)?)),
-        _ => Ok(None),
+        _ => number.tell(alloc, step),
     }
 }
 
-// The answer of a call that changes the number, its text, or of one that each type has; `None` where it is none of these.
+// The answer of a call that changes the number, its text, or of one that changes nothing; `None` where it is none of these.
 fn plain_answer<N: Number>(
     alloc: Global,
     number: &mut N,
@@ -146,8 +168,7 @@ pub fn answer<N: Number>(alloc: Global, fields: &[&str]) -> Result<String, Stop>
         return Err(Stop::Unknown);
     };
     let Some((last, calls)) = calls.split_last() else {
-        let number: N = started(alloc, Step::of(start))?;
-        return Ok(number.write_to_string(alloc)?);
+        return text_of::<N>(alloc, started(alloc, Step::of(start))?);
     };
     let number: N = left_behind(alloc, start, calls)?;
     last_answer(alloc, number, Step::of(last))

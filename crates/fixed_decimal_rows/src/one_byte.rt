@@ -1,11 +1,24 @@
 //! Whole numbers of one digit to a byte: the plain program that the calls of `UnsignedDecimal`, which keeps two to a
 //! byte, are compared with on many numbers.
 
+use crate::number::text_of;
 use crate::step::number_of;
 use crate::stop::Stop;
+use crate::unsigned::concatenate_end;
 use fixed_decimal::UnsignedDecimal;
 use std::alloc::{AllocError, Global};
-use writeable::Writeable;
+
+// What both kinds are compared after.
+#[derive(Clone, Copy)]
+enum Change<'t> {
+    Nothing,
+    // rounded up at a place
+    Expanded(u8),
+    // the digits from a place up taken away
+    Cut(u8),
+    // these digits put behind
+    Concatenated(&'t str),
+}
 
 // The digits that a number shows, the ones first.
 #[derive(Drop)]
@@ -13,23 +26,25 @@ struct OneByte {
     digits: Vec<u8>,
 }
 
+// Puts the digits of a text to the others, its last one first.
+fn push_digits(digits: &mut Vec<u8>, text: &str) -> Result<(), AllocError> {
+    for character in text.as_bytes().iter().rev() {
+        digits.push(character.saturating_sub(b'0'))?;
+    }
+    Ok(())
+}
+
 impl OneByte {
     // The number that digits spell.
     fn read(alloc: Global, text: &str) -> Result<OneByte, AllocError> {
         let mut digits = Vec::new(alloc);
-        for character in text.as_bytes().iter().rev() {
-            digits.push(character.saturating_sub(b'0'))?;
+        match push_digits(&mut digits, text) {
+            Ok(()) => Ok(OneByte { digits }),
+            Err(refused) => {
+                drop(digits);
+                Err(refused)
+            }
         }
-        Ok(OneByte { digits })
-    }
-
-    // Its digits, the highest first.
-    fn text(&self, alloc: Global) -> Result<String, AllocError> {
-        let mut text = String::new(alloc);
-        for digit in self.digits.iter().rev() {
-            text.push(char::from(digit.saturating_add(b'0')))?;
-        }
-        Ok(text)
     }
 
     // Rounds up at a place.
@@ -52,17 +67,41 @@ impl OneByte {
         Ok(())
     }
 
-    // Takes the digits from a place up away.
-    fn cut(&mut self, place: usize) {
-        self.digits.truncate(place);
+    // Puts the digits of a text behind its own.
+    fn concatenate_end(&mut self, text: &str) -> Result<(), AllocError> {
+        let count = self.digits.len();
+        push_digits(&mut self.digits, text)?;
+        let len = self.digits.len();
+        self.digits.rotate_left(count.min(len));
+        Ok(())
     }
 
-    // Puts the digits of another number behind its own.
-    fn concatenate_end(&mut self, other: OneByte) -> Result<(), AllocError> {
-        let mut digits = other.digits;
-        digits.extend_from_slice(self.digits.as_slice())?;
-        self.digits = digits;
-        Ok(())
+    // Makes a change.
+    fn change(&mut self, change: Change<'_>) -> Result<(), AllocError> {
+        match change {
+            Change::Nothing => Ok(()),
+            Change::Expanded(place) => self.expand(place as usize),
+            Change::Cut(place) => {
+                self.digits.truncate(place as usize);
+                Ok(())
+            }
+            Change::Concatenated(text) => self.concatenate_end(text),
+        }
+    }
+
+    // Its digits, the highest first.
+    fn text(&self, alloc: Global) -> Result<String, AllocError> {
+        let mut text = String::new(alloc);
+        for digit in self.digits.iter().rev() {
+            text.push(char::from(digit.saturating_add(b'0')))?;
+        }
+        Ok(text)
+    }
+
+    // Makes a change; its digits then.
+    fn changed_text(&mut self, alloc: Global, change: Change<'_>) -> Result<String, AllocError> {
+        self.change(change)?;
+        self.text(alloc)
     }
 }
 
@@ -88,27 +127,40 @@ fn made(alloc: Global, count: u8, seed: u64) -> Result<String, AllocError> {
     Ok(text)
 }
 
-// Whether both show the same digits.
-fn is_same(alloc: Global, number: &UnsignedDecimal, plain: &OneByte) -> Result<bool, Stop> {
-    Ok(number.write_to_string(alloc)?.as_str() == plain.text(alloc)?.as_str())
+// The text of the number of a text after a change, by the plain program.
+fn plain_text(alloc: Global, text: &str, change: Change<'_>) -> Result<String, AllocError> {
+    let mut plain = OneByte::read(alloc, text)?;
+    let shown = plain.changed_text(alloc, change);
+    drop(plain);
+    shown
 }
 
-// Whether both are the same rounded up at a place.
-fn expands_alike(alloc: Global, text: &str, place: u8) -> Result<bool, Stop> {
+// The text of the number of a text after a change, by the calls.
+fn packed_text(alloc: Global, text: &str, change: Change<'_>) -> Result<String, Stop> {
     let mut number = UnsignedDecimal::try_from_str(alloc, text)?;
-    let mut plain = OneByte::read(alloc, text)?;
-    number.expand(place as i16);
-    plain.expand(place as usize)?;
-    is_same(alloc, &number, &plain)
+    match change {
+        Change::Nothing => (),
+        Change::Expanded(place) => number.expand(place as i16),
+        Change::Cut(place) => number.set_max_position(place as i16),
+        Change::Concatenated(back) => return concatenate_end(alloc, number, back),
+    }
+    text_of(alloc, number)
 }
 
-// Whether both are the same cut at a place.
-fn cuts_alike(alloc: Global, text: &str, place: u8) -> Result<bool, Stop> {
-    let mut number = UnsignedDecimal::try_from_str(alloc, text)?;
-    let mut plain = OneByte::read(alloc, text)?;
-    number.set_max_position(place as i16);
-    plain.cut(place as usize);
-    is_same(alloc, &number, &plain)
+// Whether both show the same digits after a change.
+fn is_same(alloc: Global, packed: &str, plain: &str, change: Change<'_>) -> Result<bool, Stop> {
+    let packed = packed_text(alloc, packed, change)?;
+    let plain = plain_text(alloc, plain, change)?;
+    Ok(packed.as_str() == plain.as_str())
+}
+
+// A text with so many zeros behind it.
+fn with_zeros(alloc: Global, text: &str, count: usize) -> Result<String, AllocError> {
+    let mut text = String::from_str(alloc, text)?;
+    for _ in 0..count {
+        text.push('0')?;
+    }
+    Ok(text)
 }
 
 // Whether both are the same where the digits behind an index are put behind those before it.
@@ -116,29 +168,18 @@ fn concatenates_alike(alloc: Global, text: &str, index: u8) -> Result<bool, Stop
     let Some((front, back)) = text.split_at_checked(index as usize) else {
         return Err(Stop::Unknown);
     };
-    let mut zeros = String::from_str(alloc, front)?;
-    for _ in 0..back.len() {
-        zeros.push('0')?;
-    }
-    let mut number = UnsignedDecimal::try_from_str(alloc, zeros.as_str())?;
-    let mut plain = OneByte::read(alloc, front)?;
-    if number
-        .concatenate_end(UnsignedDecimal::try_from_str(alloc, back)?)
-        .is_err()
-    {
-        return Ok(false);
-    }
-    plain.concatenate_end(OneByte::read(alloc, back)?)?;
-    is_same(alloc, &number, &plain)
+    let zeros = with_zeros(alloc, front, back.len())?;
+    let alike = is_same(alloc, zeros.as_str(), front, Change::Concatenated(back));
+    drop(zeros);
+    alike
 }
 
-// Whether both are the same after each of the calls, at each place of a number of so many digits behind its first.
+// Whether both are the same after each of the changes, at each place of a number of so many digits behind its first.
 fn is_alike(alloc: Global, text: &str, count: u8) -> Result<bool, Stop> {
-    let number = UnsignedDecimal::try_from_str(alloc, text)?;
-    let mut alike = is_same(alloc, &number, &OneByte::read(alloc, text)?)?;
+    let mut alike = is_same(alloc, text, text, Change::Nothing)?;
     for place in 1..count {
-        alike = alike && expands_alike(alloc, text, place)?;
-        alike = alike && cuts_alike(alloc, text, place)?;
+        alike = alike && is_same(alloc, text, text, Change::Expanded(place))?;
+        alike = alike && is_same(alloc, text, text, Change::Cut(place))?;
         alike = alike && concatenates_alike(alloc, text, place)?;
     }
     Ok(alike)

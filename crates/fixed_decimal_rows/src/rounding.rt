@@ -1,4 +1,4 @@
-//! What a rounding is passed: a position, a mode and an increment.
+//! What a rounding is passed: a position, a mode and an increment; and what a consuming call is passed.
 
 use crate::step::{number_of, split_word};
 use crate::stop::Stop;
@@ -34,5 +34,27 @@ impl Rounding {
             SignedRoundingMode::Unsigned(mode) => Ok(mode),
             _ => Err(Stop::Unknown),
         }
+    }
+}
+
+/// What a consuming call is passed.
+#[derive(Clone, Copy)]
+pub enum Passed {
+    Nothing,
+    Position(i16),
+    Mode(Rounding),
+}
+
+impl Passed {
+    /// What words spell: nothing, a position alone, or a position, a mode, and an increment or none.
+    pub fn of(words: &str) -> Result<Passed, Stop> {
+        let (position, behind) = split_word(words);
+        if position.is_empty() {
+            return Ok(Passed::Nothing);
+        }
+        if behind.is_empty() {
+            return Ok(Passed::Position(number_of(position)?));
+        }
+        Ok(Passed::Mode(Rounding::of(words)?))
     }
 }

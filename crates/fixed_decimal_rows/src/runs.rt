@@ -47,13 +47,24 @@ fn call_of(step: Step<'_>) -> Result<Call, Stop> {
     }
 }
 
-// The calls that fields spell.
-fn calls_of(alloc: Global, fields: &[&str]) -> Result<Vec<Call>, Stop> {
-    let mut calls = Vec::new(alloc);
+// Puts the calls that fields spell to the others.
+fn put_calls(calls: &mut Vec<Call>, fields: &[&str]) -> Result<(), Stop> {
     for field in fields {
         calls.push(call_of(Step::of(field))?)?;
     }
-    Ok(calls)
+    Ok(())
+}
+
+// The calls that fields spell.
+fn calls_of(alloc: Global, fields: &[&str]) -> Result<Vec<Call>, Stop> {
+    let mut calls = Vec::new(alloc);
+    match put_calls(&mut calls, fields) {
+        Ok(()) => Ok(calls),
+        Err(stop) => {
+            drop(calls);
+            Err(stop)
+        }
+    }
 }
 
 // The answer of a run, and what its sink then holds.
@@ -72,16 +83,46 @@ fn answer_of(
     }
 }
 
+// The answer of a run of calls, written into a sink that holds a text.
+fn answer_in_text(alloc: Global, start: &[u8], calls: &[Call]) -> Result<String, Stop> {
+    let mut sink = TextSink::new(alloc);
+    let ran = run_calls(alloc, start, calls, &mut sink);
+    let answer = answer_of(alloc, ran, sink.text(), sink.has_refused());
+    drop(sink);
+    answer
+}
+
+// The same, of a number that may be spelled by escapes.
+fn answer_of_escaped(alloc: Global, start: &str, calls: &[Call]) -> Result<String, Stop> {
+    let start = unescaped(alloc, start)?;
+    let answer = answer_in_text(alloc, start.as_slice(), calls);
+    drop(start);
+    answer
+}
+
 /// The answer of a run of calls, written into a sink that holds a text.
 pub fn answer(alloc: Global, fields: &[&str]) -> Result<String, Stop> {
     let Some((start, fields)) = fields.split_first() else {
         return Err(Stop::Unknown);
     };
-    let start = unescaped(alloc, start)?;
     let calls = calls_of(alloc, fields)?;
-    let mut sink = TextSink::new(alloc);
-    let ran = run_calls(alloc, start.as_slice(), calls.as_slice(), &mut sink);
-    answer_of(alloc, ran, sink.text(), sink.has_refused())
+    let answer = answer_of_escaped(alloc, start, calls.as_slice());
+    drop(calls);
+    answer
+}
+
+// The answer of a run of calls, written into a sink with so much room.
+fn answer_bounded(
+    alloc: Global,
+    start: &[u8],
+    calls: &[Call],
+    room: usize,
+) -> Result<String, Stop> {
+    let mut sink = Bounded::new(alloc, room);
+    let ran = run_calls(alloc, start, calls, &mut sink);
+    let answer = answer_of(alloc, ran, sink.text(), sink.has_refused());
+    drop(sink);
+    answer
 }
 
 /// The answer of a run of calls, written into a sink with so much room as the first field says.
@@ -89,8 +130,9 @@ pub fn answer_in_room(alloc: Global, fields: &[&str]) -> Result<String, Stop> {
     let [room, start, fields @ ..] = fields else {
         return Err(Stop::Unknown);
     };
+    let room = number_of(room)?;
     let calls = calls_of(alloc, fields)?;
-    let mut sink = Bounded::new(alloc, number_of(room)?);
-    let ran = run_calls(alloc, start.as_bytes(), calls.as_slice(), &mut sink);
-    answer_of(alloc, ran, sink.text(), sink.has_refused())
+    let answer = answer_bounded(alloc, start.as_bytes(), calls.as_slice(), room);
+    drop(calls);
+    answer
 }

@@ -8,8 +8,13 @@ use std::alloc::{AllocError, Global};
 fn of_parts(alloc: Global, words: &str) -> Result<ScientificDecimal, Stop> {
     let (significand, exponent) = split_word(words);
     let significand = Decimal::try_from_str(alloc, significand)?;
-    let exponent = FixedInteger::try_from_str(alloc, exponent)?;
-    Ok(ScientificDecimal::from(significand, exponent))
+    match FixedInteger::try_from_str(alloc, exponent) {
+        Ok(exponent) => Ok(ScientificDecimal::from(significand, exponent)),
+        Err(refused) => {
+            drop(significand);
+            Err(Stop::from(refused))
+        }
+    }
 }
 
 impl Number for ScientificDecimal {

@@ -49,18 +49,29 @@ fn push_escaped(bytes: &mut Vec<u8>, text: &str) -> Result<(), Stop> {
     Ok(())
 }
 
-/// The bytes that a text spells: `\xff` is one byte, every other character is itself.
-pub fn unescaped(alloc: Global, text: &str) -> Result<Vec<u8>, Stop> {
-    let mut bytes = Vec::new(alloc);
+// Adds the bytes that a text spells.
+fn push_unescaped(bytes: &mut Vec<u8>, text: &str) -> Result<(), Stop> {
     let Some((plain, escaped)) = text.split_once("\\x") else {
         bytes.extend_from_slice(text.as_bytes())?;
-        return Ok(bytes);
+        return Ok(());
     };
     bytes.extend_from_slice(plain.as_bytes())?;
     for part in escaped.split("\\x") {
-        push_escaped(&mut bytes, part)?;
+        push_escaped(bytes, part)?;
     }
-    Ok(bytes)
+    Ok(())
+}
+
+/// The bytes that a text spells: `\xff` is one byte, every other character is itself.
+pub fn unescaped(alloc: Global, text: &str) -> Result<Vec<u8>, Stop> {
+    let mut bytes = Vec::new(alloc);
+    match push_unescaped(&mut bytes, text) {
+        Ok(()) => Ok(bytes),
+        Err(stop) => {
+            drop(bytes);
+            Err(stop)
+        }
+    }
 }
 
 // The digits that a word spells: `9*3` is `999`, and each other word itself.
@@ -71,14 +82,21 @@ fn repeated(alloc: Global, word: &str) -> Result<String, Stop> {
     }
 }
 
+// The digits before the point, the point, and the digits that a word spells.
+fn with_fraction(alloc: Global, whole: &str, word: &str) -> Result<String, Stop> {
+    let fraction = repeated(alloc, word)?;
+    let text = format!(in alloc; "{whole}.{fraction}");
+    drop(fraction);
+    Ok(text?)
+}
+
 /// The text of a number whose digits before and behind the point are spelled so: `9*3.0*2` is `999.00`.
 pub fn long_text(alloc: Global, word: &str) -> Result<String, Stop> {
     let Some((whole, fraction)) = word.split_once('.') else {
         return repeated(alloc, word);
     };
-    let mut text = repeated(alloc, whole)?;
-    text.push('.')?;
-    let fraction = repeated(alloc, fraction)?;
-    text.push_str(fraction.as_str())?;
-    Ok(text)
+    let whole = repeated(alloc, whole)?;
+    let text = with_fraction(alloc, whole.as_str(), fraction);
+    drop(whole);
+    text
 }

@@ -1,11 +1,10 @@
-use crate::number::Number;
-use crate::rounding::Rounding;
-use crate::step::{Step, number_of, split_word, unescaped};
+use crate::number::{Number, text_of};
+use crate::rounding::{Passed, Rounding};
+use crate::step::{Step, unescaped};
 use crate::stop::Stop;
 use crate::{concatenation, given, in_place, integers};
-use fixed_decimal::{ParseError, UnsignedDecimal, UnsignedRoundingMode};
+use fixed_decimal::{ParseError, SignedRoundingMode, UnsignedDecimal, UnsignedRoundingMode};
 use std::alloc::{AllocError, Global};
-use writeable::Writeable;
 
 // The number that a call leaves which is passed nothing.
 fn trimmed(number: UnsignedDecimal, name: &str) -> Result<UnsignedDecimal, Stop> {
@@ -13,7 +12,10 @@ fn trimmed(number: UnsignedDecimal, name: &str) -> Result<UnsignedDecimal, Stop>
         "trimmed_start" => Ok(number.trimmed_start()),
         "trimmed_end" => Ok(number.trimmed_end()),
         "trimmed_end_if_integer" => Ok(number.trimmed_end_if_integer()),
-        _ => Err(Stop::Unknown),
+        _ => {
+            drop(number);
+            Err(Stop::Unknown)
+        }
     }
 }
 
@@ -31,11 +33,14 @@ fn at_position(
         "rounded" => Ok(number.rounded(position)),
         "expanded" => Ok(number.expanded(position)),
         "trunced" => Ok(number.trunced(position)),
-        _ => Err(Stop::Unknown),
+        _ => {
+            drop(number);
+            Err(Stop::Unknown)
+        }
     }
 }
 
-// The number that a call leaves which is passed a position, a mode, and an increment behind it.
+// The number that a call leaves which is passed a position, a mode by size, and an increment behind it.
 fn by_mode(
     number: UnsignedDecimal,
     name: &str,
@@ -47,39 +52,84 @@ fn by_mode(
         "rounded_with_mode_and_increment" => {
             Ok(number.rounded_with_mode_and_increment(it.position, mode, it.increment)?)
         }
-        _ => Err(Stop::Unknown),
+        _ => {
+            drop(number);
+            Err(Stop::Unknown)
+        }
+    }
+}
+
+// The same, of any mode.
+fn by_rounding(number: UnsignedDecimal, name: &str, it: Rounding) -> Result<UnsignedDecimal, Stop> {
+    match it.mode {
+        SignedRoundingMode::Unsigned(mode) => by_mode(number, name, it, mode),
+        _ => {
+            drop(number);
+            Err(Stop::Unknown)
+        }
     }
 }
 
 // The number that a consuming call leaves.
-fn left_by(number: UnsignedDecimal, step: Step<'_>) -> Result<UnsignedDecimal, Stop> {
-    let (position, words) = split_word(step.passed);
-    if position.is_empty() {
-        return trimmed(number, step.name);
+fn left_by(number: UnsignedDecimal, name: &str, passed: Passed) -> Result<UnsignedDecimal, Stop> {
+    match passed {
+        Passed::Nothing => trimmed(number, name),
+        Passed::Position(position) => at_position(number, name, position),
+        Passed::Mode(rounding) => by_rounding(number, name, rounding),
     }
-    let position = number_of::<i16>(position)?;
-    if words.is_empty() {
-        return at_position(number, step.name, position);
-    }
-    let rounding = Rounding::of(step.passed)?;
-    by_mode(number, step.name, rounding, rounding.unsigned_mode()?)
 }
 
-// The answer of `concatenate_end`.
-fn concatenate_end(
+// The answer of a consuming call: the text of the number that it leaves.
+fn consumed(
+    alloc: Global,
+    number: UnsignedDecimal,
+    name: &str,
+    passed: Passed,
+) -> Result<String, Stop> {
+    match left_by(number, name, passed) {
+        Ok(left) => text_of(alloc, left),
+        Err(stop) => Err(stop),
+    }
+}
+
+// The same, by the step.
+fn consumed_by(alloc: Global, number: UnsignedDecimal, step: Step<'_>) -> Result<String, Stop> {
+    match Passed::of(step.passed) {
+        Ok(passed) => consumed(alloc, number, step.name, passed),
+        Err(stop) => {
+            drop(number);
+            Err(stop)
+        }
+    }
+}
+
+/// The answer of `concatenate_end`.
+pub fn concatenate_end(
     alloc: Global,
     mut number: UnsignedDecimal,
     other: &str,
 ) -> Result<String, Stop> {
-    let other = UnsignedDecimal::try_from_str(alloc, other)?;
-    let done = number.concatenate_end(other);
-    concatenation::left(alloc, &number, &done)
+    match UnsignedDecimal::try_from_str(alloc, other) {
+        Ok(other) => {
+            let done = number.concatenate_end(other);
+            concatenation::left(alloc, number, done)
+        }
+        Err(refused) => {
+            drop(number);
+            Err(Stop::from(refused))
+        }
+    }
 }
 
 // The answer of `concatenated_end`.
 fn concatenated_end(alloc: Global, number: UnsignedDecimal, other: &str) -> Result<String, Stop> {
-    let other = UnsignedDecimal::try_from_str(alloc, other)?;
-    concatenation::given(alloc, &number.concatenated_end(other))
+    match UnsignedDecimal::try_from_str(alloc, other) {
+        Ok(other) => concatenation::given(alloc, number.concatenated_end(other)),
+        Err(refused) => {
+            drop(number);
+            Err(Stop::from(refused))
+        }
+    }
 }
 
 impl Number for UnsignedDecimal {
@@ -114,14 +164,15 @@ impl Number for UnsignedDecimal {
         }
     }
 
+    fn tell(&self, alloc: Global, step: Step<'_>) -> Result<Option<String>, Stop> {
+        in_place::answer(alloc, self, step)
+    }
+
     fn finish(self, alloc: Global, step: Step<'_>) -> Result<String, Stop> {
-        if let Some(answer) = in_place::answer(alloc, &self, step)? {
-            return Ok(answer);
-        }
         match step.name {
             "concatenate_end" => concatenate_end(alloc, self, step.passed),
             "concatenated_end" => concatenated_end(alloc, self, step.passed),
-            _ => Ok(left_by(self, step)?.write_to_string(alloc)?),
+            _ => consumed_by(alloc, self, step),
         }
     }
 }

@@ -1,10 +1,9 @@
 use crate::integers;
-use crate::number::Number;
+use crate::number::{Number, text_of};
 use crate::step::{Step, unescaped};
 use crate::stop::Stop;
 use fixed_decimal::{Decimal, FixedInteger, ParseError};
 use std::alloc::{AllocError, Global};
-use writeable::Writeable;
 
 // The whole number that the decimal of a text becomes.
 fn of_decimal(alloc: Global, text: &str) -> Result<FixedInteger, Stop> {
@@ -35,9 +34,11 @@ impl Number for FixedInteger {
     }
 
     fn finish(self, alloc: Global, step: Step<'_>) -> Result<String, Stop> {
-        if step.name != "into_decimal" {
-            return Err(Stop::Unknown);
+        if step.name == "into_decimal" {
+            text_of(alloc, self.into_decimal())
+        } else {
+            drop(self);
+            Err(Stop::Unknown)
         }
-        Ok(self.into_decimal().write_to_string(alloc)?)
     }
 }
