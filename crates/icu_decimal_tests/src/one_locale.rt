@@ -1,25 +1,25 @@
-// A provider that answers every identifier with the tables of one locale.
+// A provider that answers every identifier with the tables of one locale, whose symbols it is lent.
 use icu_decimal::provider::{
     DataError, DataIdentifier, DataProvider, DecimalDigitsV1, DecimalSymbols, DecimalSymbolsV1,
 };
 
-#[derive(Drop)]
-pub struct OneLocale {
-    pub symbols: DecimalSymbols,
+#[derive(Clone, Copy)]
+pub struct OneLocale<'t> {
+    pub symbols: &'t DecimalSymbols,
     pub digits: [char; 10],
 }
 
-impl DataProvider<DecimalSymbolsV1> for OneLocale {
+impl DataProvider<DecimalSymbolsV1> for OneLocale<'_> {
     ghost use Rattle.std.specs.Prelude.{Ok};
 
-    ghost table = { λ one id. Ok one.symbols };
+    ghost table = { λ one id. Ok one.symbols.now };
 
     fn load(&self, id: &DataIdentifier) -> Result<&DecimalSymbols, DataError> {
-        Ok(&self.symbols)
+        Ok(self.symbols)
     }
 }
 
-impl DataProvider<DecimalDigitsV1> for OneLocale {
+impl DataProvider<DecimalDigitsV1> for OneLocale<'_> {
     ghost use Rattle.std.specs.Prelude.{Ok};
 
     ghost table = { λ one id. Ok one.digits };

@@ -5,7 +5,8 @@ use icu_decimal::input::Decimal;
 use icu_decimal::options::GroupingStrategy;
 use icu_decimal::preferences::DecimalFormatterPreferences;
 use icu_decimal::provider::{DecimalSymbols, GroupingSizes};
-use std::alloc::{AllocError, Global};
+use std::alloc::Global;
+use std::process::Abort;
 use std::test::Fail;
 use writeable::{PartsSink, Writeable};
 
@@ -15,154 +16,220 @@ const THAI: [char; 10] = ['๐', '๑', '๒', '๓', '๔', '๕', '๖', '๗'
 
 const BENGALI: [char; 10] = ['০', '১', '২', '৩', '৪', '৫', '৬', '৭', '৮', '৯'];
 
-fn sizes(primary: u8, secondary: u8, min_grouping: u8) -> GroupingSizes {
-    GroupingSizes {
-        primary,
-        secondary,
-        min_grouping,
+const AUTO: GroupingStrategy = GroupingStrategy::Auto;
+
+const MIN2: GroupingStrategy = GroupingStrategy::Min2;
+
+// Whose digits a number is written in.
+#[derive(Clone, Copy)]
+enum Digits {
+    Latin,
+    Thai,
+    Bengali,
+}
+
+fn digits_of(digits: Digits) -> [char; 10] {
+    match digits {
+        Digits::Latin => LATIN,
+        Digits::Thai => THAI,
+        Digits::Bengali => BENGALI,
     }
 }
 
-// The parts as `start-end value`, each behind a blank.
-fn listing(alloc: Global, sink: &PartsSink) -> Result<String, AllocError> {
-    let mut text = String::new(alloc);
+// The text, and behind it the parts as `start-end value`, each behind a blank.
+fn listing(alloc: Global, sink: &PartsSink) -> Result<String, Fail> {
+    let mut text = String::from_str(alloc, sink.text())?;
     for (start, end, part) in sink.parts() {
         write!(text, " {start}-{end}{}", part.value)?;
     }
     Ok(text)
 }
 
-// The text of a decimal, and its parts.
-fn shown(
+// The text of a decimal by this formatter, and the parts that a sink holds of it. The text in the sink must be the same.
+fn listing_of(
     alloc: Global,
-    sizes: GroupingSizes,
-    digits: [char; 10],
-    strategy: GroupingStrategy,
-    text: &str,
-) -> Result<(String, String), Fail> {
-    let mut symbols = DecimalSymbols::new_en_for_testing(alloc)?;
-    symbols.grouping_sizes = sizes;
-    let provider = OneLocale { symbols, digits };
-    let preferences = DecimalFormatterPreferences::default();
-    let Ok(formatter) = DecimalFormatter::try_new_unstable(&provider, preferences, strategy.into())
-    else {
-        return Err(Fail::from("no formatter"));
-    };
-    let number = Decimal::try_from_str(alloc, text)?;
-    let mut sink = PartsSink::new(alloc);
-    formatter.format(&number).write_to(&mut sink)?;
-    let whole = formatter.format_to_string(alloc, &number)?;
-    assert_text(sink.text(), whole.as_str())?;
-    Ok((whole, listing(alloc, &sink)?))
-}
-
-// The sink has the text too.
-fn assert_text(sink: &str, whole: &str) -> Result<(), Fail> {
-    if sink == whole {
-        Ok(())
+    formatter: &DecimalFormatter<'_>,
+    number: &Decimal,
+    sink: &PartsSink,
+) -> Result<String, Fail> {
+    let whole = formatter.format_to_string(alloc, number)?;
+    let is_same = whole.as_str() == sink.text();
+    drop(whole);
+    if is_same {
+        listing(alloc, sink)
     } else {
         Err(Fail::from("the sink has another text"))
     }
 }
 
+// The text of a decimal by this formatter, and its parts.
+fn shown_by(
+    alloc: Global,
+    formatter: &DecimalFormatter<'_>,
+    number: &Decimal,
+) -> Result<String, Fail> {
+    let mut sink = PartsSink::new(alloc);
+    let is_written = formatter.format(number).write_to(&mut sink).is_ok();
+    let shown = if is_written {
+        listing_of(alloc, formatter, number, &sink)
+    } else {
+        Err(Fail::from("the sink refused"))
+    };
+    drop(sink);
+    shown
+}
+
+// The same, by the formatter of these symbols and digits.
+fn shown_in(
+    alloc: Global,
+    symbols: &DecimalSymbols,
+    digits: Digits,
+    strategy: GroupingStrategy,
+    number: &Decimal,
+) -> Result<String, Fail> {
+    let digits = digits_of(digits);
+    let provider = OneLocale { symbols, digits };
+    let preferences = DecimalFormatterPreferences::default();
+    match DecimalFormatter::try_new_unstable(&provider, preferences, strategy.into()) {
+        Ok(formatter) => shown_by(alloc, &formatter, number),
+        Err(_) => Err(Fail::from("no formatter")),
+    }
+}
+
+// The same, in the symbols of English with these sizes, primary, secondary and least.
+fn shown_with(
+    alloc: Global,
+    sizes: [u8; 3],
+    digits: Digits,
+    strategy: GroupingStrategy,
+    number: &Decimal,
+) -> Result<String, Fail> {
+    let mut symbols = DecimalSymbols::new_en_for_testing(alloc)?;
+    symbols.grouping_sizes = GroupingSizes {
+        primary: sizes[0],
+        secondary: sizes[1],
+        min_grouping: sizes[2],
+    };
+    let shown = shown_in(alloc, &symbols, digits, strategy, number);
+    drop(symbols);
+    shown
+}
+
+// The same, of the decimal of a text.
+fn shown(
+    alloc: Global,
+    sizes: [u8; 3],
+    digits: Digits,
+    strategy: GroupingStrategy,
+    text: &str,
+) -> Result<String, Fail> {
+    let number = Decimal::try_from_str(alloc, text)?;
+    let shown = shown_with(alloc, sizes, digits, strategy, &number);
+    drop(number);
+    shown
+}
+
+// A row: what is shown for a text.
+fn expect_shown(
+    rt: &impl Abort,
+    alloc: Global,
+    sizes: [u8; 3],
+    digits: Digits,
+    strategy: GroupingStrategy,
+    text: &str,
+    want: &str,
+) -> Result<(), Fail> {
+    let found = shown(alloc, sizes, digits, strategy, text)?;
+    assert_eq!(rt; found.as_str(), want, "{text}");
+    Ok(())
+}
+
+const TEXTS_AND_PARTS: [([u8; 3], Digits, GroupingStrategy, &str, &str); 11] = [
+    (
+        [3, 3, 1],
+        Digits::Latin,
+        AUTO,
+        "1234",
+        "1,234 0-5integer 1-2group",
+    ),
+    (
+        [3, 2, 1],
+        Digits::Latin,
+        AUTO,
+        "1234567",
+        "12,34,567 0-9integer 2-3group 5-6group",
+    ),
+    // zeros in front are digits like others
+    (
+        [3, 3, 1],
+        Digits::Latin,
+        AUTO,
+        "0007",
+        "0,007 0-5integer 1-2group",
+    ),
+    (
+        [3, 3, 1],
+        Digits::Latin,
+        AUTO,
+        "2000.50",
+        "2,000.50 0-5integer 1-2group 5-6decimal 6-8fraction",
+    ),
+    (
+        [3, 3, 1],
+        Digits::Latin,
+        AUTO,
+        "-987654.321",
+        "-987,654.321 0-1minusSign 1-8integer 4-5group 8-9decimal 9-12fraction",
+    ),
+    // intervals are in bytes
+    (
+        [3, 3, 1],
+        Digits::Thai,
+        AUTO,
+        "1000007",
+        "๑,๐๐๐,๐๐๗ 0-23integer 3-4group 13-14group",
+    ),
+    (
+        [3, 2, 1],
+        Digits::Bengali,
+        AUTO,
+        "1000007",
+        "১০,০০,০০৭ 0-23integer 6-7group 13-14group",
+    ),
+    (
+        [3, 3, 1],
+        Digits::Latin,
+        MIN2,
+        "+1000",
+        "+1000 0-1plusSign 1-5integer",
+    ),
+    (
+        [3, 2, 1],
+        Digits::Latin,
+        MIN2,
+        "10000",
+        "10,000 0-6integer 2-3group",
+    ),
+    (
+        [1, 0, 0],
+        Digits::Latin,
+        AUTO,
+        "123",
+        "1,2,3 0-5integer 1-2group 3-4group",
+    ),
+    (
+        [0, 0, 0],
+        Digits::Latin,
+        AUTO,
+        "1000000",
+        "1000000 0-7integer",
+    ),
+];
+
 #[test]
 fn texts_and_parts(rt: HostRuntime) -> Result<(), Fail> {
-    let (auto, min2) = (GroupingStrategy::Auto, GroupingStrategy::Min2);
-    for (sizes, digits, strategy, text, want, parts) in [
-        (
-            sizes(3, 3, 1),
-            LATIN,
-            auto,
-            "1234",
-            "1,234",
-            " 0-5integer 1-2group",
-        ),
-        (
-            sizes(3, 2, 1),
-            LATIN,
-            auto,
-            "1234567",
-            "12,34,567",
-            " 0-9integer 2-3group 5-6group",
-        ),
-        // zeros in front are digits like others
-        (
-            sizes(3, 3, 1),
-            LATIN,
-            auto,
-            "0007",
-            "0,007",
-            " 0-5integer 1-2group",
-        ),
-        (
-            sizes(3, 3, 1),
-            LATIN,
-            auto,
-            "2000.50",
-            "2,000.50",
-            " 0-5integer 1-2group 5-6decimal 6-8fraction",
-        ),
-        (
-            sizes(3, 3, 1),
-            LATIN,
-            auto,
-            "-987654.321",
-            "-987,654.321",
-            " 0-1minusSign 1-8integer 4-5group 8-9decimal 9-12fraction",
-        ),
-        // intervals are in bytes
-        (
-            sizes(3, 3, 1),
-            THAI,
-            auto,
-            "1000007",
-            "๑,๐๐๐,๐๐๗",
-            " 0-23integer 3-4group 13-14group",
-        ),
-        (
-            sizes(3, 2, 1),
-            BENGALI,
-            auto,
-            "1000007",
-            "১০,০০,০০৭",
-            " 0-23integer 6-7group 13-14group",
-        ),
-        (
-            sizes(3, 3, 1),
-            LATIN,
-            min2,
-            "+1000",
-            "+1000",
-            " 0-1plusSign 1-5integer",
-        ),
-        (
-            sizes(3, 2, 1),
-            LATIN,
-            min2,
-            "10000",
-            "10,000",
-            " 0-6integer 2-3group",
-        ),
-        (
-            sizes(1, 0, 0),
-            LATIN,
-            auto,
-            "123",
-            "1,2,3",
-            " 0-5integer 1-2group 3-4group",
-        ),
-        (
-            sizes(0, 0, 0),
-            LATIN,
-            auto,
-            "1000000",
-            "1000000",
-            " 0-7integer",
-        ),
-    ] {
-        let (whole, list) = shown(rt.alloc(), sizes, digits, strategy, text)?;
-        assert_eq!(rt; whole.as_str(), want, "{text}");
-        assert_eq!(rt; list.as_str(), parts, "{text}");
+    for (sizes, digits, strategy, text, want) in &TEXTS_AND_PARTS {
+        expect_shown(&rt, rt.alloc(), *sizes, *digits, *strategy, text, want)?;
     }
     Ok(())
 }
