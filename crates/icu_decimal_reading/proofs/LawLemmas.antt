@@ -168,6 +168,11 @@ plain_again t text v are readable utf8 plain =
     reading_signed t text readable (within_read (whole_of t text) (fraction_of t text) (with_sign NoSign v.absolute) first second some reads)
     ∙ ap (signed_reading t text) (sym number) ∙ signed_again t text v.sign v.absolute are readable plain
 
+-- a number that is written so is the answer, however it was found
+pub likely_reading : (t : Tables) (text : List ℕ) (v : SignedValue Number) → AreTables t → is_readable_by t ≡ true → IsUtf8 text → IsDecimal v → true ≡ is_text_of t text v → plain_reading t text ≡ decimal v
+likely_reading t text v are readable utf8 is writes =
+    plain_again t text v are readable utf8 (record { decimal = is; written = (bytes_decides (decimal_text t v) text).0 (sym writes) })
+
 -- ---- what the function answers
 
 is_decimal : PlainReading → Bool

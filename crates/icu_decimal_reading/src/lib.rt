@@ -16,6 +16,7 @@ mod digits;
 mod error;
 mod gathered;
 pub mod laws;
+mod likely;
 mod reading;
 mod scanning;
 mod symbols;

@@ -7,8 +7,10 @@ ghost use Rattle.icu_decimal_text.specs.HeldTables.{tables_of};
 ghost use Rattle.icu_decimal_text.specs.PlainText.{decimal_text};
 ghost use Rattle.icu_decimal_reading.specs.PlainReading.{HasManyDigits, HasNoNumber, IsAnswered, IsPlainText, decimal, fraction_in, is_text_of, is_within, not_written, number_with, plain_reading, signed_reading, whole_in, with_sign, written_reading};
 ghost use Rattle.icu_decimal_reading.specs.Readable.{is_readable_by};
+ghost use Rattle.icu_decimal_reading.specs.ReadingLaws.{AreTables};
 
 use crate::error::ReadError;
+use crate::likely::likely_number;
 use crate::scanning::number_in;
 use crate::symbols::{are_tables, is_readable};
 use fixed_decimal::{Decimal, Sign};
@@ -22,6 +24,21 @@ fn is_written_so(formatter: &DecimalFormatter<'_>, number: &Decimal, text: &str)
     ensures { result ≡ is_text_of (tables_of formatter.now) text.now number.now }
 {
     strict_cmp(&formatter.format(number), text.as_bytes()).is_eq()
+}
+
+// The number that a text likely is, where the formatter writes it so.
+fn read_likely(alloc: Global, formatter: &DecimalFormatter<'_>, text: &str) -> Option<Decimal>
+    requires readable { is_readable_by (tables_of formatter.now) ≡ true }
+    requires tables { AreTables (tables_of formatter.now) }
+    ensures { IfSome result (λ v. plain_reading (tables_of formatter.now) text.now ≡ decimal v) }
+{
+    let number = likely_number(alloc, formatter, text)?;
+    let _range = number.magnitude_range();
+    if is_written_so(formatter, &number, text) {
+        Some(number)
+    } else {
+        None
+    }
 }
 
 // The number with the sign under which the formatter writes it so.
@@ -88,7 +105,10 @@ pub fn read_readable(
     ensures reading { IsAnswered result (plain_reading (tables_of formatter.now) text.now) }
 {
     are_tables(formatter);
-    read_as_defined(alloc, formatter, text)
+    match read_likely(alloc, formatter, text) {
+        Some(found) => Ok(found),
+        None => read_as_defined(alloc, formatter, text),
+    }
 }
 
 /// The decimal whose text under the formatter this is: in English `-1,234.50` is -1234.50, shown down to magnitude -2.
