@@ -3,7 +3,8 @@ ghost use Rattle.std.specs.Prelude.{◌≡◌, ◌+◌, ◌-◌, ◌<◌, ◌≤
 ghost use Rattle.fixed_decimal.specs.Number.{digit};
 ghost use Rattle.fixed_decimal.specs.Range.{IsLong, Rounds};
 ghost use Rattle.fixed_decimal.specs.Shifts.{fall, rise};
-ghost use Rattle.icu_decimal_shown.specs.Choice.{CanShow, entry_of, is_carried_to, next_at};
+ghost use Rattle.icu_decimal_shown.specs.Choice.{CanShow, entry_at, entry_of, is_carried_to, next_at};
+ghost use Rattle.icu_decimal_shown.specs.ShownValue.{magnitude};
 ghost use Rattle.icu_decimal_shown.specs.Significand.{Shows};
 ghost use Rattle.icu_decimal_shown.specs.Steps.{IsDivided, IsNines, IsRoundedTo, StaysNear};
 
@@ -96,17 +97,21 @@ fn division_by(exponent: u8) -> i16
     -(exponent as i16)
 }
 
-// The number rounded to its unit.
+// The number rounded to its unit, where the place of its magnitude and the entry of that place are given.
 fn rounded_to_unit(
     number: &UnsignedDecimal,
     entries: &[CompactEntry],
+    place: u16,
+    entry: Option<usize>,
 ) -> Result<UnsignedDecimal, AllocError>
-    requires { CanShow entries.now number.now.count }
+    requires place { place ≡ magnitude 32768 number.now.count }
+    requires entry { entry_of entries.now entry ≡ entry_at 32768 entries.now place }
+    requires within { IfSome entry (λ i. i < length entries.now) }
+    requires can { CanShow entries.now number.now.count }
     ensures value { IfOk result (IsRoundedTo entries.now number.now) }
     ensures room { OnErr result (IsLong number.now.count) }
 {
-    let place = magnitude_place(number);
-    let exponent = exponent_at(entries, entry_index(entries, place));
+    let exponent = exponent_at(entries, entry);
     let copy = number.try_clone()?;
     Ok(rounded_at(copy, rounding_place(place, exponent)))
 }
@@ -154,8 +159,9 @@ pub fn show(number: &UnsignedDecimal, entries: &[CompactEntry]) -> Result<Shown,
     ensures value { IfOk result (Shows entries.now number.now) }
     ensures room { OnErr result (IsLong number.now.count) }
 {
-    let rounded = rounded_to_unit(number, entries)?;
     let place = magnitude_place(number);
+    let entry = entry_index(entries, place);
+    let rounded = rounded_to_unit(number, entries, place, entry)?;
     match carried_index(entries, place, &rounded) {
         Some(next) => {
             let exponent = entries[next].exponent;
@@ -166,7 +172,6 @@ pub fn show(number: &UnsignedDecimal, entries: &[CompactEntry]) -> Result<Shown,
             })
         }
         None => {
-            let entry = entry_index(entries, place);
             let exponent = exponent_at(entries, entry);
             Ok(Shown {
                 significand: divided(rounded, exponent),
