@@ -1,6 +1,6 @@
 //! The operands of plural rules.
 
-ghost use Rattle.std.specs.Prelude.{◌≡◌, ◌+◌, ◌-◌, ◌<◌, ◌≤◌};
+ghost use Rattle.std.specs.Prelude.{◌≡◌, ◌+◌, ◌-◌, ◌^◌, ◌<◌, ◌≤◌};
 ghost use Rattle.fixed_decimal.specs.Number.{digit, place as place_is};
 ghost use Rattle.icu_decimal_plurals.specs.Operands.{part_of, trimmed};
 
@@ -51,14 +51,22 @@ fn digit_over(number: &UnsignedDecimal, place: u16) -> u8
     number.digit_at(magnitude_of(place))
 }
 
-// So many digits from a place on, as a number.
+// How many digits stand from a place up to the highest one shown.
+fn digits_from(number: &UnsignedDecimal, place: u16) -> u32
+    requires { place ≤ 32768 }
+    ensures { number.now.count < 10 ^ (place + result) }
+{
+    (i32::from(*number.magnitude_range().end()) + 32769 - i32::from(place)) as u32
+}
+
+// So many digits from a place on, as a number. Those above the highest one shown are zeros, and are not asked for.
 fn part_of(number: &UnsignedDecimal, place: u16, places: u16) -> u64
     requires place { place ≤ 32768 }
     requires places { places ≤ 18 }
     ensures { result ≡ part_of number.now.count place places }
 {
     let mut part = 0u64;
-    let mut left = places;
+    let mut left = digits_from(number, place).min(u32::from(places)) as u16;
     while left > 0 {
         left -= 1;
         part = part * 10 + u64::from(digit_over(number, place + left));

@@ -15,14 +15,14 @@ overflow_add-part c =
     let n = c.args.number.now.count in let left = c.loop-left.left in
     let next = next_digit n c.args.place c.args.places left c.loop-left.part c.loop-left-test.true c.loop-left.invariant.0 c.loop-left.invariant.1 in
     let below = part_below n (c.args.place + (left - 1)) (c.args.places - (left - 1)) (omega arith) in
-    let same : c.from.result ≡ c.digit_over.result = search rules in
-    let is : c.from.result ≡ digit n (c.args.place + (left - 1)) = same ∙ c.digit_over.ensures.value in
+    let same : c.from-in-loop-left.result ≡ c.digit_over.result = search rules in
+    let is : c.from-in-loop-left.result ≡ digit n (c.args.place + (left - 1)) = same ∙ c.digit_over.ensures.value in
     grind (arith)
 
 pub loop-left-preserved : goal.loop-left-preserved
 loop-left-preserved c =
     let n = c.args.number.now.count in let left = c.loop-left.left in
     let next = next_digit n c.args.place c.args.places left c.loop-left.part c.loop-left-test.true c.loop-left.invariant.0 c.loop-left.invariant.1 in
-    let same : c.from.result ≡ c.digit_over.result = search rules in
-    let is : c.from.result ≡ digit n (c.args.place + (left - 1)) = same ∙ c.digit_over.ensures.value in
+    let same : c.from-in-loop-left.result ≡ c.digit_over.result = search rules in
+    let is : c.from-in-loop-left.result ≡ digit n (c.args.place + (left - 1)) = same ∙ c.digit_over.ensures.value in
     (omega arith, ap (λ d. c.loop-left.part * 10 + d) is ∙ next)
