@@ -1,3 +1,4 @@
+pub mod ElementsLemmas
 pub mod HintLemmas
 pub mod KeptLemmas
 pub mod KnownValues

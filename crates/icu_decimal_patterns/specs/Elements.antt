@@ -1,7 +1,7 @@
 -- One value for each plural: which of them a number takes.
 -- UTS 35, part 3 (numbers), section 5 (explicit 0 and 1 rules); docs/compact-text.md, "Slots".
 -- Cited by the calls of `PluralElements`.
-use Rattle.std.specs.Prelude.{cond, Option, None, unwrap_or}
+use Rattle.std.specs.Prelude.{Bool, ◌||◌, cond, Option, None, is_some, unwrap_or}
 use Rattle.std.specs.Option.{option_or}
 use Rattle.icu_decimal_plurals.specs.declared.category.PluralCategory.{PluralCategory}
 use Rattle.icu_decimal_plurals.specs.declared.category.PluralCategory.TheVariants.{Zero, One, Two, Few, Many, Other}
@@ -51,6 +51,10 @@ module _ {T : Type 0} where
   -- these with another value in the slot of `many`, or none
   abbrev pub with_many : Elements T → Option T → Elements T
   with_many s x = record { explicit_zero = s.explicit_zero; explicit_one = s.explicit_one; zero = s.zero; one = s.one; two = s.two; few = s.few; many = x; other = s.other }
+
+  -- a slot is there beside `other`
+  abbrev pub has_slot : Elements T → Bool
+  has_slot s = is_some s.explicit_zero || (is_some s.explicit_one || (is_some s.zero || (is_some s.one || (is_some s.two || (is_some s.few || is_some s.many)))))
 
   abbrev pub without_one : Elements T → Elements T
   without_one s = with_explicit_one s None

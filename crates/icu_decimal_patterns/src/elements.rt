@@ -1,9 +1,9 @@
 //! One value for each plural.
 
-ghost use Rattle.std.specs.Prelude.{◌≡◌, IfOk, IsTrue, option_map};
+ghost use Rattle.std.specs.Prelude.{◌≡◌, ◌≢◌, IfNone, IfOk, IfSome, IsTrue, option_map};
 ghost use Rattle.std.specs.Cmp.{partial_equiv_from_equiv};
 ghost use Rattle.std.specs.Option.{option_eq};
-ghost use Rattle.icu_decimal_patterns.specs.Elements.{category_slot, explicit_slot, only_other, slot_of, without_one, with_explicit_zero, with_explicit_one, with_zero, with_one, with_two, with_few, with_many};
+ghost use Rattle.icu_decimal_patterns.specs.Elements.{category_slot, explicit_slot, has_slot, only_other, slot_of, without_one, with_explicit_zero, with_explicit_one, with_zero, with_one, with_two, with_few, with_many};
 ghost use Rattle.icu_decimal_patterns.specs.SameElements.{same_elements, same_elements_equiv, same_explicit, same_large, same_small};
 
 use icu_decimal_plurals::{PluralCategory, PluralOperands, PluralRules};
@@ -50,6 +50,19 @@ impl<T> PluralElements<T> {
         }
     }
 
+    // Whether there is a slot beside `other`.
+    fn has_slot(&self) -> bool
+        ensures { result ≡ has_slot self.now }
+    {
+        self.explicit_zero.is_some()
+            || self.explicit_one.is_some()
+            || self.zero.is_some()
+            || self.one.is_some()
+            || self.two.is_some()
+            || self.few.is_some()
+            || self.many.is_some()
+    }
+
     // The value of slot `0` or `1`, for a number that is shown as just that digit.
     fn explicit(&self, operands: &PluralOperands) -> Option<&T>
         ensures { option_map (λ x. x.now) result ≡ explicit_slot self.now operands.now }
@@ -74,6 +87,22 @@ impl<T> PluralElements<T> {
             PluralCategory::Few => self.few.as_ref(),
             PluralCategory::Many => self.many.as_ref(),
             PluralCategory::Other => None,
+        }
+    }
+
+    /// The value of `other` where it stands alone, so that every number takes it: of `thousands` for `other` and no other slot
+    /// `thousands`, and `None` where slot `1` is there too. It takes no memory.
+    ///
+    /// After ICU4X's `try_into_other`.
+    #[tactic(auto, using(crate::proofs::ElementsLemmas::other_stands_alone, crate::proofs::ElementsLemmas::other_has_company))]
+    pub fn other_alone(&self) -> Option<&T>
+        ensures some { IfSome result (λ x. self.now ≡ only_other x.now) }
+        ensures none { IfNone result (self.now ≢ only_other self.now.other) }
+    {
+        if self.has_slot() {
+            None
+        } else {
+            Some(&self.other)
         }
     }
 
