@@ -1,20 +1,25 @@
 //! A formatter of compact decimals.
 
 ghost use Rattle.std.specs.Prelude.{◌≡◌, ◌↔◌, IfOk, IsTrue, OnErr, option_map, string_bytes};
+ghost use Rattle.std.specs.Option.{option_and_then};
 ghost use Rattle.std.specs.Result.{result_map_both};
 ghost use Rattle.fixed_decimal.specs.Number.{place};
 ghost use Rattle.fixed_decimal.specs.Range.{IsLong};
+ghost use Rattle.icu_decimal_patterns.specs.Elements.{slot_of};
+ghost use Rattle.icu_decimal_plurals.specs.Operands.{operands_of};
 ghost use Rattle.icu_decimal_shown.specs.Choice.{CanShow, entry_at, exponent_of};
 ghost use Rattle.icu_decimal_compact.specs.CompactText.{compact_decimal_text, compact_formatted, compact_of};
 ghost use Rattle.icu_decimal_compact.specs.FoundCompactTables.{found_compact_tables};
 ghost use Rattle.icu_decimal_compact.specs.HeldCompact.{compact_tables_of};
-ghost use Rattle.icu_decimal_compact.specs.PatternAt.{pattern_at};
+ghost use Rattle.icu_decimal_compact.specs.PatternAt.{pattern_at, patterns_beside};
 
 use crate::formatted_compact::FormattedUnsignedCompactDecimal;
 use crate::loading::{load_patterns, load_plain, load_rules};
 use fixed_decimal::{Decimal, UnsignedDecimal};
 use icu_decimal_patterns::pattern::Pattern;
-use icu_decimal_patterns::{CompactPatterns, DecimalCompactLongV1, DecimalCompactShortV1};
+use icu_decimal_patterns::{
+    CompactPatterns, DecimalCompactLongV1, DecimalCompactShortV1, PluralElements,
+};
 use icu_decimal_plurals::{PluralOperands, PluralRules, PluralsCardinalV1};
 use icu_decimal_provider::options::CompactDecimalFormatterOptions;
 use icu_decimal_provider::preferences::CompactDecimalFormatterPreferences;
@@ -30,6 +35,23 @@ pub struct CompactDecimalFormatter<'b> {
     pub(crate) plain: DecimalFormatter<'b>,
     pub(crate) rules: &'b PluralRules,
     pub(crate) patterns: &'b CompactPatterns,
+}
+
+// The pattern of a number that is shown as this significand. Its plural is asked for only where there is more than one pattern.
+fn pattern_for<'b>(
+    patterns: &'b PluralElements<Pattern>,
+    significand: &UnsignedDecimal,
+    rules: &PluralRules,
+) -> &'b Pattern
+    ensures { result.now ≡ slot_of patterns.now rules.now (operands_of significand.now 0) }
+{
+    match patterns.other_alone() {
+        Some(pattern) => pattern,
+        None => {
+            let operands = PluralOperands::from_significand_and_exponent(significand, 0);
+            patterns.get(&operands, rules)
+        }
+    }
 }
 
 impl<'b> CompactDecimalFormatter<'b> {
@@ -82,19 +104,29 @@ impl<'b> CompactDecimalFormatter<'b> {
         })
     }
 
-    // The pattern beside the entry of an index, for a number of these operands.
-    pub(crate) fn pattern_at(
-        &self,
-        index: Option<usize>,
-        operands: &PluralOperands,
-    ) -> Option<&'b Pattern>
-        ensures { option_map (λ p. p.now) result ≡ pattern_at (compact_tables_of self.now) index operands.now }
+    // The patterns beside the entry of an index.
+    fn patterns_at(&self, index: Option<usize>) -> Option<&'b PluralElements<Pattern>>
+        ensures { option_map (λ p. p.now) result ≡ option_and_then (patterns_beside (compact_tables_of self.now).patterns) index }
     {
         let place = index?;
         if place < self.patterns.entries().len() {
-            Some(self.patterns.elements(place).get(operands, self.rules))
+            Some(self.patterns.elements(place))
         } else {
             None
+        }
+    }
+
+    // The pattern beside the entry of an index, for a number that is shown as this significand.
+    pub(crate) fn pattern_at(
+        &self,
+        index: Option<usize>,
+        significand: &UnsignedDecimal,
+    ) -> Option<&'b Pattern>
+        ensures { option_map (λ p. p.now) result ≡ pattern_at (compact_tables_of self.now) index (operands_of significand.now 0) }
+    {
+        match self.patterns_at(index) {
+            Some(patterns) => Some(pattern_for(patterns, significand, self.rules)),
+            None => None,
         }
     }
 
@@ -117,8 +149,7 @@ impl<'b> CompactDecimalFormatter<'b> {
         ensures room { OnErr result (IsLong number.now.count) }
     {
         let shown = show(number, self.patterns.entries())?;
-        let operands = PluralOperands::from_significand_and_exponent(&shown.significand, 0);
-        let pattern = self.pattern_at(shown.entry, &operands);
+        let pattern = self.pattern_at(shown.entry, &shown.significand);
         Ok(FormattedUnsignedCompactDecimal::new(
             shown.significand,
             shown.exponent,

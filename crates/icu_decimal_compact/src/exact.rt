@@ -10,7 +10,6 @@ ghost use Rattle.icu_decimal_compact.specs.PatternAt.{written_at};
 use crate::compact_formatter::CompactDecimalFormatter;
 use fixed_decimal::{Decimal, Sign};
 use icu_decimal_patterns::pattern::Interpolated;
-use icu_decimal_plurals::PluralOperands;
 use icu_decimal_shown::{CompactExponentError, exact_entry, exponent_in_range};
 use icu_decimal_text::{DecimalFormatter, FormattedSign, FormattedUnsignedDecimal};
 
@@ -48,8 +47,7 @@ impl<'b> CompactDecimalFormatter<'b> {
     ) -> FormattedSign<'l, Interpolated<'l, FormattedUnsignedDecimal<'l>>>
         ensures { result ≡ written_at (compact_tables_of self.now) significand.now entry }
     {
-        let operands = PluralOperands::from_significand_and_exponent(&significand.absolute, 0);
-        let pattern = self.pattern_at(entry, &operands);
+        let pattern = self.pattern_at(entry, &significand.absolute);
         let number = plain_number(&self.plain, significand);
         signed(self, significand.sign, Interpolated::new(pattern, number))
     }

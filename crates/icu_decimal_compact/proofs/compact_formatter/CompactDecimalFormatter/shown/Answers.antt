@@ -3,7 +3,6 @@ use Rattle.icu_decimal_text.specs.HeldTables.{tables_of}
 use Rattle.icu_decimal_shown.specs.Entries.{Rises}
 use Rattle.icu_decimal_shown.specs.Significand.{Shows}
 use Rattle.icu_decimal_compact.specs.HeldCompact.{compact_tables_of}
-use Rattle.icu_decimal_compact.specs.PatternAt.{pattern_at}
 use Rattle.icu_decimal_compact.proofs.ShownLemmas.{made_of, shown_is}
 use Rattle.icu_decimal_compact.proofs.compact_formatter.CompactDecimalFormatter.shown.Goals as goal
 
@@ -12,7 +11,7 @@ returns-clause-value c =
     let t = compact_tables_of c.args.self.now in
     c.new.ensures
     ∙ ap (λ p. record { plain = record { number = c.shown.inside.significand; tables = tables_of c.args.self.now.plain }; exponent = c.shown.inside.exponent; pattern = p })
-    (c.pattern_at-pattern.ensures ∙ ap (λ o. pattern_at t c.shown.inside.entry o) c.from_significand_and_exponent-operands.ensures)
+    c.pattern_at-pattern.ensures
     ∙ ap (λ s. made_of t s) c.shown.view_is
     ∙ shown_is t c.args.number.now c.in_ok-shown.shown
     (subst (λ xs. Rises 0 xs) c.entries.ensures.value c.entries.ensures.rising)
