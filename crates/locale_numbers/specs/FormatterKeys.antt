@@ -1,13 +1,15 @@
 -- What a formatter is kept under, which key a line uses, and how many formatters are made for lines.
 -- Defined in docs/requests.md, "What a cache keeps".
 -- Cited by `run`.
-use Rattle.std.specs.Prelude.{◌≡◌, ℕ, Bool, List, [], map, min, Option, Some, None, Ok, is_ok}
+use Rattle.std.specs.Prelude.{◌≡◌, ℕ, Bool, true, List, [], map, min, Option, Some, None, Result, Ok, is_ok}
 use Rattle.fixed_decimal.specs.Number.{Number}
 use Rattle.fixed_decimal.specs.SignedValue.{SignedValue}
 use Rattle.icu_decimal.specs.declared.options.GroupingStrategy.{GroupingStrategy}
 use Rattle.icu_decimal.specs.HeldCompact.{compact_tables_of}
 use Rattle.icu_decimal.specs.HeldTables.{tables_of}
-use Rattle.icu_decimal.specs.PlainText.{decimal_text}
+use Rattle.icu_decimal.specs.PlainText.{Tables, decimal_text}
+use Rattle.icu_decimal.specs.Readable.{is_readable_by}
+use Rattle.icu_decimal.specs.declared.error.DataError.{DataError}
 use Rattle.icu_locale_core.specs.TagPreferences.{Preferences}
 use Rattle.locale_numbers_book.specs.Book.{BookTables}
 use Rattle.locale_numbers_cache.specs.Cached.{most, used}
@@ -24,6 +26,7 @@ use Rattle.locale_numbers.specs.declared.formatter_key.FormatterKey.{FormatterKe
 use Rattle.locale_numbers.specs.declared.formatter_key.Kind.{Kind}
 use Rattle.locale_numbers.specs.declared.formatter_key.Kind.TheVariants as kind
 use Rattle.locale_numbers.specs.declared.kept_formatter.KeptFormatter.{KeptFormatter}
+use Rattle.locale_numbers.specs.declared.kept_formatter.PlainFormatter.{PlainFormatter}
 use Rattle.locale_numbers.specs.declared.kept_formatter.KeptFormatter.TheVariants.{Plain, Compact}
 
 -- the kind of tables that a form is written with; what is read back is read with those of plain text
@@ -79,11 +82,20 @@ finds_kind (kind.Compact length) book preferences grouping = is_ok (found_compac
 abbrev pub finds : BookTables → FormatterKey → Bool
 finds book key = finds_kind key.kind book key.preferences key.grouping
 
+-- where a plain formatter says that its symbols are readable, they are
+abbrev pub KnowsReadable : PlainFormatter → Type 0
+KnowsReadable plain = plain.is_readable ≡ true → is_readable_by (tables_of plain.formatter) ≡ true
+
+-- it has the tables that are found, and says so only of these
+pub record HasTables (found : Result Tables DataError) (plain : PlainFormatter) : Type 0 where
+  pub tables : found ≡ Ok (tables_of plain.formatter)
+  pub readable : KnowsReadable plain
+
 -- the formatter is of the kind, and has the tables that are found
 abbrev pub HasKind : Kind → BookTables → Preferences → GroupingStrategy → KeptFormatter → Type 0
-HasKind kind.Plain book preferences grouping (Plain formatter) = found_in book preferences grouping ≡ Ok (tables_of formatter)
+HasKind kind.Plain book preferences grouping (Plain plain) = HasTables (found_in book preferences grouping) plain
 HasKind kind.Plain book preferences grouping (Compact formatter) = ⊥
-HasKind (kind.Compact length) book preferences grouping (Plain formatter) = ⊥
+HasKind (kind.Compact length) book preferences grouping (Plain plain) = ⊥
 HasKind (kind.Compact length) book preferences grouping (Compact formatter) = found_compact length book preferences grouping ≡ Ok (compact_tables_of formatter)
 
 -- the formatter is the one of the key
@@ -92,12 +104,12 @@ IsMadeFor book key formatter = HasKind key.kind book key.preferences key.groupin
 
 -- the formatter is one of plain numbers
 abbrev pub IsPlain : KeptFormatter → Type 0
-IsPlain (Plain formatter) = Unit {0}
+IsPlain (Plain plain) = Unit {0}
 IsPlain (Compact formatter) = ⊥
 
 -- the answer of a formatter to a number
 abbrev pub answer_by : KeptFormatter → SignedValue Number → List ℕ
-answer_by (Plain formatter) value = written (decimal_text (tables_of formatter) value)
+answer_by (Plain plain) value = written (decimal_text (tables_of plain.formatter) value)
 answer_by (Compact formatter) value = compact_answer (compact_tables_of formatter) value
 
 -- the answer to a number with the tables of a kind, where they are found

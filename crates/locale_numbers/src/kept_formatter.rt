@@ -1,10 +1,11 @@
 //! What is kept under a key, and how it is made.
-ghost use Rattle.std.specs.Prelude.{◌≡◌};
+ghost use Rattle.std.specs.Prelude.{◌≡◌, false, MatchOption};
 ghost use Rattle.std.specs.Result.{result_map_both};
 ghost use Rattle.icu_decimal.specs.HeldCompact.{compact_tables_of};
 ghost use Rattle.icu_decimal.specs.HeldTables.{tables_of};
 ghost use Rattle.locale_numbers.specs.Answer.{found_in};
 ghost use Rattle.locale_numbers.specs.CompactAnswer.{found_compact};
+ghost use Rattle.locale_numbers.specs.FormatterKeys.{IsMadeFor, KnowsReadable, finds};
 
 use crate::formatter_key::{FormatterKey, Kind};
 use crate::formatters::Formatters;
@@ -13,15 +14,26 @@ use crate::tables::Tables;
 use icu_decimal::options::{CompactDecimalFormatterOptions, DecimalFormatterOptions};
 use icu_decimal::preferences::CompactDecimalFormatterPreferences;
 use icu_decimal::provider::DataError;
-use icu_decimal::{CompactDecimalFormatter, DecimalFormatter, DecimalFormatterPreferences};
+use icu_decimal::{
+    CompactDecimalFormatter, DecimalFormatter, DecimalFormatterPreferences, is_readable,
+};
 use locale_numbers_cache::Maker;
 use std::alloc::AllocError;
+
+/// A formatter of plain numbers, and whether its symbols are known to be readable.
+#[derive(Clone, Copy)]
+pub(crate) struct PlainFormatter<'a> {
+    /// The formatter.
+    pub formatter: DecimalFormatter<'a>,
+    /// Whether its symbols were asked, and are readable.
+    pub is_readable: bool,
+}
 
 /// A formatter that is kept. It borrows its tables.
 #[derive(Clone, Copy)]
 pub(crate) enum KeptFormatter<'a> {
     /// One of plain numbers.
-    Plain(DecimalFormatter<'a>),
+    Plain(PlainFormatter<'a>),
     /// One of compact numbers.
     Compact(CompactDecimalFormatter<'a>),
 }
@@ -45,6 +57,18 @@ fn plain_formatter<'a, T: Tables>(
         key.preferences,
         DecimalFormatterOptions::from(key.grouping),
     )
+}
+
+// A formatter whose symbols are asked whether they are readable, or are not asked.
+fn asked(formatter: DecimalFormatter<'_>, asks: bool) -> PlainFormatter<'_>
+    ensures formatter { result.formatter ≡ formatter.entry }
+    ensures readable { KnowsReadable result }
+{
+    let readable = asks && is_readable(&formatter);
+    PlainFormatter {
+        formatter,
+        is_readable: readable,
+    }
 }
 
 // The same preferences, for compact numbers.
@@ -78,6 +102,27 @@ fn compact_formatter<'a, T: Tables>(
     }
 }
 
+// The formatter of a key; `None` where the book lacks one of its tables.
+fn formatter_by<'a, T: Tables>(
+    tables: &'a T,
+    key: FormatterKey,
+    asks: bool,
+) -> Option<KeptFormatter<'a>>
+    ensures { MatchOption result (finds (T.book tables.now) key ≡ false) (λ kept. IsMadeFor (T.book tables.now) key kept) }
+{
+    match key.kind {
+        Kind::Plain => match plain_formatter(tables, key) {
+            Ok(formatter) => Some(KeptFormatter::Plain(asked(formatter, asks))),
+            Err(_) => None,
+        },
+        Kind::Compact(length) => match compact_formatter(tables, length, key) {
+            Ok(formatter) => Some(KeptFormatter::Compact(formatter)),
+            Err(_) => None,
+        },
+    }
+}
+
+/// One that is kept is asked once whether its symbols are readable.
 impl<'a, T: Tables> Maker<FormatterKey, KeptFormatter<'a>> for FormatterMaker<'a, T> {
     ghost use Rattle.locale_numbers.specs.FormatterKeys.{finds, IsMadeFor};
 
@@ -86,16 +131,7 @@ impl<'a, T: Tables> Maker<FormatterKey, KeptFormatter<'a>> for FormatterMaker<'a
     ghost is_made = { λ s key kept. IsMadeFor (T.book s.tables.now) key kept };
 
     fn make(&self, key: FormatterKey) -> Option<KeptFormatter<'a>> {
-        match key.kind {
-            Kind::Plain => match plain_formatter(self.tables, key) {
-                Ok(formatter) => Some(KeptFormatter::Plain(formatter)),
-                Err(_) => None,
-            },
-            Kind::Compact(length) => match compact_formatter(self.tables, length, key) {
-                Ok(formatter) => Some(KeptFormatter::Compact(formatter)),
-                Err(_) => None,
-            },
-        }
+        formatter_by(self.tables, key, true)
     }
 }
 
@@ -112,7 +148,7 @@ impl<'a, T: Tables> Formatters<'a> for FormatterMaker<'a, T> {
     ghost may_take_memory = { λ s. ⊥ };
 
     fn formatter(&mut self, key: FormatterKey) -> Result<Option<KeptFormatter<'a>>, AllocError> {
-        Ok(self.make(key))
+        Ok(formatter_by(self.tables, key, false))
     }
 
     ghost counts_none = { λ s more. refl };

@@ -63,7 +63,7 @@ fn push_with(
     ensures room { HasRoom out.old (answer_by formatter.now value.now) → IsPlain formatter.now → IsOk result }
 {
     match formatter {
-        KeptFormatter::Plain(plain) => push_formatted(plain, value, out),
+        KeptFormatter::Plain(plain) => push_formatted(&plain.formatter, value, out),
         KeptFormatter::Compact(compact) => push_compact(compact, value, out),
     }
 }

@@ -1,13 +1,14 @@
 //! The form `read`: the number that a text was written from, as an answer.
-ghost use Rattle.std.specs.Prelude.{◌≡◌, ◌∷◌, ◌++◌, List, Option, Some, IsOk, OnOk, OnErr, string_bytes};
+ghost use Rattle.std.specs.Prelude.{◌≡◌, ◌∷◌, ◌++◌, List, Option, Some, IsErrOf, IsOk, OnOk, OnErr, string_bytes};
 ghost use Rattle.std.specs.Str.{IsUtf8};
 ghost use Rattle.fixed_decimal.specs.SignedText.{signed_text_of};
 ghost use Rattle.icu_decimal.specs.HeldTables.{tables_of};
-ghost use Rattle.icu_decimal.specs.PlainReading.{HasManyDigits, plain_reading};
+ghost use Rattle.icu_decimal.specs.PlainReading.{HasManyDigits, IsAnswered, plain_reading};
 ghost use Rattle.locale_numbers_engine.specs.Growth.{Grows};
 ghost use Rattle.locale_numbers.specs.Answer.{found_in};
 ghost use Rattle.locale_numbers.specs.AnswerLine.{written};
 ghost use Rattle.locale_numbers.specs.AnswerSink.{HasRoom};
+ghost use Rattle.locale_numbers.specs.FormatterKeys.{KnowsReadable};
 ghost use Rattle.locale_numbers.specs.ReadAnswer.{HasManyDigitsWith, read_answer, read_with};
 ghost use Rattle.locale_numbers.specs.declared.formatter_key.FormatterKey.{FormatterKey};
 ghost use Rattle.locale_numbers.specs.declared.formatter_key.Kind.{Kind};
@@ -15,11 +16,11 @@ ghost use Rattle.locale_numbers.specs.declared.formatter_key.Kind.{Kind};
 use crate::answer_line::{push_answer, push_refusal};
 use crate::formatter_key::FormatterKey;
 use crate::formatters::Formatters;
-use crate::kept_formatter::KeptFormatter;
+use crate::kept_formatter::{KeptFormatter, PlainFormatter};
 use crate::refusal::Refusal;
 use fixed_decimal::Decimal;
 use icu_decimal::error::ReadError;
-use icu_decimal::{DecimalFormatter, read_plain};
+use icu_decimal::{read_plain, read_readable};
 use std::alloc::{AllocError, Global};
 
 /// Bytes that are UTF-8, as a text.
@@ -42,23 +43,37 @@ fn push_value(value: &Decimal, out: &mut String) -> Result<(), AllocError>
     push_answer(out, value)
 }
 
+// The number that a text was written from. The symbols are asked whether they are readable only where that is not known.
+fn read_by(alloc: Global, plain: &PlainFormatter<'_>, text: &str) -> Result<Decimal, ReadError>
+    requires { KnowsReadable plain.now }
+    ensures memory { IsErrOf result ReadError.Memory → HasManyDigits (tables_of plain.now.formatter) text.now }
+    ensures reading { IsAnswered result (plain_reading (tables_of plain.now.formatter) text.now) }
+{
+    if plain.is_readable {
+        read_readable(alloc, &plain.formatter, text)
+    } else {
+        read_plain(alloc, &plain.formatter, text)
+    }
+}
+
 // Puts the answer to a text that is read back under a formatter behind what `out` holds: the number whose plain text this is,
 // printed with its sign and the digits shown, or the word `unreadable` or `not-written`.
 fn push_read(
     alloc: Global,
-    formatter: &DecimalFormatter<'_>,
+    plain: &PlainFormatter<'_>,
     text: &str,
     out: &mut String,
 ) -> Result<(), AllocError>
+    requires { KnowsReadable plain.now }
     ensures text { OnOk result (string_bytes out.new
-        ≡ string_bytes out.old ++ read_answer (plain_reading (tables_of formatter.now) text.now)) }
+        ≡ string_bytes out.old ++ read_answer (plain_reading (tables_of plain.now.formatter) text.now)) }
     ensures err { OnErr result (Grows (string_bytes out.old) (string_bytes out.new)) }
 
     // Where there is room for the answer, only a text of more than eight digits may be out of memory.
-    ensures room { HasRoom out.old (read_answer (plain_reading (tables_of formatter.now) text.now))
-        → ¬ (HasManyDigits (tables_of formatter.now) text.now) → IsOk result }
+    ensures room { HasRoom out.old (read_answer (plain_reading (tables_of plain.now.formatter) text.now))
+        → ¬ (HasManyDigits (tables_of plain.now.formatter) text.now) → IsOk result }
 {
-    match read_plain(alloc, formatter, text) {
+    match read_by(alloc, plain, text) {
         Ok(value) => push_value(&value, out),
         Err(ReadError::Unreadable) => push_refusal(out, Refusal::Unreadable),
         Err(ReadError::NotWritten) => push_refusal(out, Refusal::NotWritten),
