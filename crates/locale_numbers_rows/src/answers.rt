@@ -1,5 +1,6 @@
 //! Lines under a book, and books.
 use crate::books::book_named;
+use crate::case::case_of;
 use crate::escapes::{escaped, unescaped};
 use crate::row_error::RowError;
 use locale_numbers::{Book, BookError, answer};
@@ -25,7 +26,17 @@ pub fn book_of_text(alloc: Global, bytes: &[u8]) -> Result<Book, RowError> {
 /// The book that a field names, or says.
 pub fn book_of(alloc: Global, field: &str) -> Result<Book, RowError> {
     let bytes = book_bytes(alloc, field)?;
-    book_of_text(alloc, &bytes)
+    let book = book_of_text(alloc, &bytes);
+    drop(bytes);
+    book
+}
+
+/// The answer of a book to a line, as it stands in a field.
+pub fn answer_text(alloc: Global, book: &Book, line: &[u8]) -> Result<String, RowError> {
+    let answer = answer(alloc, book, line)?;
+    let text = escaped(alloc, &answer);
+    drop(answer);
+    text
 }
 
 /// `answer BOOK LINE`: the answer of the book to the line.
@@ -33,10 +44,21 @@ pub fn answer_row(alloc: Global, arguments: &[&str]) -> Result<String, RowError>
     let [book, line] = arguments else {
         return Err(RowError::NotUnderstood);
     };
-    let book = book_of(alloc, book)?;
-    let line = unescaped(alloc, line)?;
-    let text = answer(alloc, &book, &line)?;
-    escaped(alloc, &text)
+    let case = case_of(alloc, book, line)?;
+    let text = answer_text(alloc, &case.book, &case.bytes);
+    drop(case);
+    text
+}
+
+// Whether bytes are a book.
+fn tried(alloc: Global, bytes: &[u8]) -> Result<(), BookError> {
+    match Book::from_json(alloc, bytes) {
+        Ok(book) => {
+            drop(book);
+            Ok(())
+        }
+        Err(refusal) => Err(refusal),
+    }
 }
 
 /// `from_json BOOK`: `ok`, or the word of the refusal.
@@ -45,8 +67,10 @@ pub fn book_row(alloc: Global, arguments: &[&str]) -> Result<String, RowError> {
         return Err(RowError::NotUnderstood);
     };
     let bytes = book_bytes(alloc, text)?;
-    match Book::from_json(alloc, &bytes) {
-        Ok(_) => Ok(String::from_str(alloc, "ok")?),
+    let tried = tried(alloc, &bytes);
+    drop(bytes);
+    match tried {
+        Ok(()) => Ok(String::from_str(alloc, "ok")?),
         Err(refusal) => Ok(refusal.to_string(alloc)?),
     }
 }

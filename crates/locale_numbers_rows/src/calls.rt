@@ -33,10 +33,9 @@ fn run_result<F: Files>(
     }
 }
 
-/// What the call of a line answers.
-pub fn result_of<F: Files>(rt: &F, alloc: Global, line: &str) -> Result<String, RowError> {
-    let fields: Vec<&str> = line.split('\t').collect(alloc)?;
-    let Some((call, arguments)) = fields.as_slice().split_first() else {
+// What a call answers, whose name is the first of the fields.
+fn result_of_fields<F: Files>(rt: &F, alloc: Global, fields: &[&str]) -> Result<String, RowError> {
+    let Some((call, arguments)) = fields.split_first() else {
         return Err(RowError::NotUnderstood);
     };
     match *call {
@@ -52,4 +51,12 @@ pub fn result_of<F: Files>(rt: &F, alloc: Global, line: &str) -> Result<String, 
         "check" => plain::check_row(alloc, arguments),
         other => run_result(rt, alloc, other, arguments),
     }
+}
+
+/// What the call of a line answers.
+pub fn result_of<F: Files>(rt: &F, alloc: Global, line: &str) -> Result<String, RowError> {
+    let fields: Vec<&str> = line.split('\t').collect(alloc)?;
+    let result = result_of_fields(rt, alloc, fields.as_slice());
+    drop(fields);
+    result
 }

@@ -55,16 +55,27 @@ fn step(state: State, byte: u8, out: &mut Vec<u8>) -> Result<State, RowError> {
     Ok(State::Plain)
 }
 
+// Puts the bytes that a field stands for to the others.
+fn push_unescaped(out: &mut Vec<u8>, field: &str) -> Result<(), RowError> {
+    let mut state = State::Plain;
+    for byte in field.as_bytes() {
+        state = step(state, *byte, out)?;
+    }
+    match state {
+        State::Plain => Ok(()),
+        _ => Err(RowError::NotUnderstood),
+    }
+}
+
 /// The bytes that a field stands for.
 pub fn unescaped(alloc: Global, field: &str) -> Result<Vec<u8>, RowError> {
     let mut out = Vec::new(alloc);
-    let mut state = State::Plain;
-    for byte in field.as_bytes() {
-        state = step(state, *byte, &mut out)?;
-    }
-    match state {
-        State::Plain => Ok(out),
-        _ => Err(RowError::NotUnderstood),
+    match push_unescaped(&mut out, field) {
+        Ok(()) => Ok(out),
+        Err(stop) => {
+            drop(out);
+            Err(stop)
+        }
     }
 }
 
@@ -80,28 +91,37 @@ fn push_escaped(out: &mut String, character: char) -> Result<(), RowError> {
     Ok(())
 }
 
-// Bytes that are no text: each above ASCII as `\xFF`.
-fn escaped_bytes(alloc: Global, bytes: &[u8]) -> Result<String, RowError> {
-    let mut out = String::new(alloc);
+// Writes bytes that are no text: each above ASCII as `\xFF`.
+fn push_bytes(out: &mut String, bytes: &[u8]) -> Result<(), RowError> {
     for byte in bytes {
         if *byte < 128 {
-            push_escaped(&mut out, *byte as char)?;
+            push_escaped(out, *byte as char)?;
         } else {
-            let escape = format!(in alloc; "\\x{byte:02X}")?;
-            out.push_str(&escape)?;
+            write!(out, "\\x{byte:02X}")?;
         }
     }
-    Ok(out)
+    Ok(())
+}
+
+// Writes bytes as they stand in a field.
+fn push_all(out: &mut String, bytes: &[u8]) -> Result<(), RowError> {
+    let Ok(text) = str::from_utf8(bytes) else {
+        return push_bytes(out, bytes);
+    };
+    for character in text.chars() {
+        push_escaped(out, character)?;
+    }
+    Ok(())
 }
 
 /// Bytes as they stand in a field.
 pub fn escaped(alloc: Global, bytes: &[u8]) -> Result<String, RowError> {
-    let Ok(text) = str::from_utf8(bytes) else {
-        return escaped_bytes(alloc, bytes);
-    };
     let mut out = String::new(alloc);
-    for character in text.chars() {
-        push_escaped(&mut out, character)?;
+    match push_all(&mut out, bytes) {
+        Ok(()) => Ok(out),
+        Err(stop) => {
+            drop(out);
+            Err(stop)
+        }
     }
-    Ok(out)
 }

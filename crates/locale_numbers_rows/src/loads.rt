@@ -1,14 +1,35 @@
 //! Runs over tables that count.
 ghost use Rattle.std.specs.Prelude.{◌≤◌};
 
-use crate::answers::book_of;
+use crate::case::case_of;
 use crate::counting::Counting;
-use crate::escapes::{escaped, unescaped};
+use crate::escapes::escaped;
 use crate::row_error::RowError;
 use crate::runs::{capacity_of, outcome_text};
-use locale_numbers::{Book, Tracked, run};
+use locale_numbers::{Book, Report, RunError, Tracked, run};
 use std::alloc::Global;
 use std::cell::Cell;
+
+// An outcome, how often digits were found, and what the writer holds.
+fn with_found(alloc: Global, outcome: &str, found: u64, held: &[u8]) -> Result<String, RowError> {
+    let output = escaped(alloc, held)?;
+    let text = format!(in alloc; "{outcome}, digits found {found}, \"{output}\"");
+    drop(output);
+    Ok(text?)
+}
+
+// The same, of what a run answers.
+fn left_text(
+    alloc: Global,
+    outcome: Result<Report, RunError>,
+    found: u64,
+    held: &[u8],
+) -> Result<String, RowError> {
+    let outcome = outcome_text(alloc, outcome)?;
+    let text = with_found(alloc, &outcome, found, held);
+    drop(outcome);
+    text
+}
 
 // What a run leaves, and how often digits were found for it.
 fn loads_text(alloc: Global, book: &Book, capacity: usize, input: &[u8]) -> Result<String, RowError>
@@ -21,11 +42,11 @@ fn loads_text(alloc: Global, book: &Book, capacity: usize, input: &[u8]) -> Resu
     let mut reader = Tracked::new(input);
     let mut writer = Tracked::new(Vec::new(alloc));
     let outcome = run(alloc, &tables, capacity, &mut reader, &mut writer);
-    let outcome = outcome_text(alloc, outcome)?;
     let found = tables.digits_found.get();
     let held = writer.into_inner();
-    let output = escaped(alloc, &held)?;
-    Ok(format!(in alloc; "{outcome}, digits found {found}, \"{output}\"")?)
+    let text = left_text(alloc, outcome, found, &held);
+    drop(held);
+    text
 }
 
 /// `run_loads BOOK CAPACITY INPUT`: what the run leaves, and how often digits were found in the tables.
@@ -34,7 +55,8 @@ pub fn loads_row(alloc: Global, arguments: &[&str]) -> Result<String, RowError> 
         return Err(RowError::NotUnderstood);
     };
     let capacity = capacity_of(capacity)?;
-    let input = unescaped(alloc, input)?;
-    let book = book_of(alloc, book)?;
-    loads_text(alloc, &book, capacity, &input)
+    let case = case_of(alloc, book, input)?;
+    let text = loads_text(alloc, &case.book, capacity, &case.bytes);
+    drop(case);
+    text
 }

@@ -5,6 +5,7 @@
 mod answers;
 mod books;
 mod calls;
+mod case;
 mod counting;
 mod escapes;
 mod faults;
@@ -25,7 +26,7 @@ mod tracked;
 
 use row_error::RowError;
 use std::alloc::Global;
-use std::io::{self, BufRead, BufReader};
+use std::io;
 use std::rt::Files;
 
 // Prints a line, and behind it what its call answers. An empty line and one that begins with `#` are
@@ -35,17 +36,28 @@ fn print_row<R: Files + Print>(rt: &R, alloc: Global, line: &str) -> io::Result<
         return println!(rt; "{line}");
     }
     match calls::result_of(rt, alloc, line) {
-        Ok(result) => println!(rt; "{line}\t{result}"),
+        Ok(result) => {
+            let printed = println!(rt; "{line}\t{result}");
+            drop(result);
+            printed
+        }
         Err(RowError::NotUnderstood) => println!(rt; "{line}\t?"),
         Err(RowError::Memory) => Err(io::Error::from(io::ErrorKind::OutOfMemory)),
     }
 }
 
-fn main(rt: HostRuntime) -> io::Result<()> {
-    let alloc = rt.alloc();
-    for line in BufReader::new(alloc, rt.reader())?.lines(alloc) {
-        let line = line?;
-        print_row(&rt, alloc, &line)?;
+// Prints all lines.
+fn print_rows<R: Files + Print>(rt: &R, alloc: Global, lines: &str) -> io::Result<()> {
+    for line in lines.lines() {
+        print_row(rt, alloc, line)?;
     }
     Ok(())
+}
+
+fn main(rt: HostRuntime) -> io::Result<()> {
+    let alloc = rt.alloc();
+    let input = io::read_to_string(alloc, rt.stdin())?;
+    let printed = print_rows(&rt, alloc, input.as_str());
+    drop(input);
+    printed
 }

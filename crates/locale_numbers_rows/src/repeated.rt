@@ -4,7 +4,15 @@ use crate::escapes::unescaped;
 use crate::numbers::count;
 use crate::row_error::RowError;
 use locale_numbers::{Book, Tracked, run};
-use std::alloc::Global;
+use std::alloc::{AllocError, Global};
+
+// Puts bytes so often behind what `out` holds.
+fn push_times(out: &mut Vec<u8>, times: usize, bytes: &[u8]) -> Result<(), AllocError> {
+    for _ in 0..times {
+        out.extend_from_slice(bytes)?;
+    }
+    Ok(())
+}
 
 // Puts the text of `3*ab` behind what `out` holds: `ababab`.
 fn push_repeated(alloc: Global, out: &mut Vec<u8>, piece: &str) -> Result<(), RowError> {
@@ -13,8 +21,15 @@ fn push_repeated(alloc: Global, out: &mut Vec<u8>, piece: &str) -> Result<(), Ro
     };
     let times = count(times)?;
     let text = unescaped(alloc, text)?;
-    for _ in 0..times {
-        out.extend_from_slice(&text)?;
+    let pushed = push_times(out, times, &text);
+    drop(text);
+    Ok(pushed?)
+}
+
+// Puts the bytes of `3*ab|1*c` behind what `out` holds.
+fn push_all(alloc: Global, out: &mut Vec<u8>, field: &str) -> Result<(), RowError> {
+    for piece in field.split('|') {
+        push_repeated(alloc, out, piece)?;
     }
     Ok(())
 }
@@ -22,22 +37,46 @@ fn push_repeated(alloc: Global, out: &mut Vec<u8>, piece: &str) -> Result<(), Ro
 // The bytes of `3*ab|1*c`: `abababc`.
 fn repeated(alloc: Global, field: &str) -> Result<Vec<u8>, RowError> {
     let mut out = Vec::new(alloc);
-    for piece in field.split('|') {
-        push_repeated(alloc, &mut out, piece)?;
+    match push_all(alloc, &mut out, field) {
+        Ok(()) => Ok(out),
+        Err(stop) => {
+            drop(out);
+            Err(stop)
+        }
     }
-    Ok(out)
 }
 
 // How many lines a run answers, and whether it writes the output.
 fn long_text(alloc: Global, book: &Book, input: &[u8], output: &[u8]) -> Result<String, RowError> {
     let mut reader = Tracked::new(input);
     let mut writer = Tracked::new(Vec::new(alloc));
-    let lines = match run(alloc, book, 1, &mut reader, &mut writer) {
-        Ok(report) => report.lines,
-        Err(_) => return Err(RowError::NotUnderstood),
-    };
-    let is_written = writer.into_inner().as_slice() == output;
-    Ok(format!(in alloc; "lines {lines}, written {is_written}")?)
+    let outcome = run(alloc, book, 1, &mut reader, &mut writer);
+    let held = writer.into_inner();
+    let is_written = held.as_slice() == output;
+    drop(held);
+    match outcome {
+        Ok(report) => {
+            let lines = report.lines;
+            Ok(format!(in alloc; "lines {lines}, written {is_written}")?)
+        }
+        Err(_) => Err(RowError::NotUnderstood),
+    }
+}
+
+// The same, where the output is that of a field.
+fn long_output(alloc: Global, book: &Book, input: &[u8], field: &str) -> Result<String, RowError> {
+    let output = repeated(alloc, field)?;
+    let text = long_text(alloc, book, input, &output);
+    drop(output);
+    text
+}
+
+// The same, where the input is that of a field too.
+fn long_fields(alloc: Global, book: &Book, input: &str, output: &str) -> Result<String, RowError> {
+    let input = repeated(alloc, input)?;
+    let text = long_output(alloc, book, &input, output);
+    drop(input);
+    text
 }
 
 /// `run_long BOOK INPUT OUTPUT`: how many lines a run answers, and whether it writes that output. Input
@@ -46,8 +85,8 @@ pub fn long_row(alloc: Global, arguments: &[&str]) -> Result<String, RowError> {
     let [book, input, output] = arguments else {
         return Err(RowError::NotUnderstood);
     };
-    let input = repeated(alloc, input)?;
-    let output = repeated(alloc, output)?;
     let book = book_of(alloc, book)?;
-    long_text(alloc, &book, &input, &output)
+    let text = long_fields(alloc, &book, input, output);
+    drop(book);
+    text
 }

@@ -1,7 +1,7 @@
 //! Runs: what a reader gave, what a writer holds.
 ghost use Rattle.std.specs.Prelude.{◌≡◌, ◌≤◌, false, IfOk};
 
-use crate::answers::book_of;
+use crate::case::case_of;
 use crate::escapes::{escaped, unescaped};
 use crate::giving::Giving;
 use crate::narrow::Narrow;
@@ -64,7 +64,9 @@ pub fn left_text(
     let flushes = writer.flushes;
     let failed = failed_sides(reader.has_failed(), writer.has_failed());
     let output = escaped(alloc, &writer.taken)?;
-    Ok(format!(in alloc; "{outcome}, flushed {flushes}, failed {failed}, \"{output}\"")?)
+    let text = format!(in alloc; "{outcome}, flushed {flushes}, failed {failed}, \"{output}\"");
+    drop(output);
+    Ok(text?)
 }
 
 /// What a run answers.
@@ -77,6 +79,19 @@ pub fn outcome_text(alloc: Global, outcome: Result<Report, RunError>) -> Result<
         }
         Err(refusal) => Ok(format!(in alloc; "{refusal:?}")?),
     }
+}
+
+// What a run answers, and behind it what it left.
+fn run_left_text(
+    alloc: Global,
+    outcome: Result<Report, RunError>,
+    reader: &Pieces<'_>,
+    writer: &Narrow,
+) -> Result<String, RowError> {
+    let outcome = outcome_text(alloc, outcome)?;
+    let text = left_text(alloc, &outcome, reader, writer);
+    drop(outcome);
+    text
 }
 
 /// A capacity of one at least.
@@ -104,8 +119,9 @@ fn run_text(
     let mut reader = reader_of(input, giving);
     let mut writer = writer_of(alloc, taking);
     let outcome = run(alloc, book, capacity, &mut reader, &mut writer);
-    let outcome = outcome_text(alloc, outcome)?;
-    left_text(alloc, &outcome, &reader, &writer)
+    let text = run_left_text(alloc, outcome, &reader, &writer);
+    drop(writer);
+    text
 }
 
 /// `run BOOK CAPACITY READER WRITER INPUT`: what the run leaves.
@@ -116,26 +132,70 @@ pub fn run_row(alloc: Global, arguments: &[&str]) -> Result<String, RowError> {
     let capacity = capacity_of(capacity)?;
     let giving = Giving::from_field(reader)?;
     let taking = Taking::from_field(writer)?;
-    let input = unescaped(alloc, input)?;
-    let book = book_of(alloc, book)?;
-    run_text(alloc, &book, capacity, giving, taking, &input)
+    let case = case_of(alloc, book, input)?;
+    let text = run_text(alloc, &case.book, capacity, giving, taking, &case.bytes);
+    drop(case);
+    text
+}
+
+// What a run leaves whose first read gives so many bytes, where it is another than this; else `None`.
+fn differing_cut(
+    alloc: Global,
+    book: &Book,
+    capacity: usize,
+    input: &[u8],
+    at_first: usize,
+    whole: &str,
+) -> Result<Option<String>, RowError>
+    requires { 1 ≤ capacity }
+{
+    let mut giving = Giving::steady(1000);
+    giving.at_first = at_first;
+    let cut = run_text(alloc, book, capacity, giving, Taking::steady(1000), input)?;
+    if cut.as_str() == whole {
+        drop(cut);
+        return Ok(None);
+    }
+    let text = format!(in alloc; "cut at {at_first}: {cut}");
+    drop(cut);
+    Ok(Some(text?))
+}
+
+// The first of the runs that leaves another than this, whose first reads give 1 byte, 2 bytes and so on; else `None`.
+fn first_differing_cut(
+    alloc: Global,
+    book: &Book,
+    capacity: usize,
+    input: &[u8],
+    whole: &str,
+) -> Result<Option<String>, RowError>
+    requires { 1 ≤ capacity }
+{
+    for at_first in 1..input.len() {
+        if let Some(text) = differing_cut(alloc, book, capacity, input, at_first, whole)? {
+            return Ok(Some(text));
+        }
+    }
+    Ok(None)
 }
 
 // What each run leaves whose first read gives 1 byte, 2 bytes and so on, up to the whole input.
 fn cut_text(alloc: Global, book: &Book, capacity: usize, input: &[u8]) -> Result<String, RowError>
     requires { 1 ≤ capacity }
 {
-    let wide = Giving::steady(1000);
-    let whole = run_text(alloc, book, capacity, wide, Taking::steady(1000), input)?;
-    for at_first in 1..input.len() {
-        let mut giving = wide;
-        giving.at_first = at_first;
-        let cut = run_text(alloc, book, capacity, giving, Taking::steady(1000), input)?;
-        if cut.as_str() != whole.as_str() {
-            return Ok(format!(in alloc; "cut at {at_first}: {cut}")?);
+    let taking = Taking::steady(1000);
+    let whole = run_text(alloc, book, capacity, Giving::steady(1000), taking, input)?;
+    match first_differing_cut(alloc, book, capacity, input, whole.as_str()) {
+        Ok(None) => Ok(whole),
+        Ok(Some(text)) => {
+            drop(whole);
+            Ok(text)
+        }
+        Err(stop) => {
+            drop(whole);
+            Err(stop)
         }
     }
-    Ok(whole)
 }
 
 /// `run_cuts BOOK CAPACITY INPUT`: what each run leaves whose first read ends at another byte of the
@@ -145,9 +205,30 @@ pub fn cuts_row(alloc: Global, arguments: &[&str]) -> Result<String, RowError> {
         return Err(RowError::NotUnderstood);
     };
     let capacity = capacity_of(capacity)?;
-    let input = unescaped(alloc, input)?;
-    let book = book_of(alloc, book)?;
-    cut_text(alloc, &book, capacity, &input)
+    let case = case_of(alloc, book, input)?;
+    let text = cut_text(alloc, &case.book, capacity, &case.bytes);
+    drop(case);
+    text
+}
+
+// An outcome, and behind it what a writer holds.
+fn with_output(alloc: Global, outcome: &str, held: &[u8]) -> Result<String, RowError> {
+    let output = escaped(alloc, held)?;
+    let text = format!(in alloc; "{outcome}, \"{output}\"");
+    drop(output);
+    Ok(text?)
+}
+
+// The same, of what a run answers.
+fn held_text(
+    alloc: Global,
+    outcome: Result<Report, RunError>,
+    held: &[u8],
+) -> Result<String, RowError> {
+    let outcome = outcome_text(alloc, outcome)?;
+    let text = with_output(alloc, &outcome, held);
+    drop(outcome);
+    text
 }
 
 // What a run leaves whose reader and writer are std's own.
@@ -162,10 +243,10 @@ fn tracked_text(
     let mut reader = Tracked::new(input);
     let mut writer = Tracked::new(Vec::new(alloc));
     let outcome = run(alloc, book, capacity, &mut reader, &mut writer);
-    let outcome = outcome_text(alloc, outcome)?;
     let held = writer.into_inner();
-    let output = escaped(alloc, &held)?;
-    Ok(format!(in alloc; "{outcome}, \"{output}\"")?)
+    let text = held_text(alloc, outcome, &held);
+    drop(held);
+    text
 }
 
 /// `run_tracked BOOK CAPACITY INPUT`: what the run leaves between a slice and a `Vec`.
@@ -174,9 +255,10 @@ pub fn tracked_row(alloc: Global, arguments: &[&str]) -> Result<String, RowError
         return Err(RowError::NotUnderstood);
     };
     let capacity = capacity_of(capacity)?;
-    let input = unescaped(alloc, input)?;
-    let book = book_of(alloc, book)?;
-    tracked_text(alloc, &book, capacity, &input)
+    let case = case_of(alloc, book, input)?;
+    let text = tracked_text(alloc, &case.book, capacity, &case.bytes);
+    drop(case);
+    text
 }
 
 // What a run leaves whose answerer is refused memory from one of its answers on.
@@ -194,8 +276,9 @@ fn shouted_text(
     let mut reader = reader_of(input, giving);
     let mut writer = writer_of(alloc, taking);
     let outcome = run_with(alloc, &mut shouter, &mut reader, &mut writer);
-    let outcome = outcome_text(alloc, outcome)?;
-    left_text(alloc, &outcome, &reader, &writer)
+    let text = run_left_text(alloc, outcome, &reader, &writer);
+    drop(writer);
+    text
 }
 
 /// `run_with ANSWERS READER WRITER INPUT`: what a run leaves that answers in upper case, and is refused
@@ -211,5 +294,7 @@ pub fn shouted_row(alloc: Global, arguments: &[&str]) -> Result<String, RowError
     let giving = Giving::from_field(reader)?;
     let taking = Taking::from_field(writer)?;
     let input = unescaped(alloc, input)?;
-    shouted_text(alloc, refused_from, giving, taking, &input)
+    let text = shouted_text(alloc, refused_from, giving, taking, &input);
+    drop(input);
+    text
 }

@@ -4,6 +4,8 @@ ghost use Rattle.std.specs.Prelude.{◌≤◌};
 use crate::answers::book_bytes;
 use crate::escapes::unescaped;
 use crate::giving::Giving;
+use crate::narrow::Narrow;
+use crate::pieces::Pieces;
 use crate::row_error::RowError;
 use crate::runs::{capacity_of, left_text, reader_of, writer_of};
 use crate::shelf::{Shelf, Stored};
@@ -32,6 +34,19 @@ fn outcome_text(alloc: Global, outcome: Result<(), ProgramFault>) -> Result<Stri
     }
 }
 
+// What the program answers, and behind it what it left.
+fn program_left_text(
+    alloc: Global,
+    outcome: Result<(), ProgramFault>,
+    reader: &Pieces<'_>,
+    writer: &Narrow,
+) -> Result<String, RowError> {
+    let outcome = outcome_text(alloc, outcome)?;
+    let text = left_text(alloc, &outcome, reader, writer);
+    drop(outcome);
+    text
+}
+
 // What the program leaves over a file system.
 fn program_text<F: Files>(
     files: &F,
@@ -46,8 +61,9 @@ fn program_text<F: Files>(
     let mut reader = reader_of(input, giving);
     let mut writer = writer_of(alloc, taking);
     let outcome = program(files, alloc, words, &mut reader, &mut writer);
-    let outcome = outcome_text(alloc, outcome)?;
-    left_text(alloc, &outcome, &reader, &writer)
+    let text = program_left_text(alloc, outcome, &reader, &writer);
+    drop(writer);
+    text
 }
 
 // What the program leaves whose files are of this kind.
@@ -73,6 +89,25 @@ fn stored_text<F: Files>(
     program_text(&Shelf { stored }, alloc, words, giving, taking, input)
 }
 
+// The same, of the input of a field.
+fn stored_field<F: Files>(
+    rt: &F,
+    alloc: Global,
+    kind: &str,
+    text: &[u8],
+    words: &Words<'_>,
+    giving: Giving,
+    taking: Taking,
+    field: &str,
+) -> Result<String, RowError>
+    requires { 1 ≤ words.now.capacity }
+{
+    let input = unescaped(alloc, field)?;
+    let left = stored_text(rt, alloc, kind, text, words, giving, taking, &input);
+    drop(input);
+    left
+}
+
 /// `program KIND TEXT BOOK CAPACITY READER WRITER INPUT`: what the program leaves. KIND says what stands
 /// under every path: `nothing`, a `whole` file with this text, one that is `broken` off behind it, or
 /// what is there (`real`). BOOK is the path of the book, or `-` for none.
@@ -91,8 +126,9 @@ pub fn program_row<F: Files>(
     let capacity = capacity_of(capacity)?;
     let giving = Giving::from_field(reader)?;
     let taking = Taking::from_field(writer)?;
-    let text = book_bytes(alloc, text)?;
-    let input = unescaped(alloc, input)?;
     let words = Words { book, capacity };
-    stored_text(rt, alloc, kind, &text, &words, giving, taking, &input)
+    let text = book_bytes(alloc, text)?;
+    let left = stored_field(rt, alloc, kind, &text, &words, giving, taking, input);
+    drop(text);
+    left
 }

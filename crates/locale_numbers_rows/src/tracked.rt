@@ -46,6 +46,7 @@ pub fn read_row(alloc: Global) -> Result<String, RowError> {
     let before = ByteReader::has_failed(&reader);
     let succeeds = ByteReader::read(&mut reader, &mut [0; 4]).is_ok();
     let after = ByteReader::has_failed(&reader);
+    drop(reader);
     Ok(format!(in alloc; "failed {before}, read {succeeds}, failed {after}")?)
 }
 
@@ -59,6 +60,8 @@ pub fn write_row(alloc: Global, arguments: &[&str]) -> Result<String, RowError> 
     let mut writer = track_interrupted(false);
     let succeeds = ByteWriter::write(&mut writer, &piece) == Ok(0);
     let after = ByteWriter::has_failed(&writer);
+    drop(writer);
+    drop(piece);
     Ok(format!(in alloc; "took 0 {succeeds}, failed {after}")?)
 }
 
