@@ -61,7 +61,7 @@ fn base_after<'a>(zero: Base<'a>, kept: &'a [PluralElements<Pattern>]) -> Base<'
     }
 }
 
-// The table of what is kept.
+// The table of what is kept, in no more memory than it needs.
 fn kept(alloc: Global, given: GivenTypes, zero: Base<'_>) -> Result<CompactPatterns, AllocError>
     requires order { NeverFalls 0 (map of_type given.entries) }
     requires sound { first_fault (kept_of (base_of zero) (map of_type given.entries)) ≡ None }
@@ -81,6 +81,8 @@ fn kept(alloc: Global, given: GivenTypes, zero: Base<'_>) -> Result<CompactPatte
         })?;
         patterns.push(typed)?;
     }
+    entries.shrink_to_fit();
+    patterns.shrink_to_fit();
     Ok(CompactPatterns { entries, patterns })
 }
 

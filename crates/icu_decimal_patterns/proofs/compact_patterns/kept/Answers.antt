@@ -19,9 +19,10 @@ loop-log10_type-preserved c =
 
 pub invariant_of-result : goal.invariant_of-result
 invariant_of-result c =
-    kept_table (base_of c.args.zero) (map of_type c.args.given.entries) c.loop-log10_type.entries.items c.loop-log10_type.patterns.items
+    rw (c.shrink_to_fit.ensures.items, c.shrink_to_fit-2.ensures.items)
+    (kept_table (base_of c.args.zero) (map of_type c.args.given.entries) c.loop-log10_type.entries.items c.loop-log10_type.patterns.items
     (kept_whole (base_of c.args.zero) _ (map of_type c.args.given.entries) c.loop-log10_type.log10_type-iterator _ _ c.in-None.ensures.steps.0 c.loop-log10_type.invariant)
-    c.requires.order c.requires.rising c.requires.sound
+    c.requires.order c.requires.rising c.requires.sound)
 
 pub returns-in_err-push-clause-room : goal.returns-in_err-push-clause-room
 returns-in_err-push-clause-room c =
