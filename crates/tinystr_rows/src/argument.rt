@@ -40,22 +40,83 @@ impl Argument<'_> {
             Err(_) => Err(Fault::NotUnderstood),
         }
     }
+
+    /// Adds the units of the word.
+    fn fill(&mut self) -> Result<(), Fault> {
+        for (place, piece) in without_quotes(self.word).split('\\').enumerate() {
+            let plain = if place == 0 {
+                piece
+            } else {
+                self.push_escape(piece)?
+            };
+            self.push_plain(plain)?;
+        }
+        Ok(())
+    }
+
+    /// Adds the unit of an escape, and answers what stands behind it.
+    fn push_escape<'p>(&mut self, piece: &'p str) -> Result<&'p str, Fault> {
+        let Some((unit, rest)) = escape(piece) else {
+            return Err(Fault::NotUnderstood);
+        };
+        self.push(unit)?;
+        Ok(rest)
+    }
+
+    /// Adds each byte as a unit.
+    fn push_plain(&mut self, plain: &str) -> Result<(), AllocError> {
+        for byte in plain.as_bytes() {
+            self.push(u16::from(*byte))?;
+        }
+        Ok(())
+    }
+
+    fn push(&mut self, unit: u16) -> Result<(), AllocError> {
+        self.units.push(unit)?;
+        if let Ok(byte) = u8::try_from(unit) {
+            self.bytes.push(byte)?;
+        }
+        Ok(())
+    }
 }
 
 /// The arguments that words stand for.
 pub fn arguments_of<'a>(alloc: Global, words: &[&'a str]) -> Result<Vec<Argument<'a>>, Fault> {
     let mut arguments = Vec::new(alloc);
+    match push_arguments(alloc, &mut arguments, words) {
+        Ok(()) => Ok(arguments),
+        Err(fault) => {
+            drop(arguments);
+            Err(fault)
+        }
+    }
+}
+
+fn push_arguments<'a>(
+    alloc: Global,
+    arguments: &mut Vec<Argument<'a>>,
+    words: &[&'a str],
+) -> Result<(), Fault> {
     for word in words {
         let argument = argument_of(alloc, *word)?;
         arguments.push(argument).map_err(AllocError::from)?;
     }
-    Ok(arguments)
+    Ok(())
 }
 
 fn argument_of<'a>(alloc: Global, word: &'a str) -> Result<Argument<'a>, Fault> {
-    let units = units_of(alloc, without_quotes(word))?;
-    let bytes = bytes_of(alloc, units.as_slice())?;
-    Ok(Argument { word, units, bytes })
+    let mut argument = Argument {
+        word,
+        units: Vec::new(alloc),
+        bytes: Vec::new(alloc),
+    };
+    match argument.fill() {
+        Ok(()) => Ok(argument),
+        Err(fault) => {
+            drop(argument);
+            Err(fault)
+        }
+    }
 }
 
 fn without_quotes(word: &str) -> &str {
@@ -63,28 +124,6 @@ fn without_quotes(word: &str) -> &str {
         None => word,
         Some(rest) => rest.strip_suffix('"').unwrap_or(word),
     }
-}
-
-fn units_of(alloc: Global, text: &str) -> Result<Vec<u16>, Fault> {
-    let mut units = Vec::new(alloc);
-    for (place, piece) in text.split('\\').enumerate() {
-        let plain = if place == 0 {
-            piece
-        } else {
-            push_escape(&mut units, piece)?
-        };
-        push_plain(&mut units, plain)?;
-    }
-    Ok(units)
-}
-
-/// Adds the unit of an escape, and answers what stands behind it.
-fn push_escape<'a>(units: &mut Vec<u16>, piece: &'a str) -> Result<&'a str, Fault> {
-    let Some((unit, rest)) = escape(piece) else {
-        return Err(Fault::NotUnderstood);
-    };
-    units.push(unit).map_err(AllocError::from)?;
-    Ok(rest)
 }
 
 /// The unit of an escape without its backslash, and what stands behind it.
@@ -102,23 +141,6 @@ fn hexadecimal(text: &str, digits: usize) -> Option<(u16, &str)> {
     let (number, rest) = text.split_at_checked(digits)?;
     let unit = u16::from_str_radix(number, 16).ok()?;
     Some((unit, rest))
-}
-
-fn push_plain(units: &mut Vec<u16>, plain: &str) -> Result<(), AllocError> {
-    for byte in plain.as_bytes() {
-        units.push(u16::from(*byte))?;
-    }
-    Ok(())
-}
-
-fn bytes_of(alloc: Global, units: &[u16]) -> Result<Vec<u8>, AllocError> {
-    let mut bytes = Vec::new(alloc);
-    for unit in units {
-        if let Ok(byte) = u8::try_from(*unit) {
-            bytes.push(byte)?;
-        }
-    }
-    Ok(bytes)
 }
 
 /// The number that a word names.

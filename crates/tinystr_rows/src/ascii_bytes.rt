@@ -44,12 +44,8 @@ const CONSTANTS: [[Byte; 4]; 32] = [
 /// Writes four constants, those from a number on that 4 divides.
 pub fn answer(call: &str, first: &str, out: &mut String) -> Result<(), Fault> {
     let place = count_of(first)? / 4;
-    match constants().get(place) {
+    match CONSTANTS.get(place) {
         Some(four) if call == "constants" => put_ascii_bytes(out, four),
         _ => Err(Fault::NotUnderstood),
     }
-}
-
-fn constants() -> [[Byte; 4]; 32] {
-    CONSTANTS
 }

@@ -5,7 +5,7 @@ ghost use Rattle.std.specs.Prelude.{◌≤◌};
 use crate::argument::Argument;
 use crate::line::Fault;
 use crate::writing::{put_bytes, put_flag};
-use std::alloc::{AllocError, Global};
+use std::alloc::AllocError;
 use std::collections::BTreeSet;
 use std::collections::hash_map::DefaultHasher;
 use std::hash::{Hash, Hasher};
@@ -22,7 +22,7 @@ pub fn answer<const N: usize>(
         [] if call == "default" => put_bytes(out, TinyAsciiStr::<N>::default().as_utf8()),
         [text] => answer_one(call, text.small::<N>()?, out),
         [one, other] => answer_two(call, one.small::<N>()?, other.small::<N>()?, out),
-        texts if call == "BTreeSet" && N == 4 => put_all(&set_of(*out.allocator(), texts)?, out),
+        texts if call == "BTreeSet" && N == 4 => put_set(texts, out),
         _ => Err(Fault::NotUnderstood),
     }
 }
@@ -62,13 +62,22 @@ fn hash_of<T: Hash>(value: &T) -> u64 {
     hasher.finish()
 }
 
-/// The texts in a set.
-fn set_of(alloc: Global, texts: &[Argument<'_>]) -> Result<BTreeSet<TinyStr4>, Fault> {
-    let mut set = BTreeSet::new(alloc);
+/// Writes the texts in the order of a set.
+fn put_set(texts: &[Argument<'_>], out: &mut String) -> Result<(), Fault> {
+    let mut set = BTreeSet::new(*out.allocator());
+    let put = match insert_all(&mut set, texts) {
+        Ok(()) => put_all(&set, out),
+        Err(fault) => Err(fault),
+    };
+    drop(set);
+    put
+}
+
+fn insert_all(set: &mut BTreeSet<TinyStr4>, texts: &[Argument<'_>]) -> Result<(), Fault> {
     for text in texts {
         set.insert(text.small::<4>()?).map_err(AllocError::from)?;
     }
-    Ok(set)
+    Ok(())
 }
 
 /// Writes the texts of a set in their order, a comma behind each.

@@ -29,35 +29,47 @@ pub fn answer<const N: usize>(
 /// Writes the text that the JSON form of a small text holds.
 fn put_json<const N: usize>(small: TinyAsciiStr<N>, out: &mut String) -> Result<(), Fault> {
     let value = small.to_json(*out.allocator())?;
-    let Some(text) = value.as_str() else {
-        return Err(Fault::NotUnderstood);
-    };
-    put_bytes(out, text.as_bytes())
+    let put = put_text(&value, out);
+    drop(value);
+    put
+}
+
+fn put_text(value: &Value, out: &mut String) -> Result<(), Fault> {
+    match value.as_str() {
+        Some(text) => put_bytes(out, text.as_bytes()),
+        None => Err(Fault::NotUnderstood),
+    }
 }
 
 fn put_from_json<const N: usize>(json: &str, out: &mut String) -> Result<(), Fault>
     requires { N ≤ 16 }
 {
     let value = value_of(json, out)?;
-    put_read(out, TinyAsciiStr::<N>::from_json(&value))
+    let read = TinyAsciiStr::<N>::from_json(&value);
+    drop(value);
+    put_read(out, read)
 }
 
 fn put_unvalidated_from_json<const N: usize>(json: &str, out: &mut String) -> Result<(), Fault>
     requires { N ≤ 16 }
 {
     let value = value_of(json, out)?;
-    put_unvalidated(out, UnvalidatedTinyAsciiStr::<N>::from_json(&value))
+    let read = UnvalidatedTinyAsciiStr::<N>::from_json(&value);
+    drop(value);
+    put_unvalidated(out, read)
 }
 
 fn value_of(json: &str, out: &String) -> Result<Value, Fault> {
     match Value::from_str(*out.allocator(), json) {
         Ok(value) => Ok(value),
         Err(error) => {
-            if error.is_memory() {
-                Err(Fault::Memory)
+            let is_memory = error.is_memory();
+            drop(error);
+            Err(if is_memory {
+                Fault::Memory
             } else {
-                Err(Fault::NotUnderstood)
-            }
+                Fault::NotUnderstood
+            })
         }
     }
 }

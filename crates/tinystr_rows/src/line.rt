@@ -10,7 +10,7 @@ use crate::{
 use std::alloc::{AllocError, Global};
 
 /// Why a line has no answer.
-#[derive(Debug, Drop)]
+#[derive(Drop)]
 pub enum Fault {
     /// No call has this name, or its arguments are others.
     NotUnderstood,
@@ -24,24 +24,35 @@ impl From<AllocError> for Fault {
     }
 }
 
-/// The answer of a line; `?` of one that is not understood.
-pub fn answer_of(alloc: Global, line: &str) -> Result<String, AllocError> {
-    let mut out = String::new(alloc);
-    match answer_line(alloc, line, &mut out) {
-        Ok(()) => Ok(out),
-        Err(Fault::NotUnderstood) => String::from_str(alloc, "?"),
+/// Puts the answer of a line in the place of a text; `?` where it is not understood.
+pub fn answer(alloc: Global, line: &str, out: &mut String) -> Result<(), AllocError> {
+    out.clear();
+    match answer_line(alloc, line, out) {
+        Ok(()) => Ok(()),
+        Err(Fault::NotUnderstood) => {
+            out.clear();
+            out.push('?')
+        }
         Err(Fault::Memory) => Err(AllocError),
     }
 }
 
 fn answer_line(alloc: Global, line: &str, out: &mut String) -> Result<(), Fault> {
     let words: Vec<&str> = line.split('\t').collect(alloc)?;
-    match words.as_slice() {
+    let answered = answer_words(alloc, words.as_slice(), out);
+    drop(words);
+    answered
+}
+
+fn answer_words(alloc: Global, words: &[&str], out: &mut String) -> Result<(), Fault> {
+    match words {
         [module, error, counts @ ..] if *module == "error" => errors::answer(error, counts, out),
         [module, call, first] if *module == "asciibyte" => ascii_bytes::answer(call, first, out),
         [module, name, capacity, rest @ ..] => {
             let arguments = arguments_of(alloc, rest)?;
-            answer_call(module, name, capacity, arguments.as_slice(), out)
+            let answered = answer_call(module, name, capacity, arguments.as_slice(), out);
+            drop(arguments);
+            answered
         }
         _ => Err(Fault::NotUnderstood),
     }
@@ -59,29 +70,29 @@ fn answer_call(
         return joining::answer(name, capacity, arguments, out);
     }
     match capacity {
-        "0" => answer::<0>(module, name, arguments, out),
-        "1" => answer::<1>(module, name, arguments, out),
-        "2" => answer::<2>(module, name, arguments, out),
-        "3" => answer::<3>(module, name, arguments, out),
-        "4" => answer::<4>(module, name, arguments, out),
-        "5" => answer::<5>(module, name, arguments, out),
-        "6" => answer::<6>(module, name, arguments, out),
-        "7" => answer::<7>(module, name, arguments, out),
-        "8" => answer::<8>(module, name, arguments, out),
-        "9" => answer::<9>(module, name, arguments, out),
-        "10" => answer::<10>(module, name, arguments, out),
-        "11" => answer::<11>(module, name, arguments, out),
-        "12" => answer::<12>(module, name, arguments, out),
-        "13" => answer::<13>(module, name, arguments, out),
-        "14" => answer::<14>(module, name, arguments, out),
-        "15" => answer::<15>(module, name, arguments, out),
-        "16" => answer::<16>(module, name, arguments, out),
+        "0" => answer_at::<0>(module, name, arguments, out),
+        "1" => answer_at::<1>(module, name, arguments, out),
+        "2" => answer_at::<2>(module, name, arguments, out),
+        "3" => answer_at::<3>(module, name, arguments, out),
+        "4" => answer_at::<4>(module, name, arguments, out),
+        "5" => answer_at::<5>(module, name, arguments, out),
+        "6" => answer_at::<6>(module, name, arguments, out),
+        "7" => answer_at::<7>(module, name, arguments, out),
+        "8" => answer_at::<8>(module, name, arguments, out),
+        "9" => answer_at::<9>(module, name, arguments, out),
+        "10" => answer_at::<10>(module, name, arguments, out),
+        "11" => answer_at::<11>(module, name, arguments, out),
+        "12" => answer_at::<12>(module, name, arguments, out),
+        "13" => answer_at::<13>(module, name, arguments, out),
+        "14" => answer_at::<14>(module, name, arguments, out),
+        "15" => answer_at::<15>(module, name, arguments, out),
+        "16" => answer_at::<16>(module, name, arguments, out),
         _ => Err(Fault::NotUnderstood),
     }
 }
 
 /// The answer of a call of one module of `tinystr`.
-fn answer<const N: usize>(
+fn answer_at<const N: usize>(
     module: &str,
     call: &str,
     arguments: &[Argument<'_>],

@@ -26,10 +26,19 @@ use std::io;
 
 fn main(rt: HostRuntime) -> io::Result<()> {
     let alloc = rt.alloc();
-    for line in rt.lines(alloc) {
-        let line = line?;
-        let answer = line::answer_of(alloc, line.as_str())?;
-        println!(rt; "{line}\t{answer}")?;
+    let input = io::read_to_string(alloc, rt.stdin())?;
+    let mut answer = String::new(alloc);
+    let written = answer_lines(&rt, input.as_str(), &mut answer);
+    drop(answer);
+    drop(input);
+    written
+}
+
+// Repeats each line with its answer, which is put into the lent text first.
+fn answer_lines(rt: &HostRuntime, input: &str, answer: &mut String) -> io::Result<()> {
+    for line in input.lines() {
+        line::answer(rt.alloc(), line, answer)?;
+        println!(rt; "{line}\t{}", answer.as_str())?;
     }
     Ok(())
 }

@@ -81,7 +81,7 @@ fn changed<const N: usize>(change: &str, text: TinyAsciiStr<N>) -> Result<TinyAs
 }
 
 /// Alphabetic, alphanumeric, numeric, lower, upper, title, then letters in lower, upper, title.
-fn answers<const N: usize>(text: TinyAsciiStr<N>) -> [bool; 9] {
+pub fn answers<const N: usize>(text: TinyAsciiStr<N>) -> [bool; 9] {
     [
         text.is_ascii_alphabetic(),
         text.is_ascii_alphanumeric(),

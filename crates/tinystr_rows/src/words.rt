@@ -3,6 +3,7 @@
 ghost use Rattle.std.specs.Prelude.{◌≤◌, ◌<◌};
 
 use crate::line::Fault;
+use crate::texts::answers;
 use crate::writing::put_count;
 use tinystr::TinyAsciiStr;
 
@@ -60,54 +61,75 @@ fn is_alike<const N: usize>(bytes: &[u8]) -> Result<bool, Fault>
     let Ok(text) = TinyAsciiStr::<N>::try_from_utf8(bytes) else {
         return Err(Fault::NotUnderstood);
     };
-    let answers = text.is_ascii_alphabetic() == bytes.iter().all(|b| b.is_ascii_alphabetic())
-        && text.is_ascii_alphanumeric() == bytes.iter().all(|b| b.is_ascii_alphanumeric())
-        && text.is_ascii_numeric() == bytes.iter().all(|b| b.is_ascii_digit())
-        && text.is_ascii_lowercase() == bytes.iter().all(|b| !b.is_ascii_uppercase())
-        && text.is_ascii_uppercase() == bytes.iter().all(|b| !b.is_ascii_lowercase())
-        && text.is_ascii_alphabetic_lowercase() == bytes.iter().all(|b| b.is_ascii_lowercase())
-        && text.is_ascii_alphabetic_uppercase() == bytes.iter().all(|b| b.is_ascii_uppercase());
     Ok(
-        answers
-            && text.len() == bytes.len()
-            && are_titles_alike(&text, bytes)
+        text.len() == bytes.len()
+            && text_answers(text) == byte_answers(bytes)
             && are_changes_alike(text, bytes),
     )
 }
 
-fn are_titles_alike<const N: usize>(text: &TinyAsciiStr<N>, bytes: &[u8]) -> bool {
-    let Some((first, rest)) = bytes.split_first() else {
-        return text.is_ascii_titlecase() && text.is_ascii_alphabetic_titlecase();
-    };
-    let title = !first.is_ascii_lowercase() && rest.iter().all(|b| !b.is_ascii_uppercase());
-    let letters = first.is_ascii_uppercase() && rest.iter().all(|b| b.is_ascii_lowercase());
-    text.is_ascii_titlecase() == title && text.is_ascii_alphabetic_titlecase() == letters
+/// The nine answers of a text as bits, in the order of `classes`.
+fn text_answers<const N: usize>(text: TinyAsciiStr<N>) -> u16 {
+    bits_of(answers(text))
+}
+
+/// The nine answers of a loop over single bytes.
+fn byte_answers(bytes: &[u8]) -> u16 {
+    let mut bits = bits_of([true; 9]);
+    let mut is_first = true;
+    for byte in bytes {
+        bits &= bits_of(asked(*byte, is_first));
+        is_first = false;
+    }
+    bits
+}
+
+/// What the nine questions ask of a byte, which is the first one or stands behind it.
+fn asked(byte: u8, is_first: bool) -> [bool; 9] {
+    let is_lower = byte.is_ascii_lowercase();
+    let is_upper = byte.is_ascii_uppercase();
+    [
+        byte.is_ascii_alphabetic(),
+        byte.is_ascii_alphanumeric(),
+        byte.is_ascii_digit(),
+        !is_upper,
+        !is_lower,
+        if is_first { !is_lower } else { !is_upper },
+        is_lower,
+        is_upper,
+        if is_first { is_upper } else { is_lower },
+    ]
+}
+
+fn bits_of(answers: [bool; 9]) -> u16 {
+    let mut bits = 0;
+    for holds in answers {
+        bits = (bits << 1) | u16::from(holds);
+    }
+    bits
 }
 
 fn are_changes_alike<const N: usize>(text: TinyAsciiStr<N>, bytes: &[u8]) -> bool
     requires { N ≤ 16 }
 {
-    is_lower_of(text.to_ascii_lowercase().as_utf8(), bytes)
-        && is_upper_of(text.to_ascii_uppercase().as_utf8(), bytes)
-        && is_title_of(text.to_ascii_titlecase().as_utf8(), bytes)
+    is_changed(text.to_ascii_lowercase().as_utf8(), bytes, [false, false])
+        && is_changed(text.to_ascii_uppercase().as_utf8(), bytes, [true, true])
+        && is_changed(text.to_ascii_titlecase().as_utf8(), bytes, [true, false])
 }
 
-fn is_lower_of(changed: &[u8], bytes: &[u8]) -> bool {
-    let mut pairs = changed.iter().zip(bytes.iter());
-    changed.len() == bytes.len() && pairs.all(|(c, b)| *c == b.to_ascii_lowercase())
-}
-
-fn is_upper_of(changed: &[u8], bytes: &[u8]) -> bool {
-    let mut pairs = changed.iter().zip(bytes.iter());
-    changed.len() == bytes.len() && pairs.all(|(c, b)| *c == b.to_ascii_uppercase())
-}
-
-fn is_title_of(changed: &[u8], bytes: &[u8]) -> bool {
-    match (changed.split_first(), bytes.split_first()) {
-        (None, None) => true,
-        (Some((changed, rest)), Some((first, bytes))) => {
-            *changed == first.to_ascii_uppercase() && is_lower_of(rest, bytes)
+/// Whether bytes were changed to the upper case or the lower: the first one, and those behind it.
+fn is_changed(changed: &[u8], bytes: &[u8], [first, rest]: [bool; 2]) -> bool {
+    let mut is_upper = first;
+    for (new, old) in changed.iter().zip(bytes) {
+        let want = if is_upper {
+            old.to_ascii_uppercase()
+        } else {
+            old.to_ascii_lowercase()
+        };
+        if *new != want {
+            return false;
         }
-        _ => false,
+        is_upper = rest;
     }
+    changed.len() == bytes.len()
 }
