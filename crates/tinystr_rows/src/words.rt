@@ -63,17 +63,12 @@ fn is_alike<const N: usize>(bytes: &[u8]) -> Result<bool, Fault>
     };
     Ok(
         text.len() == bytes.len()
-            && text_answers(text) == byte_answers(bytes)
+            && bits_of(answers(text)) == byte_answers(bytes)
             && are_changes_alike(text, bytes),
     )
 }
 
-/// The nine answers of a text as bits, in the order of `classes`.
-fn text_answers<const N: usize>(text: TinyAsciiStr<N>) -> u16 {
-    bits_of(answers(text))
-}
-
-/// The nine answers of a loop over single bytes.
+/// The nine answers of a loop over single bytes, as bits.
 fn byte_answers(bytes: &[u8]) -> u16 {
     let mut bits = bits_of([true; 9]);
     let mut is_first = true;
@@ -101,6 +96,7 @@ fn asked(byte: u8, is_first: bool) -> [bool; 9] {
     ]
 }
 
+/// Nine answers as bits, in the order of `classes`.
 fn bits_of(answers: [bool; 9]) -> u16 {
     let mut bits = 0;
     for holds in answers {
