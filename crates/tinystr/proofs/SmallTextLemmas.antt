@@ -5,7 +5,7 @@ use Rattle.std.specs.Str.{IsAscii}
 use Rattle.std.proofs.Math.Seq.{take-append-add}
 use Rattle.std.proofs.lemmas.Bool.{and_parts, and_from}
 use Rattle.std.proofs.lemmas.Bool.Decides.{nat_tests}
-use Rattle.std.proofs.lemmas.List.{append_assoc, append-nil, length-append, length-take, length-replicate, take-replicate, drop-replicate, drop-drop, drop_at, take_at, take_min}
+use Rattle.std.proofs.lemmas.List.{append_assoc, length-append, length-take, length-replicate, take-replicate, drop-replicate, drop-drop, drop_at, take_at, take_min, replicate-append-replicate}
 use Rattle.std.proofs.lemmas.List.Folds.{length-prefix_len, list_all-append}
 use Rattle.std.proofs.lemmas.Str.Ascii.{IsAscii-cons, IsAscii-nil}
 use Rattle.tinystr.specs.SmallText.{NUL, is_nul, is_text_byte, IsSmall, IsForm, padded, text_of}
@@ -123,19 +123,20 @@ pub front_gives_form : (n : ℕ) (text bytes : List ℕ) → bytes ≡ text ++ d
 unfolding padded
 front_gives_form n text bytes e = e ∙ ap (λ l. text ++ l) (drop-replicate (length text) n NUL)
 
--- the first bytes of a text filled up with NULs to eight, written over NULs
-pub word_gives_form : (n : ℕ) (text eight bytes : List ℕ) → n ≤ 8 → length text ≤ n → eight ≡ text ++ replicate (8 - length text) NUL
-    → bytes ≡ take 0 (replicate n NUL) ++ (take n eight ++ drop (0 + length (take n eight)) (replicate n NUL)) → bytes ≡ padded n text
+-- the first k bytes of a text filled up with NULs to eight, written over NULs
+pub word_gives_form : (k n : ℕ) (text eight bytes : List ℕ) → k ≤ 8 → k ≤ n → length text ≤ k → eight ≡ text ++ replicate (8 - length text) NUL
+    → bytes ≡ take 0 (replicate n NUL) ++ (take k eight ++ drop (0 + length (take k eight)) (replicate n NUL)) → bytes ≡ padded n text
 unfolding padded
-word_gives_form n text eight bytes narrow fits made e =
+word_gives_form k n text eight bytes narrow within fits made e =
     let nuls = replicate (8 - length text) NUL in
     let whole : length eight ≡ 8 = ap length made ∙ omega (arith, length-append text nuls, length-replicate {A = ℕ}, narrow, fits) in
-    let long : 0 + length (take n eight) ≡ n = omega (arith, length-take n eight, whole, narrow) in
-    let same : n - n ≡ 0 = omega arith in
-    let none : drop n (replicate n NUL) ≡ [] = drop-replicate n n NUL ∙ ap (λ k. replicate k NUL) same in
-    let behind : drop (0 + length (take n eight)) (replicate n NUL) ≡ [] = ap (λ k. drop k (replicate n NUL)) long ∙ none in
-    let more : n ≡ length text + (n - length text) = omega (arith, fits) in
-    let front : take n eight ≡ text ++ replicate (n - length text) NUL =
-    ap (take n) made ∙ ap (λ k. take k (text ++ nuls)) more ∙ take-append-add text nuls (n - length text)
-    ∙ ap (λ l. text ++ l) (take-replicate (n - length text) (8 - length text) NUL (omega (arith, narrow))) in
-    e ∙ ap (λ l. take n eight ++ l) behind ∙ append-nil (take n eight) ∙ front
+    let long : 0 + length (take k eight) ≡ k = omega (arith, length-take k eight, whole, narrow) in
+    let behind : drop (0 + length (take k eight)) (replicate n NUL) ≡ replicate (n - k) NUL = ap (λ i. drop i (replicate n NUL)) long ∙ drop-replicate k n NUL in
+    let more : k ≡ length text + (k - length text) = omega (arith, fits) in
+    let front : take k eight ≡ text ++ replicate (k - length text) NUL =
+    ap (take k) made ∙ ap (λ i. take i (text ++ nuls)) more ∙ take-append-add text nuls (k - length text)
+    ∙ ap (λ l. text ++ l) (take-replicate (k - length text) (8 - length text) NUL (omega (arith, narrow))) in
+    let all : (k - length text) + (n - k) ≡ n - length text = omega (arith, fits, within) in
+    e ∙ ap (λ l. take k eight ++ l) behind ∙ ap (λ l. l ++ replicate (n - k) NUL) front
+    ∙ append_assoc text (replicate (k - length text) NUL) (replicate (n - k) NUL)
+    ∙ ap (λ l. text ++ l) (replicate-append-replicate (k - length text) (n - k) NUL ∙ ap (λ i. replicate i NUL) all)

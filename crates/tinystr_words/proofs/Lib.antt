@@ -1,3 +1,4 @@
+pub mod KnownValues
 pub mod Lanes
 pub mod FlagLaws
 pub mod LengthLaws

@@ -1,7 +1,7 @@
 -- A word that is filled byte by byte, from the last byte to the first.
 use Rattle.std.proofs.Common.{◌≡◌, ℕ, zero, suc, ◌+◌, ◌*◌, ◌-◌, ◌^◌, ◌≤◌, ◌<◌, List, [], ◌∷◌, ◌++◌, length, drop, get_or, replicate, refl, sym, ap, arith, ◌∙◌}
 use Rattle.std.proofs.Math.Pow.{pow_mono}
-use Rattle.std.proofs.lemmas.List.{drop_more, get_or-drop, length-drop}
+use Rattle.std.proofs.lemmas.List.{drop_more, get_or-drop}
 use Rattle.tinystr_words.specs.Words.{word_bytes, word_of, filled}
 use Rattle.tinystr_words.proofs.FlagLaws.{bytes_of_word}
 use Rattle.tinystr_words.proofs.LengthLaws.{AreBytes, power_step}

@@ -1,8 +1,7 @@
 -- Eight bytes are one word, the first the lowest; a list of bytes is cut into words, the last filled up with NULs.
 -- Defined in docs/small-text.md, "Words of eight bytes".
 -- Cited by every call of this crate, on words and on slices.
-use Rattle.std.specs.Prelude.{ℕ, ◌+◌, ◌*◌, ◌-◌, zero, suc, Bool, true, false, cond, ◌&&◌, ◌||◌, List, [], ◌∷◌, ◌++◌, length, map, replicate, nat_eq}
-use Rattle.std.specs.List.{list_all}
+use Rattle.std.specs.Prelude.{ℕ, ◌+◌, ◌*◌, ◌-◌, zero, suc, Bool, true, false, cond, ◌||◌, List, [], ◌∷◌, ◌++◌, length, map, replicate, nat_eq}
 use Rattle.std.specs.Int.{w64, to_le_bytes}
 
 -- the eight bytes of a word, the lowest first
@@ -47,8 +46,3 @@ abbrev pub text_bytes : List ℕ → ℕ
 text_bytes [] = 0
 text_bytes (zero ∷ bs) = text_bytes bs
 text_bytes (suc b ∷ bs) = suc (text_bytes bs)
-
--- the first byte passes the one test, the rest pass the other; no bytes pass
-abbrev pub first_and_rest : (ℕ → Bool) → (ℕ → Bool) → List ℕ → Bool
-first_and_rest first rest [] = true
-first_and_rest first rest (b ∷ bs) = first b && list_all rest bs

@@ -11,7 +11,8 @@ ghost use Rattle.tinystr.specs.Case.{lowercase, uppercase, titlecase};
 use crate::{AsciiByte, TinyAsciiStr, to_ascii_byte_array};
 use std::marker::Model;
 use tinystr_words::{
-    Digits, Letters, LettersAndDigits, Lowercase, Uppercase, WordClass, is_all, is_none, word_len,
+    Digits, Letters, LettersAndDigits, Lowercase, Uppercase, WordClass, is_all, is_none, put_at,
+    word_len,
 };
 
 /// A text of at most M bytes, and at most 8, held as one `u64` whose lowest byte is the first character.
@@ -173,5 +174,7 @@ fn ascii_bytes<const M: usize>(text: TinyAsciiStr<8>) -> [AsciiByte; M]
     requires { IsSmall M text }
     ensures { result ≡ padded M text }
 {
-    to_ascii_byte_array(text.resize::<M>().all_bytes())
+    let mut bytes = [0; M];
+    put_at(&mut bytes, 0, &text.all_bytes()[..M.min(8)]);
+    to_ascii_byte_array(&bytes)
 }

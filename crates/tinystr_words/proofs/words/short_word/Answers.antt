@@ -1,7 +1,7 @@
-use Rattle.std.proofs.Common.{◌≡◌, ◌+◌, ◌-◌, ◌*◌, ◌<◌, ◌≤◌, ◌^◌, length, drop, ap, arith, ◌∙◌}
+use Rattle.std.proofs.Common.{◌≡◌, ◌-◌, ◌≤◌, length, drop, ap, arith, ◌∙◌}
 use Rattle.std.proofs.lemmas.List.{length-drop}
-use Rattle.tinystr_words.specs.Words.{word_bytes, word_of, filled}
-use Rattle.tinystr_words.proofs.ShortLaws.{AreBytes-drop, filled_word, one_more, room_for_one}
+use Rattle.tinystr_words.specs.Words.{word_of}
+use Rattle.tinystr_words.proofs.ShortLaws.{AreBytes-drop, filled_word, room_for_one}
 use Rattle.tinystr_words.proofs.words.short_word.Goals as goal
 
 pub overflow_mul-word : goal.overflow_mul-word
