@@ -39,8 +39,10 @@ pub use Rattle.icu_decimal_text.specs.FoundTables
 pub use Rattle.icu_decimal_text.specs.Grouper
 pub use Rattle.icu_decimal_text.specs.PartIntervals
 pub use Rattle.icu_decimal_text.specs.PlainText
--- What a formatter holds.
+-- What a formatter, a pattern and a value with a sign hold.
 pub use Rattle.icu_decimal_compact.specs.HeldCompact
+pub use Rattle.icu_decimal_patterns.specs.HeldPattern
+pub use Rattle.icu_decimal_text.specs.HeldAffixes
 pub use Rattle.icu_decimal_text.specs.HeldTables
 -- Equality of symbols, of patterns and of formatted numbers.
 pub use Rattle.icu_decimal_patterns.specs.SameElements

@@ -15,6 +15,7 @@ pub enum Cow<'a, T> {
     Owned(T),
 }
 
+/// The value, whoever owns it: `*` of `Borrowed(&5)` is `5`. It takes no memory.
 impl<'a, T> Deref for Cow<'a, T> {
     type Target = T;
 

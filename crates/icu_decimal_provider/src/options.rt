@@ -3,28 +3,28 @@
 ghost use Rattle.std.specs.Prelude.{◌≡◌, Some};
 ghost use Rattle.icu_decimal_provider.specs.Options.{strategy_in};
 
-/// When grouping separators are written.
+/// When grouping separators are written. The names are ICU4X's; source: UTS 35, part 3 (numbers), grouping of number patterns.
 #[derive(Clone, Copy, Debug, Default, PartialEq, Eq, Hash)]
 pub enum GroupingStrategy {
-    /// Where the sizes of the locale place them.
+    /// Where the sizes of the locale place them: `1,234,567`.
     #[default]
     Auto,
-    /// Nowhere: the integer digits are one group.
+    /// Nowhere: the integer digits are one group, `1234567`.
     Never,
-    /// As `Auto`, for plain numbers.
+    /// As `Auto`, for plain numbers: `1,234,567`.
     Always,
     /// As `Auto`, but only with at least two digits before the last separator: `1000`, `10,000`.
     Min2,
 }
 
-/// How plain numbers are written. By default nothing is said, which means `Auto`.
+/// How plain numbers are written. By default nothing is said, which means `Auto`: `1,000`. With `Never` it is `1000`.
 #[derive(Clone, Copy, Debug, Default, PartialEq, Eq, Hash)]
 pub struct DecimalFormatterOptions {
     /// When grouping separators are written; `None` means `Auto`.
     pub grouping_strategy: Option<GroupingStrategy>,
 }
 
-/// How compact numbers are written. By default it is `Min2`.
+/// How compact numbers are written. By default it is `Min2`: `1000T`, and `10,000T`. With `Never` that is `10000T`.
 #[derive(Clone, Copy, Debug, PartialEq, Eq, Hash)]
 pub struct CompactDecimalFormatterOptions {
     /// When grouping separators are written; `None` means `Auto`.
@@ -65,8 +65,8 @@ impl From<GroupingStrategy> for CompactDecimalFormatterOptions {
     }
 }
 
-/// The same strategy, and none where there is none: the default options for plain numbers do not become the default ones for
-/// compact numbers. It takes no memory.
+/// The same strategy, and none where there is none: `Some(Never)` gives `Some(Never)`, and `None` gives `None`. So the default
+/// options for plain numbers do not become the default ones for compact numbers. It takes no memory.
 impl From<DecimalFormatterOptions> for CompactDecimalFormatterOptions {
     ghost from_gives = { λ plain compact. compact ≡ record { grouping_strategy = plain.grouping_strategy } };
 
@@ -77,7 +77,7 @@ impl From<DecimalFormatterOptions> for CompactDecimalFormatterOptions {
     }
 }
 
-/// The same strategy, and none where there is none. It takes no memory.
+/// The same strategy, and none where there is none: `Some(Min2)` gives `Some(Min2)`, and `None` gives `None`. It takes no memory.
 impl From<CompactDecimalFormatterOptions> for DecimalFormatterOptions {
     ghost from_gives = { λ compact plain. plain ≡ record { grouping_strategy = compact.grouping_strategy } };
 

@@ -84,7 +84,8 @@ fn affixes_in<'l>(sign: Sign, symbols: &'l DecimalSymbols) -> Option<Affixes<'l>
 }
 
 impl<'l, T> FormattedSign<'l, T> {
-    /// The value with the affixes that the sign has in these symbols, which are borrowed. It takes no memory.
+    /// The value with the affixes that the sign has in these symbols, which are borrowed: `"5"` with `Sign::Negative` is written
+    /// `-5` in English. It takes no memory.
     pub fn new(sign: Sign, symbols: &'l DecimalSymbols, value: T) -> Self
         ensures { result ≡ record { value = value; affixes = affixes_of symbols.now.strings sign } }
     {
@@ -139,6 +140,9 @@ fn write_suffix<S: Sink>(affixes: Option<Affixes<'_>>, sink: &mut S) -> Result<(
 }
 
 /// The prefix, the value and the suffix: `-1,234` in English, of which `-` is the part `MINUS_SIGN`.
+///
+/// `Error`, only where the sink refused: it took a beginning. Writing takes no memory but the sink's and the value's. The hint is
+/// the least length that the value's hint says, of `-1,234` at least 4, and takes none but the value's.
 impl<'l, T: Writeable> Writeable for FormattedSign<'l, T> {
     ghost use Rattle.std.specs.Prelude.{length};
     ghost use Rattle.writeable.specs.AnnotatedText.{text_of};
@@ -161,7 +165,7 @@ impl<'l, T: Writeable> Writeable for FormattedSign<'l, T> {
     }
 }
 
-/// The same text, without its parts.
+/// The same text, without its parts: `-1,234`. It takes no memory but the writer's and the value's.
 impl<'l, T: Writeable> fmt::Display for FormattedSign<'l, T> {
     ghost use Rattle.std.specs.Prelude.{Some};
     ghost use Rattle.writeable.specs.AnnotatedText.{text_of};
@@ -187,7 +191,7 @@ fn have_same_texts(a: Option<Affixes<'_>>, b: Option<Affixes<'_>>) -> bool
     }
 }
 
-/// Equal where the values are, and the affixes.
+/// Equal where the values are, and the affixes: `-5` equals `-5`, and not `5`.
 impl<'l, T: PartialEq> PartialEq for FormattedSign<'l, T> {
     ghost use Rattle.std.specs.Prelude.{◌&&◌};
     ghost use Rattle.std.specs.Option.{option_eq};

@@ -43,7 +43,8 @@ impl<'l> FormattedUnsignedDecimal<'l> {
         FormattedUnsignedDecimal { number, tables }
     }
 
-    /// The same value once more, with the same loans. It takes no memory.
+    /// The same value once more, with the same loans: of `1,234.5` another that writes `1,234.5`. It takes no memory, and is
+    /// never refused.
     pub fn try_clone(&self) -> Result<Self, AllocError>
         ensures succeeds { IsOk result }
         ensures value { IfOk result (λ copy. copy ≡ self.now) }
@@ -56,6 +57,9 @@ impl<'l> FormattedUnsignedDecimal<'l> {
 }
 
 /// The digits in groups with their parts: `1,234.5` in English.
+///
+/// `Error`, only where the sink refused: it took a beginning. Writing takes no memory but the sink's. The hint is at least a byte
+/// for each digit shown, of `1,234.5` at least 5, and takes none.
 impl<'l> Writeable for FormattedUnsignedDecimal<'l> {
     ghost use Rattle.std.specs.Prelude.{◌≡◌, ◌+◌, ◌-◌, length};
     ghost use Rattle.writeable.specs.AnnotatedText.{text_of};
@@ -77,7 +81,7 @@ impl<'l> Writeable for FormattedUnsignedDecimal<'l> {
     }
 }
 
-/// The same text, without its parts.
+/// The same text, without its parts: `1,234.5`. It takes no memory but the writer's.
 impl<'l> fmt::Display for FormattedUnsignedDecimal<'l> {
     ghost use Rattle.std.specs.Prelude.{Some};
     ghost use Rattle.icu_decimal_text.specs.PlainText.{unsigned_text};

@@ -22,7 +22,8 @@ use writeable::Writeable;
 pub type FormattedDecimal<'l> = FormattedSign<'l, FormattedUnsignedDecimal<'l>>;
 
 impl<'l> FormattedSign<'l, FormattedUnsignedDecimal<'l>> {
-    /// The same value once more, with the same loans. It takes no memory.
+    /// The same value once more, with the same loans: of `-1,234.5` another that writes `-1,234.5`. It takes no memory, and is
+    /// never refused.
     pub fn try_clone(&self) -> Result<Self, AllocError>
         ensures succeeds { IsOk result }
         ensures value { IfOk result (λ copy. copy ≡ self.now) }
@@ -33,6 +34,8 @@ impl<'l> FormattedSign<'l, FormattedUnsignedDecimal<'l>> {
 }
 
 /// A formatter of decimals: the symbols and the digits of a locale, which it borrows, and when separators are written.
+///
+/// That of `en` writes -1234.5 as `-1,234.5`. After ICU4X's `DecimalFormatter`.
 #[derive(Clone, Copy, Debug)]
 pub struct DecimalFormatter<'b> {
     pub(crate) symbols: &'b DecimalSymbols,
@@ -65,6 +68,8 @@ impl<'b> DecimalFormatter<'b> {
     }
 
     /// The decimal as this formatter writes it: -1234.5 as `-1,234.5` in English. It takes no memory.
+    ///
+    /// Source: UTS 35, part 3 (numbers), number symbols and patterns.
     pub fn format<'l>(&'l self, value: &'l Decimal) -> FormattedDecimal<'l>
         ensures { result ≡ formatted (tables_of self.now) value.now }
     {
@@ -85,7 +90,7 @@ impl<'b> DecimalFormatter<'b> {
 }
 
 impl<'b> AsRef<DecimalFormatter<'b>> for DecimalFormatter<'b> {
-    /// The formatter itself.
+    /// The formatter itself: the one of `en` gives the one of `en`. It takes no memory.
     fn as_ref(&self) -> &DecimalFormatter<'b>
         ensures { result.now ≡ self.now }
     {

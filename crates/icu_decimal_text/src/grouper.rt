@@ -14,7 +14,8 @@ use std::mem;
 /// `upper_magnitude` is the highest magnitude written; both count powers of ten, 0 for units.
 /// With sizes 3, 2, 1 and `Auto`, 100000 is written `1,00,000`: true at 5 and at 3, false at 4.
 /// Above `upper_magnitude` it says where a separator would stand if there were digits; below 0,
-/// in the fraction, none stands. Takes no memory.
+/// in the fraction, none stands. It takes no memory.
+/// The call is ICU4X's. Source: UTS 35, part 3 (numbers), grouping of number patterns.
 #[tactic(auto, using(crate::proofs::GrouperLemmas::ends_is_separated))]
 pub fn check(
     upper_magnitude: i16,

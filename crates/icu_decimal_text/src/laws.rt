@@ -1,3 +1,5 @@
+//! Laws, beside the clauses of the calls: groups are cut from the right, the text of a number and its parts, equal preferences.
+
 ghost use Rattle.icu_decimal_text.specs.GroupLaws.{GroupsAreCut, GroupsAreSeparated};
 ghost use Rattle.std.specs.Prelude.{◌≡◌, ◌↔◌, IsTrue};
 ghost use Rattle.icu_decimal_text.specs.PartLaws.{DecimalHasParts, SeparatorsStandBetween, UnsignedHasParts};

@@ -28,8 +28,12 @@ pub use Rattle.locale_numbers_book.specs.Keys as BookKeys
 pub use Rattle.locale_numbers_book.specs.Laws as BookLaws
 pub use Rattle.locale_numbers_book.specs.Refusal as BookRefusal
 pub use Rattle.locale_numbers_book.specs.Tables
+pub use Rattle.locale_numbers_cache.specs.Cached
 pub use Rattle.locale_numbers_cache.specs.Laws as CacheLaws
+pub use Rattle.locale_numbers_cache.specs.Recent
 pub use Rattle.locale_numbers_engine.specs.ByteIo
 pub use Rattle.locale_numbers_engine.specs.Laws as LineLaws
+pub use Rattle.locale_numbers_engine.specs.Lines
 pub use Rattle.locale_numbers_engine.specs.Outcomes
+pub use Rattle.locale_numbers_engine.specs.Run
 pub use Rattle.locale_numbers_engine.specs.Tracking

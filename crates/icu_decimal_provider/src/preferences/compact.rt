@@ -12,7 +12,10 @@ use icu_locale_core::preferences::extensions::unicode::keywords::NumberingSystem
 use icu_locale_core::{LanguageIdentifier, Locale};
 use std::marker::Model;
 
-/// What a locale prefers for compact numbers: the same as for plain ones.
+/// What a locale prefers for compact numbers, the same as for plain ones: `ar-EG-u-nu-thai` prefers the locale `ar-EG` and the
+/// numbering system `thai`.
+///
+/// Source: UTS 35, section 3.6, key `nu`.
 #[derive(Clone, Copy, Debug, PartialEq, Eq, Hash)]
 pub struct CompactDecimalFormatterPreferences {
     /// What the locale prefers whatever is written.
@@ -99,7 +102,8 @@ impl CompactDecimalFormatterPreferences {
         }
     }
 
-    /// Puts each part of the other that is there in place of this one's, as for plain numbers. It takes no memory.
+    /// Puts each part of the other that is there in place of this one's, as for plain numbers: `en-US-u-nu-thai` extended by
+    /// `und-GB` prefers `en-GB` and `thai`. It takes no memory.
     pub fn extend(&mut self, other: CompactDecimalFormatterPreferences)
         ensures { self.new ≡ joined self.old other }
     {

@@ -17,7 +17,7 @@ use std::marker::Model;
 
 /// What a locale prefers for plain numbers: `ar-EG-u-nu-thai` prefers the locale `ar-EG` and the numbering system `thai`.
 ///
-/// Preferences that are equal are one value, so they ask for the same tables.
+/// Preferences that are equal are one value, so they ask for the same tables. Source: UTS 35, section 3.6, key `nu`.
 #[derive(Clone, Copy, Debug, PartialEq, Eq, Hash)]
 pub struct DecimalFormatterPreferences {
     /// What the locale prefers whatever is written.

@@ -11,7 +11,10 @@ pub trait DataMarker {
     type DataStruct;
 }
 
-/// A provider of the tables of one kind. What it answers is a function of the identifier.
+/// A provider of the tables of one kind. What it answers is a function of the identifier: under `en` the sample book always lends
+/// the symbols of English.
+///
+/// After ICU4X's `DataProvider`.
 pub trait DataProvider<M: DataMarker> {
     ghost use Rattle.std.specs.Prelude.{◌≡◌, Result};
     ghost use Rattle.std.specs.Result.{result_map_both};
@@ -21,9 +24,9 @@ pub trait DataProvider<M: DataMarker> {
     // what stands under each identifier
     ghost table: { Self → Identifier → Result M.DataStruct DataError };
 
-    /// The table under the identifier, borrowed from the provider.
+    /// The table under the identifier, borrowed from the provider: of the sample book under `thai` the digits `๐` to `๙`.
     ///
-    /// `IdentifierNotFound`: no table stands there. Any other error is the provider's own. It takes no memory.
+    /// `IdentifierNotFound`: no table stands there, as under `wxyz`. Any other error is the provider's own. It takes no memory.
     fn load(&self, id: &DataIdentifier) -> Result<&M::DataStruct, DataError>
         ensures { result_map_both (λ found. found.now) (λ error. error) result ≡ table self.now id.now };
 }

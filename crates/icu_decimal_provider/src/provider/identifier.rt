@@ -9,6 +9,9 @@ use tinystr::TinyAsciiStr;
 
 /// What a table stands under: a locale, and attributes. The attributes of symbols and of digits are a numbering system, or
 /// empty.
+///
+/// The symbols of `en` for Thai digits stand under `en` and `thai`, the digits under `und` and `thai`. After ICU4X's
+/// `DataIdentifierBorrowed`.
 #[derive(Clone, Copy, Debug, PartialEq, Eq, Hash)]
 pub struct DataIdentifier {
     /// The locale; `und` where the table does not depend on one.
@@ -28,7 +31,7 @@ impl Model for DataIdentifier {
 }
 
 impl DataIdentifier {
-    /// The identifier of a locale without attributes: `en` and the empty text. It takes no memory.
+    /// The identifier of a locale without attributes: of `en` it is `en` and the empty text. It takes no memory.
     pub fn for_locale(locale: DataLocale) -> Self
         ensures { result ≡ of_locale locale }
     {

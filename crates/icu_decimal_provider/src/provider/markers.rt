@@ -3,7 +3,8 @@
 use crate::provider::data_provider::DataMarker;
 use crate::provider::symbols::DecimalSymbols;
 
-/// The symbols of a locale: what stands round and between the digits, and where groups end.
+/// The symbols of a locale: what stands round and between the digits, and where groups end. Of `en` they are `-`, `+`, `.`, `,`
+/// and the sizes 3, 3, 1.
 #[derive(Clone, Copy, Debug)]
 pub struct DecimalSymbolsV1;
 
@@ -11,7 +12,7 @@ impl DataMarker for DecimalSymbolsV1 {
     type DataStruct = DecimalSymbols;
 }
 
-/// The ten digits of a numbering system, from zero up.
+/// The ten digits of a numbering system, from zero up: of `thai` `๐` to `๙`.
 #[derive(Clone, Copy, Debug)]
 pub struct DecimalDigitsV1;
 

@@ -13,7 +13,7 @@ use tinystr::TinyAsciiStr;
 /// The texts of a locale's symbols while they are put together. Any text may be empty.
 ///
 /// For English the minus sign's prefix is `-`, its suffix empty, the decimal separator `.`, the grouping separator `,` and the
-/// numbering system `latn`.
+/// numbering system `latn`. Source: UTS 35, part 3 (numbers), number symbols; the type is ICU4X's.
 #[derive(Debug, Drop)]
 pub struct DecimalSymbolStrsBuilder {
     /// What stands before a number with a minus sign.
@@ -50,14 +50,16 @@ impl Model for DecimalSymbolStrsBuilder {
 }
 
 impl DecimalSymbolStrsBuilder {
-    /// The texts, as they are read by a formatter. It takes no memory.
+    /// The texts, as they are read by a formatter: of a builder with the decimal separator `.` texts whose `decimal_separator` is
+    /// `.`. It takes no memory.
     pub fn build(self) -> DecimalSymbolsStrs
         ensures { result ≡ self }
     {
         DecimalSymbolsStrs { texts: self }
     }
 
-    /// A builder with these texts: building it gives texts that are equal.
+    /// A builder with these texts: of those of English one with `-`, `+`, `.`, `,` and `latn`. Building it gives texts that are
+    /// equal.
     ///
     /// `AllocError` is answered for memory alone, and none is taken where the six texts are empty.
     pub fn from_strs(alloc: Global, strs: &DecimalSymbolsStrs) -> Result<Self, AllocError>
@@ -67,7 +69,8 @@ impl DecimalSymbolStrsBuilder {
         copied(alloc, &strs.texts)
     }
 
-    /// An equal builder. `AllocError` is answered for memory alone, and none is taken where the six texts are empty.
+    /// An equal builder: of one with `-`, `+`, `.`, `,` and `latn` another with these. `AllocError` is answered for memory alone,
+    /// and none is taken where the six texts are empty.
     pub fn try_clone(&self) -> Result<Self, AllocError>
         ensures succeeds { HasNoText self.now → IsOk result }
         ensures value { IfOk result (λ builder. builder ≡ self.now) }
@@ -145,7 +148,7 @@ fn have_same_marks(a: &DecimalSymbolStrsBuilder, b: &DecimalSymbolStrsBuilder) -
         && a.numsys == b.numsys
 }
 
-/// The texts of a locale's symbols, as a formatter reads them.
+/// The texts of a locale's symbols, as a formatter reads them: in English `-`, `+`, `.`, `,`, two empty suffixes and `latn`.
 #[derive(Debug, Drop)]
 pub struct DecimalSymbolsStrs {
     texts: DecimalSymbolStrsBuilder,
@@ -224,7 +227,8 @@ impl DecimalSymbolsStrs {
         texts.numsys
     }
 
-    /// Equal texts. `AllocError` is answered for memory alone, and none is taken where the six texts are empty.
+    /// Equal texts: of those of English `-`, `+`, `.`, `,` and `latn` once more. `AllocError` is answered for memory alone, and
+    /// none is taken where the six texts are empty.
     pub fn try_clone(&self) -> Result<Self, AllocError>
         ensures succeeds { HasNoText self.now → IsOk result }
         ensures value { IfOk result (λ texts. texts ≡ self.now) }

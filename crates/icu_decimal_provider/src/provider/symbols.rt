@@ -13,7 +13,8 @@ use std::marker::Model;
 use std::ops::Deref;
 use tinystr::TinyAsciiStr;
 
-/// What a locale writes numbers with: the texts round and between the digits, and where groups end.
+/// What a locale writes numbers with: the texts round and between the digits, and where groups end. In English they are `-`, `+`,
+/// `.`, `,`, `latn` and the sizes 3, 3, 1.
 #[derive(Debug, Drop)]
 pub struct DecimalSymbols {
     /// The affixes, the separators and the numbering system.
@@ -30,7 +31,7 @@ impl Model for DecimalSymbols {
     ghost view = { λ s. record { strings = s.strings; grouping_sizes = s.grouping_sizes } };
 }
 
-/// The texts: `symbols.decimal_separator()` is `.` in English.
+/// The texts: `symbols.decimal_separator()` is `.` in English. It takes no memory.
 impl Deref for DecimalSymbols {
     type Target = DecimalSymbolsStrs;
 
@@ -102,7 +103,8 @@ impl DecimalSymbols {
         })
     }
 
-    /// Equal symbols. `AllocError` is answered for memory alone, and none is taken where the six texts are empty.
+    /// Equal symbols: of those of English `-`, `+`, `.`, `,`, `latn` and 3, 3, 1 once more. `AllocError` is answered for memory
+    /// alone, and none is taken where the six texts are empty.
     pub fn try_clone(&self) -> Result<Self, AllocError>
         ensures succeeds { HasNoText self.now.strings → IsOk result }
         ensures value { IfOk result (λ symbols. symbols ≡ self.now) }
