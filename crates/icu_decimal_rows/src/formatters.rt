@@ -26,8 +26,8 @@ pub struct FormatterCall<'r> {
     pub passed: &'r [&'r str],
 }
 
-// When separators are written, by its word.
-fn strategy_of(word: &str) -> Result<GroupingStrategy, Stop> {
+/// When separators are written, by its word.
+pub fn strategy_of(word: &str) -> Result<GroupingStrategy, Stop> {
     match word {
         "auto" => Ok(GroupingStrategy::Auto),
         "never" => Ok(GroupingStrategy::Never),

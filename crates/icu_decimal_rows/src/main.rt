@@ -7,6 +7,7 @@ mod abstract_formatter;
 mod compact;
 mod formatters;
 mod plurals;
+mod preferences;
 mod rows;
 mod shown;
 mod stop;

@@ -2,6 +2,7 @@
 
 use fixed_decimal::ParseError;
 use icu_decimal::error::DataError;
+use icu_locale_core::preferences::extensions::unicode::errors::PreferencesParseError;
 use std::alloc::{AllocError, AllocFailed};
 
 /// Why a row has no value.
@@ -9,6 +10,8 @@ use std::alloc::{AllocError, AllocFailed};
 pub enum Stop {
     /// A table was refused.
     Refused(DataError),
+    /// A keyword of a tag was refused.
+    RefusedKeyword(PreferencesParseError),
     /// The line names no call, or passes it what it does not take.
     Unknown,
     /// Out of memory.
@@ -33,6 +36,21 @@ impl From<ParseError> for Stop {
             ParseError::Memory => Stop::Memory,
             _ => Stop::Unknown,
         }
+    }
+}
+
+impl From<icu_locale_core::ParseError> for Stop {
+    fn from(refused: icu_locale_core::ParseError) -> Stop {
+        match refused {
+            icu_locale_core::ParseError::Memory => Stop::Memory,
+            _ => Stop::Unknown,
+        }
+    }
+}
+
+impl From<PreferencesParseError> for Stop {
+    fn from(refused: PreferencesParseError) -> Stop {
+        Stop::RefusedKeyword(refused)
     }
 }
 

@@ -3,6 +3,10 @@
 #![tactic(auto)]
 
 #[cfg(test)]
+mod examples;
+#[cfg(test)]
+mod loading;
+#[cfg(test)]
 mod one_locale;
 #[cfg(test)]
 mod reading;

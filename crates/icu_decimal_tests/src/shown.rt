@@ -144,6 +144,15 @@ fn expect_shown(
     Ok(())
 }
 
+// What is shown for the decimal of a text times ten to a power, in English.
+fn shown_after_shift(alloc: Global, text: &str, delta: i16) -> Result<String, Fail> {
+    let mut number = Decimal::try_from_str(alloc, text)?;
+    number.absolute.multiply_pow10(delta);
+    let shown = shown_with(alloc, [3, 3, 1], Digits::Latin, AUTO, &number);
+    drop(number);
+    shown
+}
+
 const TEXTS_AND_PARTS: [([u8; 3], Digits, GroupingStrategy, &str, &str); 11] = [
     (
         [3, 3, 1],
@@ -231,5 +240,12 @@ fn texts_and_parts(rt: HostRuntime) -> Result<(), Fail> {
     for (sizes, digits, strategy, text, want) in &TEXTS_AND_PARTS {
         expect_shown(&rt, rt.alloc(), *sizes, *digits, *strategy, text, want)?;
     }
+    let shifted = shown_after_shift(rt.alloc(), "200050", -2)?;
+    let want = "2,000.50 0-5integer 1-2group 5-6decimal 6-8fraction";
+    assert_eq!(rt;
+        shifted.as_str(),
+        want,
+        "the digits that are shown move too"
+    );
     Ok(())
 }
