@@ -17,9 +17,13 @@ use std::alloc::Global;
 ///
 /// For every book that loads and every list of request lines, however cut and with any cache, the
 /// output is line by line one definition's answer for the book and that line alone, refusals
-/// included: that of [`answer`](crate::answer). A line ends at a line feed; what stands after the
-/// last one is a line too, where it is not empty. Under the sample book the bytes `xx`, line feed give
-/// `err`, a tab, `shape`, line feed, and a report of 1 line.
+/// included; tags alike in language, script, region, first variant and the values of `nu` and `sd` are
+/// answered alike; and under readable symbols `read` accepts exactly the plain texts, giving back the
+/// sign and digits written. The definition is that of [`answer`](crate::answer).
+///
+/// A line ends at a line feed; what stands after the last one is a line too, where it is not empty.
+/// Under the sample book the bytes `xx`, line feed give `err`, a tab, `shape`, line feed, and a report
+/// of 1 line.
 ///
 /// `capacity` is how many formatters are kept, 1 at least: those that were used last. A line uses the
 /// formatter of what its tag prefers, of its form's tables and of its grouping, once its tag and its

@@ -1,4 +1,4 @@
-//! Small texts beside loops over their single bytes: every length, every place, each byte beside and at the ends of a class.
+//! Small texts beside loops over their single bytes: the empty text, every length, every place, each byte beside and at the ends of a class.
 
 ghost use Rattle.std.specs.Prelude.{◌≤◌, ◌<◌};
 
@@ -17,7 +17,10 @@ const FILLERS: [u8; 3] = [b'm', b'M', b'5'];
 pub fn answer<const N: usize>(out: &mut String) -> Result<(), Fault>
     requires { N ≤ 16 }
 {
-    let mut count = 0usize;
+    if !is_alike::<N>(&[])? {
+        return Err(Fault::NotUnderstood);
+    }
+    let mut count = 1usize;
     for length in 0..N + 1 {
         count = count.saturating_add(alike_at_length::<N>(length)?);
     }
