@@ -5,12 +5,11 @@ use Rattle.std.specs.Prelude.{List, [], ◌∷◌, ◌++◌, map, flat_map, opti
 use Rattle.writeable.specs.AnnotatedText.{Event, bytes}
 use Rattle.icu_locale_core_grammar.specs.Subtags.{Text, lower}
 use Rattle.icu_locale_core_grammar.specs.LanguagePart.{LanguageId}
-use Rattle.icu_locale_core_grammar.specs.Pieces.{hyphen, hyphened, joined_text}
+use Rattle.icu_locale_core_grammar.specs.Pieces.{hyphen, hyphened}
 use Rattle.icu_locale_core_grammar.specs.NormalText.{language_pieces}
 
 -- the text
-abbrev pub language_text : LanguageId → Text
-language_text id = joined_text (language_pieces id)
+pub use Rattle.icu_locale_core_grammar.specs.KnownRows.{language_text}
 
 -- the text within `t`: each piece in lower case, with a hyphen before it
 abbrev pub inner_text : LanguageId → Text

@@ -1,7 +1,8 @@
 //! The language identifier: its parts, and how it is made from them.
 
 ghost use Rattle.std.specs.Prelude.{◌≡◌, ◌↔◌, [], None, Some, codes, IsTrue, IsOk, IfOk};
-ghost use Rattle.icu_locale_core_langid.specs.Parts.{with_parts, und_text};
+ghost use Rattle.icu_locale_core_grammar.specs.PreferenceChanges.{unknown_language};
+ghost use Rattle.icu_locale_core_langid.specs.Parts.{with_parts};
 
 use icu_locale_core_sets::Variants;
 use icu_locale_core_subtags::{Language, Region, Script};
@@ -67,28 +68,28 @@ impl LanguageIdentifier {
 
     /// The language `und` with this script, or alone: of `Latn` it is `und-Latn`. It takes no memory.
     pub fn from_script(alloc: Global, script: Option<Script>) -> Self
-        ensures { result ≡ with_parts und_text script None [] }
+        ensures { result ≡ with_parts unknown_language script None [] }
     {
         Self::from_triple(alloc, (Language::default(), script, None))
     }
 
     /// The language `und` with this region, or alone: of `US` it is `und-US`. It takes no memory.
     pub fn from_region(alloc: Global, region: Option<Region>) -> Self
-        ensures { result ≡ with_parts und_text None region [] }
+        ensures { result ≡ with_parts unknown_language None region [] }
     {
         Self::from_triple(alloc, (Language::default(), None, region))
     }
 
     /// The language `und`, and nothing else: it prints as `und`. It takes no memory.
     pub fn unknown(alloc: Global) -> Self
-        ensures { result ≡ with_parts und_text None None [] }
+        ensures { result ≡ with_parts unknown_language None None [] }
     {
         Self::from_language(alloc, Language::default())
     }
 
     /// Whether this is the language `und`, and nothing else: `und` is, and `und-Latn` is not.
     pub fn is_unknown(&self) -> bool
-        ensures { IsTrue result ↔ (self.now ≡ with_parts und_text None None []) }
+        ensures { IsTrue result ↔ (self.now ≡ with_parts unknown_language None None []) }
     {
         self.language.is_unknown()
             && self.script.is_none()

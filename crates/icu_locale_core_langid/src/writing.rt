@@ -23,9 +23,11 @@ pub(crate) fn write_piece<S: Sink>(piece: &str, sink: &mut S) -> Result<(), Erro
     sink.write_str(piece)
 }
 
-// Writes a hyphen and the subtag, where there is one.
+/// Writes a hyphen and the subtag, where there is one: `-US` of the region `US`, and nothing of none.
+///
+/// It fails exactly where the sink refuses, and takes no memory but what the sink takes.
 #[tactic(auto, using(crate::proofs::LanguageTextLemmas::one_piece_events, crate::proofs::LanguageTextLemmas::no_piece_events))]
-fn write_optional<R: SubtagRule<N>, const N: usize, S: Sink>(
+pub fn write_optional<R: SubtagRule<N>, const N: usize, S: Sink>(
     subtag: Option<SubtagOf<R, N>>,
     sink: &mut S,
 ) -> Result<(), Error>

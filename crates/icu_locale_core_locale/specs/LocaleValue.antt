@@ -4,7 +4,8 @@
 use Rattle.std.specs.Prelude.{[], None}
 use Rattle.icu_locale_core_grammar.specs.LanguagePart.{LanguageId}
 use Rattle.icu_locale_core_grammar.specs.Meaning.{TagMeaning, no_extensions}
-use Rattle.icu_locale_core_langid.specs.Parts.{with_parts, und_text}
+use Rattle.icu_locale_core_grammar.specs.PreferenceChanges.{unknown_language}
+use Rattle.icu_locale_core_langid.specs.Parts.{with_parts}
 pub use Rattle.icu_locale_core_extensions.specs.SameExtension.{same_extensions}
 pub use Rattle.icu_locale_core_locale.specs.SameLocale.{extensions_of, same_locale, SameIsEqual}
 pub use Rattle.icu_locale_core_locale.specs.SameLocaleLaws.{locale_decides}
@@ -15,4 +16,4 @@ language_alone id = record { language = id; extensions = no_extensions; private_
 
 -- the language `und` alone
 abbrev pub unknown_locale : TagMeaning
-unknown_locale = language_alone (with_parts und_text None None [])
+unknown_locale = language_alone (with_parts unknown_language None None [])

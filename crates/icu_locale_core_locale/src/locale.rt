@@ -6,7 +6,8 @@ ghost use Rattle.icu_locale_core_grammar.specs.declared.error.ParseError.{ParseE
 ghost use Rattle.icu_locale_core_grammar.specs.Pieces.{pieces};
 ghost use Rattle.icu_locale_core_grammar.specs.Meaning.{MeansTag};
 ghost use Rattle.icu_locale_core_grammar.specs.FaultyPiece.{HasFault};
-ghost use Rattle.icu_locale_core_langid.specs.Parts.{with_parts, und_text};
+ghost use Rattle.icu_locale_core_grammar.specs.PreferenceChanges.{unknown_language};
+ghost use Rattle.icu_locale_core_langid.specs.Parts.{with_parts};
 ghost use Rattle.icu_locale_core_locale.specs.LocaleValue.{language_alone, unknown_locale};
 ghost use Rattle.icu_locale_core_locale.specs.SameLocale.{extensions_of};
 ghost use Rattle.icu_locale_core_extensions.specs.ExtensionsValue.{nothing};
@@ -64,14 +65,14 @@ impl Locale {
 
     /// The language `und` with this script, or alone: of `Latn` it is `und-Latn`. It takes no memory.
     pub fn from_script(alloc: Global, script: Option<Script>) -> Self
-        ensures { result ≡ language_alone (with_parts und_text script None []) }
+        ensures { result ≡ language_alone (with_parts unknown_language script None []) }
     {
         Self::from_id(alloc, LanguageIdentifier::from_script(alloc, script))
     }
 
     /// The language `und` with this region, or alone: of `US` it is `und-US`. It takes no memory.
     pub fn from_region(alloc: Global, region: Option<Region>) -> Self
-        ensures { result ≡ language_alone (with_parts und_text None region []) }
+        ensures { result ≡ language_alone (with_parts unknown_language None region []) }
     {
         Self::from_id(alloc, LanguageIdentifier::from_region(alloc, region))
     }

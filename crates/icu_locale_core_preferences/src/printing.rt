@@ -1,46 +1,18 @@
 //! Printing a data locale: its text, without parts.
 
-ghost use Rattle.std.specs.Prelude.{◌≡◌, ◌++◌, ◌≤◌, false, [], ◌∷◌, is_err, length, OnOk, OnErr};
+ghost use Rattle.std.specs.Prelude.{◌≡◌, ◌++◌, ◌≤◌, false, is_err, length, OnOk, OnErr};
 ghost use Rattle.writeable.specs.AnnotatedText.{bytes};
 ghost use Rattle.writeable.specs.Taking.{HasBegun};
-ghost use Rattle.icu_locale_core_grammar.specs.Pieces.{hyphen};
 ghost use Rattle.icu_locale_core_grammar.specs.TagPreferences.{subdivision_text};
 ghost use Rattle.icu_locale_core_preferences.specs.DataText.{data_text, piece_tail, keyword_head, subdivision_tail, data_events};
 
 use crate::data_locale::DataLocale;
+use icu_locale_core_langid::write_optional;
 use icu_locale_core_preference_keywords::SubdivisionId;
 use icu_locale_core_subtags::laws::subtags_are_words;
 use icu_locale_core_subtags::{SubtagOf, SubtagRule};
 use std::fmt;
 use writeable::{Error, LengthHint, Sink, Writeable, display};
-
-// Writes a hyphen, and the piece.
-fn write_behind<S: Sink>(piece: &str, sink: &mut S) -> Result<(), Error>
-    requires { S.refused sink.old ≡ false }
-    ensures ok { OnOk result (S.takes sink.old (bytes (hyphen ∷ []) ++ bytes piece.now) sink.new) }
-    ensures refused { S.refused sink.new ≡ is_err result }
-    ensures begun { OnErr result (HasBegun S.takes S.lacks_room sink.old (bytes (hyphen ∷ []) ++ bytes piece.now) sink.new) }
-{
-    sink.write_char('-')?;
-    sink.write_str(piece)
-}
-
-// Writes a hyphen and the piece, where there is one.
-#[tactic(auto, using(icu_locale_core_langid::proofs::LanguageTextLemmas::one_piece_events, icu_locale_core_langid::proofs::LanguageTextLemmas::no_piece_events))]
-fn write_piece<R: SubtagRule<N>, const N: usize, S: Sink>(
-    piece: Option<SubtagOf<R, N>>,
-    sink: &mut S,
-) -> Result<(), Error>
-    requires { S.refused sink.old ≡ false }
-    ensures ok { OnOk result (S.takes sink.old (bytes (piece_tail piece)) sink.new) }
-    ensures refused { S.refused sink.new ≡ is_err result }
-    ensures begun { OnErr result (HasBegun S.takes S.lacks_room sink.old (bytes (piece_tail piece)) sink.new) }
-{
-    match piece {
-        Some(piece) => write_behind(piece.as_str(), sink),
-        None => Ok(()),
-    }
-}
 
 // Writes the subdivision as a keyword.
 fn write_keyword<S: Sink>(subdivision: SubdivisionId, sink: &mut S) -> Result<(), Error>
@@ -75,13 +47,13 @@ fn write_parts<S: Sink>(data_locale: &DataLocale, sink: &mut S) -> Result<(), Er
     ensures begun { OnErr result (HasBegun S.takes S.lacks_room sink.old (data_events data_locale.now) sink.new) }
 {
     sink.write_str(data_locale.language.as_str())?;
-    write_piece(data_locale.script, sink)?;
-    write_piece(data_locale.region, sink)?;
-    write_piece(data_locale.variant, sink)?;
+    write_optional(data_locale.script, sink)?;
+    write_optional(data_locale.region, sink)?;
+    write_optional(data_locale.variant, sink)?;
     write_subdivision(data_locale.subdivision, sink)
 }
 
-// How many bytes `write_piece` writes.
+// How many bytes `write_optional` writes.
 #[tactic(auto, using(icu_locale_core_langid::proofs::LanguageTextLemmas::one_piece_length))]
 fn piece_length<R: SubtagRule<N>, const N: usize>(piece: Option<SubtagOf<R, N>>) -> usize
     requires { N ≤ 8 }

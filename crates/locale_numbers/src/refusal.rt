@@ -1,5 +1,5 @@
 ghost use Rattle.std.specs.Prelude.{◌≡◌};
-ghost use Rattle.locale_numbers.specs.Refusal.{word_of, rank_of};
+ghost use Rattle.locale_numbers.specs.Refusal.{word_of};
 
 /// Why a line is answered by `err` and a word, in the order in which the causes are sought.
 #[derive(Clone, Copy, Debug, PartialEq, Eq)]
@@ -39,23 +39,6 @@ impl Refusal {
             Refusal::Exponent => "exponent",
             Refusal::Unreadable => "unreadable",
             Refusal::NotWritten => "not-written",
-        }
-    }
-
-    /// Its number, from 1 for `Shape` to 9 for `NotWritten`.
-    pub fn number(&self) -> u8
-        ensures value { result ≡ rank_of self.now }
-    {
-        match self {
-            Refusal::Shape => 1,
-            Refusal::Tag => 2,
-            Refusal::Number => 3,
-            Refusal::Limit => 4,
-            Refusal::Table => 5,
-            Refusal::Range => 6,
-            Refusal::Exponent => 7,
-            Refusal::Unreadable => 8,
-            Refusal::NotWritten => 9,
         }
     }
 }

@@ -1,20 +1,14 @@
 -- Where the reading of a book may run out of memory: never at a fault that is found before memory is asked for.
 -- Defined in docs/books.md, "Faults".
 -- Cited by the steps of `Book::from_json`.
-use Rattle.std.specs.Prelude.{ℕ, Bool, false, not, ◌&&◌, ◌||◌, List, [], ◌∷◌, is_some}
-use Rattle.std.specs.List.{list_any}
+use Rattle.std.specs.Prelude.{ℕ, Bool, false, not, ◌&&◌, ◌||◌, is_some}
 use Rattle.std.specs.Option.{option_map_or}
 use Rattle.serde_json.specs.Data.{Data, Items, no_items, item}
 use Rattle.serde_json.specs.Find.{as_str}
-use Rattle.icu_locale_core.specs.Subtags.{Text, is_language, is_variant, is_singleton}
 use Rattle.icu_locale_core.specs.Pieces.{pieces}
+use Rattle.icu_locale_core.specs.TagRoom.{tag_may_grow}
 use Rattle.locale_numbers_book.specs.Entries.{has_count, field_at, is_text_at}
 use Rattle.locale_numbers_book.specs.Faults.{has_symbols_shape, symbols_fault, digits_fault, has_form, items_at}
-
--- a tag: where it begins with a language, and a variant or a singleton stands behind that
-abbrev pub tag_may_grow : List Text → Bool
-tag_may_grow [] = false
-tag_may_grow (p ∷ ps) = is_language p && list_any (λ q. is_variant q || is_singleton q) ps
 
 -- a locale: where the field is a text that is so
 abbrev pub locale_may_grow : ℕ → Data → Bool

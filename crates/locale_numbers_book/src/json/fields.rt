@@ -5,7 +5,8 @@ ghost use Rattle.serde_json.specs.View.{view};
 ghost use Rattle.serde_json.specs.Find.{as_str};
 ghost use Rattle.icu_locale_core.specs.Pieces.{pieces};
 ghost use Rattle.locale_numbers_book.specs.Entries.{field_at, is_text_at, text_or_empty};
-ghost use Rattle.locale_numbers_book.specs.Room.{locale_may_grow, tag_may_grow};
+ghost use Rattle.icu_locale_core.specs.TagRoom.{tag_may_grow};
+ghost use Rattle.locale_numbers_book.specs.Room.{locale_may_grow};
 ghost use Rattle.locale_numbers_book.specs.TagReading.{data_locale_of};
 ghost use Rattle.locale_numbers_book.specs.Fields.{is_plain, is_small_letter_or_digit, is_system_name, plain_text_in, system_named, system_in, system_or_none_in, locale_in, size_in, digits_in, ten_characters};
 
