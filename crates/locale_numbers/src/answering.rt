@@ -19,6 +19,7 @@ use crate::request::{Form, Request, read_request};
 use crate::tag_reader::read_preferences;
 use icu_decimal::DecimalFormatterPreferences;
 use locale_numbers_book::Book;
+use locale_numbers_cache::Hashed;
 use std::alloc::{AllocError, Global};
 
 /// Puts the answer to a request, by what its tag prefers, behind what `out` holds.
@@ -27,7 +28,7 @@ use std::alloc::{AllocError, Global};
 pub(crate) fn answer_request<'a, F: Formatters<'a>>(
     alloc: Global,
     formatters: &mut F,
-    preferences: DecimalFormatterPreferences,
+    preferences: Hashed<DecimalFormatterPreferences>,
     request: &Request<'_>,
     out: &mut String,
 ) -> Result<(), AllocError>
@@ -83,7 +84,13 @@ fn answer_onto(alloc: Global, book: &Book, line: &[u8], out: &mut String) -> Res
         return push_refusal(out, Refusal::Tag);
     };
     let mut maker = FormatterMaker { tables: book };
-    answer_request(alloc, &mut maker, preferences, &request, out)
+    answer_request(
+        alloc,
+        &mut maker,
+        Hashed::new(preferences),
+        &request,
+        out,
+    )
 }
 
 /// The answer of `book` to a request line, without a line feed.

@@ -54,7 +54,7 @@ fn plain_formatter<'a, T: Tables>(
 {
     DecimalFormatter::try_new_unstable(
         tables,
-        key.preferences,
+        key.preferences.value(),
         DecimalFormatterOptions::from(key.grouping),
     )
 }
@@ -90,7 +90,7 @@ fn compact_formatter<'a, T: Tables>(
     ensures { result_map_both compact_tables_of (λ error. error) result
         ≡ found_compact length (T.book tables.now) key.preferences key.grouping }
 {
-    let preferences = compact_preferences(key.preferences);
+    let preferences = compact_preferences(key.preferences.value());
     let options = CompactDecimalFormatterOptions::from(key.grouping);
     match length {
         PatternLength::Short => {

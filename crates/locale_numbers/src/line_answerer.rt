@@ -9,7 +9,7 @@ use crate::request::read_request;
 use crate::tables::Tables;
 use crate::tag_reader::TagReader;
 use icu_decimal::DecimalFormatterPreferences;
-use locale_numbers_cache::ReadKeys;
+use locale_numbers_cache::{Hashed, ReadKeys};
 use locale_numbers_engine::Answerer;
 use std::alloc::{AllocError, Global};
 
@@ -21,7 +21,7 @@ pub(crate) struct LineAnswerer<'a, T: Tables> {
     /// The formatters.
     pub kept: Kept<'a, T>,
     /// The tags that were read, and what each prefers.
-    pub read: ReadKeys<Option<DecimalFormatterPreferences>>,
+    pub read: ReadKeys<Option<Hashed<DecimalFormatterPreferences>>>,
 }
 
 impl<'a, T: Tables> Answerer for LineAnswerer<'a, T> {

@@ -13,7 +13,7 @@ use icu_locale_core::preferences::LocalePreferences;
 use icu_locale_core::preferences::extensions::unicode::keywords::NumberingSystem;
 use icu_locale_core::subtags::Subtag;
 use icu_locale_core::{Locale, ParseError};
-use locale_numbers_cache::KeyReader;
+use locale_numbers_cache::{Hashed, KeyReader};
 use std::alloc::{AllocError, Global};
 
 // The numbering system that a subtag of a value names.
@@ -76,12 +76,15 @@ pub(crate) struct TagReader {
     pub alloc: Global,
 }
 
-impl KeyReader<Option<DecimalFormatterPreferences>> for TagReader {
+impl KeyReader<Option<Hashed<DecimalFormatterPreferences>>> for TagReader {
     ghost use Rattle.locale_numbers.specs.Wanted.{wanted_of};
 
     ghost key_of = { λ s tag. wanted_of tag };
 
-    fn read(&self, bytes: &[u8]) -> Result<Option<DecimalFormatterPreferences>, AllocError> {
-        read_preferences(self.alloc, bytes)
+    fn read(&self, bytes: &[u8]) -> Result<Option<Hashed<DecimalFormatterPreferences>>, AllocError> {
+        match read_preferences(self.alloc, bytes)? {
+            Some(preferences) => Ok(Some(Hashed::new(preferences))),
+            None => Ok(None),
+        }
     }
 }

@@ -1,4 +1,5 @@
 pub mod Cached
+pub mod Hashed
 pub mod LastRead
 pub mod Laws
 pub mod Recent

@@ -13,6 +13,7 @@
 
 mod cache_key;
 mod formatter_cache;
+mod hashed;
 mod key_reader;
 mod last_key;
 pub mod laws;
@@ -22,6 +23,7 @@ mod read_keys;
 
 pub use cache_key::CacheKey;
 pub use formatter_cache::FormatterCache;
+pub use hashed::Hashed;
 pub use key_reader::KeyReader;
 pub use maker::Maker;
 pub use read_keys::ReadKeys;
