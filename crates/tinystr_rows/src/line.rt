@@ -4,7 +4,7 @@ ghost use Rattle.std.specs.Prelude.{◌≤◌};
 
 use crate::argument::{Argument, arguments_of};
 use crate::{
-    aligned4, aligned8, ascii_bytes, comparing, decimal, errors, joining, json, lossy, readers,
+    aligned, ascii_bytes, comparing, decimal, errors, joining, json, lossy, readers,
     texts, ule, unvalidated, words,
 };
 use std::alloc::{AllocError, Global};
@@ -101,8 +101,8 @@ fn answer_at<const N: usize>(
     requires { N ≤ 16 }
 {
     match module {
-        "aligned4" => aligned4::answer::<N>(call, arguments, out),
-        "aligned8" => aligned8::answer::<N>(call, arguments, out),
+        "aligned4" => aligned::answer_of_four::<N>(call, arguments, out),
+        "aligned8" => aligned::answer_of_eight::<N>(call, arguments, out),
         "ascii" | "case" | "classes" => texts::answer::<N>(call, arguments, out),
         "comparing" => comparing::answer::<N>(call, arguments, out),
         "decimal" => decimal::answer::<N>(call, arguments, out),

@@ -4,8 +4,7 @@
 
 #![tactic(auto)]
 
-mod aligned4;
-mod aligned8;
+mod aligned;
 mod argument;
 mod ascii_bytes;
 mod comparing;

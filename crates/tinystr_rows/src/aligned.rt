@@ -1,27 +1,49 @@
-//! A text of at most 8 bytes in one word.
+//! Texts in one word of eight bytes: at most 4 of them, or 8.
 
 ghost use Rattle.std.specs.Prelude.{◌≤◌};
 
 use crate::argument::Argument;
 use crate::line::Fault;
 use crate::writing::{put_answers, put_ascii_bytes, put_count};
-use tinystr::{Aligned8, TinyAsciiStr, to_ascii_byte_array};
+use tinystr::{Aligned, Aligned4, Aligned8, TinyAsciiStr, to_ascii_byte_array};
 
-pub fn answer<const N: usize>(
+/// The answer to a call of a text of at most 4 bytes in one word.
+pub fn answer_of_four<const N: usize>(
     call: &str,
     arguments: &[Argument<'_>],
     out: &mut String,
 ) -> Result<(), Fault> {
-    let [text] = arguments else {
+    if N > 4 {
         return Err(Fault::NotUnderstood);
-    };
+    }
+    let bytes = to_ascii_byte_array(text_of::<N>(arguments)?.all_bytes());
+    answer(call, &Aligned4::from_ascii_bytes(&bytes), out)
+}
+
+/// The same of at most 8 bytes.
+pub fn answer_of_eight<const N: usize>(
+    call: &str,
+    arguments: &[Argument<'_>],
+    out: &mut String,
+) -> Result<(), Fault> {
     if N > 8 {
         return Err(Fault::NotUnderstood);
     }
-    let word = word_of(text.small::<N>()?);
+    let bytes = to_ascii_byte_array(text_of::<N>(arguments)?.all_bytes());
+    answer(call, &Aligned8::from_ascii_bytes(&bytes), out)
+}
+
+fn text_of<const N: usize>(arguments: &[Argument<'_>]) -> Result<TinyAsciiStr<N>, Fault> {
+    match arguments {
+        [text] => text.small::<N>(),
+        _ => Err(Fault::NotUnderstood),
+    }
+}
+
+fn answer<const M: usize>(call: &str, word: &Aligned<M>, out: &mut String) -> Result<(), Fault> {
     match call {
         "len" => put_count(out, word.len()),
-        "is_ascii" => put_answers(out, answers(&word)),
+        "is_ascii" => put_answers(out, answers(word)),
         "to_ascii_lowercase" => put_ascii_bytes(out, &word.to_ascii_lowercase()),
         "to_ascii_uppercase" => put_ascii_bytes(out, &word.to_ascii_uppercase()),
         "to_ascii_titlecase" => put_ascii_bytes(out, &word.to_ascii_titlecase()),
@@ -29,14 +51,8 @@ pub fn answer<const N: usize>(
     }
 }
 
-fn word_of<const N: usize>(text: TinyAsciiStr<N>) -> Aligned8
-    requires { N ≤ 8 }
-{
-    Aligned8::from_ascii_bytes(&to_ascii_byte_array(text.all_bytes()))
-}
-
 /// The nine answers, in the order of `classes`.
-fn answers(word: &Aligned8) -> [bool; 9] {
+fn answers<const M: usize>(word: &Aligned<M>) -> [bool; 9] {
     [
         word.is_ascii_alphabetic(),
         word.is_ascii_alphanumeric(),
