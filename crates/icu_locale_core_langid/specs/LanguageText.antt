@@ -7,7 +7,6 @@ use Rattle.icu_locale_core_grammar.specs.Subtags.{Text, lower}
 use Rattle.icu_locale_core_grammar.specs.LanguagePart.{LanguageId}
 use Rattle.icu_locale_core_grammar.specs.Pieces.{hyphen, hyphened}
 use Rattle.icu_locale_core_grammar.specs.NormalText.{language_pieces}
-
 -- the text
 pub use Rattle.icu_locale_core_grammar.specs.KnownRows.{language_text}
 

@@ -84,13 +84,7 @@ fn answer_onto(alloc: Global, book: &Book, line: &[u8], out: &mut String) -> Res
         return push_refusal(out, Refusal::Tag);
     };
     let mut maker = FormatterMaker { tables: book };
-    answer_request(
-        alloc,
-        &mut maker,
-        Hashed::new(preferences),
-        &request,
-        out,
-    )
+    answer_request(alloc, &mut maker, Hashed::new(preferences), &request, out)
 }
 
 /// The answer of `book` to a request line, without a line feed.

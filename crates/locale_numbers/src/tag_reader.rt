@@ -81,7 +81,10 @@ impl KeyReader<Option<Hashed<DecimalFormatterPreferences>>> for TagReader {
 
     ghost key_of = { λ s tag. wanted_of tag };
 
-    fn read(&self, bytes: &[u8]) -> Result<Option<Hashed<DecimalFormatterPreferences>>, AllocError> {
+    fn read(
+        &self,
+        bytes: &[u8],
+    ) -> Result<Option<Hashed<DecimalFormatterPreferences>>, AllocError> {
         match read_preferences(self.alloc, bytes)? {
             Some(preferences) => Ok(Some(Hashed::new(preferences))),
             None => Ok(None),

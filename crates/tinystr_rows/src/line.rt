@@ -4,8 +4,8 @@ ghost use Rattle.std.specs.Prelude.{◌≤◌};
 
 use crate::argument::{Argument, arguments_of};
 use crate::{
-    aligned, ascii_bytes, comparing, decimal, errors, joining, json, lossy, readers,
-    texts, ule, unvalidated, words,
+    aligned, ascii_bytes, comparing, decimal, errors, joining, json, lossy, readers, texts, ule,
+    unvalidated, words,
 };
 use std::alloc::{AllocError, Global};
 
