@@ -40,7 +40,9 @@ fn text_of<const N: usize>(arguments: &[Argument<'_>]) -> Result<TinyAsciiStr<N>
     }
 }
 
-fn answer<const M: usize>(call: &str, word: &Aligned<M>, out: &mut String) -> Result<(), Fault> {
+fn answer<const M: usize>(call: &str, word: &Aligned<M>, out: &mut String) -> Result<(), Fault>
+    requires { M ≤ 8 }
+{
     match call {
         "len" => put_count(out, word.len()),
         "is_ascii" => put_answers(out, answers(word)),
