@@ -150,10 +150,10 @@ fn symbols_of_english(rt: HostRuntime) -> Result<(), Fail> {
 }
 
 // A copy of the formatted number, the number without its sign, and `1,234` between the affixes of the sign.
-fn written(
+fn written<'x>(
     alloc: Global,
-    formatter: &DecimalFormatter<'_>,
-    number: &Decimal,
+    formatter: &'x DecimalFormatter<'x>,
+    number: &'x Decimal,
     is_equal: bool,
 ) -> Result<String, Fail> {
     let formatted = formatter.format(number);
@@ -166,10 +166,10 @@ fn written(
 }
 
 // The same, and whether the number is equal to that of a text where both are formatted.
-fn beside(
+fn beside<'x>(
     alloc: Global,
-    formatter: &DecimalFormatter<'_>,
-    number: &Decimal,
+    formatter: &'x DecimalFormatter<'x>,
+    number: &'x Decimal,
     other: &str,
 ) -> Result<String, Fail> {
     let other = Decimal::try_from_str(alloc, other)?;
@@ -179,9 +179,9 @@ fn beside(
 }
 
 // The same, of the number of a text.
-fn two_texts(
+fn two_texts<'x>(
     alloc: Global,
-    formatter: &DecimalFormatter<'_>,
+    formatter: &'x DecimalFormatter<'x>,
     text: &str,
     other: &str,
 ) -> Result<String, Fail> {

@@ -17,7 +17,7 @@ pub(crate) enum Kind {
 }
 
 /// What a formatter is kept under: what a tag prefers, a kind and a grouping. Tags that prefer the same have one key.
-#[derive(Clone, Copy, Debug, PartialEq, Eq, Hash)]
+#[derive(Clone, Copy, PartialEq, Eq, Hash)]
 pub(crate) struct FormatterKey {
     /// What the tag prefers, `rg` too, hashed once when the tag is read.
     pub preferences: Hashed<DecimalFormatterPreferences>,
