@@ -1,6 +1,6 @@
 -- The text of a number in a pattern, and of the affixes round it.
 use Rattle.std.proofs.Common.{◌≡◌, ℕ, List, ◌++◌, Option, None, Some, Result, Ok, Err, IfOk, refl, sym, ap, ◌∙◌}
-use Rattle.writeable.specs.AnnotatedText.{Event, bytes, closing, opening, text_of}
+use Rattle.writeable.specs.AnnotatedText.{Event, bytes, closing, opening, text_of, without_parts}
 use Rattle.writeable.proofs.AnnotatedTextLemmas.{bytes_joined, text_of_bytes, text_of_closing, text_of_opening}
 use Rattle.writeable.specs.PartName.{PartName}
 use Rattle.std.proofs.lemmas.List.{append-nil}
@@ -12,7 +12,6 @@ use Rattle.icu_decimal_text.specs.PlainText.{PlainNumber, prefix_text, suffix_te
 use Rattle.icu_decimal_text.proofs.TextLemmas.{text_joined, unsigned_is_text}
 use Rattle.icu_decimal_compact.specs.CompactTables.{CompactTables}
 use Rattle.icu_decimal_compact.specs.CompactText.{compact_decimal_events, compact_decimal_text, compact_formatted, compact_of, compact_text, text_in}
-use Rattle.icu_decimal_compact.specs.TakenText.{without_parts}
 
 -- what holds of each answer of one kind holds of an Ok
 pub if_ok_by : {T E : Type 0} {P Q : T → Type 0} (r : Result T E) → ((t : T) → P t → Q t) → IfOk r P → IfOk r Q

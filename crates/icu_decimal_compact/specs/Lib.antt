@@ -7,8 +7,6 @@ pub mod AbstractText
 pub mod WriteFaults
 -- what a contract sees of a type
 pub mod HeldCompact
-pub mod HeldSink
-pub mod TakenText
 -- steps
 pub mod PatternAt
 -- statements of laws

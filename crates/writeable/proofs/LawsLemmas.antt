@@ -2,7 +2,7 @@
 use Rattle.std.proofs.Common.{◌≡◌, ℕ, zero, suc, ◌+◌, ◌≤◌, ◌<◌, List, [], ◌∷◌, ◌++◌, length, map, Bool, true, false, cond, Option, None, Some, All, refl, sym, ◌∙◌, ap, arith, eqb}
 use Rattle.std.proofs.lemmas.List.Elements.{All-nil, All-cons}
 use Rattle.std.proofs.lemmas.List.{length-append}
-use Rattle.writeable.specs.AnnotatedText.{Event, byte, opened, closed, bytes, text_of, Interval, end_of, listed, intervals_from, annotated}
+use Rattle.writeable.specs.AnnotatedText.{Event, byte, opened, closed, bytes, text_of, without_parts, Interval, end_of, listed, intervals_from, annotated}
 use Rattle.writeable.specs.HeldCount.{HeldCount, count_limit, Counts, PassesLimit}
 use Rattle.writeable.specs.Taking.{HasBegun}
 use Rattle.writeable.specs.Laws.{shifted, joined, IsClosed, IsWithin}
@@ -78,7 +78,7 @@ unfolding bytes
 intervals_bytes_alone n [] = refl
 intervals_bytes_alone n (b ∷ text) = intervals_bytes_alone (n + 1) text
 
-pub text_alone : (es : List Event) → annotated (bytes (text_of es)) ≡ record { text = (annotated es).text; parts = [] }
+pub text_alone : (es : List Event) → annotated (without_parts es) ≡ record { text = (annotated es).text; parts = [] }
 text_alone es = λ i. record { text = text_of_bytes (text_of es) i; parts = intervals_bytes_alone 0 (text_of es) i }
 
 -- a count that went on stays within the limit

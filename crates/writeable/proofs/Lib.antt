@@ -7,4 +7,5 @@ mod KnownValues
 pub mod LawsLemmas
 pub mod ListedPartsLemmas
 pub mod OrderLemmas
+pub mod TakenTextLemmas
 pub mod WritingLemmas

@@ -29,6 +29,10 @@ text_of (byte b ∷ es) = b ∷ text_of es
 text_of (opened p ∷ es) = text_of es
 text_of (closed ∷ es) = text_of es
 
+-- the same text, without parts
+abbrev pub without_parts : List Event → List Event
+without_parts es = bytes (text_of es)
+
 -- some byte is written
 abbrev pub HasText : List Event → Type 0
 HasText es = 0 < length (text_of es)

@@ -2,7 +2,7 @@
 -- Defined in docs/annotated-text.md, "Laws".
 -- Cited by the functions of `laws`.
 use Rattle.std.specs.Prelude.{◌≡◌, ℕ, ◌+◌, ◌<◌, ◌≤◌, ◌==◌, List, [], ◌∷◌, ◌++◌, length, map, cond, All, None}
-use Rattle.writeable.specs.AnnotatedText.{Event, bytes, opening, closing, text_of, Interval, end_of, AnnotatedText, annotated}
+use Rattle.writeable.specs.AnnotatedText.{Event, bytes, opening, closing, text_of, without_parts, Interval, end_of, AnnotatedText, annotated}
 use Rattle.writeable.specs.HeldParts.{held_after}
 use Rattle.writeable.specs.HeldCount.{HeldCount, count_limit, Counts, PassesLimit}
 use Rattle.writeable.specs.PartName.{PartName}
@@ -34,7 +34,7 @@ Joining = (first second : List Event) → IsClosed first → annotated (first ++
 
 -- text alone: the same bytes written without parts are the same text, with no parts
 abbrev pub TextAlone : Type 0
-TextAlone = (es : List Event) → annotated (bytes (text_of es)) ≡ record { text = (annotated es).text; parts = [] }
+TextAlone = (es : List Event) → annotated (without_parts es) ≡ record { text = (annotated es).text; parts = [] }
 
 -- texts join whatever is open
 abbrev pub TextsJoin : Type 0

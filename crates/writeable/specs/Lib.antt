@@ -11,6 +11,7 @@ pub mod HeldCount
 pub mod HeldParts
 pub mod HeldText
 pub mod ListedParts
+pub mod TakenText
 -- laws of the implementations
 pub mod SinkLaws
 -- statements of laws

@@ -115,6 +115,6 @@ pub fn strict_cmp<T: Writeable>(value: &T, other: &[u8]) -> Ordering
     ensures { result ≡ byte_order (text_of (T.events value.now)) other.now }
 {
     let mut sink = CompareSink::new(other);
-    let _written = value.write_to(&mut sink);
+    let _written = value.write_text(&mut sink);
     sink.verdict()
 }

@@ -58,10 +58,11 @@ impl<'f, W: fmt::Write> Sink for FormatSink<'f, W> {
     }
 }
 
-/// Shows `value` in `f`: the text that `write_to` writes, without its parts.
+/// Shows `value` in `f`: the text that `write_text` writes.
 ///
 /// Each `Display` of a value that is `Writeable` is this call. `a,b` with parts is shown as `a,b`.
 /// Where the formatter fails it answers `fmt::Error`. It takes no memory of its own.
+#[tactic(auto, using(crate::proofs::AnnotatedTextLemmas::text_of_bytes))]
 pub fn display<T: Writeable, W: fmt::Write>(value: &T, f: &mut fmt::Formatter<W>) -> fmt::Result
     ensures { DisplaysOnOk W.write_str_gives f.old result
         (Some (text_of (T.events value.now))) f.new }
@@ -70,7 +71,7 @@ pub fn display<T: Writeable, W: fmt::Write>(value: &T, f: &mut fmt::Formatter<W>
         to: f,
         failed: false,
     };
-    let written = value.write_to(&mut sink);
+    let written = value.write_text(&mut sink);
     let FormatSink { to: _, failed: _ } = sink;
     match written {
         Ok(()) => Ok(()),

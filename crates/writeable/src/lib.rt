@@ -20,6 +20,7 @@ mod format_sink;
 pub mod laws;
 mod length_hint;
 mod part;
+mod partless_sink;
 mod parts_sink;
 mod sink;
 mod text_sink;

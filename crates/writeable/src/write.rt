@@ -2,6 +2,7 @@ ghost use Rattle.std.specs.Prelude.{◌≡◌, false, List, length, OnOk, OnErr,
 
 use crate::error::Error;
 use crate::length_hint::LengthHint;
+use crate::partless_sink::PartlessSink;
 use crate::sink::Sink;
 use crate::text_sink::TextSink;
 use std::alloc::{AllocError, Global};
@@ -11,7 +12,7 @@ use std::alloc::{AllocError, Global};
 /// After ICU4X's `writeable::Writeable`.
 pub trait Writeable {
     ghost use Rattle.std.specs.String.{string_bytes};
-    ghost use Rattle.writeable.specs.AnnotatedText.{Event, text_of};
+    ghost use Rattle.writeable.specs.AnnotatedText.{Event, text_of, without_parts};
     ghost use Rattle.writeable.specs.Taking.{HasBegun};
     ghost use Rattle.writeable.specs.LengthHint.{IsWithinHint};
 
@@ -28,6 +29,24 @@ pub trait Writeable {
         ensures refused { S.refused sink.new ≡ is_err result }
         ensures begun { OnErr result (HasBegun S.takes S.lacks_room sink.old (events self.now) sink.new) };
 
+    /// Writes the text of the value into `sink`, which has not refused yet, without its parts:
+    /// `a,b` with parts behind `x` is `xa,b` with no part more.
+    ///
+    /// `Ok`: the sink took the whole text behind what it held. [`Error`], only where the sink
+    /// refused: it took a beginning. It takes no memory but the sink's.
+    fn write_text<S: Sink>(&self, sink: &mut S) -> Result<(), Error>
+        requires { S.refused sink.old ≡ false }
+        ensures ok { OnOk result (S.takes sink.old (without_parts (events self.now)) sink.new) }
+        ensures refused { S.refused sink.new ≡ is_err result }
+        ensures begun { OnErr result
+            (HasBegun S.takes S.lacks_room sink.old (without_parts (events self.now)) sink.new) }
+    {
+        let mut partless = PartlessSink { to: sink };
+        let written = self.write_to(&mut partless);
+        let PartlessSink { to: _ } = partless;
+        written
+    }
+
     /// How many bytes the text has: for `"a,b"` exactly 3. It takes no memory.
     fn writeable_length_hint(&self) -> LengthHint
         ensures { IsWithinHint result (length (text_of (events self.now))) }
@@ -38,11 +57,12 @@ pub trait Writeable {
     /// The text of the value, without its parts: `a,b` with parts gives the string `a,b`.
     ///
     /// It takes memory; `AllocError` is answered where that is refused.
+    #[tactic(auto, using(crate::proofs::AnnotatedTextLemmas::text_of_bytes))]
     final fn write_to_string(&self, alloc: Global) -> Result<String, AllocError>
         ensures { IfOk result (λ text. string_bytes text ≡ text_of (events self.now)) }
     {
         let mut sink = TextSink::with_capacity(alloc, self.writeable_length_hint().low)?;
-        match self.write_to(&mut sink) {
+        match self.write_text(&mut sink) {
             Ok(()) => Ok(sink.into_text()),
             Err(_) => Err(AllocError),
         }
@@ -57,6 +77,11 @@ impl<'a> Writeable for &'a str {
     ghost events = { λ text. bytes text.now };
 
     fn write_to<S: Sink>(&self, sink: &mut S) -> Result<(), Error> {
+        sink.write_str(self)
+    }
+
+    #[tactic(auto, using(crate::proofs::AnnotatedTextLemmas::text_of_bytes))]
+    fn write_text<S: Sink>(&self, sink: &mut S) -> Result<(), Error> {
         sink.write_str(self)
     }
 

@@ -71,10 +71,25 @@ fn parts_of<T: Writeable>(alloc: Global, value: &T) -> Result<PartsSink, Error> 
     Ok(sink)
 }
 
+// `x` as a part, and the text alone of a value behind it.
+fn text_behind<T: Writeable>(alloc: Global, value: &T) -> Result<PartsSink, Error> {
+    let mut sink = PartsSink::new(alloc);
+    sink.open_part(OUTER)?;
+    sink.write_str("x")?;
+    sink.close_part()?;
+    value.write_text(&mut sink)?;
+    Ok(sink)
+}
+
 #[test]
 fn lists_the_parts_of_a_value(rt: HostRuntime) -> Result<(), Fail> {
     let sink = parts_of(rt.alloc(), &Pair)?;
     assert_eq!(rt; sink.text(), "a,b");
     assert_eq!(rt; sink.parts(), [(0, 3, OUTER), (1, 2, INNER)].as_slice());
+    // the text alone has no parts
+    let alone = text_behind(rt.alloc(), &Pair)?;
+    assert_eq!(rt; alone.text(), "xa,b");
+    assert_eq!(rt; alone.parts(), [(0, 1, OUTER)].as_slice());
+    assert_eq!(rt; text_behind(rt.alloc(), &"a,b")?.text(), "xa,b");
     Ok(())
 }

@@ -1,9 +1,0 @@
-use Rattle.std.proofs.Common.{refl}
-use Rattle.writeable.specs.Taking.{on_err_by}
-use Rattle.icu_decimal_compact.specs.HeldSink.{lent_by}
-use Rattle.icu_decimal_compact.specs.TakenText.{bytes_begun}
-use Rattle.icu_decimal_compact.proofs.text_alone.PartlessSinkSink.write_str.Goals as goal
-
-pub returns-clause-begun : goal.returns-clause-begun
-returns-clause-begun g c =
-    on_err_by c.write_str.result (bytes_begun g.S.Sink.takes g.S.Sink.lacks_room lent_by c.args.self.now c.args.text.now _ refl) c.write_str.ensures.begun
