@@ -67,13 +67,47 @@ pub fn round_by(number: &mut UnsignedDecimal, step: Step<'_>) -> Result<(), Stop
     Ok(())
 }
 
-// How many digits there are, and each of them.
-fn listed(alloc: Global, digits: ShownDigits<'_>) -> Result<Option<String>, Stop> {
-    let mut text = format!(in alloc; "{}:", digits.len())?;
+// Adds digits to a list of them.
+fn list(text: &mut String, digits: &[u8]) -> Result<(), Stop> {
     for digit in digits {
         write!(text, " {digit}")?;
     }
-    Ok(Some(text))
+    Ok(())
+}
+
+// How many digits there are, and each of them, taken one by one.
+fn listed_singly(alloc: Global, digits: ShownDigits<'_>) -> Result<String, Stop> {
+    let mut text = format!(in alloc; "{}:", digits.len())?;
+    for digit in digits {
+        list(&mut text, &[digit])?;
+    }
+    Ok(text)
+}
+
+// The same list, of digits that are taken a block at a time.
+fn listed_by_blocks(alloc: Global, mut digits: ShownDigits<'_>) -> Result<String, Stop> {
+    let mut text = format!(in alloc; "{}:", digits.len())?;
+    let mut block = [0; 16];
+    while digits.len() > 0 {
+        let count = digits.next_block(&mut block);
+        list(&mut text, &block[..count])?;
+    }
+    Ok(text)
+}
+
+// The list of digits, where those taken one by one are those taken a block at a time, and `None` where they are not.
+fn listed(
+    alloc: Global,
+    single: ShownDigits<'_>,
+    blocks: ShownDigits<'_>,
+) -> Result<Option<String>, Stop> {
+    let text = listed_singly(alloc, single)?;
+    let other = listed_by_blocks(alloc, blocks)?;
+    if text.as_str() == other.as_str() {
+        Ok(Some(text))
+    } else {
+        Ok(None)
+    }
 }
 
 /// What a call tells of the number, or `None` where it tells nothing.
@@ -87,8 +121,8 @@ pub fn answer(
         "nonzero_magnitude_end" => told(alloc, &number.nonzero_magnitude_end()),
         "is_zero" => told(alloc, &number.is_zero()),
         "digit_at" => told(alloc, &number.digit_at(number_of(step.passed)?)),
-        "whole_digits" => listed(alloc, number.whole_digits()),
-        "fraction_digits" => listed(alloc, number.fraction_digits()),
+        "whole_digits" => listed(alloc, number.whole_digits(), number.whole_digits()),
+        "fraction_digits" => listed(alloc, number.fraction_digits(), number.fraction_digits()),
         "magnitude_range" => {
             let range = number.magnitude_range();
             ends(alloc, range.start(), range.end())

@@ -29,4 +29,5 @@ pub mod KnownRoundings
 pub mod WritingLemmas
 pub mod ShownDigitsLemmas
 pub mod BlockLemmas
+pub mod HalvesLemmas
 pub mod TextBlockLemmas

@@ -5,6 +5,7 @@ use Rattle.std.proofs.lemmas.Nat.{div_below}
 use Rattle.std.proofs.lemmas.List.{append-nil, map-append}
 use Rattle.std.proofs.lemmas.Bool.Decides.{nat_tests}
 use Rattle.std.specs.Char.{digit_value}
+use Rattle.std.specs.Int.Digits.{AllBelowBase}
 use Rattle.fixed_decimal_unsigned.specs.Number.{Number, IsNumber, digit, digits_down, whole_digits, fraction_digits}
 use Rattle.fixed_decimal_unsigned.specs.NumberText.{AreDigits, spelled, behind_point, character, small_mark, Parts, number_at, mantissa_of, up_of, down_of, AreEndsIn, Reads, text_of}
 use Rattle.fixed_decimal_unsigned.proofs.TenLemmas.{tens_positive, tens_split}
@@ -13,6 +14,11 @@ use Rattle.fixed_decimal_unsigned.proofs.ReadOnceLemmas.{same_at, reads_once}
 
 pub digit_below_ten : (count p : ℕ) → digit count p < 10
 digit_below_ten count p = mod-lt (count / 10 ^ p) {m = 10} (omega arith)
+
+-- each digit of a count is below ten
+pub tens_down : (count base n : ℕ) → AllBelowBase 10 (digits_down count base n)
+tens_down count base zero = tt
+tens_down count base (suc k) = (digit_below_ten count (base + k), tens_down count base k)
 
 pub character_value : (d : ℕ) → d < 10 → digit_value (character d) ≡ d
 character_value d h = grind (arith, nat_tests)

@@ -1,5 +1,5 @@
 // Changes of the bytes that hold two digits each.
-ghost use Rattle.std.specs.Prelude.{◌≡◌, ◌+◌, ◌<◌, ◌≤◌, ◌++◌, length, map, slice_set, drop};
+ghost use Rattle.std.specs.Prelude.{◌≡◌, ◌+◌, ◌<◌, ◌≤◌, ◌++◌, length, map, slice_set, take, drop};
 ghost use Rattle.std.specs.Char.{digit_value};
 ghost use Rattle.fixed_decimal_unsigned.specs.DigitWord.{word_bytes};
 ghost use Rattle.fixed_decimal_unsigned.specs.NumberText.{AreDigits, character};
@@ -65,6 +65,38 @@ pub fn text_of_block(bytes: &[u8]) -> [u8; 64]
         index += 1;
     }
     text
+}
+
+// The digits that lie in eight bytes.
+#[tactic(auto, using(crate::proofs::HalvesLemmas::two_halves, crate::proofs::HalvesLemmas::halves_filled))]
+pub fn digits_within(bytes: &[u8]) -> [u8; 16]
+    requires { length bytes.now ≡ 8 }
+    ensures { result ≡ halves bytes.now }
+{
+    let mut digits = [0; 16];
+    let mut index = 0;
+    while index < 8 {
+        digits[2 * index] = bytes[index] / 16;
+        digits[2 * index + 1] = bytes[index] % 16;
+        index += 1;
+    }
+    digits
+}
+
+// The digits that lie in nine bytes between the first half and the last one.
+#[tactic(auto, using(crate::proofs::HalvesLemmas::two_between, crate::proofs::HalvesLemmas::between_filled))]
+pub fn digits_between(bytes: &[u8]) -> [u8; 16]
+    requires { length bytes.now ≡ 9 }
+    ensures { result ≡ take 16 (drop 1 (halves bytes.now)) }
+{
+    let mut digits = [0; 16];
+    let mut index = 0;
+    while index < 8 {
+        digits[2 * index] = bytes[index] % 16;
+        digits[2 * index + 1] = bytes[index + 1] / 16;
+        index += 1;
+    }
+    digits
 }
 
 // Adds bytes, for which there is room, behind those that are there.

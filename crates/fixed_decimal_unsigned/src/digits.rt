@@ -9,7 +9,8 @@ ghost use Rattle.fixed_decimal_unsigned.specs.DigitWord.{word_digits};
 ghost use Rattle.fixed_decimal_unsigned.specs.NumberText.{AreDigits, character};
 
 use crate::digit_bytes::{
-    bytes_of_block, bytes_of_word, drop_bytes, push_bytes, set_byte, shift_half, text_of_block,
+    bytes_of_block, bytes_of_word, digits_between, digits_within, drop_bytes, push_bytes, set_byte,
+    shift_half, text_of_block,
 };
 use smallvec::SmallVec;
 use std::alloc::{AllocError, Global};
@@ -21,6 +22,9 @@ pub const INLINE: usize = 4;
 
 // So many digits are read, or written, by one step: a whole count of bytes.
 pub const BLOCK: usize = 64;
+
+// So many digits are handed out by one step: those of eight bytes.
+pub const STEP: usize = 16;
 
 // A list of digits below ten, two to a byte, the higher one in the upper half.
 #[derive(Debug, Drop)]
@@ -135,6 +139,22 @@ impl Digits {
             digits: self,
             next,
             left,
+        }
+    }
+
+    // The sixteen digits from an index on.
+    #[tactic(auto, using(crate::proofs::PackedChanges::bytes_length))]
+    fn sixteen(&self, index: usize) -> [u8; 16]
+        requires { index + 16 ≤ length self.now.items }
+        ensures { result ≡ take 16 (drop index self.now.items) }
+    {
+        let (_, rest) = self.kept.as_slice().split_at(index / 2);
+        if index % 2 == 0 {
+            let (front, _) = rest.split_at(STEP / 2);
+            digits_within(front)
+        } else {
+            let (front, _) = rest.split_at(STEP / 2 + 1);
+            digits_between(front)
         }
     }
 
@@ -391,6 +411,18 @@ impl<'l> DigitRun<'l> {
         ensures bound { result < 2 ^ 63 }
     {
         self.left
+    }
+
+    // The next sixteen digits.
+    pub fn next_sixteen(&mut self) -> [u8; 16]
+        requires { 16 ≤ length self.old }
+        ensures value { result ≡ take 16 self.old }
+        ensures rest { self.new ≡ drop 16 self.old }
+    {
+        let digits = self.digits.sixteen(self.next);
+        self.next += STEP;
+        self.left -= STEP;
+        digits
     }
 }
 

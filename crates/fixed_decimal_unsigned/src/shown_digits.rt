@@ -1,10 +1,10 @@
 //! The digits that a number shows, one after another.
-ghost use Rattle.std.specs.Prelude.{◌≡◌, ◌+◌, ◌≤◌, ◌++◌, length, replicate, Some, IfSome};
+ghost use Rattle.std.specs.Prelude.{◌≡◌, ◌+◌, ◌≤◌, ◌++◌, length, min, replicate, take, drop, Some, IfSome};
 ghost use Rattle.std.specs.Iterator.{YieldsFirst, UpTo, at_most, item_count};
 ghost use Rattle.std.specs.Iterator.SizeHint.{IsWithinCount};
 ghost use Rattle.fixed_decimal_unsigned.specs.Number.{digits_down, fraction_digits, whole_digits};
 
-use crate::digits::DigitRun;
+use crate::digits::{DigitRun, STEP};
 use crate::places::ONES;
 use crate::unsigned_decimal::UnsignedDecimal;
 use std::iter::{ExactSizeIterator, FusedIterator};
@@ -63,6 +63,44 @@ impl UnsignedDecimal {
         ensures { result ≡ fraction_digits self.now }
     {
         digits_at(self, self.low, ONES - self.low)
+    }
+}
+
+impl<'l> ShownDigits<'l> {
+    /// Puts the next digits into the front of `block`, sixteen or all that are left where these are fewer, and answers how
+    /// many. What stands in `block` behind them stays.
+    ///
+    /// Each is from 0 to 9. Of `012.30` the digits before the point are 0, 1, 2, and the answer is 3; the next answer is 0.
+    /// A writer that takes sixteen digits by one call pays for one step, and not for sixteen. It takes no memory.
+    pub fn next_block(&mut self, block: &mut [u8; 16]) -> usize
+        ensures count { result ≡ min 16 (length self.old) }
+        ensures taken { take result block.new ≡ take result self.old }
+        ensures same { drop result block.new ≡ drop result block.old }
+        ensures rest { self.new ≡ drop result self.old }
+    {
+        if self.zeros_before == 0 && self.inside.len() >= STEP {
+            *block = self.inside.next_sixteen();
+            return STEP;
+        }
+        self.next_few(block)
+    }
+
+    // Does what `next_block` does, digit by digit.
+    fn next_few(&mut self, block: &mut [u8; 16]) -> usize
+        ensures count { result ≡ min 16 (length self.old) }
+        ensures taken { take result block.new ≡ take result self.old }
+        ensures same { drop result block.new ≡ drop result block.old }
+        ensures rest { self.new ≡ drop result self.old }
+    {
+        let mut count = 0;
+        while count < STEP {
+            let Some(digit) = self.next() else {
+                return count;
+            };
+            block[count] = digit;
+            count += 1;
+        }
+        count
     }
 }
 
