@@ -5,6 +5,7 @@ use Rattle.std.specs.Char.{to_ascii_uppercase, to_ascii_lowercase}
 use Rattle.std.proofs.lemmas.Bool.{and_parts, and_from}
 use Rattle.std.proofs.lemmas.Bool.Decides.{nat_tests}
 use Rattle.std.proofs.lemmas.List.{map-append, length-map}
+use Rattle.tinystr_words.specs.Words.{map_first}
 use Rattle.tinystr.specs.SmallText.{NUL, is_text_byte, IsSmall, padded}
 use Rattle.tinystr.specs.Case.{lowercase, uppercase, titlecase}
 
@@ -31,6 +32,10 @@ title_ascii [] h = refl
 title_ascii (b ∷ bs) h =
     let both = and_parts (is_text_byte b) (list_all is_text_byte bs) h in
     and_from (is_text_byte (to_ascii_uppercase b)) (list_all is_text_byte (lowercase bs)) (upper_text_byte b both.0) (lower_ascii bs both.1)
+
+pub titled_first : (text : List ℕ) → map_first to_ascii_uppercase to_ascii_lowercase text ≡ titlecase text
+titled_first [] = refl
+titled_first (b ∷ bs) = refl
 
 pub length-titlecase : (text : List ℕ) → length (titlecase text) ≡ length text
 length-titlecase [] = refl

@@ -10,7 +10,7 @@ ghost use Rattle.tinystr.specs.Classes.{is_in_class, is_not_uppercase, is_not_lo
 ghost use Rattle.tinystr.specs.Case.{titlecase};
 
 use crate::AsciiByte;
-use tinystr_words::{Lowercase, ToLowercase, Uppercase, put_at, short_word};
+use tinystr_words::{Lowercase, Uppercase, put_at, short_word};
 
 /// How many bytes the text of a form has.
 pub(crate) fn text_len(bytes: &[u8]) -> usize
@@ -65,12 +65,7 @@ pub(crate) fn make_title(bytes: &mut [u8])
     requires { IsAscii bytes.old }
     ensures { bytes.new ≡ titlecase bytes.old }
 {
-    if bytes.is_empty() {
-        return;
-    }
-    let first = bytes[0].to_ascii_uppercase();
-    tinystr_words::change::<ToLowercase>(bytes);
-    bytes[0] = first;
+    tinystr_words::make_title(bytes);
 }
 
 /// The unit as a byte, or the replacement where it may not stand in a text.

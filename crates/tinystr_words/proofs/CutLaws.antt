@@ -158,7 +158,7 @@ step_goes_on p some whole rest front back r cut is same goes =
     ap (λ t. t && list_all p back) (sym goes ∙ is) ∙ sym (all_cut p some rest front back cut) ∙ same
 
 -- ---- a step of a loop that changes
-length-part : (old : List ℕ) (from count : ℕ) → from + count ≤ length old → length (take count (drop from old)) ≡ count
+pub length-part : (old : List ℕ) (from count : ℕ) → from + count ≤ length old → length (take count (drop from old)) ≡ count
 length-part old from count within = omega (arith, length-take count (drop from old), length-drop from old)
 
 pub change_writes : (f : ℕ → ℕ) (old eight new : List ℕ) (from count : ℕ) → from + count ≤ length old → eight ≡ map f (filled (take count (drop from old)))

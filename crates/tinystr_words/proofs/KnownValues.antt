@@ -1,6 +1,7 @@
 -- Values of this crate's definitions, by hand: `ab` in a word, its flags, its length, and bytes filled up.
 use Rattle.std.specs.Prelude.{◌≡◌, true, false, [], ◌∷◌, nat_le, refl}
-use Rattle.tinystr_words.specs.Words.{word_bytes, flags, filled, nuls_last, text_bytes}
+use Rattle.std.specs.Char.{to_ascii_lowercase, to_ascii_uppercase}
+use Rattle.tinystr_words.specs.Words.{word_bytes, flags, map_first, filled, nuls_last, text_bytes}
 
 letters_in_a_word : word_bytes 25185 ≡ 97 ∷ 98 ∷ 0 ∷ 0 ∷ 0 ∷ 0 ∷ 0 ∷ 0 ∷ []
 unfolding word_bytes
@@ -22,3 +23,6 @@ nul_before_a_letter = refl
 
 nul_behind_letters : nuls_last (97 ∷ 98 ∷ 0 ∷ []) ≡ true
 nul_behind_letters = refl
+
+first_letter_raised : map_first to_ascii_uppercase to_ascii_lowercase (97 ∷ 66 ∷ 98 ∷ []) ≡ 65 ∷ 98 ∷ 98 ∷ []
+first_letter_raised = refl

@@ -4,3 +4,5 @@ pub mod FlagLaws
 pub mod LengthLaws
 pub mod CutLaws
 pub mod ShortLaws
+pub mod PartLaws
+pub mod TitleLaws

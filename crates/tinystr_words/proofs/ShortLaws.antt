@@ -35,6 +35,10 @@ nuls_add_nothing [] zero = refl
 nuls_add_nothing [] (suc k) = omega (arith, nuls_add_nothing [] k)
 nuls_add_nothing (b ∷ bs) k = omega (arith, nuls_add_nothing bs k)
 
+pub filled_number : (bs : List ℕ) → word_of (filled bs) ≡ word_of bs
+unfolding filled
+filled_number bs = nuls_add_nothing bs (8 - length bs)
+
 pub filled_word : (bs : List ℕ) (w : ℕ) → length bs ≤ 8 → AreBytes bs → w ≡ word_of bs → word_bytes w ≡ filled bs
 unfolding filled
 filled_word bs w short small is =

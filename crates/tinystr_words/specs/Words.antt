@@ -25,6 +25,11 @@ flags test bytes = word_of (map (λ b. flag (test b)) bytes)
 abbrev pub or_nul : (ℕ → Bool) → ℕ → Bool
 or_nul test b = nat_eq b 0 || test b
 
+-- the first byte by one function, the rest by another
+abbrev pub map_first : (ℕ → ℕ) → (ℕ → ℕ) → List ℕ → List ℕ
+map_first front back [] = []
+map_first front back (b ∷ bs) = front b ∷ map back bs
+
 -- bytes filled up with NULs to eight
 unfoldable pub filled : List ℕ → List ℕ
 filled bytes = bytes ++ replicate (8 - length bytes) 0

@@ -1,11 +1,12 @@
 //! Case changes of one word.
 
-ghost use Rattle.std.specs.Prelude.{◌≡◌, ℕ, map};
+ghost use Rattle.std.specs.Prelude.{◌≡◌, ◌<◌, ◌^◌, ℕ, map};
 ghost use Rattle.std.specs.Char.{to_ascii_lowercase, to_ascii_uppercase};
 ghost use Rattle.std.specs.Str.{IsAscii};
 ghost use Rattle.tinystr_words.specs.Words.{word_bytes};
 
 use crate::classes::{Lowercase, Uppercase, WordClass};
+use crate::flags::twice_within;
 
 /// A change of each byte of a word by itself.
 pub trait WordChange {
@@ -13,6 +14,12 @@ pub trait WordChange {
 
     /// The word with each byte changed.
     fn changed(word: u64) -> u64
+        requires ascii { IsAscii (word_bytes word) }
+        ensures { word_bytes result ≡ map change (word_bytes word) };
+
+    /// The same of a word of at most seven bytes, by sums of the doubled word.
+    fn changed_part(word: u64) -> u64
+        requires part { word < 2 ^ 56 }
         requires ascii { IsAscii (word_bytes word) }
         ensures { word_bytes result ≡ map change (word_bytes word) };
 }
@@ -29,6 +36,10 @@ impl WordChange for ToLowercase {
     fn changed(word: u64) -> u64 {
         word ^ (Uppercase::flags(word) >> 2)
     }
+
+    fn changed_part(word: u64) -> u64 {
+        word ^ (twice_within(word, b'A', b'Z') >> 3)
+    }
 }
 
 impl WordChange for ToUppercase {
@@ -36,5 +47,9 @@ impl WordChange for ToUppercase {
 
     fn changed(word: u64) -> u64 {
         word ^ (Lowercase::flags(word) >> 2)
+    }
+
+    fn changed_part(word: u64) -> u64 {
+        word ^ (twice_within(word, b'a', b'z') >> 3)
     }
 }

@@ -9,6 +9,7 @@ mod changes;
 mod classes;
 mod flags;
 mod slices;
+mod titles;
 mod words;
 
 pub use changes::{ToLowercase, ToUppercase, WordChange};
@@ -16,4 +17,5 @@ pub use classes::{
     Digits, Letters, LettersAndDigits, Lowercase, Uppercase, WordClass, is_all, is_none,
 };
 pub use slices::{all, are_same, change, none, put_at, text_len};
+pub use titles::make_title;
 pub use words::{short_word, word_len};

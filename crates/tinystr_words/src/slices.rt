@@ -1,10 +1,10 @@
 //! Slices of bytes, word by word.
 
-ghost use Rattle.std.specs.Prelude.{◌≡◌, ◌≤◌, ◌+◌, ◌++◌, true, not, length, take, drop, map};
+ghost use Rattle.std.specs.Prelude.{◌≡◌, ◌≤◌, ◌<◌, ◌+◌, ◌^◌, ◌++◌, true, not, length, take, drop, map};
 ghost use Rattle.std.specs.Bool.{Decides};
 ghost use Rattle.std.specs.List.{list_all};
 ghost use Rattle.std.specs.Str.{IsAscii};
-ghost use Rattle.tinystr_words.specs.Words.{nuls_last, or_nul, text_bytes};
+ghost use Rattle.tinystr_words.specs.Words.{word_bytes, nuls_last, or_nul, text_bytes};
 
 use crate::changes::WordChange;
 use crate::classes::{WordClass, is_all, is_none};
@@ -86,6 +86,22 @@ pub fn are_same(one: &[u8], other: &[u8]) -> bool
     true
 }
 
+/// The word with each byte changed, where only so many bytes are no NULs that fill up.
+///
+/// Four and eight bytes are read at once; a word of another count is put together.
+pub(crate) fn changed_word<C: WordChange>(word: u64, count: usize) -> u64
+    requires short { count ≤ 8 }
+    requires part { count < 8 → word < 2 ^ 56 }
+    requires ascii { IsAscii (word_bytes word) }
+    ensures { word_bytes result ≡ map C.change (word_bytes word) }
+{
+    if count == 4 || count == 8 {
+        C::changed(word)
+    } else {
+        C::changed_part(word)
+    }
+}
+
 /// Changes at most eight bytes from a place on.
 fn change_at<C: WordChange>(bytes: &mut [u8], from: usize, count: usize)
     requires within { from + count ≤ length bytes.old }
@@ -93,7 +109,7 @@ fn change_at<C: WordChange>(bytes: &mut [u8], from: usize, count: usize)
     requires ascii { IsAscii (take count (drop from bytes.old)) }
     ensures { bytes.new ≡ take from bytes.old ++ (map C.change (take count (drop from bytes.old)) ++ drop (from + count) bytes.old) }
 {
-    let word = C::changed(word_at(&bytes[from..from + count]));
+    let word = changed_word::<C>(word_at(&bytes[from..from + count]), count);
     put_at(bytes, from, &word.to_le_bytes()[..count]);
 }
 
