@@ -1,10 +1,9 @@
 -- The plain text of a decimal as characters: its digits, and nothing that is a digit between, before and behind them.
-use Rattle.std.proofs.Common.{◌≡◌, ℕ, zero, suc, ◌+◌, ◌-◌, ◌/◌, ◌^◌, ◌<◌, Bool, true, false, cond, not, ◌&&◌, List, [], ◌∷◌, ◌++◌, length, map, slice_index, is_none, refl, sym, ap, ◌∙◌, arith}
+use Rattle.std.proofs.Common.{◌≡◌, ℕ, zero, suc, ◌+◌, ◌-◌, ◌<◌, Bool, true, false, cond, not, ◌&&◌, List, [], ◌∷◌, ◌++◌, length, map, slice_index, is_none, refl, sym, ap, ◌∙◌, arith}
 use Rattle.std.proofs.lemmas.Bool.{and_parts, both_ways, ne_eqb, not-true, or_from}
 use Rattle.std.proofs.lemmas.List.Sums.{sum_by-cons}
 use Rattle.std.specs.List.{sum}
 use Rattle.std.proofs.lemmas.List.{length-map}
-use Rattle.std.proofs.lemmas.Nat.{mod_below}
 use Rattle.std.proofs.lemmas.Str.{IsUtf8-nil, chars-nil, encodes-append, encodes-chars}
 use Rattle.std.specs.Cmp.Lexicographic.{bytes_decides}
 use Rattle.std.specs.Int.Digits.{AllBelowBase}
@@ -20,6 +19,7 @@ use Rattle.icu_decimal_text.specs.Affixes.{affixes_of}
 use Rattle.icu_decimal_text.specs.Grouper.{ends_at, group_sizes, marked}
 use Rattle.icu_decimal_text.specs.PlainText.{Tables, chained, decimal_text, digit_text, fraction_text, prefix_text, suffix_text, unsigned_text, whole_text}
 use Rattle.icu_decimal_text.proofs.GrouperLemmas.{AllAbove, are_sizes, joined_is_separated}
+use Rattle.icu_decimal_text.proofs.PlainTextLemmas.{tens_down}
 use Rattle.icu_decimal_reading.specs.PlainReading.{fraction_in, whole_in}
 use Rattle.icu_decimal_reading.specs.Readable.{all_differ, are_clear, digit_of, do_separators_differ, do_signs_differ, has_no_digit, is_readable_by}
 use Rattle.icu_decimal_reading.specs.ReadingLaws.{AreTables}
@@ -174,10 +174,6 @@ encoded_decimal t v are some =
     ∙ sym (encodes-append (chars prefix) (chars_of t v.absolute ++ chars suffix))
 
 -- ---- the digits of its text
-
-tens_down : (count base n : ℕ) → AllBelowBase 10 (digits_down count base n)
-tens_down count base zero = tt
-tens_down count base (suc k) = (mod_below (count / 10 ^ (base + k)) 10 (omega arith), tens_down count base k)
 
 pub whole_some : (n : Number) → IsNumber n → 0 < length (whole_digits n)
 whole_some n is = by (n.high - 32767) (let ones = is.ones in omega (arith, ones))

@@ -4,6 +4,7 @@ pub mod HintLemmas
 pub mod KnownParts
 pub mod KnownValues
 pub mod PartLemmas
+pub mod PieceLemmas
 pub mod PlainTextLemmas
 pub mod SeparatorLemmas
 pub mod TextLemmas

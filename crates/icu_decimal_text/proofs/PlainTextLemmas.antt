@@ -1,5 +1,5 @@
 -- The text of a number: its digits in groups, and the digits written in pieces.
-use Rattle.std.proofs.Common.{◌≡◌, ℕ, zero, suc, ◌+◌, ◌-◌, ◌/◌, ◌^◌, ◌<◌, ◌≤◌, List, [], ◌∷◌, ◌++◌, length, map, take, drop, slice_index, Option, None, Some, refl, sym, ap, subst, ◌∙◌, append_assoc, arith}
+use Rattle.std.proofs.Common.{◌≡◌, ℕ, zero, suc, ◌+◌, ◌-◌, ◌/◌, ◌%◌, ◌^◌, ◌<◌, ◌≤◌, List, [], ◌∷◌, ◌++◌, length, map, take, drop, slice_index, Option, None, Some, refl, sym, ap, subst, ◌∙◌, append_assoc, arith}
 use Rattle.std.proofs.lemmas.List.{drop-drop, drop-map, map-append, take-map}
 use Rattle.std.proofs.lemmas.List.Concat.{flat_map-append}
 use Rattle.std.proofs.lemmas.Nat.{mod_below}
@@ -13,8 +13,8 @@ use Rattle.writeable.proofs.AnnotatedTextLemmas.{bytes_joined, no_bytes}
 use Rattle.fixed_decimal.specs.Number.{Number, digits_down, fraction_digits, whole_digits}
 use Rattle.icu_decimal_text.specs.Affixes.{as_part, decimal_part}
 use Rattle.icu_decimal_text.specs.Grouper.{cut_by, group_sizes, joined}
-use Rattle.icu_decimal_text.specs.LaterGroups.{later_events}
-use Rattle.icu_decimal_text.specs.PlainText.{Tables, chained, digit_events, digit_text, fraction_events, whole_events}
+use Rattle.icu_decimal_text.specs.LaterGroups.{groups_ahead, later_events}
+use Rattle.icu_decimal_text.specs.PlainText.{Tables, chained, digit_events, digit_text, fraction_events, fraction_text, grouped, unsigned_text, whole_events, whole_text}
 
 -- so many digits give so many
 length_digits : {A : Type 0} (f : ℕ → A) (count base k : ℕ) → length (map f (digits_down count base k)) ≡ k
@@ -27,49 +27,61 @@ length_digits f count base (suc k) = ap suc (length_digits f count base k)
 abbrev pub group_part : Tables → List Event
 group_part t = as_part (decimal_part (codes "group")) t.symbols.strings.grouping_separator
 
--- the groups behind the first, each with the separator before it
-pub groups_behind : (separator table ns ds : List ℕ) → chained (flat_map (λ group. (as_part (decimal_part (codes "group")) separator ∷ []) ++ group) (cut_by ns (map (digit_events table) ds))) ≡ later_events separator table ns ds
-groups_behind separator table [] ds = refl
-groups_behind separator table (n ∷ ns) ds =
-    let part : List Event = as_part (decimal_part (codes "group")) separator in
-    let behind : List (List Event) → List (List Event) = λ digits. flat_map (λ group. (part ∷ []) ++ group) (cut_by ns digits) in
-    ap (λ es. part ++ es) (flat_map-append (λ list. list) (take n (map (digit_events table) ds)) (behind (drop n (map (digit_events table) ds))))
-    ∙ ap (λ group. part ++ (chained group ++ chained (behind (drop n (map (digit_events table) ds))))) (take-map (digit_events table) n ds)
-    ∙ ap (λ digits. part ++ (chained (map (digit_events table) (take n ds)) ++ chained (behind digits))) (drop-map (digit_events table) n ds)
-    ∙ ap (λ es. part ++ (chained (map (digit_events table) (take n ds)) ++ es)) (groups_behind separator table ns (drop n ds))
-    ∙ sym (append_assoc part (chained (map (digit_events table) (take n ds))) (later_events separator table ns (drop n ds)))
+module _ {A : Type 0} (separator : List A) (digit : ℕ → List A) where
+  -- the groups behind the first, each with the separator before it
+  groups_behind : (ns ds : List ℕ) → chained (flat_map (λ group. (separator ∷ []) ++ group) (cut_by ns (map digit ds))) ≡ groups_ahead separator digit ns ds
+  groups_behind [] ds = refl
+  groups_behind (n ∷ ns) ds =
+      let behind : List (List A) → List (List A) = λ digits. flat_map (λ group. (separator ∷ []) ++ group) (cut_by ns digits) in
+      ap (λ all. separator ++ all) (flat_map-append (λ list. list) (take n (map digit ds)) (behind (drop n (map digit ds))))
+      ∙ ap (λ group. separator ++ (chained group ++ chained (behind (drop n (map digit ds))))) (take-map digit n ds)
+      ∙ ap (λ digits. separator ++ (chained (map digit (take n ds)) ++ chained (behind digits))) (drop-map digit n ds)
+      ∙ ap (λ all. separator ++ (chained (map digit (take n ds)) ++ all)) (groups_behind ns (drop n ds))
+      ∙ sym (append_assoc separator (chained (map digit (take n ds))) (groups_ahead separator digit ns (drop n ds)))
 
--- groups of these sizes
-cut_events : Tables → List ℕ → List ℕ → List Event
-cut_events t ns ds = chained (joined (group_part t ∷ []) (cut_by ns (map (digit_events t.digits) ds)))
+  -- groups of these sizes
+  groups_cut : List ℕ → List ℕ → List A
+  groups_cut ns ds = chained (joined (separator ∷ []) (cut_by ns (map digit ds)))
 
-first_group : (t : Tables) (n : ℕ) (ns ds : List ℕ) → cut_events t (n ∷ ns) ds ≡ chained (map (digit_events t.digits) (take n ds)) ++ later_events t.symbols.strings.grouping_separator t.digits ns (drop n ds)
-unfolding cut_events
-first_group t n ns ds =
-    let behind : List (List Event) → List (List Event) = λ digits. flat_map (λ group. (group_part t ∷ []) ++ group) (cut_by ns digits) in
-    flat_map-append (λ list. list) (take n (map (digit_events t.digits) ds)) (behind (drop n (map (digit_events t.digits) ds)))
-    ∙ ap (λ group. chained group ++ chained (behind (drop n (map (digit_events t.digits) ds)))) (take-map (digit_events t.digits) n ds)
-    ∙ ap (λ digits. chained (map (digit_events t.digits) (take n ds)) ++ chained (behind digits)) (drop-map (digit_events t.digits) n ds)
-    ∙ ap (λ es. chained (map (digit_events t.digits) (take n ds)) ++ es) (groups_behind t.symbols.strings.grouping_separator t.digits ns (drop n ds))
+  first_group : (n : ℕ) (ns ds : List ℕ) → groups_cut (n ∷ ns) ds ≡ chained (map digit (take n ds)) ++ groups_ahead separator digit ns (drop n ds)
+  unfolding groups_cut
+  first_group n ns ds =
+      let behind : List (List A) → List (List A) = λ digits. flat_map (λ group. (separator ∷ []) ++ group) (cut_by ns digits) in
+      flat_map-append (λ list. list) (take n (map digit ds)) (behind (drop n (map digit ds)))
+      ∙ ap (λ group. chained group ++ chained (behind (drop n (map digit ds)))) (take-map digit n ds)
+      ∙ ap (λ digits. chained (map digit (take n ds)) ++ chained (behind digits)) (drop-map digit n ds)
+      ∙ ap (λ all. chained (map digit (take n ds)) ++ all) (groups_behind ns (drop n ds))
 
-first_by : (t : Tables) (sizes ds : List ℕ) (first : Option ℕ) (others : List ℕ) → MatchOption first ((sizes ≡ []) × (others ≡ [])) (λ n. sizes ≡ n ∷ others) → cut_events t sizes ds ≡ chained (map (digit_events t.digits) (take (unwrap_or first 0) ds)) ++ later_events t.symbols.strings.grouping_separator t.digits others (drop (unwrap_or first 0) ds)
-unfolding cut_events
-first_by t sizes ds None others none =
-    ap (λ ns. cut_events t ns ds) none.0 ∙ ap (λ ns. later_events t.symbols.strings.grouping_separator t.digits ns ds) (sym none.1)
-first_by t sizes ds (Some n) others next = ap (λ ns. cut_events t ns ds) next ∙ first_group t n others ds
+  first_by : (sizes ds : List ℕ) (first : Option ℕ) (others : List ℕ) → MatchOption first ((sizes ≡ []) × (others ≡ [])) (λ n. sizes ≡ n ∷ others) → groups_cut sizes ds ≡ chained (map digit (take (unwrap_or first 0) ds)) ++ groups_ahead separator digit others (drop (unwrap_or first 0) ds)
+  unfolding groups_cut
+  first_by sizes ds None others none =
+      ap (λ ns. groups_cut ns ds) none.0 ∙ ap (λ ns. groups_ahead separator digit ns ds) (sym none.1)
+  first_by sizes ds (Some n) others next = ap (λ ns. groups_cut ns ds) next ∙ first_group n others ds
 
--- the integer digits are the first group and those behind it, as the writer has them
+  -- the integer digits are the first group and those behind it, as the writer has them
+  pub grouped_digits : (t : Tables) (v : Number) (digits size : ℕ) (sizes others ds after : List ℕ) (first : Option ℕ) → v.high - 32767 ≡ digits → sizes ≡ group_sizes t.strategy t.symbols.grouping_sizes digits → MatchOption first ((sizes ≡ []) × (others ≡ [])) (λ n. sizes ≡ n ∷ others) → size ≡ unwrap_or first 0 → ds ≡ whole_digits v → after ≡ drop size ds → grouped t separator (map digit (whole_digits v)) ≡ chained (map digit (take size ds)) ++ groups_ahead separator digit others after
+  unfolding groups_cut
+  grouped_digits t v digits size sizes others ds after first same cut next sized shown left =
+      let count : length (map digit (whole_digits v)) ≡ digits = length_digits digit v.count 32768 (v.high - 32767) ∙ same in
+      ap (λ n. groups_cut (group_sizes t.strategy t.symbols.grouping_sizes n) (whole_digits v)) count
+      ∙ ap (λ ns. groups_cut ns (whole_digits v)) (sym cut)
+      ∙ ap (groups_cut sizes) (sym shown)
+      ∙ first_by sizes ds first others next
+      ∙ ap (λ n. chained (map digit (take n ds)) ++ groups_ahead separator digit others (drop n ds)) (sym sized)
+      ∙ ap (λ rest. chained (map digit (take size ds)) ++ groups_ahead separator digit others rest) (sym left)
+
+-- with parts, of the separator that was written
 pub whole_groups : (t : Tables) (v : Number) (digits size : ℕ) (sizes others ds after separator : List ℕ) (first : Option ℕ) → v.high - 32767 ≡ digits → sizes ≡ group_sizes t.strategy t.symbols.grouping_sizes digits → MatchOption first ((sizes ≡ []) × (others ≡ [])) (λ n. sizes ≡ n ∷ others) → size ≡ unwrap_or first 0 → ds ≡ whole_digits v → after ≡ drop size ds → separator ≡ t.symbols.strings.grouping_separator → whole_events t (whole_digits v) ≡ chained (map (digit_events t.digits) (take size ds)) ++ later_events separator t.digits others after
-unfolding cut_events
 whole_groups t v digits size sizes others ds after separator first same cut next sized shown left written =
-    let count : length (map (digit_events t.digits) (whole_digits v)) ≡ digits = length_digits (digit_events t.digits) v.count 32768 (v.high - 32767) ∙ same in
-    ap (λ n. cut_events t (group_sizes t.strategy t.symbols.grouping_sizes n) (whole_digits v)) count
-    ∙ ap (λ ns. cut_events t ns (whole_digits v)) (sym cut)
-    ∙ ap (cut_events t sizes) (sym shown)
-    ∙ first_by t sizes ds first others next
-    ∙ ap (λ n. chained (map (digit_events t.digits) (take n ds)) ++ later_events t.symbols.strings.grouping_separator t.digits others (drop n ds)) (sym sized)
-    ∙ ap (λ rest. chained (map (digit_events t.digits) (take size ds)) ++ later_events t.symbols.strings.grouping_separator t.digits others rest) (sym left)
+    grouped_digits (group_part t) (digit_events t.digits) t v digits size sizes others ds after first same cut next sized shown left
     ∙ ap (λ text. chained (map (digit_events t.digits) (take size ds)) ++ later_events text t.digits others after) (sym written)
+
+-- the text alone
+pub text_groups : (t : Tables) (v : Number) (digits size : ℕ) (sizes others ds after separator : List ℕ) (first : Option ℕ) → v.high - 32767 ≡ digits → sizes ≡ group_sizes t.strategy t.symbols.grouping_sizes digits → MatchOption first ((sizes ≡ []) × (others ≡ [])) (λ n. sizes ≡ n ∷ others) → size ≡ unwrap_or first 0 → ds ≡ whole_digits v → after ≡ drop size ds → separator ≡ t.symbols.strings.grouping_separator → bytes (whole_text t (whole_digits v)) ≡ bytes (chained (map (digit_text t.digits) (take size ds))) ++ bytes (groups_ahead separator (digit_text t.digits) others after)
+text_groups t v digits size sizes others ds after separator first same cut next sized shown left written =
+    ap bytes (grouped_digits t.symbols.strings.grouping_separator (digit_text t.digits) t v digits size sizes others ds after first same cut next sized shown left
+    ∙ ap (λ text. chained (map (digit_text t.digits) (take size ds)) ++ groups_ahead text (digit_text t.digits) others after) (sym written))
+    ∙ bytes_joined (chained (map (digit_text t.digits) (take size ds))) (groups_ahead separator (digit_text t.digits) others after)
 
 -- Digits written.
 
@@ -145,6 +157,10 @@ pub few_bytes : (c : ℕ) → length (encode_utf8 c) ≤ 4
 unfolding encode_utf8
 few_bytes c = grind arith
 
+-- the text of a number without a sign, in its two parts
+pub unsigned_bytes : (t : Tables) (v : Number) → bytes (unsigned_text t v) ≡ bytes (whole_text t (whole_digits v)) ++ bytes (fraction_text t (fraction_digits v))
+unsigned_bytes t v = bytes_joined (whole_text t (whole_digits v)) (fraction_text t (fraction_digits v))
+
 -- The fraction.
 
 some_by : (t : Tables) (count low k : ℕ) → 0 < k → fraction_events t (digits_down count low k) ≡ as_part (decimal_part (codes "decimal")) t.symbols.strings.decimal_separator ++ (opening (decimal_part (codes "fraction")) ++ (chained (map (digit_events t.digits) (digits_down count low k)) ++ closing))
@@ -157,3 +173,31 @@ fraction_some t v some = some_by t v.count v.low (32768 - v.low) some
 
 pub fraction_none : (t : Tables) (v : Number) → 32768 - v.low ≡ 0 → fraction_events t (fraction_digits v) ≡ []
 fraction_none t v none = ap (λ k. fraction_events t (digits_down v.count v.low k)) none
+
+-- all fraction digits are written
+take_down : (count base k : ℕ) → take k (digits_down count base k) ≡ digits_down count base k
+take_down count base zero = refl
+take_down count base (suc k) = ap (λ ds. count / 10 ^ (base + k) % 10 ∷ ds) (take_down count base k)
+
+pub fraction_run : (table : List ℕ) (v : Number) (count : ℕ) (shown : List ℕ) → shown ≡ fraction_digits v → v.low + count ≡ 32768 → bytes (chained (map (digit_text table) (take count shown))) ≡ chained (map (digit_events table) (fraction_digits v))
+fraction_run table v count shown is whole =
+    let size : count ≡ 32768 - v.low = omega (arith, whole) in
+    ap (λ ds. bytes (chained (map (digit_text table) (take count ds)))) is
+    ∙ ap (λ n. bytes (chained (map (digit_text table) (take n (fraction_digits v))))) size
+    ∙ ap (λ ds. bytes (chained (map (digit_text table) ds))) (take_down v.count v.low (32768 - v.low))
+    ∙ bytes_chained table (fraction_digits v)
+
+-- the text of the fraction alone
+text_by : (t : Tables) (count low k : ℕ) (separator : List ℕ) → 0 < k → separator ≡ t.symbols.strings.decimal_separator → bytes (fraction_text t (digits_down count low k)) ≡ bytes separator ++ chained (map (digit_events t.digits) (digits_down count low k))
+text_by t count low zero separator some written = absurd (omega (arith, some))
+text_by t count low (suc k) separator some written =
+    let digits : List ℕ = digits_down count low (suc k) in
+    bytes_joined t.symbols.strings.decimal_separator (chained (map (digit_text t.digits) digits))
+    ∙ ap (λ text. bytes text ++ bytes (chained (map (digit_text t.digits) digits))) (sym written)
+    ∙ ap (λ es. bytes separator ++ es) (bytes_chained t.digits digits)
+
+pub text_some : (t : Tables) (v : Number) (separator : List ℕ) → 0 < 32768 - v.low → separator ≡ t.symbols.strings.decimal_separator → bytes (fraction_text t (fraction_digits v)) ≡ bytes separator ++ chained (map (digit_events t.digits) (fraction_digits v))
+text_some t v separator some written = text_by t v.count v.low (32768 - v.low) separator some written
+
+pub text_none : (t : Tables) (v : Number) → 32768 - v.low ≡ 0 → bytes (fraction_text t (fraction_digits v)) ≡ []
+text_none t v none = ap (λ k. bytes (fraction_text t (digits_down v.count v.low k))) none ∙ no_bytes

@@ -2,9 +2,9 @@
 use Rattle.std.proofs.Common.{◌≡◌, ℕ, Bool, true, false, cond, List, [], ◌∷◌, ◌++◌, length, map, refl, sym, ap, ◌∙◌, arith}
 use Rattle.std.proofs.lemmas.List.{append-nil, length-map}
 use Rattle.std.specs.Prelude.{Option, None, Some, codes}
-use Rattle.writeable.specs.AnnotatedText.{Event, byte, opened, closed, bytes, opening, closing, text_of}
+use Rattle.writeable.specs.AnnotatedText.{Event, byte, opened, closed, bytes, opening, closing, text_of, without_parts}
 use Rattle.writeable.specs.PartName.{PartName}
-use Rattle.writeable.proofs.AnnotatedTextLemmas.{text_of_bytes, text_of_opening, text_of_closing}
+use Rattle.writeable.proofs.AnnotatedTextLemmas.{bytes_joined, text_of_bytes, text_of_opening, text_of_closing}
 use Rattle.fixed_decimal.specs.Number.{Number, fraction_digits, whole_digits}
 use Rattle.fixed_decimal.specs.SignedValue.{SignedValue}
 use Rattle.icu_decimal_text.specs.Affixes.{AffixTexts, affixes_of, as_part, decimal_part, prefix_events, suffix_events}
@@ -125,3 +125,19 @@ decimal_is_text t d =
     ∙ ap (λ text. prefix_text affixes ++ text) (text_joined (unsigned_events number) (suffix_events affixes)
     ∙ ap (λ text. text ++ text_of (suffix_events affixes)) (unsigned_is_text number)
     ∙ ap (λ text. unsigned_text t d.absolute ++ text) (text_suffix affixes))
+
+-- Without parts.
+
+-- the events of a value without affixes
+pub without_sign : (es : List Event) → without_parts ([] ++ (es ++ [])) ≡ without_parts es
+without_sign es = ap without_parts (append-nil es)
+
+-- those of a value between two affixes
+pub with_sign : (part : PartName) (prefix suffix : List ℕ) (es : List Event) → without_parts (as_part part prefix ++ (es ++ as_part part suffix)) ≡ bytes prefix ++ (without_parts es ++ bytes suffix)
+with_sign part prefix suffix es =
+    let inner = es ++ as_part part suffix in
+    ap bytes (text_joined (as_part part prefix) inner
+    ∙ ap (λ text. text ++ text_of inner) (text_of_part part prefix)
+    ∙ ap (λ text. prefix ++ text) (text_joined es (as_part part suffix) ∙ ap (λ text. text_of es ++ text) (text_of_part part suffix)))
+    ∙ bytes_joined prefix (text_of es ++ suffix)
+    ∙ ap (λ bs. bytes prefix ++ bs) (bytes_joined (text_of es) suffix)

@@ -8,6 +8,7 @@ pub mod HeldTables
 pub mod LaterGroups
 pub mod PartIntervals
 pub mod PartLaws
+pub mod Pieces
 pub mod PlainText
 pub mod SameAffixes
 pub mod SamePlain

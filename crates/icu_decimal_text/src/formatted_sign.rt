@@ -157,6 +157,16 @@ impl<'l, T: Writeable> Writeable for FormattedSign<'l, T> {
         write_suffix(self.affixes, sink)
     }
 
+    #[tactic(auto, using(crate::proofs::TextLemmas::without_sign, crate::proofs::TextLemmas::with_sign))]
+    fn write_text<S: Sink>(&self, sink: &mut S) -> Result<(), Error> {
+        let Some(affixes) = self.affixes else {
+            return self.value.write_text(sink);
+        };
+        sink.write_str(affixes.prefix)?;
+        self.value.write_text(sink)?;
+        sink.write_str(affixes.suffix)
+    }
+
     #[tactic(auto, using(crate::proofs::HintLemmas::value_is_shorter))]
     fn writeable_length_hint(&self) -> LengthHint
         ensures { IsWithinHint result (length (text_of (events_with_sign T.events self.now))) }

@@ -8,6 +8,7 @@ ghost use Rattle.icu_decimal_text.specs.HeldTables.{tables_of};
 ghost use Rattle.icu_decimal_text.specs.SamePlain.{same_plain, same_plain_equiv, same_tables, strategy_number};
 
 use crate::formatter::DecimalFormatter;
+use crate::text_writing::write_unsigned_text;
 use crate::writing::{digits_shown, write_unsigned};
 use fixed_decimal::UnsignedDecimal;
 use icu_decimal_provider::options::GroupingStrategy;
@@ -70,6 +71,11 @@ impl<'l> Writeable for FormattedUnsignedDecimal<'l> {
 
     fn write_to<S: Sink>(&self, sink: &mut S) -> Result<(), Error> {
         write_unsigned(self.tables, self.number, sink)
+    }
+
+    #[tactic(auto, using(crate::proofs::TextLemmas::unsigned_is_text))]
+    fn write_text<S: Sink>(&self, sink: &mut S) -> Result<(), Error> {
+        write_unsigned_text(self.tables, self.number, sink)
     }
 
     #[tactic(auto, using(crate::proofs::HintLemmas::unsigned_is_long))]

@@ -1,8 +1,10 @@
 //! Where grouping separators stand.
-ghost use Rattle.std.specs.Prelude.{◌≡◌, ℕ, ◌+◌, ◌<◌, ◌≤◌, false, pos, ◌<ℤ◌};
+ghost use Rattle.std.specs.Prelude.{◌≡◌, ℕ, ◌+◌, ◌/◌, ◌%◌, ◌<◌, ◌≤◌, ◌++◌, false, length, pos, replicate, sum, ◌<ℤ◌, IfNone, IfSome};
 ghost use Rattle.std.specs.Iterator.{YieldsFirst, item_count};
 ghost use Rattle.icu_decimal_text.specs.Grouper.{cut_sizes, ends_at, group_sizes, is_grouped, least_front, may_group, middle_size, separates, separates_at};
+ghost use Rattle.icu_decimal_text.specs.HeldSizes.{size_if};
 
+use crate::text_pieces::CHUNK;
 use icu_decimal_provider::options::GroupingStrategy;
 use icu_decimal_provider::provider::GroupingSizes;
 use std::iter::FusedIterator;
@@ -121,6 +123,43 @@ impl GroupSizes {
             };
         }
         cut(digits, sizes.primary, size_before(sizes))
+    }
+
+    // So many digits, cut behind each chunk.
+    pub(crate) fn chunks(digits: u16) -> Self
+        ensures { result ≡ replicate (digits / 48) 48 ++ size_if (digits % 48) }
+    {
+        GroupSizes {
+            first: 0,
+            middles: digits / CHUNK as u16,
+            middle: CHUNK as u8,
+            last: (digits % CHUNK as u16) as u8,
+        }
+    }
+
+    // Takes the middle groups that fill a chunk. `None`: a group stands before them, they have too few digits, or no number of
+    // them fills a chunk.
+    pub(crate) fn next_chunk(&mut self) -> Option<GroupSizes>
+        ensures taken { IfSome result (λ taken. self.old ≡ taken ++ self.new) }
+        ensures whole { IfSome result (λ taken. sum taken ≡ 48) }
+        ensures few { IfSome result (λ taken. length taken ≤ 48) }
+        ensures none { IfNone result (self.new ≡ self.old) }
+    {
+        let size = self.middle as usize;
+        if self.first > 0 || size == 0 || CHUNK % size != 0 {
+            return None;
+        }
+        let groups = (CHUNK / size) as u16;
+        if self.middles < groups {
+            return None;
+        }
+        self.middles -= groups;
+        Some(GroupSizes {
+            first: 0,
+            middles: groups,
+            middle: self.middle,
+            last: 0,
+        })
     }
 }
 

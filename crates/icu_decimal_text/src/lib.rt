@@ -18,6 +18,8 @@ mod formatter;
 pub mod grouper;
 pub mod laws;
 mod tables;
+mod text_pieces;
+mod text_writing;
 mod writing;
 
 pub use formatted_sign::FormattedSign;

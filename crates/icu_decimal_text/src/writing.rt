@@ -13,10 +13,10 @@ ghost use Rattle.icu_decimal_text.specs.LaterGroups.{later_events};
 
 use crate::formatter::DecimalFormatter;
 use crate::grouper::GroupSizes;
+use crate::text_writing::write_run;
 use arrayvec::ArrayString;
 use fixed_decimal::{ShownDigits, UnsignedDecimal};
 use icu_decimal_provider::parts;
-use std::iter::ExactSizeIterator;
 use writeable::{Error, Part, Sink};
 
 // Writes a text as a part.
@@ -80,7 +80,7 @@ fn write_piece<S: Sink>(
 }
 
 // Writes the next digits, so many.
-fn write_digits<S: Sink>(
+pub(crate) fn write_digits<S: Sink>(
     digits: &mut ShownDigits<'_>,
     count: usize,
     table: &[char; 10],
@@ -142,7 +142,7 @@ fn write_groups<S: Sink>(
 }
 
 // The highest magnitude that is shown.
-fn highest(number: &UnsignedDecimal) -> u16
+pub(crate) fn highest(number: &UnsignedDecimal) -> u16
     ensures value { 32768 + result ≡ number.now.high }
     ensures bound { result < 32768 }
 {
@@ -176,7 +176,7 @@ fn write_whole<S: Sink>(
 }
 
 // How many fraction digits are shown.
-fn fraction_len(number: &UnsignedDecimal) -> u16
+pub(crate) fn fraction_len(number: &UnsignedDecimal) -> u16
     ensures value { number.now.low + result ≡ 32768 }
 {
     (0 - *number.magnitude_range().start() as i32) as u16
@@ -190,7 +190,7 @@ pub(crate) fn digits_shown(number: &UnsignedDecimal) -> usize
 }
 
 // Writes the fraction digits.
-fn write_fraction_digits<S: Sink>(
+pub(crate) fn write_fraction_digits<S: Sink>(
     table: &[char; 10],
     number: &UnsignedDecimal,
     sink: &mut S,
@@ -201,8 +201,7 @@ fn write_fraction_digits<S: Sink>(
     ensures begun { OnErr result (HasBegun S.takes S.lacks_room sink.old (chained (map (digit_events table.now) (fraction_digits number.now))) sink.new) }
 {
     let mut shown = number.fraction_digits();
-    let count = shown.len();
-    write_digits(&mut shown, count, table, sink)
+    write_run(&mut shown, fraction_len(number) as usize, table, sink)
 }
 
 // Writes the integer digits as their part.
