@@ -1,15 +1,12 @@
 -- Which tables preferences find: two that ask for the same find the same.
-use Rattle.std.proofs.Common.{◌≡◌, ℕ, List, [], ◌∷◌, ◌++◌, Option, None, Some, Result, Ok, Err, refl, ap, ap₂, ◌∙◌}
+use Rattle.std.proofs.Common.{◌≡◌, ℕ, List, [], ◌∷◌, ◌++◌, Some, Result, Ok, Err, refl, ap, ap₂, ◌∙◌}
 use Rattle.std.specs.Prelude.{option_to_list}
-use Rattle.icu_locale_core.specs.Subtags.{Text}
-use Rattle.icu_locale_core.specs.TagPreferences.{LocalePreferencesMeaning, Preferences, language_priority}
+use Rattle.icu_locale_core.specs.TagPreferences.{Preferences, language_priority}
 use Rattle.icu_decimal.specs.declared.error.DataError.{DataError}
 use Rattle.icu_decimal.specs.declared.options.GroupingStrategy.{GroupingStrategy}
-use Rattle.icu_decimal.specs.Choice.{first_found, or_next}
+use Rattle.icu_decimal.specs.Choice.{first_found}
 use Rattle.icu_decimal.specs.FoundTables.{found_tables, with_digits, with_symbols}
-use Rattle.icu_decimal.specs.Identifiers.{Identifier, digits_identifiers, of_asked, of_locale, of_system, symbols_identifiers}
-use Rattle.icu_decimal.specs.Options.{strategy_in}
-use Rattle.icu_decimal.specs.Preferences.{without_system}
+use Rattle.icu_decimal.specs.Identifiers.{Identifier, digits_identifiers, of_asked, of_locale, symbols_identifiers}
 use Rattle.icu_decimal.specs.Symbols.{Symbols}
 
 module _ (symbols : Identifier → Result Symbols DataError) (digits : Identifier → Result (List ℕ) DataError) (strategy : GroupingStrategy) where

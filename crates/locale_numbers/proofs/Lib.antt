@@ -5,6 +5,7 @@ pub mod CompactReadingLemmas
 pub mod DigitsLemmas
 pub mod FoundCompactLemmas
 pub mod FoundLemmas
+pub mod FrontLemmas
 pub mod KeptLemmas
 pub mod KnownCompactAnswers
 pub mod KnownValues

@@ -1,9 +1,7 @@
 -- The fields of a line by its first tab.
-use Rattle.std.proofs.Common.{◌≡◌, ◌∷◌, [], ◌<◌, ◌+◌, ◌-◌, ◌∙◌, ℕ, List, Some, None, Bool, true, false, length, get_or, take, drop, position, sym, ap, refl, arith, nat_lt, cond, not, Result, Ok, Err, is_ok, MatchResult}
+use Rattle.std.proofs.Common.{◌≡◌, ◌∷◌, [], ◌<◌, ◌+◌, ◌-◌, ◌∙◌, ℕ, List, Some, None, Bool, true, false, length, take, drop, position, sym, ap, refl, arith, nat_lt, cond, not, Result, Ok, Err, is_ok, MatchResult}
 use Rattle.std.specs.Str.{IsUtf8, is_utf8}
-use Rattle.std.proofs.lemmas.Str.{IsUtf8-from_is_utf8, is_utf8-from_IsUtf8, IsUtf8-take, IsUtf8-drop, IsCharBoundary-after_ascii}
-use Rattle.std.proofs.lemmas.Bool.{eqb-true}
-use Rattle.std.proofs.lemmas.List.Quantifiers.{position-Some}
+use Rattle.std.proofs.lemmas.Str.{IsUtf8-from_is_utf8, is_utf8-from_IsUtf8}
 use Rattle.std.specs.List.{slice_split, position_or_len, count_by, onto_first}
 use Rattle.std.proofs.lemmas.Grind.{common_steps}
 use Rattle.std.proofs.lemmas.Bool.Decides.{nat_tests}
@@ -44,19 +42,6 @@ fields_some separator text end some =
     let lt : position_or_len (is_separator separator) text < length text = grind (arith, nat_tests) in
     let rest : take (length text - (end + 1)) (drop (end + 1) text) ≡ drop (end + 1) text = grind (arith, common_steps) in
     rw (rest, at.1) (slice_split_first (is_separator separator) text 0 lt)
-
--- the pieces before and behind a separator that is ASCII are UTF-8, where the whole is
-pub cut_utf8 : (separator : ℕ) (text : List ℕ) (end : ℕ) → Some end ≡ position (is_separator separator) text → IsUtf8 text → separator < 128
-    → IsUtf8 (take end text) × IsUtf8 (take (length text - (end + 1)) (drop (end + 1) text))
-cut_utf8 separator text end some utf8 ascii =
-    let at = position-Some (is_separator separator) text end 0 (sym some) in
-    let lt : end < length text = at.0 in
-    let found : get_or text end 0 ≡ separator = eqb-true (get_or text end 0) separator at.1 in
-    let low : get_or text end 0 < 128 = omega (arith, found, ascii) in
-    let rest : take (length text - (end + 1)) (drop (end + 1) text) ≡ drop (end + 1) text = grind (arith, common_steps) in (
-      IsUtf8-take text end utf8 (omega (arith, lt), λ l high. absurd (omega (arith, low, high))),
-      rw rest (IsUtf8-drop text (end + 1) utf8 (IsCharBoundary-after_ascii text end utf8 lt low)),
-    )
 
 -- six fields and what follows a tab are more than six
 pub more_than_six : (line rest tag form grouping sign rounding text : List ℕ) → fields line ≡ tag ∷ form ∷ grouping ∷ sign ∷ rounding ∷ text ∷ fields rest → length (fields line) ≡ 6 → ⊥

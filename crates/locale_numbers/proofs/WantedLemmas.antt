@@ -1,5 +1,5 @@
 -- What a text asks for where it is a tag, and where it is none: `specs/Wanted.antt`.
-use Rattle.std.proofs.Common.{◌≡◌, Bool, true, false, cond, not, List, [], ◌∷◌, Option, Some, None, Result, Ok, Err, refl, sym, ap, ap₂, ◌∙◌, subst}
+use Rattle.std.proofs.Common.{◌≡◌, Bool, true, false, cond, not, List, [], ◌∷◌, Option, Some, None, refl, sym, ap, ap₂, ◌∙◌, subst}
 use Rattle.std.specs.Prelude.{IfSome, if◌then◌else◌, option_map, option_and_then, option_to_list}
 use Rattle.std.proofs.lemmas.Str.Ascii.{lowercase-lowercase}
 use Rattle.icu_locale_core.specs.declared.ParseError.{ParseError}
@@ -7,7 +7,6 @@ use Rattle.icu_locale_core.specs.Subtags.{Text, is_true, lower, same_text, true_
 use Rattle.icu_locale_core.specs.Pieces.{pieces}
 use Rattle.icu_locale_core.specs.Meaning.{TagMeaning, MeansTag}
 use Rattle.icu_locale_core.specs.FaultyPiece.{HasFault}
-use Rattle.icu_locale_core.specs.Collections.{value_at}
 use Rattle.icu_locale_core.specs.SingleVariant.{MeansKeyword, SingleMeaning, MeansSingle, keyword_entries, piece_meaning, single_tag}
 use Rattle.icu_locale_core.specs.TagPreferences.{keyword_piece, numbering_key, one_piece, preferences_of}
 use Rattle.icu_locale_core.specs.Values.{without_true}

@@ -8,7 +8,7 @@ pub mod CompactReading
 pub mod Cutting
 pub mod Fault
 pub mod FormatterKeys
-pub mod HeldRequest
+pub mod Front
 pub mod Laws
 pub mod NumberReading
 pub mod Program

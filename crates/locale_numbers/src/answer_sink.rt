@@ -71,6 +71,7 @@ impl<'o> Sink for AnswerSink<'o> {
 ///
 /// Where its hint tells the length, memory is asked for once; where there is room, not at all. After an error a part of the
 /// text may stand there.
+#[tactic(auto, using(writeable::proofs::AnnotatedTextLemmas::text_of_bytes))]
 pub(crate) fn push_written<T: Writeable>(out: &mut String, value: &T) -> Result<(), AllocError>
     ensures text { OnOk result (string_bytes out.new ≡ string_bytes out.old ++ text_of (T.events value.now)) }
     ensures err { OnErr result (Grows (string_bytes out.old) (string_bytes out.new)) }
@@ -81,7 +82,7 @@ pub(crate) fn push_written<T: Writeable>(out: &mut String, value: &T) -> Result<
         out,
         refused: false,
     };
-    let written = value.write_to(&mut sink);
+    let written = value.write_text(&mut sink);
     let AnswerSink { out: _, refused: _ } = sink;
     match written {
         Ok(()) => Ok(()),

@@ -1,90 +1,82 @@
 // The answer of a book to a line.
-ghost use Rattle.std.specs.Prelude.{◌≡◌, ◌∷◌, ◌++◌, List, Option, IfOk, OnOk, OnErr, string_bytes};
-ghost use Rattle.std.specs.Str.{IsUtf8};
+ghost use Rattle.std.specs.Prelude.{◌≡◌, ◌∷◌, ◌++◌, List, Option, IfOk, IfSome, OnOk, OnErr, string_bytes};
 ghost use Rattle.locale_numbers_engine.specs.Growth.{Grows};
-ghost use Rattle.locale_numbers.specs.Answer.{answer_in, answer_of};
-ghost use Rattle.locale_numbers.specs.FormatterKeys.{key_in, key_with};
-ghost use Rattle.locale_numbers.specs.HeldRequest.{asked_by};
+ghost use Rattle.locale_numbers.specs.Answer.{answer_of};
+ghost use Rattle.locale_numbers.specs.Front.{FitsForm, answer_behind, key_behind};
 ghost use Rattle.locale_numbers.specs.declared.formatter_key.FormatterKey.{FormatterKey};
 
 use crate::answer_line::push_refusal;
 use crate::exact_answer::push_exact_text;
-use crate::formatter_key::{FormatterKey, kind_by};
 use crate::formatters::Formatters;
+use crate::front::{Front, read_front};
 use crate::kept_formatter::FormatterMaker;
 use crate::number_answer::push_text;
-use crate::read_answer::{as_text, push_reading};
+use crate::read_answer::push_reading;
 use crate::refusal::Refusal;
-use crate::request::{Form, Request, read_request};
-use crate::tag_reader::read_preferences;
-use icu_decimal::DecimalFormatterPreferences;
+use crate::request::{Form, cut_text};
 use locale_numbers_book::Book;
-use locale_numbers_cache::Hashed;
 use std::alloc::{AllocError, Global};
 
-/// Puts the answer to a request, by what its tag prefers, behind what `out` holds.
+/// Puts the answer to a text behind a front, behind what `out` holds.
 ///
 /// It fails only where it is out of memory; a part of the answer may then stand there.
-pub(crate) fn answer_request<'a, F: Formatters<'a>>(
+pub(crate) fn push_behind<'a, F: Formatters<'a>>(
     alloc: Global,
     formatters: &mut F,
-    preferences: Hashed<DecimalFormatterPreferences>,
-    request: &Request<'_>,
+    front: Option<Front>,
+    text: &str,
     out: &mut String,
 ) -> Result<(), AllocError>
     requires ready { F.is_ready formatters.old }
-    requires utf8 { IsUtf8 request.now.text.now }
+    requires kind { IfSome front FitsForm }
     ensures text { OnOk result (string_bytes out.new
-        ≡ string_bytes out.old ++ answer_in request.now.form (F.book formatters.old) preferences (asked_by request.now)) }
+        ≡ string_bytes out.old ++ answer_behind (F.book formatters.old) front text.now) }
     ensures err { OnErr result (Grows (string_bytes out.old) (string_bytes out.new)) }
     ensures counted { OnOk result ((more : List (Option FormatterKey)) →
-        F.counted_over formatters.old (key_in request.now.form (key_with request.now.form request.now.grouping preferences) request.now.text.now ∷ more)
-        ≡ F.counted_over formatters.new more) }
+        F.counted_over formatters.old (key_behind front text.now ∷ more) ≡ F.counted_over formatters.new more) }
     ensures same { F.book formatters.new ≡ F.book formatters.old }
     ensures ready { F.is_ready formatters.new }
 {
-    let key = FormatterKey {
-        preferences,
-        kind: kind_by(request.form),
-        grouping: request.grouping,
+    let Some(front) = front else {
+        return push_refusal(out, Refusal::Shape);
     };
-    match request.form {
+    let Some(key) = front.key else {
+        return push_refusal(out, Refusal::Tag);
+    };
+    match front.form {
         Form::Plain | Form::Compact(_) => push_text(
             alloc,
             formatters,
             key,
-            request.sign,
-            request.rounding,
-            request.text,
+            front.sign,
+            front.rounding,
+            text.as_bytes(),
             out,
         ),
-        Form::Exact(length) => push_exact_text(
-            alloc,
-            formatters,
-            length,
-            key,
-            request.sign,
-            as_text(request.text),
-            out,
-        ),
-        Form::Read => push_reading(alloc, formatters, key, as_text(request.text), out),
+        Form::Exact(length) => {
+            push_exact_text(alloc, formatters, length, key, front.sign, text, out)
+        }
+        Form::Read => push_reading(alloc, formatters, key, text, out),
     }
 }
 
 // Puts the answer to a line behind what `out` holds. After an error a part of it may stand there.
-fn answer_onto(alloc: Global, book: &Book, line: &[u8], out: &mut String) -> Result<(), AllocError>
+fn push_line<'a, F: Formatters<'a>>(
+    alloc: Global,
+    formatters: &mut F,
+    line: &[u8],
+    out: &mut String,
+) -> Result<(), AllocError>
+    requires { F.is_ready formatters.old }
     ensures text { OnOk result (
-        string_bytes out.new ≡ string_bytes out.old ++ answer_of book.now line.now) }
+        string_bytes out.new ≡ string_bytes out.old ++ answer_of (F.book formatters.old) line.now) }
     ensures err { OnErr result (Grows (string_bytes out.old) (string_bytes out.new)) }
 {
-    let Some(request) = read_request(line) else {
+    let Some((front, text)) = cut_text(line) else {
         return push_refusal(out, Refusal::Shape);
     };
-    let Some(preferences) = read_preferences(alloc, request.tag)? else {
-        return push_refusal(out, Refusal::Tag);
-    };
-    let mut maker = FormatterMaker { tables: book };
-    answer_request(alloc, &mut maker, Hashed::new(preferences), &request, out)
+    let front = read_front(alloc, front)?;
+    push_behind(alloc, formatters, front, text, out)
 }
 
 /// The answer of `book` to a request line, without a line feed.
@@ -102,6 +94,7 @@ pub fn answer(alloc: Global, book: &Book, line: &[u8]) -> Result<Vec<u8>, AllocE
     ensures text { IfOk result (λ text. text.items ≡ answer_of book.now line.now) }
 {
     let mut out = String::new(alloc);
-    answer_onto(alloc, book, line, &mut out)?;
+    let mut maker = FormatterMaker { tables: book };
+    push_line(alloc, &mut maker, line, &mut out)?;
     Ok(out.into_bytes())
 }

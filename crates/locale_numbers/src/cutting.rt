@@ -1,7 +1,7 @@
 // Pieces of a text between the bytes that part them.
-ghost use Rattle.std.specs.Prelude.{◌≡◌, ◌<◌, ◌∷◌, [], position, IfSome, MatchOption};
-ghost use Rattle.std.specs.Str.{IsUtf8};
-ghost use Rattle.locale_numbers.specs.Cutting.{is_separator, cut_at};
+ghost use Rattle.std.specs.Prelude.{◌≡◌, ◌<◌, ◌+◌, ◌∷◌, [], length, position, drop, slice_index, MatchOption};
+ghost use Rattle.std.specs.List.{All};
+ghost use Rattle.locale_numbers.specs.Cutting.{IsLastCut, IsNot, is_separator, cut_at};
 
 // The place of the first separator.
 fn first_separator(text: &[u8], separator: u8) -> Option<usize>
@@ -10,14 +10,32 @@ fn first_separator(text: &[u8], separator: u8) -> Option<usize>
     text.iter().position(|byte| *byte == separator)
 }
 
+// The place of the last separator.
+fn last_separator(text: &[u8], separator: u8) -> Option<usize>
+    ensures { MatchOption result
+        (All (IsNot separator) text.now)
+        (λ end. (end < length text.now) × (slice_index text.now end ≡ separator) × All (IsNot separator) (drop (end + 1) text.now)) }
+{
+    text.iter().rposition(|byte| *byte == separator)
+}
+
 /// The first piece of a text, and what stands behind its separator, where it ends with one.
 pub(crate) fn cut_field(text: &[u8], separator: u8) -> (&[u8], Option<&[u8]>)
-    ensures pieces { MatchOption result.1 (cut_at separator text.now ≡ result.0.now ∷ [])
+    ensures { MatchOption result.1 (cut_at separator text.now ≡ result.0.now ∷ [])
         (λ rest. cut_at separator text.now ≡ result.0.now ∷ cut_at separator rest.now) }
-    ensures utf8 { IsUtf8 text.now → separator < 128 → IsUtf8 result.0.now × IfSome result.1 (λ rest. IsUtf8 rest.now) }
 {
     match first_separator(text, separator) {
         None => (text, None),
         Some(end) => (&text[..end], Some(&text[end + 1..])),
+    }
+}
+
+/// What stands before the last piece of a text, the separator with it, and that piece.
+pub(crate) fn cut_last(text: &[u8], separator: u8) -> (&[u8], &[u8])
+    ensures { IsLastCut separator text.now result.0.now result.1.now }
+{
+    match last_separator(text, separator) {
+        None => text.split_at(0),
+        Some(end) => text.split_at(end + 1),
     }
 }

@@ -20,6 +20,7 @@ use crate::request::PatternLength;
 use crate::sign_field::SignAsked;
 use fixed_decimal::{CompactDecimal, Decimal, ParseError};
 use icu_decimal::CompactDecimalFormatter;
+use locale_numbers_cache::Hashed;
 use std::alloc::{AllocError, Global};
 
 // The compact number that a text says.
@@ -59,7 +60,7 @@ fn push_exact(
 fn push_significand<'a, F: Formatters<'a>>(
     formatters: &mut F,
     length: PatternLength,
-    key: FormatterKey,
+    key: Hashed<FormatterKey>,
     significand: &Decimal,
     exponent: u8,
     out: &mut String,
@@ -89,7 +90,7 @@ pub(crate) fn push_exact_text<'a, F: Formatters<'a>>(
     alloc: Global,
     formatters: &mut F,
     length: PatternLength,
-    key: FormatterKey,
+    key: Hashed<FormatterKey>,
     sign: SignAsked,
     text: &str,
     out: &mut String,

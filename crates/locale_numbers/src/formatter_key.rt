@@ -5,7 +5,7 @@ ghost use Rattle.locale_numbers.specs.FormatterKeys.{kind_of};
 use crate::request::{Form, PatternLength};
 use icu_decimal::DecimalFormatterPreferences;
 use icu_decimal::options::GroupingStrategy;
-use locale_numbers_cache::{CacheKey, Hashed};
+use locale_numbers_cache::CacheKey;
 
 /// Which tables a form is written with.
 #[derive(Clone, Copy, Debug, PartialEq, Eq, Hash)]
@@ -19,8 +19,8 @@ pub(crate) enum Kind {
 /// What a formatter is kept under: what a tag prefers, a kind and a grouping. Tags that prefer the same have one key.
 #[derive(Clone, Copy, PartialEq, Eq, Hash)]
 pub(crate) struct FormatterKey {
-    /// What the tag prefers, `rg` too, hashed once when the tag is read.
-    pub preferences: Hashed<DecimalFormatterPreferences>,
+    /// What the tag prefers, `rg` too.
+    pub preferences: DecimalFormatterPreferences,
     /// The kind of tables.
     pub kind: Kind,
     /// Where separators stand.

@@ -5,6 +5,7 @@ ghost use Rattle.locale_numbers.specs.declared.formatter_key.FormatterKey.{Forma
 
 use crate::formatter_key::FormatterKey;
 use crate::kept_formatter::KeptFormatter;
+use locale_numbers_cache::Hashed;
 use std::alloc::AllocError;
 
 /// One that hands out formatters, made now or kept from earlier lines.
@@ -22,7 +23,10 @@ pub(crate) trait Formatters<'a> {
     ghost may_take_memory: { Self → Type 0 };
 
     /// The formatter of a key; `None` where the book lacks one of its tables.
-    fn formatter(&mut self, key: FormatterKey) -> Result<Option<KeptFormatter<'a>>, AllocError>
+    fn formatter(
+        &mut self,
+        key: Hashed<FormatterKey>,
+    ) -> Result<Option<KeptFormatter<'a>>, AllocError>
         requires { is_ready self.old }
         ensures value { IfOk result (λ found. MatchOption found
             (finds (book self.old) key ≡ false)

@@ -3,7 +3,7 @@ use crate::formatter_key::FormatterKey;
 use crate::formatters::Formatters;
 use crate::kept_formatter::{FormatterMaker, KeptFormatter};
 use crate::tables::Tables;
-use locale_numbers_cache::FormatterCache;
+use locale_numbers_cache::{FormatterCache, Hashed};
 use std::alloc::AllocError;
 
 /// The formatters that were used last, and who makes others.
@@ -12,7 +12,7 @@ pub(crate) struct Kept<'a, T: Tables> {
     /// One that makes those that are not kept.
     pub maker: FormatterMaker<'a, T>,
     /// Those that were used last.
-    pub formatters: FormatterCache<FormatterKey, KeptFormatter<'a>>,
+    pub formatters: FormatterCache<Hashed<FormatterKey>, KeptFormatter<'a>>,
 }
 
 impl<'a, T: Tables> Formatters<'a> for Kept<'a, T> {
@@ -28,7 +28,10 @@ impl<'a, T: Tables> Formatters<'a> for Kept<'a, T> {
 
     ghost may_take_memory = { λ s. ⊤ };
 
-    fn formatter(&mut self, key: FormatterKey) -> Result<Option<KeptFormatter<'a>>, AllocError> {
+    fn formatter(
+        &mut self,
+        key: Hashed<FormatterKey>,
+    ) -> Result<Option<KeptFormatter<'a>>, AllocError> {
         if !self.formatters.keep(&self.maker, key)? {
             return Ok(None);
         }

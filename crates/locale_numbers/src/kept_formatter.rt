@@ -17,7 +17,7 @@ use icu_decimal::provider::DataError;
 use icu_decimal::{
     CompactDecimalFormatter, DecimalFormatter, DecimalFormatterPreferences, is_readable,
 };
-use locale_numbers_cache::Maker;
+use locale_numbers_cache::{Hashed, Maker};
 use std::alloc::AllocError;
 
 /// A formatter of plain numbers, and whether its symbols are known to be readable.
@@ -54,7 +54,7 @@ fn plain_formatter<'a, T: Tables>(
 {
     DecimalFormatter::try_new_unstable(
         tables,
-        key.preferences.value(),
+        key.preferences,
         DecimalFormatterOptions::from(key.grouping),
     )
 }
@@ -90,7 +90,7 @@ fn compact_formatter<'a, T: Tables>(
     ensures { result_map_both compact_tables_of (λ error. error) result
         ≡ found_compact length (T.book tables.now) key.preferences key.grouping }
 {
-    let preferences = compact_preferences(key.preferences.value());
+    let preferences = compact_preferences(key.preferences);
     let options = CompactDecimalFormatterOptions::from(key.grouping);
     match length {
         PatternLength::Short => {
@@ -123,15 +123,15 @@ fn formatter_by<'a, T: Tables>(
 }
 
 /// One that is kept is asked once whether its symbols are readable.
-impl<'a, T: Tables> Maker<FormatterKey, KeptFormatter<'a>> for FormatterMaker<'a, T> {
+impl<'a, T: Tables> Maker<Hashed<FormatterKey>, KeptFormatter<'a>> for FormatterMaker<'a, T> {
     ghost use Rattle.locale_numbers.specs.FormatterKeys.{finds, IsMadeFor};
 
     ghost finds = { λ s key. finds (T.book s.tables.now) key };
 
     ghost is_made = { λ s key kept. IsMadeFor (T.book s.tables.now) key kept };
 
-    fn make(&self, key: FormatterKey) -> Option<KeptFormatter<'a>> {
-        formatter_by(self.tables, key, true)
+    fn make(&self, key: Hashed<FormatterKey>) -> Option<KeptFormatter<'a>> {
+        formatter_by(self.tables, key.value(), true)
     }
 }
 
@@ -147,8 +147,11 @@ impl<'a, T: Tables> Formatters<'a> for FormatterMaker<'a, T> {
 
     ghost may_take_memory = { λ s. ⊥ };
 
-    fn formatter(&mut self, key: FormatterKey) -> Result<Option<KeptFormatter<'a>>, AllocError> {
-        Ok(formatter_by(self.tables, key, false))
+    fn formatter(
+        &mut self,
+        key: Hashed<FormatterKey>,
+    ) -> Result<Option<KeptFormatter<'a>>, AllocError> {
+        Ok(formatter_by(self.tables, key.value(), false))
     }
 
     ghost counts_none = { λ s more. refl };

@@ -24,6 +24,7 @@ mod exact_answer;
 mod fault;
 mod formatter_key;
 mod formatters;
+mod front;
 mod kept;
 mod kept_formatter;
 pub mod laws;

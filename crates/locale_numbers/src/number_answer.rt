@@ -24,6 +24,7 @@ use crate::rounding_field::RoundingAsked;
 use crate::sign_field::SignAsked;
 use fixed_decimal::{Decimal, ParseError};
 use icu_decimal::DecimalFormatter;
+use locale_numbers_cache::Hashed;
 use std::alloc::{AllocError, Global};
 
 // The number that a text says.
@@ -71,7 +72,7 @@ fn push_with(
 // Puts a number, as the formatter of a key writes it, behind what `out` holds.
 fn push_number<'a, F: Formatters<'a>>(
     formatters: &mut F,
-    key: FormatterKey,
+    key: Hashed<FormatterKey>,
     value: &Decimal,
     out: &mut String,
 ) -> Result<(), AllocError>
@@ -98,7 +99,7 @@ fn push_number<'a, F: Formatters<'a>>(
 pub(crate) fn push_text<'a, F: Formatters<'a>>(
     alloc: Global,
     formatters: &mut F,
-    key: FormatterKey,
+    key: Hashed<FormatterKey>,
     sign: SignAsked,
     rounding: RoundingAsked,
     text: &[u8],

@@ -1,6 +1,5 @@
 //! The form `read`: the number that a text was written from, as an answer.
 ghost use Rattle.std.specs.Prelude.{◌≡◌, ◌∷◌, ◌++◌, List, Option, Some, IsErrOf, IsOk, OnOk, OnErr, string_bytes};
-ghost use Rattle.std.specs.Str.{IsUtf8};
 ghost use Rattle.fixed_decimal.specs.SignedText.{signed_text_of};
 ghost use Rattle.icu_decimal.specs.HeldTables.{tables_of};
 ghost use Rattle.icu_decimal.specs.PlainReading.{HasManyDigits, IsAnswered, plain_reading};
@@ -21,18 +20,8 @@ use crate::refusal::Refusal;
 use fixed_decimal::Decimal;
 use icu_decimal::error::ReadError;
 use icu_decimal::{read_plain, read_readable};
+use locale_numbers_cache::Hashed;
 use std::alloc::{AllocError, Global};
-
-/// Bytes that are UTF-8, as a text.
-pub(crate) fn as_text(bytes: &[u8]) -> &str
-    requires { IsUtf8 bytes.now }
-    ensures { result.now ≡ bytes.now }
-{
-    match str::from_utf8(bytes) {
-        Ok(text) => text,
-        Err(_) => unreachable!(),
-    }
-}
 
 // Puts a number as it is printed behind what `out` holds.
 fn push_value(value: &Decimal, out: &mut String) -> Result<(), AllocError>
@@ -87,7 +76,7 @@ fn push_read(
 pub(crate) fn push_reading<'a, F: Formatters<'a>>(
     alloc: Global,
     formatters: &mut F,
-    key: FormatterKey,
+    key: Hashed<FormatterKey>,
     text: &str,
     out: &mut String,
 ) -> Result<(), AllocError>

@@ -1,9 +1,10 @@
 // The request line: six fields between tabs.
 ghost use Rattle.std.specs.Prelude.{◌≡◌, ◌∷◌, [], ◌↔◌, length, IsSome, IfSome, MatchOption, Some, None};
-ghost use Rattle.std.specs.Str.{IsUtf8, is_utf8};
+ghost use Rattle.std.specs.Str.{is_utf8};
+ghost use Rattle.locale_numbers.specs.Front.{with_text};
 ghost use Rattle.locale_numbers.specs.Request.{fields, form_named, grouping_named, keeps_digits, keeps_sign, request_of, takes};
 
-use crate::cutting::cut_field;
+use crate::cutting::{cut_field, cut_last};
 use crate::rounding_field::{RoundingAsked, rounding_by};
 use crate::sign_field::{SignAsked, sign_by};
 use icu_decimal::options::GroupingStrategy;
@@ -32,7 +33,7 @@ pub(crate) enum Form {
     Read,
 }
 
-/// A request line taken apart.
+/// What a request line asks of whatever text it has.
 #[derive(Clone, Copy, Debug)]
 pub(crate) struct Request<'a> {
     /// The locale's tag.
@@ -45,8 +46,6 @@ pub(crate) struct Request<'a> {
     pub sign: SignAsked,
     /// What is rounded.
     pub rounding: RoundingAsked,
-    /// The number's text.
-    pub text: &'a [u8],
 }
 
 /// The form that a field names.
@@ -128,7 +127,6 @@ fn six_fields(line: &[u8]) -> Option<Fields<'_>>
     ensures six { IsSome result ↔ (length (fields line.now) ≡ 6) }
     ensures fields { IfSome result (λ six. fields line.now
         ≡ six.tag.now ∷ six.form.now ∷ six.grouping.now ∷ six.sign.now ∷ six.rounding.now ∷ six.text.now ∷ []) }
-    ensures utf8 { IsUtf8 line.now → IfSome result (λ six. IsUtf8 six.text.now) }
 {
     let (tag, rest) = cut_field(line, TAB);
     let (form, rest) = cut_field(rest?, TAB);
@@ -155,11 +153,10 @@ fn is_text(bytes: &[u8]) -> bool
     str::from_utf8(bytes).is_ok()
 }
 
-/// The request that a line is, or `None` where it is none: not UTF-8, or not six known fields that go together.
+/// The request that a line is, its text left out, or `None` where it is none: not UTF-8, or not six known fields that go together.
 pub(crate) fn read_request(line: &[u8]) -> Option<Request<'_>>
-    ensures request { MatchOption result (request_of line.now ≡ None) (λ asked. request_of line.now
-        ≡ Some (record { tag = asked.tag.now; form = asked.form; grouping = asked.grouping; sign = asked.sign; rounding = asked.rounding; text = asked.text.now })) }
-    ensures utf8 { IfSome result (λ asked. IsUtf8 asked.text.now) }
+    ensures { MatchOption result (request_of line.now ≡ None) (λ asked. with_text [] (request_of line.now)
+        ≡ Some (record { tag = asked.tag.now; form = asked.form; grouping = asked.grouping; sign = asked.sign; rounding = asked.rounding; text = [] })) }
 {
     if !is_text(line) {
         return None;
@@ -178,6 +175,18 @@ pub(crate) fn read_request(line: &[u8]) -> Option<Request<'_>>
         grouping,
         sign,
         rounding,
-        text: six.text,
     })
+}
+
+/// The front of a line, which is all that stands before its text, and the text; or `None` where this is not UTF-8.
+///
+/// The front ends with the last tab. It asks what the line does, as a line with no text.
+pub(crate) fn cut_text(line: &[u8]) -> Option<(&[u8], &str)>
+    ensures { MatchOption result (request_of line.now ≡ None) (λ cut. request_of line.now ≡ with_text cut.1.now (request_of cut.0.now)) }
+{
+    let (front, text) = cut_last(line, TAB);
+    match str::from_utf8(text) {
+        Ok(text) => Some((front, text)),
+        Err(_) => None,
+    }
 }

@@ -13,7 +13,6 @@ use icu_locale_core::preferences::LocalePreferences;
 use icu_locale_core::preferences::extensions::unicode::keywords::NumberingSystem;
 use icu_locale_core::subtags::Subtag;
 use icu_locale_core::{Locale, ParseError};
-use locale_numbers_cache::{Hashed, KeyReader};
 use std::alloc::{AllocError, Global};
 
 // The numbering system that a subtag of a value names.
@@ -66,28 +65,5 @@ pub(crate) fn read_preferences(
     match Locale::try_from_utf8_with_single_variant_single_keyword_unicode_extension(tag) {
         Ok(parts) => Ok(Some(preferences_in(parts))),
         Err(_) => read_any(alloc, tag),
-    }
-}
-
-/// A reader of tags.
-#[derive(Clone, Copy)]
-pub(crate) struct TagReader {
-    /// Where a tag may take memory.
-    pub alloc: Global,
-}
-
-impl KeyReader<Option<Hashed<DecimalFormatterPreferences>>> for TagReader {
-    ghost use Rattle.locale_numbers.specs.Wanted.{wanted_of};
-
-    ghost key_of = { λ s tag. wanted_of tag };
-
-    fn read(
-        &self,
-        bytes: &[u8],
-    ) -> Result<Option<Hashed<DecimalFormatterPreferences>>, AllocError> {
-        match read_preferences(self.alloc, bytes)? {
-            Some(preferences) => Ok(Some(Hashed::new(preferences))),
-            None => Ok(None),
-        }
     }
 }

@@ -4,6 +4,7 @@ ghost use Rattle.std.specs.Hash as fed;
 ghost use Rattle.std.proofs.Common.{ap};
 ghost use Rattle.locale_numbers_cache.specs.Hashed.{hash_by};
 
+use crate::cache_key::CacheKey;
 use std::alloc::AllocError;
 use std::hash::{FoldHasher, Hash, Hasher};
 use std::marker::Model;
@@ -75,6 +76,10 @@ impl<V: Copy + Hash> PartialEq for Hashed<V> {
 
 impl<V: Copy + Hash> Eq for Hashed<V> {
     ghost laws = { V.Eq.laws };
+}
+
+impl<K: CacheKey> CacheKey for Hashed<K> {
+    ghost same = { K.same };
 }
 
 impl<V: Copy + Hash> Hash for Hashed<V> {

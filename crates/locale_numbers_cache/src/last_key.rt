@@ -1,7 +1,6 @@
-ghost use Rattle.std.specs.Prelude.{◌≡◌, Option, IfOk, OnOk, OnErr, IsOk};
-ghost use Rattle.locale_numbers_cache.specs.LastRead.{Remembers, IsRead};
+ghost use Rattle.std.specs.Prelude.{◌≡◌, Option, Some, None, true, false, MatchOption, OnOk, OnErr};
+ghost use Rattle.locale_numbers_cache.specs.LastRead.{remembers};
 
-use crate::key_reader::KeyReader;
 use std::alloc::{AllocError, Global};
 use std::marker::Model;
 
@@ -13,10 +12,11 @@ pub struct LastKey<K: Copy> {
 }
 
 impl<K: Copy> Model for LastKey<K> {
-    ghost use Rattle.std.specs.Prelude.{ℕ, List, Option, option_map};
+    ghost use Rattle.std.specs.Prelude.{ℕ, List, option_map};
     ghost use Rattle.std.specs.Coded.{coded_list, coded_ℕ, coded×, coded_option};
+    ghost use Rattle.locale_numbers_cache.specs.LastRead.{Place};
 
-    ghost Value = { Option (List ℕ × K) };
+    ghost Value = { Place K };
 
     ghost coded = { coded_option (coded× (coded_list coded_ℕ) K.code) };
 
@@ -34,27 +34,30 @@ impl<K: Copy> LastKey<K> {
         }
     }
 
-    /// The key of the bytes, which are read only where they are not those of the last call.
+    /// The key of the bytes, where these are the ones that it remembers. It takes no memory.
+    pub fn known(&self, bytes: &[u8]) -> Option<K>
+        ensures { MatchOption result
+            (remembers bytes.now self.now ≡ false)
+            (λ key. (remembers bytes.now self.now ≡ true) × (self.now ≡ Some (bytes.now, key))) }
+    {
+        if self.bytes.as_slice() == bytes {
+            self.key
+        } else {
+            None
+        }
+    }
+
+    /// Remembers the bytes with their key, in place of what it did.
     ///
     /// It fails where it is out of memory, and then remembers what it did.
-    pub fn key_of<R: KeyReader<K>>(&mut self, reader: &R, bytes: &[u8]) -> Result<K, AllocError>
-        requires { IsRead (R.key_of reader.now) self.old }
-        ensures value { IfOk result (λ key. key ≡ R.key_of reader.now bytes.now) }
-        ensures last { OnOk result (self.new ≡ Some (bytes.now, R.key_of reader.now bytes.now)) }
-        ensures sound { IsRead (R.key_of reader.now) self.new }
+    pub fn keep(&mut self, bytes: &[u8], key: K) -> Result<(), AllocError>
+        ensures last { OnOk result (self.new ≡ Some (bytes.now, key)) }
         ensures err { OnErr result (self.new ≡ self.old) }
-        ensures room { Remembers bytes.now self.old → IsOk result }
     {
-        if let Some(key) = self.key
-            && self.bytes.as_slice() == bytes
-        {
-            return Ok(key);
-        }
-        let key = reader.read(bytes)?;
         self.bytes.reserve(bytes.len())?;
         self.bytes.clear();
         self.bytes.extend_from_slice(bytes)?;
         self.key = Some(key);
-        Ok(key)
+        Ok(())
     }
 }

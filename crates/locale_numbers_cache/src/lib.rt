@@ -14,6 +14,7 @@
 mod cache_key;
 mod formatter_cache;
 mod hashed;
+mod key_pair;
 mod key_reader;
 mod last_key;
 pub mod laws;

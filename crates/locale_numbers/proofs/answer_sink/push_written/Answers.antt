@@ -1,4 +1,6 @@
 use Rattle.std.proofs.Common.{arith, length, ap}
+use Rattle.writeable.specs.AnnotatedText.{text_of}
+use Rattle.writeable.proofs.AnnotatedTextLemmas.{text_of_bytes}
 use Rattle.locale_numbers.specs.AnswerSinkLaws.{rest_needs}
 use Rattle.locale_numbers.proofs.answer_sink.push_written.Goals as goal
 
@@ -6,5 +8,6 @@ pub returns-in-Err-clause-room : goal.returns-in-Err-clause-room
 returns-in-Err-clause-room g c = λ room.
     let begun = c.in-Err.ensures.begun in
     let needs = rest_needs _ _ _ begun.front begun.rest begun.whole begun.taken begun.short in
+    let alone = ap length (text_of_bytes (text_of (g.T.Writeable.events c.args.value.now))) in
     let same = ap length c.in_ok-reserve.ensures.bytes in
-    absurd (omega (arith, room, needs, same, c.in_ok-reserve.ensures.capacity))
+    absurd (omega (arith, room, needs, alone, same, c.in_ok-reserve.ensures.capacity))

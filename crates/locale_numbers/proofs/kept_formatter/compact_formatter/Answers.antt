@@ -11,7 +11,7 @@ returns-in-Short g c =
     (compact_found_by (g.T.DataProvider-1.table c.args.tables.now) (g.T.DataProvider-2.table c.args.tables.now) (g.T.DataProvider-3.table c.args.tables.now) (g.T.DataProvider-4.table c.args.tables.now)
     Short book c.compact_preferences-preferences.result c.args.key.grouping c.from-options.result _
     (g.met.T.Tables.symbols c.args.tables.now) (g.met.T.Tables.digits c.args.tables.now) (g.met.T.Tables.rules c.args.tables.now) (g.met.T.Tables.short c.args.tables.now) c.from-options.ensures c.try_new_short_unstable.ensures
-    ∙ ap (λ p. found_compact Short book p c.args.key.grouping) (c.compact_preferences-preferences.ensures ∙ c.value.ensures))
+    ∙ ap (λ p. found_compact Short book p c.args.key.grouping) c.compact_preferences-preferences.ensures)
 
 pub returns-in-Long : goal.returns-in-Long
 returns-in-Long g c =
@@ -20,4 +20,4 @@ returns-in-Long g c =
     (compact_found_by (g.T.DataProvider-1.table c.args.tables.now) (g.T.DataProvider-2.table c.args.tables.now) (g.T.DataProvider-3.table c.args.tables.now) (g.T.DataProvider-5.table c.args.tables.now)
     Long book c.compact_preferences-preferences.result c.args.key.grouping c.from-options.result _
     (g.met.T.Tables.symbols c.args.tables.now) (g.met.T.Tables.digits c.args.tables.now) (g.met.T.Tables.rules c.args.tables.now) (g.met.T.Tables.long c.args.tables.now) c.from-options.ensures c.try_new_long_unstable.ensures
-    ∙ ap (λ p. found_compact Long book p c.args.key.grouping) (c.compact_preferences-preferences.ensures ∙ c.value.ensures))
+    ∙ ap (λ p. found_compact Long book p c.args.key.grouping) c.compact_preferences-preferences.ensures)

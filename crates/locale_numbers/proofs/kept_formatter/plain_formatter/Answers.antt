@@ -1,11 +1,8 @@
-use Rattle.std.proofs.Common.{ap, ◌∙◌}
-use Rattle.locale_numbers.specs.Answer.{found_in}
 use Rattle.locale_numbers.proofs.KeptLemmas.{found_by}
 use Rattle.locale_numbers.proofs.kept_formatter.plain_formatter.Goals as goal
 
 pub returns : goal.returns
 returns g c =
     let book = g.T.Tables.book c.args.tables.now in
-    found_by (g.T.DataProvider-1.table c.args.tables.now) (g.T.DataProvider-2.table c.args.tables.now) book c.value.result c.args.key.grouping c.from.result _
+    found_by (g.T.DataProvider-1.table c.args.tables.now) (g.T.DataProvider-2.table c.args.tables.now) book c.args.key.preferences c.args.key.grouping c.from.result _
     (g.met.T.Tables.symbols c.args.tables.now) (g.met.T.Tables.digits c.args.tables.now) c.from.ensures c.try_new_unstable.ensures
-    ∙ ap (λ p. found_in book p c.args.key.grouping) c.value.ensures

@@ -1,6 +1,6 @@
 use Rattle.std.proofs.Common.{rules}
-use Rattle.locale_numbers.specs.Wanted.{wanted_of}
+use Rattle.locale_numbers.specs.Front.{front_of}
 use Rattle.locale_numbers.proofs.running.run.Goals as goal
 
 pub run_with-requires-clause-can_answer : goal.run_with-requires-clause-can_answer
-run_with-requires-clause-can_answer g c = (search rules, c.in_ok-new.ensures.sound wanted_of)
+run_with-requires-clause-can_answer g c = (search rules, c.in_ok-new.ensures.sound front_of)

@@ -1,0 +1,223 @@
+-- A line asks what its front does, with its text: `specs/Front.antt`.
+use Rattle.std.proofs.Common.{◌≡◌, ◌∷◌, [], ◌++◌, ◌<◌, ◌+◌, ◌∙◌, inl, inr, ℕ, List, Option, Some, None, Bool, true, false, All, length, get_or, sym, ap, refl, subst, arith}
+use Rattle.std.specs.Prelude.{if◌then◌else◌, IfSome, option_map}
+use Rattle.std.specs.List.{slice_split, onto_first}
+use Rattle.std.specs.Str.{IsUtf8, is_utf8, IsCharBoundary}
+use Rattle.std.proofs.Math.Seq.{drop-append_seam, take-append_seam}
+use Rattle.std.proofs.lemmas.Grind.{common_steps}
+use Rattle.std.proofs.lemmas.List.{append_assoc, length-append}
+use Rattle.std.proofs.lemmas.List.Splits.{length-slice_split, slice_split-cons_no, slice_split-cons_yes, slice_split_none}
+use Rattle.std.proofs.lemmas.Str.{IsUtf8-from_is_utf8, is_utf8-from_IsUtf8, IsUtf8-append, IsUtf8-take, IsUtf8-drop, IsCharBoundary-after_ascii}
+use Rattle.icu_decimal.specs.declared.options.GroupingStrategy.{GroupingStrategy}
+use Rattle.locale_numbers.specs.Cutting.{IsLastCut, IsNot, is_separator}
+use Rattle.icu_locale_core.specs.TagPreferences.{Preferences}
+use Rattle.locale_numbers_book.specs.Book.{BookTables}
+use Rattle.locale_numbers.specs.Answer.{answer_asked, answer_in, answer_of, answer_tagged}
+use Rattle.locale_numbers.specs.FormatterKeys.{key_asked, key_of, key_tagged, key_with, kind_of}
+use Rattle.locale_numbers.specs.Front.{FitsForm, answer_behind, answer_keyed, asked_behind, front_asked, front_of, key_behind, key_keyed, with_text}
+use Rattle.locale_numbers.specs.Request.{Asked, fields, request_by, request_in, request_of, tab, takes}
+use Rattle.locale_numbers.specs.Wanted.{wanted_of}
+use Rattle.locale_numbers.specs.declared.formatter_key.FormatterKey.{FormatterKey}
+use Rattle.locale_numbers.specs.declared.front.Front.{Front}
+use Rattle.locale_numbers.specs.declared.sign_field.SignAsked.{SignAsked}
+use Rattle.locale_numbers.specs.declared.rounding_field.RoundingAsked.{RoundingAsked}
+use Rattle.locale_numbers.specs.declared.request.Form.{Form}
+use Rattle.locale_numbers.specs.declared.request.Form.TheVariants.{Plain, Compact, Exact, Read}
+
+-- ---- the fields
+
+module _ {A : Type 0} (p : A → Bool) where
+  onto_more : (x : A) (pieces more : List (List A)) → 0 < length pieces → onto_first x (pieces ++ more) ≡ onto_first x pieces ++ more
+  onto_more x [] more some = absurd (omega (arith, some))
+  onto_more x (piece ∷ pieces) more some = refl
+
+  -- the pieces before a separator, and those behind it
+  split_apart : (xs : List A) (y : A) (ys : List A) → p y ≡ true → slice_split p (xs ++ y ∷ ys) ≡ slice_split p xs ++ slice_split p ys
+  split_apart [] y ys is = slice_split-cons_yes p y ys is
+  split_apart (x ∷ xs) y ys is = at (p x) refl (split_apart xs y ys is)
+    where
+      at : (b : Bool) → p x ≡ b → slice_split p (xs ++ y ∷ ys) ≡ slice_split p xs ++ slice_split p ys
+          → slice_split p (x ∷ xs ++ y ∷ ys) ≡ slice_split p (x ∷ xs) ++ slice_split p ys
+      at true passes rest =
+          slice_split-cons_yes p x (xs ++ y ∷ ys) passes
+          ∙ ap (λ pieces. [] ∷ pieces) rest
+          ∙ ap (λ pieces. pieces ++ slice_split p ys) (sym (slice_split-cons_yes p x xs passes))
+      at false fails rest =
+          slice_split-cons_no p x (xs ++ y ∷ ys) fails
+          ∙ ap (onto_first x) rest
+          ∙ onto_more x (slice_split p xs) (slice_split p ys) (omega (arith, length-slice_split p xs))
+          ∙ ap (λ pieces. pieces ++ slice_split p ys) (sym (slice_split-cons_no p x xs fails))
+
+-- a text with no tab is the last field
+last_field : (before text : List ℕ) → All (IsNot tab) text → fields ((before ++ tab ∷ []) ++ text) ≡ fields before ++ text ∷ []
+last_field before text none =
+    ap fields (append_assoc before (tab ∷ []) text)
+    ∙ split_apart (is_separator tab) before tab text refl
+    ∙ ap (λ pieces. fields before ++ pieces) (slice_split_none (is_separator tab) text none)
+
+no_text : (before : List ℕ) → fields (before ++ tab ∷ []) ≡ fields before ++ [] ∷ []
+no_text before = split_apart (is_separator tab) before tab [] refl
+
+-- ---- what they ask
+
+asks_by : (b : Bool) (tag text : List ℕ) (form : Form) (grouping : GroupingStrategy) (sign : SignAsked) (rounding : RoundingAsked) → takes form sign rounding ≡ b
+    → request_by tag (Some form) (Some grouping) (Some sign) (Some rounding) text ≡ with_text text (request_by tag (Some form) (Some grouping) (Some sign) (Some rounding) [])
+asks_by true tag text form grouping sign rounding is = rw is refl
+asks_by false tag text form grouping sign rounding is = rw is refl
+
+asks : (tag : List ℕ) (form : Option Form) (grouping : Option GroupingStrategy) (sign : Option SignAsked) (rounding : Option RoundingAsked) (text : List ℕ)
+    → request_by tag form grouping sign rounding text ≡ with_text text (request_by tag form grouping sign rounding [])
+asks tag None grouping sign rounding text = refl
+asks tag (Some form) None sign rounding text = refl
+asks tag (Some form) (Some grouping) None rounding text = refl
+asks tag (Some form) (Some grouping) (Some sign) None text = refl
+asks tag (Some form) (Some grouping) (Some sign) (Some rounding) text = asks_by (takes form sign rounding) tag text form grouping sign rounding refl
+
+asks_in : (before : List (List ℕ)) (text : List ℕ) → request_in (before ++ text ∷ []) ≡ with_text text (request_in (before ++ [] ∷ []))
+asks_in [] text = refl
+asks_in (tag ∷ []) text = refl
+asks_in (tag ∷ form ∷ []) text = refl
+asks_in (tag ∷ form ∷ grouping ∷ []) text = refl
+asks_in (tag ∷ form ∷ grouping ∷ sign ∷ []) text = refl
+asks_in (tag ∷ form ∷ grouping ∷ sign ∷ rounding ∷ []) text = asks tag _ _ _ _ text
+asks_in (tag ∷ form ∷ grouping ∷ sign ∷ rounding ∷ more ∷ []) text = refl
+asks_in (tag ∷ form ∷ grouping ∷ sign ∷ rounding ∷ more ∷ most ∷ rest) text = refl
+
+-- ---- where they are UTF-8
+
+-- both sides of a cut behind a tab are UTF-8, where the whole is
+sides_utf8 : (before text : List ℕ) → IsUtf8 ((before ++ tab ∷ []) ++ text) → IsUtf8 (before ++ tab ∷ []) × IsUtf8 text
+sides_utf8 before text utf8 =
+    let front : List ℕ = before ++ tab ∷ [] in
+    let size : length front ≡ length before + 1 = length-append before (tab ∷ []) in
+    let within : length before < length (front ++ text) = omega (arith, size, length-append front text) in
+    let is : get_or (front ++ text) (length before) 0 ≡ tab = grind (arith, common_steps) in
+    let at : IsCharBoundary (front ++ text) (length before + 1) = IsCharBoundary-after_ascii (front ++ text) (length before) utf8 within (omega (arith, is)) in
+    let behind : IsCharBoundary (front ++ text) (length front) = subst (IsCharBoundary (front ++ text)) (sym size) at in (
+      subst IsUtf8 (take-append_seam front text) (IsUtf8-take (front ++ text) (length front) utf8 behind),
+      subst IsUtf8 (drop-append_seam front text) (IsUtf8-drop (front ++ text) (length front) utf8 behind),
+    )
+
+same_tests : (a b : Bool) → (a ≡ true → b ≡ true) → (b ≡ true → a ≡ true) → a ≡ b
+same_tests true b there back = sym (there refl)
+same_tests false true there back = back refl
+same_tests false false there back = refl
+
+-- before a text that is UTF-8, the line is where its front is
+front_utf8 : (before text : List ℕ) → IsUtf8 text → is_utf8 ((before ++ tab ∷ []) ++ text) ≡ is_utf8 (before ++ tab ∷ [])
+front_utf8 before text utf8 =
+    same_tests _ _
+    (λ whole. is_utf8-from_IsUtf8 (before ++ tab ∷ []) (sides_utf8 before text (IsUtf8-from_is_utf8 ((before ++ tab ∷ []) ++ text) whole)).0)
+    (λ front. is_utf8-from_IsUtf8 ((before ++ tab ∷ []) ++ text) (IsUtf8-append (before ++ tab ∷ []) text (IsUtf8-from_is_utf8 (before ++ tab ∷ []) front) utf8))
+
+-- ---- a line
+
+asked_if : (b : Bool) (text : List ℕ) (before : List (List ℕ)) → (if b then request_in (before ++ text ∷ []) else None) ≡ with_text text (if b then request_in (before ++ [] ∷ []) else None)
+asked_if true text before = asks_in before text
+asked_if false text before = refl
+
+asked_behind_tab : (before text : List ℕ) → All (IsNot tab) text → IsUtf8 text → request_of ((before ++ tab ∷ []) ++ text) ≡ with_text text (request_of (before ++ tab ∷ []))
+asked_behind_tab before text none utf8 =
+    ap (λ b. if b then request_in (fields ((before ++ tab ∷ []) ++ text)) else None) (front_utf8 before text utf8)
+    ∙ ap (λ pieces. if is_utf8 (before ++ tab ∷ []) then request_in pieces else None) (last_field before text none)
+    ∙ asked_if (is_utf8 (before ++ tab ∷ [])) text (fields before)
+    ∙ ap (λ pieces. with_text text (if is_utf8 (before ++ tab ∷ []) then request_in pieces else None)) (sym (no_text before))
+
+nothing_if : (b : Bool) (asked : Option Asked) → asked ≡ None → (if b then asked else None) ≡ None
+nothing_if true asked none = none
+nothing_if false asked none = refl
+
+-- a line with no tab asks nothing
+no_tab : (line : List ℕ) → All (IsNot tab) line → request_of line ≡ None
+no_tab line none = nothing_if (is_utf8 line) (request_in (fields line)) (ap request_in (slice_split_none (is_separator tab) line none))
+
+nothing_asked : (text : List ℕ) → with_text text (request_of []) ≡ None
+nothing_asked text = ap (with_text text) (nothing_if (is_utf8 []) (request_in (fields [])) refl)
+
+module _ (line front text : List ℕ) (cut : IsLastCut tab line front text) where
+  -- a line asks what its front does, with its text
+  pub line_asks : IsUtf8 text → request_of line ≡ with_text text (request_of front)
+  line_asks utf8 = elim cut.ends [
+    | inl none ↦ (let whole : line ≡ text = cut.whole ∙ ap (λ f. f ++ text) none in
+        ap request_of whole ∙ no_tab text cut.none ∙ sym (ap (λ f. with_text text (request_of f)) none ∙ nothing_asked text))
+    | inr ends ↦ ap request_of (cut.whole ∙ ap (λ f. f ++ text) ends.1) ∙ asked_behind_tab ends.0 text cut.none utf8 ∙ sym (ap (λ f. with_text text (request_of f)) ends.1)
+  ]
+
+  not_utf8 : (b : Bool) → (b ≡ true → ⊥) → (pieces : List (List ℕ)) → (if b then request_in pieces else None) ≡ None
+  not_utf8 true none pieces = absurd (none refl)
+  not_utf8 false none pieces = refl
+
+  -- and nothing, where its text is not UTF-8
+  pub line_asks_nothing : (IsUtf8 text → ⊥) → request_of line ≡ None
+  line_asks_nothing broken = elim cut.ends [
+    | inl none ↦ ap request_of (cut.whole ∙ ap (λ f. f ++ text) none) ∙ no_tab text cut.none
+    | inr ends ↦ not_utf8 (is_utf8 line) (λ whole.
+        broken (sides_utf8 ends.0 text (subst IsUtf8 (cut.whole ∙ ap (λ f. f ++ text) ends.1) (IsUtf8-from_is_utf8 line whole))).1) (fields line)
+  ]
+
+-- ---- the answer, and the key
+
+-- a request with another text, and the front that it has
+abbrev texted : Asked → List ℕ → Asked
+texted asked text = record { tag = asked.tag; form = asked.form; grouping = asked.grouping; sign = asked.sign; rounding = asked.rounding; text = text }
+
+abbrev fronted : Asked → Option FormatterKey → Front
+fronted asked key = record { form = asked.form; sign = asked.sign; rounding = asked.rounding; key = key }
+
+answered_in : (form : Form) (book : BookTables) (p : Preferences) (asked : Asked) (key : Option FormatterKey) (text : List ℕ)
+    → answer_in form book p (texted asked text) ≡ answer_in form book p (asked_behind (fronted asked key) (key_with asked.form asked.grouping p) text)
+answered_in Plain book p asked key text = refl
+answered_in (Compact length) book p asked key text = refl
+answered_in (Exact length) book p asked key text = refl
+answered_in Read book p asked key text = refl
+
+answered_by : (book : BookTables) (asked : Asked) (key : Option FormatterKey) (wanted : Option Preferences) (text : List ℕ)
+    → answer_tagged book wanted (texted asked text) ≡ answer_keyed book (fronted asked key) (option_map (key_with asked.form asked.grouping) wanted) text
+answered_by book asked key None text = refl
+answered_by book asked key (Some p) text = answered_in asked.form book p asked key text
+
+answered : (book : BookTables) (asked : Option Asked) (text : List ℕ) → answer_asked book (with_text text asked) ≡ answer_behind book (front_asked asked) text
+answered book None text = refl
+answered book (Some asked) text = answered_by book asked (option_map (key_with asked.form asked.grouping) (wanted_of asked.tag)) (wanted_of asked.tag) text
+
+keyed_by : (asked : Asked) (wanted : Option Preferences) (text : List ℕ) → key_tagged (texted asked text) wanted ≡ key_keyed asked.form (option_map (key_with asked.form asked.grouping) wanted) text
+keyed_by asked None text = refl
+keyed_by asked (Some p) text = refl
+
+keyed : (asked : Option Asked) (text : List ℕ) → key_asked (with_text text asked) ≡ key_behind (front_asked asked) text
+keyed None text = refl
+keyed (Some asked) text = keyed_by asked (wanted_of asked.tag) text
+
+module _ (line bytes text : List ℕ) (asks : request_of line ≡ with_text text (request_of bytes)) where
+  -- a line is answered as its text is behind its front
+  pub answer_of_line : (book : BookTables) → answer_of book line ≡ answer_behind book (front_of bytes) text
+  answer_of_line book = ap (answer_asked book) asks ∙ answered book (request_of bytes) text
+
+  -- and asks for the same key
+  pub key_of_line : key_of line ≡ key_behind (front_of bytes) text
+  key_of_line = ap key_asked asks ∙ keyed (request_of bytes) text
+
+-- what is kept of a request does not go by its text
+with_no_text : (asked : Option Asked) → front_asked (with_text [] asked) ≡ front_asked asked
+with_no_text None = refl
+with_no_text (Some asked) = refl
+
+-- what is made of the parts of a front that was read
+pub front_read : (bytes : List ℕ) (asked : Asked) (wanted : Option Preferences) (key : Option FormatterKey) → with_text [] (request_of bytes) ≡ Some asked
+    → wanted ≡ wanted_of asked.tag → key ≡ option_map (key_with asked.form asked.grouping) wanted → Some (fronted asked key) ≡ front_of bytes
+front_read bytes asked wanted key read prefers made =
+    ap (λ k. Some (fronted asked k)) (made ∙ ap (option_map (key_with asked.form asked.grouping)) prefers)
+    ∙ sym (ap front_asked read)
+    ∙ with_no_text (request_of bytes)
+
+fits_by : (asked : Asked) (wanted : Option Preferences) → IfSome (option_map (key_with asked.form asked.grouping) wanted) (λ key. key.kind ≡ kind_of asked.form)
+fits_by asked None = tt
+fits_by asked (Some p) = refl
+
+fits : (asked : Option Asked) → IfSome (front_asked asked) FitsForm
+fits None = tt
+fits (Some asked) = fits_by asked (wanted_of asked.tag)
+
+-- the key of a front that was read is of the kind of its form
+pub fits_form : (front : Option Front) (bytes : List ℕ) → front ≡ front_of bytes → IfSome front FitsForm
+fits_form front bytes is = subst (λ f. IfSome f FitsForm) (sym is) (fits (request_of bytes))

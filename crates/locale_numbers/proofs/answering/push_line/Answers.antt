@@ -1,0 +1,18 @@
+use Rattle.std.proofs.Common.{◌++◌, refl, sym, ap, ◌∙◌}
+use Rattle.std.specs.Prelude.{string_bytes}
+use Rattle.locale_numbers.specs.Front.{answer_behind}
+use Rattle.locale_numbers.proofs.AnsweringLemmas.{on_ok_by}
+use Rattle.locale_numbers.proofs.FrontLemmas.{answer_of_line, fits_form}
+use Rattle.locale_numbers.proofs.answering.push_line.Goals as goal
+
+pub push_behind-requires : goal.push_behind-requires
+push_behind-requires g c κs = ((refl, tt {0}), (c.requires, fits_form c.in_ok-front.front c.in-Some.front.now c.in_ok-front.ensures))
+
+pub returns-clause-text : goal.returns-clause-text
+returns-clause-text g c =
+    let book = g.F.Formatters.book c.args.formatters.now in
+    on_ok_by c.push_behind.result
+    (λ p. p ∙ ap (λ answer. string_bytes c.args.out.now ++ answer)
+    (ap (λ front. answer_behind book front c.in-Some.text.now) c.in_ok-front.ensures
+    ∙ sym (answer_of_line c.args.line.now c.in-Some.front.now c.in-Some.text.now c.in-Some.ensures book)))
+    c.push_behind.ensures.text

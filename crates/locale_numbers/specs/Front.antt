@@ -1,0 +1,57 @@
+-- What the front of a line asks, all that stands before its text: it is read as a line with no text.
+-- Defined in docs/requests.md, "Request line" and "What a cache keeps".
+-- Cited by the private steps of an answer.
+use Rattle.std.specs.Prelude.{◌≡◌, ℕ, List, [], Option, Some, None, option_map, IfSome}
+use Rattle.locale_numbers_book.specs.Book.{BookTables}
+use Rattle.locale_numbers.specs.Answer.{answer_in, refused}
+use Rattle.locale_numbers.specs.FormatterKeys.{key_in, key_with, kind_of}
+use Rattle.locale_numbers.specs.Request.{Asked, request_of}
+use Rattle.locale_numbers.specs.Wanted.{wanted_of}
+use Rattle.locale_numbers.specs.declared.formatter_key.FormatterKey.{FormatterKey}
+use Rattle.locale_numbers.specs.declared.front.Front.{Front}
+use Rattle.locale_numbers.specs.declared.refusal.Refusal.TheVariants as refusal
+use Rattle.locale_numbers.specs.declared.request.Form.{Form}
+
+-- a request with another text
+abbrev pub with_text : List ℕ → Option Asked → Option Asked
+with_text text None = None
+with_text text (Some asked) =
+    Some (record { tag = asked.tag; form = asked.form; grouping = asked.grouping; sign = asked.sign; rounding = asked.rounding; text = text })
+
+-- what is kept of a request for any text: its form, sign and rounding, and its key, where its tag is one
+abbrev pub front_asked : Option Asked → Option Front
+front_asked None = None
+front_asked (Some asked) =
+    Some (record { form = asked.form; sign = asked.sign; rounding = asked.rounding; key = option_map (key_with asked.form asked.grouping) (wanted_of asked.tag) })
+
+-- what a front asks
+abbrev pub front_of : List ℕ → Option Front
+front_of bytes = front_asked (request_of bytes)
+
+-- the key is of the kind of the form
+abbrev pub FitsForm : Front → Type 0
+FitsForm front = IfSome front.key (λ key. key.kind ≡ kind_of front.form)
+
+-- what a front with this key asks of a text; the tag is in the key
+abbrev pub asked_behind : Front → FormatterKey → List ℕ → Asked
+asked_behind front key text =
+    record { tag = []; form = front.form; grouping = key.grouping; sign = front.sign; rounding = front.rounding; text = text }
+
+-- the answer to a text behind a front, by its key, where its tag is one
+abbrev pub answer_keyed : BookTables → Front → Option FormatterKey → List ℕ → List ℕ
+answer_keyed book front None text = refused refusal.Tag
+answer_keyed book front (Some key) text = answer_in front.form book key.preferences (asked_behind front key text)
+
+-- the answer to a text behind a front, or behind one that asks nothing
+abbrev pub answer_behind : BookTables → Option Front → List ℕ → List ℕ
+answer_behind book None text = refused refusal.Shape
+answer_behind book (Some front) text = answer_keyed book front front.key text
+
+-- the key that such a line asks for
+abbrev pub key_keyed : Form → Option FormatterKey → List ℕ → Option FormatterKey
+key_keyed form None text = None
+key_keyed form (Some key) text = key_in form key text
+
+abbrev pub key_behind : Option Front → List ℕ → Option FormatterKey
+key_behind None text = None
+key_behind (Some front) text = key_keyed front.form front.key text

@@ -1,0 +1,78 @@
+//! The front of a line: all that stands before its text.
+ghost use Rattle.std.specs.Prelude.{◌≡◌, IfOk, option_map};
+ghost use Rattle.locale_numbers.specs.FormatterKeys.{key_with};
+ghost use Rattle.locale_numbers.specs.Front.{front_of};
+
+use crate::formatter_key::{FormatterKey, kind_by};
+use crate::request::{Form, read_request};
+use crate::rounding_field::RoundingAsked;
+use crate::sign_field::SignAsked;
+use crate::tag_reader::read_preferences;
+use icu_decimal::DecimalFormatterPreferences;
+use icu_decimal::options::GroupingStrategy;
+use locale_numbers_cache::{Hashed, KeyReader};
+use std::alloc::{AllocError, Global};
+
+/// What the front of a line asks, whatever its text.
+#[derive(Clone, Copy)]
+pub(crate) struct Front {
+    /// What is written.
+    pub form: Form,
+    /// Which sign is written.
+    pub sign: SignAsked,
+    /// What is rounded.
+    pub rounding: RoundingAsked,
+    /// What its formatter is kept under, hashed once; `None` where its tag is no tag.
+    pub key: Option<Hashed<FormatterKey>>,
+}
+
+// The key of what a tag prefers, a form and a grouping.
+fn key_by(
+    preferences: Option<DecimalFormatterPreferences>,
+    form: Form,
+    grouping: GroupingStrategy,
+) -> Option<Hashed<FormatterKey>>
+    ensures { result ≡ option_map (key_with form grouping) preferences }
+{
+    match preferences {
+        Some(preferences) => Some(Hashed::new(FormatterKey {
+            preferences,
+            kind: kind_by(form),
+            grouping,
+        })),
+        None => None,
+    }
+}
+
+/// What a front asks: it is read as a line with no text. `None` where it is none.
+///
+/// Its tag may take memory, and it fails for want of it alone.
+pub(crate) fn read_front(alloc: Global, bytes: &[u8]) -> Result<Option<Front>, AllocError>
+    ensures { IfOk result (λ front. front ≡ front_of bytes.now) }
+{
+    let Some(request) = read_request(bytes) else {
+        return Ok(None);
+    };
+    let preferences = read_preferences(alloc, request.tag)?;
+    Ok(Some(Front {
+        form: request.form,
+        sign: request.sign,
+        rounding: request.rounding,
+        key: key_by(preferences, request.form, request.grouping),
+    }))
+}
+
+/// A reader of fronts.
+#[derive(Clone, Copy)]
+pub(crate) struct FrontReader {
+    /// Where a tag may take memory.
+    pub alloc: Global,
+}
+
+impl KeyReader<Option<Front>> for FrontReader {
+    ghost key_of = { λ s bytes. front_of bytes };
+
+    fn read(&self, bytes: &[u8]) -> Result<Option<Front>, AllocError> {
+        read_front(self.alloc, bytes)
+    }
+}

@@ -1,0 +1,81 @@
+ghost use Rattle.std.specs.Prelude.{◌≡◌, true, None, IfOk, OnOk, OnErr, IsOk};
+ghost use Rattle.locale_numbers_cache.specs.LastRead.{AreRead, Uses, either_remembers};
+
+use crate::key_reader::KeyReader;
+use crate::last_key::LastKey;
+use std::alloc::{AllocError, Global};
+use std::marker::Model;
+
+/// Two places for the bytes of one hash: those that came last, and others.
+#[derive(Drop)]
+pub struct KeyPair<K: Copy> {
+    first: LastKey<K>,
+    second: LastKey<K>,
+    /// The second was used last.
+    is_second_last: bool,
+}
+
+impl<K: Copy> Model for KeyPair<K> {
+    ghost use Rattle.std.specs.Prelude.{ℕ, List, if◌then◌else◌};
+    ghost use Rattle.std.specs.Coded.{coded_list, coded_ℕ, coded×, coded_option};
+    ghost use Rattle.locale_numbers_cache.specs.LastRead.{Place};
+
+    ghost Value = { Place K × Place K };
+
+    ghost coded = { coded× (coded_option (coded× (coded_list coded_ℕ) K.code)) (coded_option (coded× (coded_list coded_ℕ) K.code)) };
+
+    // The place used last, and the other.
+    ghost view = { λ p. if p.is_second_last then (p.second, p.first) else (p.first, p.second) };
+}
+
+impl<K: Copy> KeyPair<K> {
+    /// Two that remember nothing yet. It takes no memory.
+    pub fn new(alloc: Global) -> Self
+        ensures { result ≡ (None, None) }
+    {
+        KeyPair {
+            first: LastKey::new(alloc),
+            second: LastKey::new(alloc),
+            is_second_last: false,
+        }
+    }
+
+    /// Remembers the bytes with their key in the place that was not used last.
+    fn keep(&mut self, bytes: &[u8], key: K) -> Result<(), AllocError>
+        ensures last { OnOk result (self.new ≡ (Some (bytes.now, key), self.old.0)) }
+        ensures err { OnErr result (self.new ≡ self.old) }
+    {
+        if self.is_second_last {
+            self.first.keep(bytes, key)?;
+        } else {
+            self.second.keep(bytes, key)?;
+        }
+        self.is_second_last = !self.is_second_last;
+        Ok(())
+    }
+
+    /// The key of the bytes, which are read only where neither place remembers them.
+    ///
+    /// Bytes that are read push out those that were not used last. It fails where it is out of memory, and then remembers what it
+    /// did.
+    pub fn key_of<R: KeyReader<K>>(&mut self, reader: &R, bytes: &[u8]) -> Result<K, AllocError>
+        requires { AreRead (R.key_of reader.now) self.old }
+        ensures value { IfOk result (λ key. key ≡ R.key_of reader.now bytes.now) }
+        ensures used { OnOk result (Uses bytes.now (R.key_of reader.now bytes.now) self.old self.new) }
+        ensures sound { AreRead (R.key_of reader.now) self.new }
+        ensures err { OnErr result (self.new ≡ self.old) }
+        ensures room { either_remembers bytes.now self.old ≡ true → IsOk result }
+    {
+        if let Some(key) = self.first.known(bytes) {
+            self.is_second_last = false;
+            return Ok(key);
+        }
+        if let Some(key) = self.second.known(bytes) {
+            self.is_second_last = true;
+            return Ok(key);
+        }
+        let key = reader.read(bytes)?;
+        self.keep(bytes, key)?;
+        Ok(key)
+    }
+}
