@@ -67,23 +67,24 @@ pub fn text_len(bytes: &[u8]) -> usize
 }
 
 /// Whether two slices of one length have the same bytes.
+///
+/// It goes to the end whatever it finds: of a text of two words both are compared by one branch.
 pub fn are_same(one: &[u8], other: &[u8]) -> bool
     requires { length one.now ≡ length other.now }
     ensures { Decides result (one.now ≡ other.now) }
 {
     let mut left = one;
     let mut right = other;
+    let mut same = true;
     while !left.is_empty() {
         let count = left.len().min(8);
         let (front, back) = left.split_at(count);
         let (other_front, other_back) = right.split_at(count);
-        if word_at(front) != word_at(other_front) {
-            return false;
-        }
+        same = same & (word_at(front) == word_at(other_front));
         left = back;
         right = other_back;
     }
-    true
+    same
 }
 
 /// The word with each byte changed, where only so many bytes are no NULs that fill up.
