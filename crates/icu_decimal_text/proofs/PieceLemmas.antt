@@ -85,7 +85,7 @@ ten_at (d ∷ ds) zero within tens = tens.0
 ten_at (d ∷ ds) (suc i) within tens = ten_at ds i (omega (arith, within)) tens.1
 
 -- an ASCII character is its own byte
-one_ascii : (c : ℕ) → c < 128 → IsAscii (c ∷ [])
+pub one_ascii : (c : ℕ) → c < 128 → IsAscii (c ∷ [])
 one_ascii c ascii zero = ascii
 one_ascii c ascii (suc i) = omega arith
 

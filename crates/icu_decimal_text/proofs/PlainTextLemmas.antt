@@ -77,10 +77,14 @@ whole_groups t v digits size sizes others ds after separator first same cut next
     ∙ ap (λ text. chained (map (digit_events t.digits) (take size ds)) ++ later_events text t.digits others after) (sym written)
 
 -- the text alone
+pub grouped_text : (t : Tables) (v : Number) (digits size : ℕ) (sizes others ds after separator : List ℕ) (first : Option ℕ) → v.high - 32767 ≡ digits → sizes ≡ group_sizes t.strategy t.symbols.grouping_sizes digits → MatchOption first ((sizes ≡ []) × (others ≡ [])) (λ n. sizes ≡ n ∷ others) → size ≡ unwrap_or first 0 → ds ≡ whole_digits v → after ≡ drop size ds → separator ≡ t.symbols.strings.grouping_separator → whole_text t (whole_digits v) ≡ chained (map (digit_text t.digits) (take size ds)) ++ groups_ahead separator (digit_text t.digits) others after
+grouped_text t v digits size sizes others ds after separator first same cut next sized shown left written =
+    grouped_digits t.symbols.strings.grouping_separator (digit_text t.digits) t v digits size sizes others ds after first same cut next sized shown left
+    ∙ ap (λ text. chained (map (digit_text t.digits) (take size ds)) ++ groups_ahead text (digit_text t.digits) others after) (sym written)
+
 pub text_groups : (t : Tables) (v : Number) (digits size : ℕ) (sizes others ds after separator : List ℕ) (first : Option ℕ) → v.high - 32767 ≡ digits → sizes ≡ group_sizes t.strategy t.symbols.grouping_sizes digits → MatchOption first ((sizes ≡ []) × (others ≡ [])) (λ n. sizes ≡ n ∷ others) → size ≡ unwrap_or first 0 → ds ≡ whole_digits v → after ≡ drop size ds → separator ≡ t.symbols.strings.grouping_separator → bytes (whole_text t (whole_digits v)) ≡ bytes (chained (map (digit_text t.digits) (take size ds))) ++ bytes (groups_ahead separator (digit_text t.digits) others after)
 text_groups t v digits size sizes others ds after separator first same cut next sized shown left written =
-    ap bytes (grouped_digits t.symbols.strings.grouping_separator (digit_text t.digits) t v digits size sizes others ds after first same cut next sized shown left
-    ∙ ap (λ text. chained (map (digit_text t.digits) (take size ds)) ++ groups_ahead text (digit_text t.digits) others after) (sym written))
+    ap bytes (grouped_text t v digits size sizes others ds after separator first same cut next sized shown left written)
     ∙ bytes_joined (chained (map (digit_text t.digits) (take size ds))) (groups_ahead separator (digit_text t.digits) others after)
 
 -- Digits written.
@@ -188,16 +192,24 @@ fraction_run table v count shown is whole =
     ∙ bytes_chained table (fraction_digits v)
 
 -- the text of the fraction alone
-text_by : (t : Tables) (count low k : ℕ) (separator : List ℕ) → 0 < k → separator ≡ t.symbols.strings.decimal_separator → bytes (fraction_text t (digits_down count low k)) ≡ bytes separator ++ chained (map (digit_events t.digits) (digits_down count low k))
+text_by : (t : Tables) (count low k : ℕ) (separator : List ℕ) → 0 < k → separator ≡ t.symbols.strings.decimal_separator → fraction_text t (digits_down count low k) ≡ separator ++ chained (map (digit_text t.digits) (digits_down count low k))
 text_by t count low zero separator some written = absurd (omega (arith, some))
 text_by t count low (suc k) separator some written =
-    let digits : List ℕ = digits_down count low (suc k) in
-    bytes_joined t.symbols.strings.decimal_separator (chained (map (digit_text t.digits) digits))
-    ∙ ap (λ text. bytes text ++ bytes (chained (map (digit_text t.digits) digits))) (sym written)
-    ∙ ap (λ es. bytes separator ++ es) (bytes_chained t.digits digits)
+    ap (λ text. text ++ chained (map (digit_text t.digits) (digits_down count low (suc k)))) (sym written)
+
+-- where so many of its digits are shown
+pub fraction_shown : (t : Tables) (v : Number) (count : ℕ) (shown separator : List ℕ) → shown ≡ fraction_digits v → v.low + count ≡ 32768 → 0 < count → separator ≡ t.symbols.strings.decimal_separator → fraction_text t (fraction_digits v) ≡ separator ++ chained (map (digit_text t.digits) (take count shown))
+fraction_shown t v count shown separator is whole some written =
+    let size : count ≡ 32768 - v.low = omega (arith, whole) in
+    let all : take count shown ≡ fraction_digits v = ap (take count) is ∙ ap (λ n. take n (fraction_digits v)) size ∙ take_down v.count v.low (32768 - v.low) in
+    text_by t v.count v.low (32768 - v.low) separator (omega (arith, size, some)) written
+    ∙ ap (λ digits. separator ++ chained (map (digit_text t.digits) digits)) (sym all)
 
 pub text_some : (t : Tables) (v : Number) (separator : List ℕ) → 0 < 32768 - v.low → separator ≡ t.symbols.strings.decimal_separator → bytes (fraction_text t (fraction_digits v)) ≡ bytes separator ++ chained (map (digit_events t.digits) (fraction_digits v))
-text_some t v separator some written = text_by t v.count v.low (32768 - v.low) separator some written
+text_some t v separator some written =
+    ap bytes (text_by t v.count v.low (32768 - v.low) separator some written)
+    ∙ bytes_joined separator (chained (map (digit_text t.digits) (fraction_digits v)))
+    ∙ ap (λ es. bytes separator ++ es) (bytes_chained t.digits (fraction_digits v))
 
 pub text_none : (t : Tables) (v : Number) → 32768 - v.low ≡ 0 → bytes (fraction_text t (fraction_digits v)) ≡ []
 text_none t v none = ap (λ k. bytes (fraction_text t (digits_down v.count v.low k))) none ∙ no_bytes

@@ -11,6 +11,7 @@ ghost use Rattle.icu_decimal_text.specs.LaterGroups.{groups_ahead};
 
 use crate::formatter::DecimalFormatter;
 use crate::grouper::GroupSizes;
+use crate::short_text::ShortText;
 use crate::text_pieces::{CHUNK, CHUNK_BYTES, Piece, pieces_of, put_groups};
 use crate::writing::{fraction_len, highest, write_digits, write_fraction_digits};
 use fixed_decimal::{ShownDigits, UnsignedDecimal};
@@ -230,6 +231,9 @@ pub(crate) fn write_unsigned_text<S: Sink>(
     ensures refused { S.refused sink.new ≡ is_err result }
     ensures begun { OnErr result (HasBegun S.takes S.lacks_room sink.old (bytes (unsigned_text (tables_of tables.entry) number.now)) sink.new) }
 {
+    if let Some(text) = ShortText::of(tables, number) {
+        return sink.write_str(text.as_str());
+    }
     write_whole_text(tables, number, sink)?;
     write_fraction_text(tables, number, sink)
 }

@@ -13,8 +13,8 @@ ghost use Rattle.icu_decimal_text.specs.LaterGroups.{later_events};
 
 use crate::formatter::DecimalFormatter;
 use crate::grouper::GroupSizes;
+use crate::short_text::ShortText;
 use crate::text_writing::write_run;
-use arrayvec::ArrayString;
 use fixed_decimal::{ShownDigits, UnsignedDecimal};
 use icu_decimal_provider::parts;
 use writeable::{Error, Part, Sink};
@@ -31,33 +31,8 @@ pub(crate) fn write_part<S: Sink>(part: Part, text: &str, sink: &mut S) -> Resul
     sink.close_part()
 }
 
-// How many digits are written by one call of the sink at most, and the bytes that they may have.
+// How many digits are written by one call of the sink at most.
 const PIECE: usize = 16;
-
-const PIECE_BYTES: usize = 64;
-
-// The characters of the next digits, so many.
-fn spelled(
-    digits: &mut ShownDigits<'_>,
-    count: usize,
-    table: &[char; 10],
-) -> ArrayString<PIECE_BYTES>
-    requires few { count ≤ 16 }
-    requires tens { AllBelowBase 10 digits.old }
-    ensures digits { digits.new ≡ drop count digits.old }
-    ensures text { result.bytes ≡ chained (map (digit_text table.now) (take count digits.old)) }
-{
-    let mut text = ArrayString::new();
-    let mut left = count;
-    while left > 0 {
-        left -= 1;
-        let Some(digit) = digits.next() else {
-            return text;
-        };
-        text.push(table[digit as usize]);
-    }
-    text
-}
 
 // Writes the next digits by one call of the sink.
 #[tactic(auto, using(crate::proofs::PlainTextLemmas::bytes_chained))]
@@ -75,7 +50,8 @@ fn write_piece<S: Sink>(
     ensures refused { S.refused sink.new ≡ is_err result }
     ensures begun { OnErr result (HasBegun S.takes S.lacks_room sink.old (chained (map (digit_events table.now) (take count digits.old))) sink.new) }
 {
-    let text = spelled(digits, count, table);
+    let mut text = ShortText::new();
+    text.push_digits(digits, count, table);
     sink.write_str(text.as_str())
 }
 
