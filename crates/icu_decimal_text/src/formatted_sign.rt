@@ -1,6 +1,6 @@
 //! A value between the affixes of its sign.
 
-ghost use Rattle.std.specs.Prelude.{◌≡◌, ◌++◌, false, is_err, option_map, OnOk, OnErr};
+ghost use Rattle.std.specs.Prelude.{◌≡◌, ◌++◌, false, is_err, option_map, IfOk, IsOk, OnOk, OnErr};
 ghost use Rattle.std.specs.Option.{option_eq};
 ghost use Rattle.writeable.specs.AnnotatedText.{bytes, opening, closing};
 ghost use Rattle.writeable.specs.PartName.{name_of};
@@ -13,6 +13,7 @@ use crate::writing::write_part;
 use fixed_decimal::Sign;
 use icu_decimal_provider::parts;
 use icu_decimal_provider::provider::DecimalSymbols;
+use std::alloc::AllocError;
 use std::fmt;
 use std::marker::Model;
 use writeable::{Error, LengthHint, Part, Sink, Writeable, display};
@@ -101,15 +102,22 @@ impl<'l, T> FormattedSign<'l, T> {
     {
         &self.value
     }
+}
 
-    // Another value between the same affixes.
-    pub(crate) fn with_value(&self, value: T) -> Self
-        ensures { result ≡ record { value = value; affixes = self.now.affixes } }
+impl<'l, T: Clone> FormattedSign<'l, T> {
+    /// The same once more, its value cloned: of `-1,234.5` another that writes `-1,234.5`.
+    ///
+    /// `AllocError`, only where cloning the value lacks memory. A `FormattedDecimal` takes none, and is never refused.
+    pub fn try_clone(&self) -> Result<Self, AllocError>
+        ensures succeeds { T.is_infallible self.now.value → IsOk result }
+        ensures value { IfOk result (λ copy. T.is_clone self.now.value copy.value) }
+        ensures affixes { IfOk result (λ copy. copy.affixes ≡ self.now.affixes) }
     {
-        FormattedSign {
+        let value = self.value.clone()?;
+        Ok(FormattedSign {
             value,
             affixes: self.affixes,
-        }
+        })
     }
 }
 

@@ -50,6 +50,19 @@ impl<'l> FormattedUnsignedDecimal<'l> {
         ensures succeeds { IsOk result }
         ensures value { IfOk result (λ copy. copy ≡ self.now) }
     {
+        self.clone()
+    }
+}
+
+/// The same value once more, with the same loans. It takes no memory, and is never refused.
+impl<'l> Clone for FormattedUnsignedDecimal<'l> {
+    ghost use Rattle.std.specs.Prelude.{◌≡◌, ⊤};
+
+    ghost is_clone = { λ one other. other ≡ one };
+
+    ghost is_infallible = { λ _. ⊤ };
+
+    fn clone(&self) -> Result<Self, AllocError> {
         Ok(FormattedUnsignedDecimal {
             number: self.number,
             tables: self.tables,

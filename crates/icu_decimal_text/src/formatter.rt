@@ -1,6 +1,6 @@
 //! A formatter of decimals.
 
-ghost use Rattle.std.specs.Prelude.{◌≡◌, IfOk, IsOk, string_bytes};
+ghost use Rattle.std.specs.Prelude.{◌≡◌, IfOk, string_bytes};
 ghost use Rattle.std.specs.Result.{result_map_both};
 ghost use Rattle.icu_decimal_text.specs.FoundTables.{found_tables};
 ghost use Rattle.icu_decimal_text.specs.HeldTables.{tables_of};
@@ -20,18 +20,6 @@ use writeable::Writeable;
 
 /// A decimal as a formatter writes it: `-1,234.5` in English.
 pub type FormattedDecimal<'l> = FormattedSign<'l, FormattedUnsignedDecimal<'l>>;
-
-impl<'l> FormattedSign<'l, FormattedUnsignedDecimal<'l>> {
-    /// The same value once more, with the same loans: of `-1,234.5` another that writes `-1,234.5`. It takes no memory, and is
-    /// never refused.
-    pub fn try_clone(&self) -> Result<Self, AllocError>
-        ensures succeeds { IsOk result }
-        ensures value { IfOk result (λ copy. copy ≡ self.now) }
-    {
-        let value = self.value().try_clone()?;
-        Ok(self.with_value(value))
-    }
-}
 
 /// A formatter of decimals: the symbols and the digits of a locale, which it borrows, and when separators are written.
 ///
