@@ -1,9 +1,9 @@
 -- The lists in a `PartsSink`, as intervals.
 use Rattle.std.proofs.Common.{◌≡◌, ◌≢◌, IsSomeAnd, ℕ, ◌+◌, ◌-◌, ◌<◌, List, [], ◌∷◌, ◌++◌, length, map, take, drop, get_or, insert, cond, Bool, true, false, Some, None, refl, sym, ◌∙◌, ap, subst, arith}
 use Rattle.std.specs.List.{slice_get}
-use Rattle.std.proofs.lemmas.List.{map-append, take-map, drop-map, take_all, take_more, append-nil, length-map}
+use Rattle.std.proofs.lemmas.List.{map-append, take-map, drop-map, take_all, take_more, append-nil}
 use Rattle.std.proofs.lemmas.Option.{slice_get_within, get_or_from_slice_get, slice_get-get_or}
-use Rattle.writeable.specs.AnnotatedText.{Event, byte, opened, closed, bytes, opening, closing}
+use Rattle.writeable.specs.AnnotatedText.{Event, opened, closed, bytes, opening, closing}
 use Rattle.writeable.specs.PartName.{PartName}
 use Rattle.writeable.specs.HeldParts.{Held, HeldParts, OpenInterval, held_after, HoldsThen, NeedsRoom}
 use Rattle.writeable.specs.Taking.{HasBegun}

@@ -45,14 +45,23 @@ impl TextSink {
         ensures text { IfOk result (λ sink. sink.text ≡ []) }
         ensures refused { IfOk result (λ sink. sink.refused ≡ false) }
     {
-        Ok(TextSink {
-            text: String::with_capacity(alloc, capacity)?,
-            refused: false,
-        })
+        Ok(Self::from_string(String::with_capacity(alloc, capacity)?))
     }
 
-    // The text, moved out.
-    pub(crate) fn into_text(self) -> String
+    /// A sink that goes on behind what a text holds: behind `a,` it holds `a,b` after `write_char('b')`. The text is moved, and
+    /// keeps its room; it takes no memory.
+    pub fn from_string(text: String) -> Self
+        ensures text { result.text ≡ string_bytes text }
+        ensures refused { result.refused ≡ false }
+    {
+        TextSink {
+            text,
+            refused: false,
+        }
+    }
+
+    /// What the sink holds, moved out: `a,b` after `write_str("a,b")`. It takes no memory.
+    pub fn into_string(self) -> String
         ensures { string_bytes result ≡ self.text }
     {
         self.text

@@ -63,7 +63,7 @@ pub trait Writeable {
     {
         let mut sink = TextSink::with_capacity(alloc, self.writeable_length_hint().low)?;
         match self.write_text(&mut sink) {
-            Ok(()) => Ok(sink.into_text()),
+            Ok(()) => Ok(sink.into_string()),
             Err(_) => Err(AllocError),
         }
     }

@@ -30,6 +30,13 @@ fn pair_behind(alloc: Global, front: &str) -> Result<TextSink, Error> {
     Ok(sink)
 }
 
+// The text with that of the pair behind it, moved through a sink.
+fn moved_behind(text: String) -> Result<String, Error> {
+    let mut sink = TextSink::from_string(text);
+    Pair.write_text(&mut sink)?;
+    Ok(sink.into_string())
+}
+
 #[test]
 fn texts_of_a_sink(rt: HostRuntime) -> Result<(), Fail> {
     assert_eq!(rt; TextSink::new(rt.alloc()).text(), "");
@@ -37,6 +44,8 @@ fn texts_of_a_sink(rt: HostRuntime) -> Result<(), Fail> {
     assert_eq!(rt; sink.text(), "a,b٬");
     assert!(rt; !sink.has_refused());
     assert_eq!(rt; pair_behind(rt.alloc(), "x")?.text(), "xa,b");
+    let text = String::from_str(rt.alloc(), "x")?;
+    assert_eq!(rt; moved_behind(text)?.as_str(), "xa,b");
     Ok(())
 }
 
