@@ -42,11 +42,7 @@ impl Signed<UnsignedDecimal> {
         ensures value { IfOk result (λ v. IsWhole integer v) }
         ensures succeeds { IsOk result }
     {
-        let absolute = UnsignedDecimal::from_u8(alloc, integer)?;
-        Ok(Signed {
-            sign: Sign::None,
-            absolute,
-        })
+        Decimal::from_u16(alloc, u16::from(integer))
     }
 
     /// The whole number `integer`, without a sign: 250 is shown as `250`. It takes no memory.
@@ -54,11 +50,7 @@ impl Signed<UnsignedDecimal> {
         ensures value { IfOk result (λ v. IsWhole integer v) }
         ensures succeeds { IsOk result }
     {
-        let absolute = UnsignedDecimal::from_u16(alloc, integer)?;
-        Ok(Signed {
-            sign: Sign::None,
-            absolute,
-        })
+        Decimal::from_u32(alloc, u32::from(integer))
     }
 
     /// The whole number `integer`, without a sign: 250 is shown as `250`.
@@ -69,11 +61,7 @@ impl Signed<UnsignedDecimal> {
         ensures value { IfOk result (λ v. IsWhole integer v) }
         ensures room { OnErr result (IsLong integer) }
     {
-        let absolute = UnsignedDecimal::from_u32(alloc, integer)?;
-        Ok(Signed {
-            sign: Sign::None,
-            absolute,
-        })
+        Decimal::from_u64(alloc, u64::from(integer))
     }
 
     /// The whole number `integer`, without a sign: 250 is shown as `250`.
@@ -84,11 +72,7 @@ impl Signed<UnsignedDecimal> {
         ensures value { IfOk result (λ v. IsWhole integer v) }
         ensures room { OnErr result (IsLong integer) }
     {
-        let absolute = UnsignedDecimal::from_u64(alloc, integer)?;
-        Ok(Signed {
-            sign: Sign::None,
-            absolute,
-        })
+        Decimal::from_u128(alloc, u128::from(integer))
     }
 
     /// The whole number `integer`, without a sign: 250 is shown as `250`.
@@ -99,11 +83,7 @@ impl Signed<UnsignedDecimal> {
         ensures value { IfOk result (λ v. IsWhole integer v) }
         ensures room { OnErr result (IsLong integer) }
     {
-        let absolute = UnsignedDecimal::from_usize(alloc, integer)?;
-        Ok(Signed {
-            sign: Sign::None,
-            absolute,
-        })
+        Decimal::from_u64(alloc, integer as u64)
     }
 
     /// The whole number `integer`, without a sign: 250 is shown as `250`.

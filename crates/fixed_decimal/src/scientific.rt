@@ -119,8 +119,9 @@ impl ScientificDecimal {
     pub fn try_clone(&self) -> Result<ScientificDecimal, AllocError>
         ensures value { IfOk result (λ v. v ≡ self.now) }
         ensures room { OnErr result (IsLong self.now.significand.absolute.count ⊎ IsLong self.now.exponent.absolute.count) }
-        ensures number { IfOk result (λ v. IsScientific v) }
+        ensures number { IsScientific self.now }
     {
+        self.exponent.is_whole_number();
         let significand = self.significand.try_clone()?;
         let exponent = self.exponent.try_clone()?;
         Ok(ScientificDecimal::from(significand, exponent))

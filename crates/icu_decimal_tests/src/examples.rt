@@ -149,7 +149,7 @@ fn symbols_of_english(rt: HostRuntime) -> Result<(), Fail> {
     Ok(())
 }
 
-// A copy of the formatted number, the number without its sign, and `1,234` between the affixes of the sign.
+// A copy of the formatted number, the number without its sign, and a copy of `5` between the affixes of the sign.
 fn written<'x>(
     alloc: Global,
     formatter: &'x DecimalFormatter<'x>,
@@ -161,7 +161,7 @@ fn written<'x>(
     if copy != formatted {
         return Err(Fail::from("the copy is another"));
     }
-    let signed = FormattedSign::new(number.sign, formatter.symbols(), "1,234");
+    let signed = FormattedSign::new(number.sign, formatter.symbols(), "5").try_clone()?;
     Ok(format!(in alloc; "{copy} {} {signed} {is_equal}", formatted.value())?)
 }
 
@@ -222,15 +222,15 @@ fn expect_written(
 }
 
 const FORMATTED: [(&str, &str, &str); 7] = [
-    ("-1234.5", "-1234.5", "-1,234.5 1,234.5 -1,234 true"),
-    ("0.5", "0.5", "0.5 0.5 1,234 true"),
+    ("-1234.5", "-1234.5", "-1,234.5 1,234.5 -5 true"),
+    ("0.5", "0.5", "0.5 0.5 5 true"),
     // the ranges differ
-    ("0.5", "0.50", "0.5 0.5 1,234 false"),
-    ("0007", "7", "0,007 0,007 1,234 false"),
+    ("0.5", "0.50", "0.5 0.5 5 false"),
+    ("0007", "7", "0,007 0,007 5 false"),
     // the affixes differ
-    ("+5", "5", "+5 5 +1,234 false"),
-    ("-0", "0", "-0 0 -1,234 false"),
-    ("-5", "-6", "-5 5 -1,234 false"),
+    ("+5", "5", "+5 5 +5 false"),
+    ("-0", "0", "-0 0 -5 false"),
+    ("-5", "-6", "-5 5 -5 false"),
 ];
 
 #[test]

@@ -104,8 +104,8 @@ fn of_one<T: TagPart>(alloc: Global, call: Call<'_>, value: &mut T) -> Answer {
     }
 }
 
-// The lowest and the highest length that the hint tells, with `-` where it tells no highest.
-fn hint(alloc: Global, hint: LengthHint) -> Answer {
+/// The lowest and the highest length that the hint tells, with `-` where it tells no highest.
+pub fn hint(alloc: Global, hint: LengthHint) -> Answer {
     let high = match hint.high {
         Some(high) => debug(alloc, high),
         None => text(alloc, "-"),

@@ -3,14 +3,14 @@
 use crate::answers::{debug, filled, joined, shown_or_hyphen, two_texts, written_text};
 use crate::bytes::{number_of, unescaped};
 use crate::call::Call;
-use crate::part::hash_of;
+use crate::part::{hash_of, hint};
 use crate::unanswered::{Answer, Unanswered};
 use icu_locale_core::ParseError;
 use icu_locale_core::extensions::unicode::Attributes;
 use icu_locale_core::subtags::{SubtagOf, SubtagRule, Variant, Variants};
 use icu_locale_core_sets::{SubtagSet, pieces_length, write_pieces};
 use std::alloc::{AllocError, Global};
-use writeable::TextSink;
+use writeable::{TextSink, Writeable};
 
 /// The answer to a call of variants, which stand between spaces.
 pub fn variants(alloc: Global, call: Call<'_>) -> Answer {
@@ -108,6 +108,8 @@ fn of_set<R: SubtagRule<8>>(alloc: Global, call: Call<'_>, mut set: SubtagSet<R>
 fn at_set<R: SubtagRule<8>>(alloc: Global, call: Call<'_>, set: &mut SubtagSet<R>) -> Answer {
     match call.name {
         "new" | "try_from_str" => joined(alloc, set.as_slice()),
+        "to_string" => Ok(set.to_string(alloc)?),
+        "writeable_length_hint" => hint(alloc, set.writeable_length_hint()),
         "try_clone" => listed(alloc, set.try_clone()),
         "first" => shown_or_hyphen(alloc, set.first()),
         "get" => shown_or_hyphen(alloc, set.get(number_of(call.second)?)),

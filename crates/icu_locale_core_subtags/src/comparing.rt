@@ -39,7 +39,7 @@ impl<R: SubtagRule<N>, const N: usize> PartialEq for SubtagOf<R, N> {
     ghost laws = { on_per (λ s. s) (partial_equiv_from_equiv nat_list_eq_equiv) };
 
     fn eq(&self, other: &Self) -> bool {
-        self.as_str() == other.as_str()
+        self.text == other.text
     }
 }
 
@@ -68,7 +68,7 @@ impl<R: SubtagRule<N>, const N: usize> Ord for SubtagOf<R, N> {
     ghost matches_eq = { λ s t. texts_ties s t };
 
     fn cmp(&self, other: &Self) -> Ordering {
-        self.as_str().cmp(other.as_str())
+        self.text.cmp(&other.text)
     }
 }
 
@@ -78,6 +78,6 @@ impl<R: SubtagRule<N>, const N: usize> Hash for SubtagOf<R, N> {
     ghost respects_eq = { Prim.search (hashing, rules) };
 
     fn hash<H: Hasher>(&self, state: &mut H) {
-        self.as_str().hash(state);
+        self.text.hash(state);
     }
 }

@@ -21,6 +21,7 @@ fn digits_named(name: &str) -> Result<&'static str, RowError> {
     match name {
         "latn" => Ok("0123456789"),
         "beng" => Ok("০১২৩৪৫৬৭৮৯"),
+        "mathbold" => Ok("𝟎𝟏𝟐𝟑𝟒𝟓𝟔𝟕𝟖𝟗"),
         _ => Err(RowError::NotUnderstood),
     }
 }
