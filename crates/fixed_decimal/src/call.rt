@@ -5,41 +5,43 @@ use crate::sign::{Sign, SignDisplay};
 use fixed_decimal_unsigned::RoundingIncrement;
 use thiserror::Error;
 
-/// A call on a `Decimal` that changes it, with what is passed to it.
+/// A call on a `Decimal` that changes it, with what is passed to it: by `PadStart(4)`, `12` becomes `0012`.
 #[derive(Clone, Copy, Debug, Drop, PartialEq, Eq)]
 pub enum Call {
-    /// `multiply_pow10`: the power of ten.
+    /// `multiply_pow10`, with the power of ten: by 2, `12` becomes `1200`.
     MultiplyPow10(i16),
-    /// `trim_start`.
+    /// `trim_start`: `0012.30` becomes `12.30`.
     TrimStart,
-    /// `trim_end`.
+    /// `trim_end`: `0012.30` becomes `0012.3`.
     TrimEnd,
-    /// `trim_end_if_integer`.
+    /// `trim_end_if_integer`: `12.00` becomes `12`, and `12.50` stays.
     TrimEndIfInteger,
-    /// `pad_start`: the position.
+    /// `pad_start`, with the position: at 4, `12` becomes `0012`.
     PadStart(i16),
-    /// `pad_end`: the position.
+    /// `pad_end`, with the position: at -2, `1` becomes `1.00`.
     PadEnd(i16),
-    /// `set_max_position`: the position.
+    /// `set_max_position`, with the position: at 2, `1234.5` becomes `34.5`.
     SetMaxPosition(i16),
-    /// `round_with_mode_and_increment`: the position, the mode and the increment.
+    /// `round_with_mode_and_increment`, with the position, the mode and the increment: at 0 by
+    /// `Unsigned(HalfEven)` to `MultiplesOf25`, `37.5` becomes `50`.
     Round(i16, SignedRoundingMode, RoundingIncrement),
-    /// `set_sign`: the sign.
+    /// `set_sign`, with the sign: by `Positive`, `5` becomes `+5`.
     SetSign(Sign),
-    /// `apply_sign_display`: the choice of sign.
+    /// `apply_sign_display`, with the choice of sign: by `Always`, `1729` becomes `+1729`.
     ApplySignDisplay(SignDisplay),
 }
 
-/// Why a run of calls stopped.
+/// Why a run of calls stopped: `Parse` where the first text is `5.`.
 #[derive(Clone, Copy, Debug, Drop, PartialEq, Eq, Error)]
 pub enum CallsError {
-    /// The first text spells no decimal, or one beyond the limits; nothing was written. It is never for memory.
+    /// The first text spells no decimal, as `5.`, or one beyond the limits, as `1e32768`; nothing was written.
+    /// It is never for memory.
     #[error("The text was not read as a decimal")]
     Parse,
-    /// The sink refused; it has taken a beginning of the text.
+    /// The sink refused, as one with room for two bytes refuses `+12.34`; it has taken a beginning of the text.
     #[error("The sink refused")]
     Write,
-    /// Memory for digits was refused; nothing was written.
+    /// Memory for digits was refused, which `123456789` takes for its nine digits; nothing was written.
     #[error("Memory for the digits was refused")]
     Memory,
 }

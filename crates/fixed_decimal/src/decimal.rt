@@ -10,7 +10,8 @@ use crate::signed::Signed;
 use fixed_decimal_unsigned::{ParseError, UnsignedDecimal};
 use std::alloc::{AllocError, Global};
 
-/// A decimal number with a sign, a visible range of magnitudes, and digits.
+/// A decimal number with a sign, a visible range of magnitudes, and digits: `-12.30` is -12.3, shown from
+/// magnitude 1 down to -2.
 pub type Decimal = Signed<UnsignedDecimal>;
 
 // The sign that a text begins with, and the rest.
@@ -82,7 +83,8 @@ impl Signed<UnsignedDecimal> {
         }
     }
 
-    /// The number that a text spells, and the refusals, as `try_from_utf8` has them of its bytes.
+    /// The number that a text spells, and the refusals, as `try_from_utf8` has them of its bytes: `-12.30` is
+    /// -12.3, shown from magnitude 1 down to -2, and `5.` is `Syntax`.
     pub fn try_from_str(alloc: Global, text: &str) -> Result<Decimal, ParseError>
         ensures syntax { IsErrOf result ParseError.Syntax → IsNoSignedText text.now }
         ensures limit { IsErrOf result ParseError.Limit → IsBeyondSigned text.now }

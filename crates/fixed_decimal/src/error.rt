@@ -3,7 +3,8 @@ ghost use Rattle.fixed_decimal.specs.RefusalNumbers.{limit_error_number};
 
 use thiserror::Error;
 
-/// A number does not fit the type that it was to become: it shows a digit behind the point.
+/// A number does not fit the type that it was to become: it shows a digit behind the point, as `1.0` does,
+/// which becomes no `FixedInteger`.
 #[derive(Clone, Copy, Debug, Drop, PartialEq, Eq, Error)]
 #[error("Magnitude or number of digits exceeded")]
 pub struct LimitError;

@@ -75,7 +75,8 @@ impl FixedInteger {
         }
     }
 
-    /// The whole number that a text spells, and the refusals, as `try_from_utf8` has them of its bytes.
+    /// The whole number that a text spells, and the refusals, as `try_from_utf8` has them of its bytes: `1e1`
+    /// is `10`, and `1.0` is `Limit`.
     pub fn try_from_str(alloc: Global, text: &str) -> Result<FixedInteger, ParseError>
         ensures syntax { IsErrOf result ParseError.Syntax → IsNoSignedText text.now }
         ensures limit { IsErrOf result ParseError.Limit → IsBeyondInteger text.now }

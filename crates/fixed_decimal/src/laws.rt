@@ -8,69 +8,78 @@ pub use fixed_decimal_unsigned::laws::{
     texts_read_once,
 };
 
-/// A text spells at most one decimal, and is not both within the limits and beyond them.
+/// A text spells at most one decimal, and is not both within the limits and beyond them: `-12.30` spells -12.3
+/// alone, shown down to magnitude -2.
 pub fn decimal_texts_read_once()
     ensures { DecimalTextsReadOnce }
 {}
 
-/// A text spells at most one whole number, and is not both within the limits and beyond them.
+/// A text spells at most one whole number, and is not both within the limits and beyond them: `1e1` spells 10
+/// alone.
 pub fn integer_texts_read_once()
     ensures { IntegerTextsReadOnce }
 {}
 
-/// A text spells at most one compact number, and is not both within the limits and beyond them.
+/// A text spells at most one compact number, and is not both within the limits and beyond them: `1.20c6` spells
+/// 1.20 with the exponent 6 alone.
 pub fn compact_texts_read_once()
     ensures { CompactTextsReadOnce }
 {}
 
-/// A text spells at most one scientific number.
+/// A text spells at most one scientific number: `1.2e-06` spells 1.2 with the exponent -06 alone.
 pub fn scientific_texts_read_once()
     ensures { ScientificTextsReadOnce }
 {}
 
-/// The printed text of a decimal reads back as it; decimals with one printed text are one.
+/// The printed text of a decimal reads back as it; decimals with one printed text are one. `-012.30` is read as
+/// the decimal that is printed `-012.30`.
 pub fn printed_decimals_read_back()
     ensures { PrintedDecimalsReadBack }
 {}
 
-/// The printed text of a whole number reads back as it; whole numbers with one printed text are one.
+/// The printed text of a whole number reads back as it; whole numbers with one printed text are one. `-007` is
+/// read as the one that is printed `-007`.
 pub fn printed_integers_read_back()
     ensures { PrintedIntegersReadBack }
 {}
 
 /// The printed text of a compact number reads back as it; compact numbers with one printed text are one.
+/// `1.20c6` is read as the one that is printed `1.20c6`.
 pub fn printed_compacts_read_back()
     ensures { PrintedCompactsReadBack }
 {}
 
 /// The printed text of a scientific number reads back as it; scientific numbers with one printed text are one.
+/// `1.2e-06` is read as the one that is printed `1.2e-06`.
 pub fn printed_scientifics_read_back()
     ensures { PrintedScientificsReadBack }
 {}
 
-/// Decimals are equal where their printed texts are, and nowhere else. So are whole numbers, which have this equality too.
+/// Decimals are equal where their printed texts are, and nowhere else: `0` and `-0` are two. So are whole
+/// numbers, which have this equality too.
 pub fn decimal_equality_is_that_of_texts()
     ensures { DecimalEqualityIsThatOfTexts }
 {}
 
-/// Compact numbers are equal where their printed texts are, and nowhere else.
+/// Compact numbers are equal where their printed texts are, and nowhere else: `1.2c6` and `1.20c6` are two.
 pub fn compact_equality_is_that_of_texts()
     ensures { CompactEqualityIsThatOfTexts }
 {}
 
-/// Scientific numbers are equal where their printed texts are, and nowhere else.
+/// Scientific numbers are equal where their printed texts are, and nowhere else: `1e3` and `10e2` are two.
 pub fn scientific_equality_is_that_of_texts()
     ensures { ScientificEqualityIsThatOfTexts }
 {}
 
-/// Rounding goes by order: `Ceil` takes the least multiple that is not smaller than the signed
-/// number, `Floor` the greatest that is not larger, `HalfCeil` and `HalfFloor` the nearest, with a
-/// tie upwards and downwards.
+/// Rounding goes by order: `Ceil` takes the least multiple that is not smaller than the signed number, `Floor`
+/// the greatest that is not larger, `HalfCeil` and `HalfFloor` the nearest, with a tie upwards and downwards.
+/// At 0, `-7.3` becomes `-7` by `Ceil` and `-8` by `Floor`.
 pub fn signed_modes_go_by_order()
     ensures { SignedModesGoByOrder }
 {}
 
-/// A text and a list of calls lead to one decimal, so `run_calls` writes one text.
+/// A text and a list of calls lead to one decimal, so `run_calls` writes one text: of `1729` with
+/// `ApplySignDisplay(Always)` it is `+1729`.
 pub fn runs_have_one_end()
     ensures { RunsHaveOneEnd }
 {}

@@ -4,19 +4,19 @@ ghost use Rattle.fixed_decimal.specs.SignedRounding.{size_mode};
 use crate::sign::Sign;
 use fixed_decimal_unsigned::UnsignedRoundingMode;
 
-/// Which multiple a rounding takes, by size or by order: the modes of these names in ECMA-402's
-/// `roundingMode`.
+/// Which multiple a rounding takes, by size or by order: at 0 by `Ceil`, `-7.3` becomes `-7`. The modes have
+/// their names from ECMA-402's `roundingMode`.
 #[derive(Clone, Copy, Debug, Drop, PartialEq, Eq)]
 pub enum SignedRoundingMode {
-    /// By size alone, whatever the sign.
+    /// By size alone, whatever the sign: at 0 by `Unsigned(Expand)`, `-7.3` becomes `-8`.
     Unsigned(UnsignedRoundingMode),
-    /// The next multiple that is not smaller.
+    /// The next multiple that is not smaller: at 0, `-7.3` becomes `-7`, and `7.3` becomes `8`.
     Ceil,
-    /// The next multiple that is not larger.
+    /// The next multiple that is not larger: at 0, `-7.3` becomes `-8`, and `7.3` becomes `7`.
     Floor,
-    /// The nearest multiple; a tie goes upwards.
+    /// The nearest multiple; a tie goes upwards: at 0, `2.5` becomes `3`, and `-2.5` becomes `-2`.
     HalfCeil,
-    /// The nearest multiple; a tie goes downwards.
+    /// The nearest multiple; a tie goes downwards: at 0, `2.5` becomes `2`, and `-2.5` becomes `-3`.
     HalfFloor,
 }
 

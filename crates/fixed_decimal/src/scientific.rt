@@ -102,7 +102,8 @@ impl ScientificDecimal {
         }
     }
 
-    /// The number that a text spells, and the refusals, as `try_from_utf8` has them of its bytes.
+    /// The number that a text spells, and the refusals, as `try_from_utf8` has them of its bytes: 1.2 and -6 of
+    /// `1.2e-6`, and `1.2` is `Syntax`.
     pub fn try_from_str(alloc: Global, text: &str) -> Result<ScientificDecimal, ParseError>
         ensures syntax { IsErrOf result ParseError.Syntax → IsNoScientificText text.now }
         ensures limit { ¬ (IsErrOf result ParseError.Limit) }

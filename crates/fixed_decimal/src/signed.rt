@@ -9,9 +9,9 @@ use std::ops::{Deref, DerefMut};
 /// A value with a sign: `-12.3` is `Negative` and the unsigned `12.3`.
 #[derive(Debug, Drop)]
 pub struct Signed<T> {
-    /// The sign as it is written; zero may have one.
+    /// The sign as it is written; zero may have one: `Negative` of `-0`.
     pub sign: Sign,
-    /// The value without its sign.
+    /// The value without its sign: `12.3` of `-12.3`.
     pub absolute: T,
 }
 

@@ -1,18 +1,20 @@
 ghost use Rattle.std.specs.Prelude.{◌≡◌};
 ghost use Rattle.fixed_decimal_unsigned.specs.Rounding.{increment_number};
 
-/// Which multiple a rounding takes, by size alone: the modes of these names in ECMA-402's `roundingMode`.
+/// Which multiple a rounding takes, by size alone: at 0 by `Trunc`, `7.8` becomes `7`. The modes have their
+/// names from ECMA-402's `roundingMode`.
 #[derive(Clone, Copy, Debug, Drop, PartialEq, Eq)]
 pub enum UnsignedRoundingMode {
-    /// The next multiple away from zero.
+    /// The next multiple away from zero: at 0, `7.3` becomes `8`.
     Expand,
-    /// The next multiple towards zero.
+    /// The next multiple towards zero: at 0, `7.8` becomes `7`.
     Trunc,
-    /// The nearest multiple; a tie goes away from zero.
+    /// The nearest multiple; a tie goes away from zero: at 0, `2.5` becomes `3`.
     HalfExpand,
-    /// The nearest multiple; a tie goes towards zero.
+    /// The nearest multiple; a tie goes towards zero: at 0, `7.5` becomes `7`.
     HalfTrunc,
-    /// The nearest multiple; a tie goes to the even count of the unit.
+    /// The nearest multiple; a tie goes to the even count of the unit: at 0, `2.5` becomes `2`, and `3.5`
+    /// becomes `4`.
     HalfEven,
 }
 

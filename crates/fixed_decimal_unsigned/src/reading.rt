@@ -340,7 +340,8 @@ impl UnsignedDecimal {
         number_from(alloc, &parts)
     }
 
-    /// The number that a text spells, and the refusals, as `try_from_utf8` has them of its bytes.
+    /// The number that a text spells, and the refusals, as `try_from_utf8` has them of its bytes: `12.30` is
+    /// 12.3, shown from magnitude 1 down to -2, and `5.` is `Syntax`.
     pub fn try_from_str(alloc: Global, text: &str) -> Result<UnsignedDecimal, ParseError>
         ensures syntax { IsErrOf result ParseError.Syntax → IsNoText text.now }
         ensures limit { IsErrOf result ParseError.Limit → IsBeyond text.now }

@@ -104,7 +104,8 @@ impl<'l> ShownDigits<'l> {
     }
 }
 
-/// The digits in their order; after the last one `None`, for good.
+/// The digits in their order; after the last one `None`, for good. Behind the point of `012.30` they are 3, 0,
+/// `None`.
 impl<'l> Iterator for ShownDigits<'l> {
     type Item = u8;
 

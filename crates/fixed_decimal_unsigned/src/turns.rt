@@ -3,7 +3,8 @@ ghost use Rattle.std.specs.Prelude.{◌≡◌, ◌+◌, ◌<◌};
 use std::marker::Model;
 use std::sync::ledger::{Blank, Book, Ledger, Share};
 
-/// How many turns the loops over digits have made. It takes no bytes, and only the loops change it.
+/// How many turns the loops over digits have made. It takes no bytes, and only the loops change it: rounding
+/// `99.999` at 4 by `Expand` adds at most seven.
 ///
 /// Proofs count with it, so nothing can be read from it when a program runs.
 #[derive(Drop)]
@@ -23,7 +24,7 @@ impl<L: Ledger> Model for Turns<L> {
 }
 
 impl<L: Ledger> Turns<L> {
-    /// No turns yet, counted in the ledger of a blank. It takes no memory.
+    /// No turns yet, counted in the ledger of a blank: the count is 0. It takes no memory.
     pub fn new(blank: Blank) -> Turns<L>
         requires name { blank.name ≡ L.name }
         requires parts { blank.parts ≡ L.parts }

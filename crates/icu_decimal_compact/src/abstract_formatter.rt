@@ -45,7 +45,8 @@ pub trait AbstractFormatter: private::Sealed {
     // the plural operands of what is shown for a number
     ghost plural_operands: { Self → Number → Operands };
 
-    /// Whether the number can be written: true by a plain formatter, and by a compact one where `can_show` is.
+    /// Whether the number can be written: true by a plain formatter, and by a compact one where `can_show` is. In English both
+    /// write 1650, and the compact one does not write 32,768 nines.
     ///
     /// It is the condition of `write_unsigned` and `plural_operands`. It takes no memory.
     fn can_write(&self, value: &UnsignedDecimal) -> bool

@@ -30,6 +30,8 @@ use std::alloc::{AllocError, Global};
 use writeable::Writeable;
 
 /// A formatter of compact decimals: what a plain one has, plural rules, and a table of patterns. It borrows its tables.
+///
+/// That of `en` in short form writes -1172700 as `-1.2M`. After ICU4X's `CompactDecimalFormatter`.
 #[derive(Clone, Copy, Debug)]
 pub struct CompactDecimalFormatter<'b> {
     pub(crate) plain: DecimalFormatter<'b>,

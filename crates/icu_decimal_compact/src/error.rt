@@ -7,13 +7,13 @@ ghost use Rattle.icu_decimal_compact.specs.WriteFaults.{write_fault_number};
 use std::alloc::AllocError;
 use thiserror::Error;
 
-/// Why an abstract formatter does not write a number.
+/// Why an abstract formatter does not write a number: `Sink` where `1.6K` is written to a sink with room for two bytes.
 #[derive(Clone, Copy, Debug, Drop, PartialEq, Eq, Error)]
 pub enum WriteFault {
-    /// The sink refused; it has taken a beginning.
+    /// The sink refused, as one with room for two bytes refuses `1.6K`; it has taken a beginning.
     #[error("the sink refused")]
     Sink,
-    /// A request for memory was refused: the number has more than eight digits. Nothing was written.
+    /// A request for memory was refused: the number has more than eight digits, as 123456789. Nothing was written.
     #[error("out of memory")]
     Memory,
 }

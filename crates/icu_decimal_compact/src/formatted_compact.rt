@@ -111,7 +111,7 @@ impl<'l> Writeable for FormattedUnsignedCompactDecimal<'l> {
     }
 }
 
-/// The same text.
+/// The same text: `1.6K`.
 impl<'l> fmt::Display for FormattedUnsignedCompactDecimal<'l> {
     ghost use Rattle.std.specs.Prelude.{Some};
     ghost use Rattle.icu_decimal_compact.specs.CompactText.{compact_text};

@@ -9,8 +9,9 @@ use crate::abstract_formatter::AbstractFormatter;
 use crate::compact_formatter::CompactDecimalFormatter;
 use icu_decimal_text::DecimalFormatter;
 
-/// The affixes that `write_sign` writes, round what `write_unsigned` writes for a number without its sign, are what `format` writes
-/// for the number with it, and their text is that of `format_to_string`.
+/// The affixes that `write_sign` writes, round what `write_unsigned` writes for a number without its sign, are what `format`
+/// writes for the number with it, and their text is that of `format_to_string`: of -999500 in English a compact formatter
+/// writes `-` before `1M`, which is `-1M`.
 pub fn sign_round_unsigned()
     ensures plain { WritesTogether ⟦<DecimalFormatter<'static> as AbstractFormatter>⟧.unsigned_events ⟦<DecimalFormatter<'static> as AbstractFormatter>⟧.affixes (λ f d. decimal_events (formatted (tables_of f) d)) }
     ensures plain_text { WritesText ⟦<DecimalFormatter<'static> as AbstractFormatter>⟧.unsigned_events ⟦<DecimalFormatter<'static> as AbstractFormatter>⟧.affixes (λ f d. decimal_text (tables_of f) d) }

@@ -121,7 +121,8 @@ impl CompactPatterns {
         }
     }
 
-    /// The entries, from the least type up: types rise strictly, and each exponent is 0 to 15 below its type. It takes no memory.
+    /// The entries, from the least type up, in English those of the types 3 and 6: types rise strictly, and each exponent is 0
+    /// to 15 below its type. It takes no memory.
     pub fn entries(&self) -> &[CompactEntry]
         ensures value { result.now ≡ self.now.entries }
         ensures rising { Rises 0 result.now }
@@ -138,7 +139,7 @@ impl CompactPatterns {
     }
 }
 
-/// Equal where the same entries have equal patterns.
+/// Equal where the same entries have equal patterns: a table of `K` at type 3 is not one of `K` at type 4.
 impl PartialEq for CompactPatterns {
     ghost eq = { same_table };
 

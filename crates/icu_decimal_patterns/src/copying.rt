@@ -21,7 +21,8 @@ fn copied(slot: &Option<Pattern>) -> Result<Option<Pattern>, AllocError>
 }
 
 impl PluralElements<Pattern> {
-    /// Equal patterns in the same slots. `AllocError` is answered for memory alone.
+    /// Equal patterns in the same slots: of `{0}K` for `one` and `{0}Ks` for `other` these once more. `AllocError` is answered
+    /// for memory alone.
     pub fn try_clone(&self) -> Result<Self, AllocError>
         ensures { IfOk result (λ copy. copy ≡ self.now) }
     {
@@ -62,7 +63,7 @@ pub(crate) fn all_copied(
 }
 
 impl CompactPatterns {
-    /// An equal table. `AllocError` is answered for memory alone.
+    /// An equal table: of that with `K` at type 3 another with `K` at type 3. `AllocError` is answered for memory alone.
     pub fn try_clone(&self) -> Result<Self, AllocError>
         ensures { IfOk result (λ copy. copy ≡ self.now) }
     {

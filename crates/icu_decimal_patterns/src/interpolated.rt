@@ -28,7 +28,8 @@ impl<'l, T> Model for Interpolated<'l, T> {
 }
 
 impl<'l, T> Interpolated<'l, T> {
-    /// A value in a pattern, which is borrowed; without one the value alone. It takes no memory.
+    /// A value in a pattern, which is borrowed; without one the value alone. `1.2` in `{0}K` is written `1.2K`, and without a
+    /// pattern `1.2`. It takes no memory.
     pub fn new(pattern: Option<&'l Pattern>, value: T) -> Self
         ensures { result ≡ record { pattern = option_map (λ p. p.now) pattern.entry; value = value } }
     {
@@ -42,7 +43,7 @@ impl<'l, T> Interpolated<'l, T> {
         &self.value
     }
 
-    /// Another value in the same pattern. It takes no memory.
+    /// Another value in the same pattern: of `1.2K` with `3` it is `3K`. It takes no memory.
     pub fn with_value<U>(&self, value: U) -> Interpolated<'l, U>
         ensures { result ≡ record { pattern = self.now.pattern; value = value } }
     {
@@ -82,7 +83,7 @@ impl<'l, T: Writeable> Writeable for Interpolated<'l, T> {
     }
 }
 
-/// The same text, without its parts.
+/// The same text, without its parts: `1.2K`.
 impl<'l, T: Writeable> fmt::Display for Interpolated<'l, T> {
     ghost use Rattle.std.specs.Prelude.{Some};
     ghost use Rattle.writeable.specs.AnnotatedText.{text_of};
@@ -106,7 +107,7 @@ fn have_same_pattern(a: Option<&Pattern>, b: Option<&Pattern>) -> bool
     }
 }
 
-/// Equal where the values are, and the patterns.
+/// Equal where the values are, and the patterns: `1.2K` equals `1.2K`, and not `1.2M`.
 impl<'l, T: PartialEq> PartialEq for Interpolated<'l, T> {
     ghost use Rattle.std.specs.Prelude.{◌&&◌};
     ghost use Rattle.std.specs.Option.{option_eq};

@@ -72,7 +72,7 @@ impl Pattern {
         }
     }
 
-    /// An equal pattern. `AllocError` is answered for memory alone.
+    /// An equal pattern: of `{0}K` another `{0}K`. `AllocError` is answered for memory alone.
     pub fn try_clone(&self) -> Result<Self, AllocError>
         ensures { IfOk result (λ copy. copy ≡ self.now) }
     {

@@ -2,7 +2,7 @@
 
 ghost use Rattle.std.specs.Prelude.{◌≡◌};
 
-/// A plural category of UTS 35. Which numbers it has depends on the language.
+/// A plural category of UTS 35: `One` of `1` in English. Which numbers it has depends on the language.
 #[derive(Clone, Copy, Debug, PartialEq, Eq)]
 pub enum PluralCategory {
     /// `zero`: 0 in Arabic.
@@ -15,7 +15,7 @@ pub enum PluralCategory {
     Few,
     /// `many`: 5 in Polish.
     Many,
-    /// `other`: what no other category has.
+    /// `other`: what no other category has, as 2 in English.
     Other,
 }
 

@@ -133,8 +133,8 @@ impl PluralOperands {
         }
     }
 
-    /// Whether this is the whole number given, shown without fraction digits and without an exponent: 1 is it of `1`, but neither of
-    /// `1.0` nor of `1` with the exponent 3. It takes no memory.
+    /// Whether this is the whole number given, shown without fraction digits and without an exponent: 1 is it of `1` and of
+    /// `01`, but neither of `1.0` nor of `1` with the exponent 3. Only the last 18 integer digits count. It takes no memory.
     pub fn is_exactly(&self, number: u64) -> bool
         ensures { result ≡ is_exactly number self.now }
     {

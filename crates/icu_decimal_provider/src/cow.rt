@@ -9,9 +9,9 @@ use std::ops::Deref;
 /// A value that is borrowed or owned, and read by `*` either way: of `Borrowed(&5)` and of `Owned(5)` it is `5`.
 #[derive(Debug, Drop)]
 pub enum Cow<'a, T> {
-    /// A value of somebody else's.
+    /// A value of somebody else's, as in `Borrowed(&5)`.
     Borrowed(&'a T),
-    /// A value of its own.
+    /// A value of its own, as in `Owned(5)`.
     Owned(T),
 }
 

@@ -5,7 +5,7 @@ ghost use Rattle.icu_decimal_provider.specs.DataErrors.{number_of};
 
 use thiserror::Error;
 
-/// Why a provider gives no table, or why a table is none.
+/// Why a provider gives no table, or why a table is none: `IdentifierNotFound` of `xx` with the sample book.
 ///
 /// After ICU4X's `DataError`, whose kinds these are as far as a formatter meets them.
 #[derive(Clone, Copy, Debug, Drop, PartialEq, Eq, Error)]
@@ -13,7 +13,7 @@ pub enum DataError {
     /// No table stands under the identifier: with the sample book, symbols of `xx`.
     #[error("identifier not found")]
     IdentifierNotFound,
-    /// No identifier was asked for.
+    /// No identifier was asked for: the answer of `load_with_fallback` to an empty list.
     #[error("invalid request")]
     InvalidRequest,
     /// The exponents of compact patterns fall: 3 and then 2.
@@ -25,10 +25,10 @@ pub enum DataError {
     /// The exponent of a compact pattern is above its type: 4 at type 3.
     #[error("exponent above its type")]
     AboveType,
-    /// A request for memory was refused.
+    /// A request for memory was refused, as one of `PluralRules::new` for the condition `i = 1 and v = 0`.
     #[error("out of memory")]
     Memory,
-    /// Any other cause, which the provider knows.
+    /// Any other cause: one that the provider knows, or plural rules with `i is 1`, which is no condition.
     #[error("custom")]
     Custom,
 }

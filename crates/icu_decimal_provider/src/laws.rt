@@ -10,19 +10,21 @@ use crate::provider::{DataIdentifier, DataMarker, DecimalSymbolStrsBuilder, Deci
 use std::hash::Hash;
 
 /// Where a provider says of each identifier that its table is there or not found, and nothing else, the first that is there is
-/// taken, and not found is answered where none is.
+/// taken, and not found is answered where none is. Asked for `en` with `wxyz` and then for `en` alone, the sample book gives
+/// the symbols of `en`.
 pub fn first_is_found<M: DataMarker>()
     ensures { FirstIsFound M.DataStruct }
 {}
 
-/// Two identifiers are `==` exactly where they are one value.
+/// Two identifiers are `==` exactly where they are one value: true of `en` and `en`, false of `en` and of `en` with `thai`.
 pub fn same_identifiers(one: &DataIdentifier, other: &DataIdentifier) -> bool
     ensures { IsTrue result ↔ (one.now ≡ other.now) }
 {
     one == other
 }
 
-/// Two preferences are `==` exactly where they are one value; then they ask for the same tables and are hashed alike.
+/// Two preferences are `==` exactly where they are one value; then they ask for the same tables and are hashed alike. True of
+/// those of `EN-u-NU-thai` and `en-u-nu-thai`, false of those of `en-u-nu-thai` and `en`.
 pub fn same_preferences(
     one: &DecimalFormatterPreferences,
     other: &DecimalFormatterPreferences,
@@ -35,7 +37,8 @@ pub fn same_preferences(
     one == other
 }
 
-/// The same for compact numbers.
+/// Two preferences for compact numbers are `==` exactly where they are one value: true of those of `EN-u-NU-thai` and
+/// `en-u-nu-thai`, false of those of `en-u-nu-thai` and `en`.
 pub fn same_compact_preferences(
     one: &CompactDecimalFormatterPreferences,
     other: &CompactDecimalFormatterPreferences,
@@ -45,14 +48,16 @@ pub fn same_compact_preferences(
     one == other
 }
 
-/// Two tables of symbols are `==` exactly where they are one value.
+/// Two tables of symbols are `==` exactly where they are one value: true of those of English and a copy of them, false of those
+/// of English and of the same with `;` for `,`.
 pub fn same_symbols(one: &DecimalSymbols, other: &DecimalSymbols) -> bool
     ensures { IsTrue result ↔ (one.now ≡ other.now) }
 {
     one == other
 }
 
-/// Two builders of texts are `==` exactly where they are one value.
+/// Two builders of texts are `==` exactly where they are one value: true of two with `-`, `+`, `.`, `,` and `latn`, false where
+/// one has `;` for `,`.
 pub fn same_builders(one: &DecimalSymbolStrsBuilder, other: &DecimalSymbolStrsBuilder) -> bool
     ensures { IsTrue result ↔ (one.now ≡ other.now) }
 {

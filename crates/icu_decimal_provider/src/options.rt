@@ -3,7 +3,8 @@
 ghost use Rattle.std.specs.Prelude.{◌≡◌, Some};
 ghost use Rattle.icu_decimal_provider.specs.Options.{strategy_in};
 
-/// When grouping separators are written. The names are ICU4X's; source: UTS 35, part 3 (numbers), grouping of number patterns.
+/// When grouping separators are written: with `Never`, 1000 is `1000`. The names are ICU4X's; source: UTS 35, part 3 (numbers),
+/// grouping of number patterns.
 #[derive(Clone, Copy, Debug, Default, PartialEq, Eq, Hash)]
 pub enum GroupingStrategy {
     /// Where the sizes of the locale place them: `1,234,567`.

@@ -7,16 +7,17 @@ ghost use Rattle.icu_decimal_reading.specs.ReadErrors.{read_error_number};
 use std::alloc::AllocError;
 use thiserror::Error;
 
-/// Why a text is not read as a decimal.
+/// Why a text is not read as a decimal: `NotWritten` of `98,7654` in English.
 #[derive(Clone, Copy, Debug, Drop, PartialEq, Eq, Error)]
 pub enum ReadError {
-    /// The formatter's symbols do not tell numbers apart: no text is read under them.
+    /// The formatter's symbols do not tell numbers apart, as with `-` for a minus sign and for a plus sign: no text is read
+    /// under them.
     #[error("unreadable symbols")]
     Unreadable,
     /// The formatter writes no decimal so: `98,7654` in English.
     #[error("not written so")]
     NotWritten,
-    /// A request for memory was refused.
+    /// A request for memory was refused, which the nine digits of `123,456,789` take.
     #[error("out of memory")]
     Memory,
 }

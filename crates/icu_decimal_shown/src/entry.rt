@@ -4,8 +4,8 @@
 /// for, 0 to 255.
 #[derive(Clone, Copy, Debug, PartialEq, Eq)]
 pub struct CompactEntry {
-    /// The least magnitude that the entry is for.
+    /// The least magnitude that the entry is for: 3 of `K`, which 1000 has.
     pub log10_type: u8,
-    /// The power of ten that its patterns stand for.
+    /// The power of ten that its patterns stand for: 3 of `K`.
     pub exponent: u8,
 }

@@ -9,11 +9,11 @@ use thiserror::Error;
 #[derive(Clone, Copy, Debug, Drop, PartialEq, Eq, Error)]
 #[error("Expected compact exponent {expected} for 10^{magnitude}, got {actual}")]
 pub struct CompactExponentError {
-    /// The exponent asked for.
+    /// The exponent asked for: 5 of `1.2c5`.
     pub actual: u8,
-    /// The exponent of the entry for the magnitude, and 0 where there is none.
+    /// The exponent of the entry for the magnitude, and 0 where there is none: 3 for the magnitude 5 under `K` of exponent 3.
     pub expected: u8,
-    /// The magnitude of the significand and the exponent together.
+    /// The magnitude of the significand and the exponent together: 5 of `1.2c5`.
     pub magnitude: i16,
 }
 

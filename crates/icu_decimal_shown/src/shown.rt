@@ -21,11 +21,11 @@ use std::marker::Model;
 /// the index of the entry whose patterns are taken.
 #[derive(Debug, Drop)]
 pub struct Shown {
-    /// The number that stands in the pattern.
+    /// The number that stands in the pattern: 1.6 of 1650 under `K`.
     pub significand: UnsignedDecimal,
-    /// The power of ten that the pattern stands for.
+    /// The power of ten that the pattern stands for: 3 of 1650 under `K`.
     pub exponent: u8,
-    /// The index of the entry, or `None` where the number is shown without a pattern.
+    /// The index of the entry, as `Some(0)` of 1650 under `K`, or `None` where the number is shown without a pattern, as 843.
     pub entry: Option<usize>,
 }
 

@@ -54,7 +54,8 @@ impl<'l> FormattedUnsignedDecimal<'l> {
     }
 }
 
-/// The same value once more, with the same loans. It takes no memory, and is never refused.
+/// The same value once more, with the same loans: of `1,234.5` another that writes `1,234.5`. It takes no memory, and is never
+/// refused.
 impl<'l> Clone for FormattedUnsignedDecimal<'l> {
     ghost use Rattle.std.specs.Prelude.{◌≡◌, ⊤};
 

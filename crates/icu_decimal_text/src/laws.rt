@@ -8,14 +8,16 @@ ghost use Rattle.icu_decimal_text.specs.TextLaws.{DecimalIsText, FindTheSameTabl
 use icu_decimal_provider::laws::same_preferences;
 use icu_decimal_provider::preferences::DecimalFormatterPreferences;
 
-/// A law: digits in several groups are cut from the right, and the groups joined are the digits
-/// with a separator after each one at which `grouper::check` says so.
+/// A law: digits in several groups are cut from the right, and the groups joined are the digits with a separator after each one
+/// at which `grouper::check` says so. With the sizes 3, 2, 1 the digits `1234567` are the groups `12`, `34`, `567`, and joined
+/// `12,34,567`.
 pub fn groups_law()
     ensures sizes { GroupsAreCut }
     ensures separated { GroupsAreSeparated }
 {}
 
-/// A law: the text that the events of a number write is the text of its definition, with a sign and without.
+/// A law: the text that the events of a number write is the text of its definition, with a sign and without: of -1234.5 in
+/// English `-1,234.5`, and of 1234.5 `1,234.5`.
 pub fn text_law()
     ensures unsigned { UnsignedIsText }
     ensures decimal { DecimalIsText }
@@ -30,7 +32,8 @@ pub fn parts_law()
     ensures separators { SeparatorsStandBetween }
 {}
 
-/// A law: true exactly of equal preferences, which find the same tables of every provider, with the same options.
+/// A law: true exactly of equal preferences, which find the same tables of every provider, with the same options. It is true of
+/// those of `EN-u-NU-thai` and `en-u-nu-thai`, false of those of `en-u-nu-thai` and `en`.
 pub fn same_tables(one: &DecimalFormatterPreferences, other: &DecimalFormatterPreferences) -> bool
     ensures same { IsTrue result ↔ (one.now ≡ other.now) }
     ensures tables { IsTrue result → FindTheSameTables one.now other.now }

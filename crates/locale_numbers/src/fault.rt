@@ -5,20 +5,21 @@ use locale_numbers_engine::RunError;
 use std::error::Error;
 use std::fmt;
 
-/// Why the program ended before it had answered all lines.
+/// Why the program ended before it had answered all lines: `Usage` of the words `b` and `0`.
 ///
 /// `{}` writes the line that the program puts on standard error: `fault: usage`, `fault: file`,
 /// `fault: book WORD` with the word of the refusal, `fault: read`, `fault: write` or
 /// `fault: memory`.
 #[derive(Clone, Copy, Debug, PartialEq, Eq)]
 pub enum ProgramFault {
-    /// The words that the program was started with are not known.
+    /// The words that the program was started with are not known, as three words.
     Usage,
-    /// The file of the book can't be opened, or not be read to its end.
+    /// The file of the book can't be opened, as `/no/such/book.json`, or not be read to its end.
     File,
-    /// The book is refused, or memory was wanting while it was read.
+    /// The book is refused, as the text `[1` by `BookError::Json`, or memory was wanting while it was read.
     Book(BookError),
-    /// The reader or the writer failed, or memory was wanting while lines were answered.
+    /// The reader or the writer failed, as `RunError::Read` says of the reader, or memory was wanting while lines were
+    /// answered.
     Run(RunError),
 }
 

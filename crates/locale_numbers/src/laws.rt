@@ -11,39 +11,43 @@ pub use locale_numbers_engine::laws::{
     each_input_splits, lines_are_the_pieces, outputs_join, whole_lines_are_the_pieces,
 };
 
-/// Each text spells one number, or one beyond the limits, or none: what the relations of
-/// `fixed_decimal` say of a text is what the answer to a line goes by.
+/// Each text spells one number, or one beyond the limits, or none: what the relations of `fixed_decimal` say of a text is what
+/// the answer to a line goes by. `-12.30` spells -12.30, `1e32768` one beyond the limits, and `5.` none.
 pub fn texts_have_one_reading()
     ensures { HasOneReading }
 {}
 
-/// The same of texts of compact numbers, which exact forms are asked with.
+/// The same of texts of compact numbers, which exact forms are asked with: `-1.20c6` spells -1.20 with the exponent 6, `1c256`
+/// one beyond the limits, and `1c0` none.
 pub fn compact_texts_have_one_reading()
     ensures { HasOneCompactReading }
 {}
 
-/// Each rounding of a number has one end: what the relation of `fixed_decimal` names is what the answer to a line goes by.
+/// Each rounding of a number has one end: what the relation of `fixed_decimal` names is what the answer to a line goes by. By
+/// `-2,half-trunc,25` the end of -7.235 is -7.25.
 pub fn roundings_have_one_end()
     ensures { HasOneRounding }
 {}
 
-/// Of a tag its language, script, region and first variant count, and its `sd` and `nu` where they read: nothing else in a
-/// tag changes an answer, neither `rg` nor any other keyword, attribute, extension, private piece or later variant.
+/// Of a tag its language, script, region and first variant count, and its `sd` and `nu` where they read: nothing else in a tag
+/// changes an answer, neither `rg` nor any other keyword, attribute, extension, private piece or later variant. Variants stand
+/// in the order of their bytes: the first one of `de-fonipa-1996` is `1996`. `EN-X-Foo` and `en` are answered alike.
 pub fn alike_tags_are_answered_alike()
     ensures { AlikeTagsAreAnsweredAlike }
 {}
 
-/// A tag and its normal text have the same answer to every request.
+/// A tag and its normal text have the same answer to every request: `ar-EG-U-Nu-THAI` has that of `ar-EG-u-nu-thai`.
 pub fn normal_text_is_answered_alike()
     ensures { NormalTextIsAnsweredAlike }
 {}
 
-/// The groupings `auto` and `always` have the same answer to every request.
+/// The groupings `auto` and `always` have the same answer to every request: with `en` and `1000` both have `1,000`.
 pub fn auto_is_answered_as_always()
     ensures { AutoIsAnsweredAsAlways }
 {}
 
-/// The answer to a text that is read back, sent as a plain number with `keep` and no rounding, writes that text.
+/// The answer to a text that is read back, sent as a plain number with `keep` and no rounding, writes that text: with `en`,
+/// `-987,654.321` is answered by `-987654.321`, and this by `-987,654.321`.
 pub fn read_is_written_again()
     ensures { ReadIsWrittenAgain }
 {
@@ -52,13 +56,15 @@ pub fn read_is_written_again()
 }
 
 /// Under readable symbols a text that was written reads back: the answer is the number, with its sign and the digits shown.
+/// With `en`, `-987,654.321` is read as `-987654.321`.
 pub fn written_reads_back()
     ensures { WrittenReadsBack }
 {
     both_trips();
 }
 
-/// Under readable symbols a plain answer, read back and written again with the same rounding and `keep`, is the same text.
+/// Under readable symbols a plain answer, read back and written again with the same rounding and `keep`, is the same text. With
+/// `en` and `2,half-expand,1`, `1250` is answered by `1,300`; this is read as `1300`, and written `1,300`.
 pub fn rounded_is_written_again()
     ensures { RoundedIsWrittenAgain }
 {

@@ -6,7 +6,7 @@ use icu_decimal::provider::{
 };
 use locale_numbers_book::Book;
 
-/// Tables of all five kinds, as those of a [`Book`].
+/// Tables of all five kinds, as those of a [`Book`]: of the sample book the symbols of `en`, the digits of `thai`, and so on.
 ///
 /// Under each identifier a type of your own answers what stands there in one book, at each call the same, and where nothing
 /// does it answers `IdentifierNotFound`: one that forwards to a book and counts what is loaded, say. That it does so is its

@@ -10,12 +10,12 @@ const USUAL_CAPACITY: usize = 16;
 /// The most formatters that a run may be told to keep.
 const MOST: u32 = 65535;
 
-/// What the words say that the program was started with.
+/// What the words say that the program was started with: `b` says the book at the path `b` and a capacity of 16.
 #[derive(Clone, Copy, Debug, PartialEq, Eq)]
 pub struct Words<'a> {
-    /// The path of the book's file, or `None` for the sample book.
+    /// The path of the book's file, as `b`, or `None` for the sample book.
     pub book: Option<&'a str>,
-    /// How many formatters a run may keep: 1 at least.
+    /// How many formatters a run may keep, 1 at least: 65535 of `b`, `65535`, and 16 of `b`.
     pub capacity: usize,
 }
 

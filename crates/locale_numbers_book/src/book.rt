@@ -26,7 +26,8 @@ use std::alloc::Global;
 use std::marker::Model;
 use tinystr::TinyAsciiStr;
 
-/// Tables of symbols, of digits, of plural rules and of short and long patterns, as a JSON text names them.
+/// Tables of symbols, of digits, of plural rules and of short and long patterns, as a JSON text names them. `SAMPLE_BOOK` names
+/// the symbols of `en`, whose separators are `.` and `,`.
 #[derive(Drop)]
 pub struct Book {
     symbols: IndexMap<DataIdentifier, DecimalSymbols>,
@@ -117,8 +118,8 @@ impl Book {
     }
 }
 
-/// The book that a JSON text is, as by [`Book::from_json`]. The text is let go before the tables are made, so that the two never
-/// take memory together.
+/// The book that a JSON text is, as by [`Book::from_json`]: the one without tables of `[[],[],[],[],[]]`, and `Json` of `[1`.
+/// The text is let go before the tables are made, so that the two never take memory together.
 pub fn book_from(alloc: Global, bytes: Vec<u8>) -> Result<Book, BookError>
     ensures value { IfOk result (λ book. (value : Data) × Reads bytes.items value × IsBook value book) }
     ensures refused { IfErr result (λ fault. IsRefused bytes.items fault) }

@@ -4,45 +4,45 @@ ghost use Rattle.locale_numbers_book.specs.BookError.{number_of, word_of};
 
 use thiserror::Error;
 
-/// Why a text is no book.
+/// Why a text is no book: `Json` of `[1`.
 ///
 /// Of a text that is read as JSON the first faulty entry decides, and in an entry the least number.
 #[derive(Clone, Copy, Debug, Drop, PartialEq, Eq, Error)]
 pub enum BookError {
-    /// The bytes have no reading as JSON, for another cause than memory.
+    /// The bytes have no reading as JSON, as `[1`, for another cause than memory.
     #[error("json")]
     Json,
-    /// The JSON value is not five arrays, or an entry has not its form.
+    /// The JSON value is not five arrays, as `[]`, or an entry has not its form.
     #[error("shape")]
     Shape,
-    /// A locale is refused.
+    /// A locale is refused, as `e` or `en-u-nu-thai`.
     #[error("tag")]
     Tag,
-    /// A name of a numbering system is not 3 to 8 lower-case letters and digits, and where it may be empty, nor is it empty.
+    /// A name of a numbering system is not 3 to 8 lower-case letters and digits, nor empty where it may be: `Thai`, `th`.
     #[error("system")]
     System,
-    /// A tab or a line feed stands in the text of a symbol or a pattern.
+    /// A tab or a line feed stands in the text of a symbol or a pattern, as a tab for the minus sign.
     #[error("text")]
     Text,
-    /// The digits of a system are not ten characters, or a tab or a line feed is among them.
+    /// The digits of a system are not ten characters, as the nine of `012345678`, or a tab or a line feed is among them.
     #[error("digits")]
     Digits,
-    /// The condition of a plural category is not one.
+    /// The condition of a plural category is not one, as `i is 1`.
     #[error("condition")]
     Condition,
-    /// The types of patterns do not rise strictly.
+    /// The types of patterns do not rise strictly, as 6 and then 3.
     #[error("types")]
     Types,
-    /// The exponents of patterns are refused: one falls, is above its type, or is more than 15 below it.
+    /// The exponents of patterns are refused: one falls, is above its type, as 4 at type 3, or is more than 15 below it.
     #[error("exponents")]
     Exponents,
-    /// An earlier entry of the same array has the same key.
+    /// An earlier entry of the same array has the same key, as `EN` behind `en`.
     #[error("duplicate")]
     Duplicate,
     /// The parents of a locale lead back to it. No book has parents yet, so that this does not come.
     #[error("cycle")]
     Cycle,
-    /// Memory was refused.
+    /// Memory was refused, as for the tables of `SAMPLE_BOOK`.
     #[error("memory")]
     Memory,
 }

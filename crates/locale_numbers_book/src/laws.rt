@@ -1,27 +1,31 @@
 //! Laws of the definitions, each the contract of a function that does nothing.
 ghost use Rattle.locale_numbers_book.specs.Laws.{TagsAreRead, DataLocalesAreRead, KeysAreOneWhereEqual, TablesAreMade, IsOneBook};
 
-/// The function by which a line is answered reads as a tag exactly what means one in the grammar, and as that meaning.
+/// The function by which a line is answered reads as a tag exactly what means one in the grammar, and as that meaning:
+/// `EN-u-NU-Wxyz` as the language `en` with the system `wxyz`, and `en-` as none.
 pub fn tags_are_read()
     ensures { TagsAreRead }
 {}
 
-/// The function by which an entry is read takes as a locale exactly the data locales of the grammar, and as that one.
+/// The function by which an entry is read takes as a locale exactly the data locales of the grammar, and as that one:
+/// `ca-ES-VALENCIA-u-sd-ESVC`, but not `en-u-nu-thai`.
 pub fn data_locales_are_read()
     ensures { DataLocalesAreRead }
 {}
 
-/// Two keys of symbols are one exactly where they are equal: locales are compared as values.
+/// Two keys of symbols are one exactly where they are equal: locales are compared as values. Those of `en` and `EN` are one,
+/// and those of `en` with `thai` and of `en` without a system are two.
 pub fn keys_are_one_where_equal()
     ensures { KeysAreOneWhereEqual }
 {}
 
-/// The function by which patterns are read makes exactly the tables of `CompactPatterns::new`.
+/// The function by which patterns are read makes exactly the tables of `CompactPatterns::new`: of `K` at the types 3 and 6 that
+/// of type 3 alone.
 pub fn tables_are_made()
     ensures { TablesAreMade }
 {}
 
-/// A JSON value is one book at most.
+/// A JSON value is one book at most: `[[],[],[],[],[]]` is the book without tables alone.
 pub fn is_one_book()
     ensures { IsOneBook }
 {}

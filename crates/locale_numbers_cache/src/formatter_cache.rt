@@ -10,7 +10,8 @@ use std::alloc::{AllocError, Global};
 use std::marker::Model;
 use std::num::NonZeroUsize;
 
-/// Things that a [`Maker`] made for keys, the most recently used, up to a capacity; and a count of all that were made.
+/// Things that a [`Maker`] made for keys, the most recently used, up to a capacity; and a count of all that were made. With a
+/// capacity of 2, after the keys 1, 2, 1, 3 it keeps what was made for 3 and 1.
 #[derive(Drop)]
 pub struct FormatterCache<K: CacheKey, F: Drop> {
     kept: LruCache<K, F>,
@@ -31,7 +32,8 @@ impl<K: CacheKey, F: Drop> Model for FormatterCache<K, F> {
 }
 
 impl<K: CacheKey, F: Drop> FormatterCache<K, F> {
-    /// A cache that keeps nothing yet, `capacity` things at most, 1 at least.
+    /// A cache that keeps nothing yet, `capacity` things at most, 1 at least: with 16 it keeps up to sixteen, and `made`
+    /// answers 0.
     ///
     /// It fails where it is out of memory.
     pub fn new(alloc: Global, capacity: usize) -> Result<Self, AllocError>
@@ -45,9 +47,10 @@ impl<K: CacheKey, F: Drop> FormatterCache<K, F> {
 
     /// Sees to it that what the maker makes for `key` is kept and is the latest; `false` where it makes nothing for it.
     ///
-    /// It is made only where it is not kept already, and then pushes out what was used longest ago where the cache is full. A
-    /// key for which nothing is made changes nothing. It fails where it is out of memory, and then the cache is as before; for a
-    /// key that is kept, or for which nothing is made, it takes none.
+    /// It is made only where it is not kept already, and then pushes out what was used longest ago where the cache is full:
+    /// with a capacity of 2, after the keys 1, 2, 1 the key 3 pushes out 2. A key for which nothing is made changes nothing. It
+    /// fails where it is out of memory, and then the cache is as before; for a key that is kept, or for which nothing is made,
+    /// it takes none.
     pub fn keep<M: Maker<K, F>>(&mut self, maker: &M, key: K) -> Result<bool, AllocError>
         requires { IsSound (M.finds maker.now) (M.is_made maker.now) self.old }
         ensures succeeds { M.finds maker.now key ≡ false → IsOk result }
@@ -74,7 +77,8 @@ impl<K: CacheKey, F: Drop> FormatterCache<K, F> {
         Ok(true)
     }
 
-    /// How many things were made; a count that does not fit is 18,446,744,073,709,551,615. It takes no memory.
+    /// How many things were made: 3 after the keys 1, 2, 1, 3, 1 with a capacity of 2; a count that does not fit is
+    /// 18,446,744,073,709,551,615. It takes no memory.
     pub fn made(&self) -> u64
         ensures value { result ≡ self.now.made }
         ensures fits { self.now.made ≤ most }
@@ -82,7 +86,8 @@ impl<K: CacheKey, F: Drop> FormatterCache<K, F> {
         self.made
     }
 
-    /// What was kept or used last; `None` where nothing is kept. It takes no memory.
+    /// What was kept or used last: after the keys 1, 2, 1 what was made for 1; `None` where nothing is kept. It takes no
+    /// memory.
     pub fn latest(&self) -> Option<&F>
         ensures { option_copied result ≡ option_map (λ entry. entry.1) (slice_get self.now.entries 0) }
     {

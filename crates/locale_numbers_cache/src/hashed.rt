@@ -9,7 +9,8 @@ use std::alloc::AllocError;
 use std::hash::{FoldHasher, Hash, Hasher};
 use std::marker::Model;
 
-/// A value beside its hash: a part of a key that is looked up often is gone through once.
+/// A value beside its hash: a part of a key that is looked up often is gone through once. `Hashed::new(5)` is 5 beside the hash
+/// of 5.
 ///
 /// It is compared by its hash first, and feeds a hasher that one number.
 #[derive_where(Copy)]
@@ -35,7 +36,7 @@ impl<V: Copy + Hash> Model for Hashed<V> {
 }
 
 impl<V: Copy + Hash> Hashed<V> {
-    /// The value, hashed by a `FoldHasher`. It takes no memory.
+    /// The value, hashed by a `FoldHasher`: of 5 it is 5 beside its hash. It takes no memory.
     pub fn new(value: V) -> Self
         ensures { result ≡ value }
     {
@@ -47,7 +48,7 @@ impl<V: Copy + Hash> Hashed<V> {
         }
     }
 
-    /// The value. It takes no memory.
+    /// The value: 5 of `Hashed::new(5)`. It takes no memory.
     pub fn value(&self) -> V
         ensures { result ≡ self.now }
     {
@@ -55,7 +56,7 @@ impl<V: Copy + Hash> Hashed<V> {
     }
 }
 
-/// It takes no memory.
+/// The same once more: of 5 beside its hash another 5 beside it. It takes no memory.
 impl<V: Copy + Hash> Clone for Hashed<V> {
     ghost is_clone = { λ one other. one ≡ other };
 

@@ -24,7 +24,7 @@ fn pair_of(bytes: &[u8]) -> usize
     (hasher.finish() % PAIRS as u64) as usize
 }
 
-/// Bytes that were read before, each beside its key: they are not read again.
+/// Bytes that were read before, each beside its key: they are not read again. Of `a`, `a` the second is not read.
 ///
 /// There are 1,024 places in 512 pairs, and a hash of the bytes says which pair is theirs.
 #[derive(Drop)]
@@ -47,7 +47,7 @@ impl<K: Copy> Model for ReadKeys<K> {
 }
 
 impl<K: Copy> ReadKeys<K> {
-    /// Places that remember nothing yet.
+    /// Places that remember nothing yet: the first bytes that come are read.
     ///
     /// It fails only where it is out of memory.
     pub fn new(alloc: Global) -> Result<Self, AllocError>
@@ -62,7 +62,8 @@ impl<K: Copy> ReadKeys<K> {
         Ok(ReadKeys { pairs })
     }
 
-    /// The key of the bytes, which are read only where their pair of places does not remember them.
+    /// The key of the bytes, which are read only where their pair of places does not remember them: of `a` and then `a` the
+    /// first.
     ///
     /// Bytes of more than 256 are read each time. It fails where it is out of memory, and then remembers what it did.
     pub fn key_of<R: KeyReader<K>>(&mut self, reader: &R, bytes: &[u8]) -> Result<K, AllocError>

@@ -3,7 +3,8 @@ ghost use Rattle.locale_numbers_engine.specs.Growth.{Grows};
 
 use std::alloc::AllocError;
 
-/// One that answers lines, each alone, and may keep what it makes for later ones.
+/// One that answers lines, each alone, and may keep what it makes for later ones: one that turns
+/// letters to upper case answers `one` by `ONE`.
 pub trait Answerer {
     // What it needs so that it can answer; it has it again after each answer.
     ghost is_ready: { Self → Type 0 };
@@ -14,7 +15,8 @@ pub trait Answerer {
     // How many things it will have made once these lines are answered too.
     ghost made_over: { Self → List (List ℕ) → ℕ };
 
-    /// Puts the answer to `line`, with no line feed after it, behind what `out` holds.
+    /// Puts the answer to `line`, with no line feed after it, behind what `out` holds: in upper
+    /// case `b` puts `B` behind `A` and a line feed.
     ///
     /// It fails only where it is out of memory; a part of the answer may then stand there.
     fn answer_onto(&mut self, line: &[u8], out: &mut String) -> Result<(), AllocError>
@@ -27,7 +29,7 @@ pub trait Answerer {
         ensures ready { is_ready self.new }
         ensures err { OnErr result (Grows (string_bytes out.old) (string_bytes out.new)) };
 
-    /// How many things it has made.
+    /// How many things it has made: 2 after two lines, where it makes one for each.
     fn made(&self) -> u64
         requires { is_ready self.now }
         ensures value { result ≡ made_over self.now [] };

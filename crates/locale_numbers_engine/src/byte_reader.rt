@@ -3,12 +3,13 @@ ghost use Rattle.std.specs.Io.KnownBytes.{ReadConsumes};
 
 use thiserror::Error;
 
-/// A read failed; the reader knows why.
+/// A read failed, as one that was interrupted; the reader knows why.
 #[derive(Clone, Copy, Debug, PartialEq, Eq, Error)]
 #[error("a read failed")]
 pub struct ByteReadFault;
 
-/// Bytes that come piece by piece, from a reader that knows whether a read has failed.
+/// Bytes that come piece by piece, from a reader that knows whether a read has failed: `one`, line
+/// feed, `two` may come as `one` and as the rest.
 ///
 /// An implementation states what its reader will give where it can: then a caller's contract can
 /// name those bytes. A reader of a file or a socket states nothing, and none is claimed.
@@ -19,7 +20,8 @@ pub trait ByteReader {
     // Whether a read has failed.
     ghost failed: { Self → Bool };
 
-    /// Fills a front of `buffer`, and answers how many bytes that is.
+    /// Fills a front of `buffer`, and answers how many bytes that is: 2, where of `one` a buffer of
+    /// two bytes gets `on`.
     ///
     /// Of a buffer that has room, 0 is the end of the bytes. A failed read gives none.
     fn read(&mut self, buffer: &mut [u8]) -> Result<usize, ByteReadFault>
@@ -29,7 +31,7 @@ pub trait ByteReader {
         // A failed read sets it for good, and nothing else does.
         ensures fault { failed self.new ≡ (failed self.old || is_err result) };
 
-    /// Whether a read has failed.
+    /// Whether a read has failed: true after one that answered [`ByteReadFault`].
     fn has_failed(&self) -> bool
         ensures value { result ≡ failed self.now };
 }

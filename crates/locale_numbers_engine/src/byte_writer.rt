@@ -4,12 +4,14 @@ ghost use Rattle.locale_numbers_engine.specs.ByteIo.{write_fails};
 
 use thiserror::Error;
 
-/// A write or a flush failed, or a write took no byte; the writer knows why.
+/// A write or a flush failed, as one of a closed pipe, or a write took no byte; the writer knows
+/// why.
 #[derive(Clone, Copy, Debug, PartialEq, Eq, Error)]
 #[error("a write failed")]
 pub struct ByteWriteFault;
 
-/// A place for bytes, which knows whether a write or a flush has failed.
+/// A place for bytes, which knows whether a write or a flush has failed: one that holds `on` and
+/// takes `e` holds `one`.
 ///
 /// An implementation states the bytes that its writer holds where it can: then a caller's contract
 /// can name those bytes. A writer to a file or a socket states nothing, and none is claimed.
@@ -20,7 +22,8 @@ pub trait ByteWriter {
     // Whether a write or a flush has failed.
     ghost failed: { Self → Bool };
 
-    /// Takes a front of `piece`, and answers how many bytes that is.
+    /// Takes a front of `piece`, and answers how many bytes that is: 2, where of `one` it takes
+    /// `on`.
     ///
     /// A write that takes no byte of a piece that is not empty counts as failed.
     fn write(&mut self, piece: &[u8]) -> Result<usize, ByteWriteFault>
@@ -30,12 +33,13 @@ pub trait ByteWriter {
         // A failed write sets it for good, and nothing else does.
         ensures fault { failed self.new ≡ (failed self.old || write_fails result piece.now) };
 
-    /// Sends on what it has taken and still keeps back.
+    /// Sends on what it has taken and still keeps back: where it took `one` and has sent `on`, the
+    /// `e`.
     fn flush(&mut self) -> Result<(), ByteWriteFault>
         ensures bytes { Keeps (contents self.old) (contents self.new) }
         ensures fault { failed self.new ≡ (failed self.old || is_err result) };
 
-    /// Whether a write or a flush has failed.
+    /// Whether a write or a flush has failed: true after a write that takes no byte of `a`.
     fn has_failed(&self) -> bool
         ensures value { result ≡ failed self.now };
 }

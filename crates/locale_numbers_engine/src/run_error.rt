@@ -4,16 +4,19 @@ use crate::byte_writer::ByteWriteFault;
 use std::alloc::AllocError;
 use thiserror::Error;
 
-/// Why a run ended before it had answered all lines.
+/// Why a run ended before it had answered all lines: `Read` where the reader failed behind `ab`,
+/// line feed, `c`.
 #[derive(Clone, Copy, Debug, PartialEq, Eq, Error)]
 pub enum RunError {
-    /// The reader failed, or still gave bytes after 18,446,744,073,709,551,615 reads.
+    /// The reader failed, as one whose read was interrupted, or still gave bytes after
+    /// 18,446,744,073,709,551,615 reads.
     #[error("the reader failed")]
     Read,
-    /// The writer failed, or took no byte of a piece that was not empty.
+    /// The writer failed, as one whose flush did, or took no byte of a piece that was not empty.
     #[error("the writer failed")]
     Write,
-    /// A request for memory was refused.
+    /// A request for memory was refused, of the run or of the answerer, as for the text of an
+    /// answer.
     #[error("out of memory")]
     Memory,
 }

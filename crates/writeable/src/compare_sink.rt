@@ -10,7 +10,8 @@ use crate::write::Writeable;
 use std::cmp::Ordering;
 use std::marker::Model;
 
-/// A sink that compares the text with given bytes, byte by byte, and keeps neither.
+/// A sink that compares the text with given bytes, byte by byte, and keeps neither: against `a,b`,
+/// after `a,` its verdict is `Less`.
 ///
 /// It never refuses and takes no memory.
 #[derive(Drop)]
@@ -30,7 +31,8 @@ impl<'b> Model for CompareSink<'b> {
 impl<'b> CompareSink<'b> {
     ghost use Rattle.writeable.specs.Order.{Compares, order_given};
 
-    /// A sink that compares with `other`. It takes no memory.
+    /// A sink that compares with `other`: with `a,` the verdict is `Less` as long as nothing was
+    /// written. It takes no memory.
     pub fn new(other: &'b [u8]) -> Self
         ensures { result ≡ record { rest = other.now; so_far = Equal } }
     {

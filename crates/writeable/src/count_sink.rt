@@ -8,7 +8,8 @@ use crate::part::Part;
 use crate::sink::Sink;
 use std::marker::Model;
 
-/// A sink that counts the bytes of the text, in a `u64`, and keeps nothing else.
+/// A sink that counts the bytes of the text, in a `u64`, and keeps nothing else: after `a,b` the
+/// count is 3.
 ///
 /// A call is refused exactly where the count would pass the greatest `u64`; a refused `write_str`
 /// leaves the count as it was. It takes no memory.
@@ -29,7 +30,7 @@ impl Model for CountSink {
 }
 
 impl CountSink {
-    /// A sink that has counted nothing.
+    /// A sink that has counted nothing: its count is 0.
     pub fn new() -> Self
         ensures { result ≡ record { count = 0; refused = false } }
     {

@@ -3,7 +3,8 @@ ghost use Rattle.writeable.specs.Numbers.{refused_number};
 
 use std::fmt;
 
-/// A sink refused; it has taken a beginning of what was to be written.
+/// A sink refused, as one with room for two bytes refuses `a,b`; it has taken a beginning of what
+/// was to be written.
 ///
 /// It is answered only where `has_refused` of the sink is true afterwards. Shown as
 /// `the sink refused`.

@@ -1,13 +1,14 @@
 ghost use Rattle.std.specs.Prelude.{◌≡◌, None, Some};
 
-/// How long a text is, in bytes: at least `low`, and at most `high` where that is known.
+/// How long a text is, in bytes: at least `low`, and at most `high` where that is known. Of `a,b`
+/// it is from 3 to 3.
 ///
 /// The length of the text lies between the two. After ICU4X's `writeable::LengthHint`.
 #[derive(Clone, Copy, Debug, PartialEq, Eq)]
 pub struct LengthHint {
-    /// The text has at least so many bytes.
+    /// The text has at least so many bytes: 3 of `a,b`.
     pub low: usize,
-    /// The text has at most so many bytes; `None` where nothing is known.
+    /// The text has at most so many bytes: `Some(3)` of `a,b`; `None` where nothing is known.
     pub high: Option<usize>,
 }
 

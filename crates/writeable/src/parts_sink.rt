@@ -15,8 +15,9 @@ struct OpenPart {
     part: Part,
 }
 
-/// A sink that holds the text and the intervals of its parts. It refuses only where it is out of
-/// memory for a byte, an opening, or a closing that lists a part.
+/// A sink that holds the text and the intervals of its parts: of `a,b` with the part A around all
+/// of it, `a,b` and (0, 3, A). It refuses only where it is out of memory for a byte, an opening, or
+/// a closing that lists a part.
 #[derive(Drop)]
 pub struct PartsSink {
     text: String,
@@ -49,7 +50,7 @@ impl Model for PartsSink {
 impl PartsSink {
     ghost use Rattle.writeable.specs.ListedParts.{interval_of};
 
-    /// An empty sink. It takes no memory.
+    /// An empty sink: its text is empty, and no part is listed. It takes no memory.
     pub fn new(alloc: Global) -> Self
         ensures { result ≡ record { held = held_after []; refused = false } }
     {
@@ -61,7 +62,7 @@ impl PartsSink {
         }
     }
 
-    /// The text that was written.
+    /// The text that was written: `a,b` after `write_str("a,")` and `write_char('b')`.
     pub fn text(&self) -> &str
         ensures { result.now ≡ self.now.held.text }
     {

@@ -3,7 +3,7 @@ ghost use Rattle.std.specs.Prelude.{◌≡◌, Bool, false, List, [], ◌∷◌,
 use crate::error::Error;
 use crate::part::Part;
 
-/// A place that takes a text with parts.
+/// A place that takes a text with parts: one that holds `x` and takes `a,b` holds `xa,b`.
 ///
 /// Each call is made where `has_refused` is false. It answers `Ok` exactly where `has_refused` is
 /// false after it too, and has then taken all that it was given. Else it answers [`Error`], has
@@ -60,7 +60,8 @@ pub trait Sink {
         ensures begun { OnErr result
             (HasBegun takes lacks_room self.old (opening (name_of part)) self.new) };
 
-    /// Closes the part that was opened last and is still open. Where none is open it does nothing.
+    /// Closes the part that was opened last and is still open: A, `a` and a close list (0, 1, A).
+    /// Where none is open it does nothing.
     ///
     /// [`Error`] where the sink has no room to list it.
     fn close_part(&mut self) -> Result<(), Error>

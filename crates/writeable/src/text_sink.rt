@@ -7,7 +7,7 @@ use crate::sink::Sink;
 use std::alloc::{AllocError, Global};
 use std::marker::Model;
 
-/// A sink that holds the text and leaves out the parts.
+/// A sink that holds the text and leaves out the parts: of `a,b` with parts it holds `a,b`.
 ///
 /// It refuses only bytes, and only for memory; it never refuses a part.
 #[derive(Drop)]
@@ -29,7 +29,7 @@ impl Model for TextSink {
 }
 
 impl TextSink {
-    /// An empty sink. It takes no memory.
+    /// An empty sink: its text is empty. It takes no memory.
     pub fn new(alloc: Global) -> Self
         ensures text { result.text ≡ [] }
         ensures refused { result.refused ≡ false }

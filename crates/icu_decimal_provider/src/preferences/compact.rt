@@ -18,9 +18,9 @@ use std::marker::Model;
 /// Source: UTS 35, section 3.6, key `nu`.
 #[derive(Clone, Copy, Debug, PartialEq, Eq, Hash)]
 pub struct CompactDecimalFormatterPreferences {
-    /// What the locale prefers whatever is written.
+    /// What the locale prefers whatever is written: `en` of `en-u-nu-thai`.
     pub locale_preferences: LocalePreferences,
-    /// The numbering system, where one is preferred. Whether a provider has it is not asked.
+    /// The numbering system, where one is preferred: `thai` of `en-u-nu-thai`. Whether a provider has it is not asked.
     pub numbering_system: Option<NumberingSystem>,
 }
 
@@ -62,7 +62,7 @@ impl From<&Locale> for CompactDecimalFormatterPreferences {
     }
 }
 
-/// As of a borrowed locale. It takes no memory.
+/// As of a borrowed locale: of `en-u-nu-thai` the locale `en` and the system `thai`. It takes no memory.
 impl From<Locale> for CompactDecimalFormatterPreferences {
     ghost from_gives = { λ locale p. p ≡ preferences_of locale };
 
@@ -80,7 +80,7 @@ impl From<&LanguageIdentifier> for CompactDecimalFormatterPreferences {
     }
 }
 
-/// As of a borrowed identifier. It takes no memory.
+/// As of a borrowed identifier: of `de-1996` the locale `de-1996`, and no system. It takes no memory.
 impl From<LanguageIdentifier> for CompactDecimalFormatterPreferences {
     ghost from_gives = { λ id p. p ≡ preferred_by id };
 

@@ -7,7 +7,7 @@ use crate::provider::identifier::DataIdentifier;
 
 /// A name for a kind of tables, which says their type: `DecimalSymbolsV1` is that of `DecimalSymbols`.
 pub trait DataMarker {
-    /// The type of the tables.
+    /// The type of the tables: `DecimalSymbols` for `DecimalSymbolsV1`.
     type DataStruct;
 }
 

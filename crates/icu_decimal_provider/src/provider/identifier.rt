@@ -14,9 +14,9 @@ use tinystr::TinyAsciiStr;
 /// `DataIdentifierBorrowed`.
 #[derive(Clone, Copy, Debug, PartialEq, Eq, Hash)]
 pub struct DataIdentifier {
-    /// The locale; `und` where the table does not depend on one.
+    /// The locale, as `en`; `und` where the table does not depend on one.
     pub locale: DataLocale,
-    /// The attributes; empty where there are none.
+    /// The attributes, as `thai`; empty where there are none.
     pub attributes: TinyAsciiStr<8>,
 }
 

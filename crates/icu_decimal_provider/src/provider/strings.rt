@@ -16,17 +16,17 @@ use tinystr::TinyAsciiStr;
 /// numbering system `latn`. Source: UTS 35, part 3 (numbers), number symbols; the type is ICU4X's.
 #[derive(Debug, Drop)]
 pub struct DecimalSymbolStrsBuilder {
-    /// What stands before a number with a minus sign.
+    /// What stands before a number with a minus sign: `-` in English.
     pub minus_sign_prefix: String,
-    /// What stands after a number with a minus sign.
+    /// What stands after a number with a minus sign: nothing in English.
     pub minus_sign_suffix: String,
-    /// What stands before a number with a plus sign.
+    /// What stands before a number with a plus sign: `+` in English.
     pub plus_sign_prefix: String,
-    /// What stands after a number with a plus sign.
+    /// What stands after a number with a plus sign: nothing in English.
     pub plus_sign_suffix: String,
-    /// What stands between the integer digits and the fraction digits.
+    /// What stands between the integer digits and the fraction digits: `.` in English.
     pub decimal_separator: String,
-    /// What stands between two groups of integer digits.
+    /// What stands between two groups of integer digits: `,` in English.
     pub grouping_separator: String,
     /// The numbering system of the digits, as `latn`.
     pub numsys: TinyAsciiStr<8>,

@@ -17,9 +17,9 @@ use tinystr::TinyAsciiStr;
 /// `.`, `,`, `latn` and the sizes 3, 3, 1.
 #[derive(Debug, Drop)]
 pub struct DecimalSymbols {
-    /// The affixes, the separators and the numbering system.
+    /// The affixes, the separators and the numbering system: in English `-`, `+`, `.`, `,` and `latn`.
     pub strings: DecimalSymbolsStrs,
-    /// Where groups end.
+    /// Where groups end: in English 3, 3, 1.
     pub grouping_sizes: GroupingSizes,
 }
 

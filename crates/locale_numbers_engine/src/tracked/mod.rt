@@ -29,7 +29,8 @@ impl<T> Model for Tracked<T> {
 }
 
 impl<T> Tracked<T> {
-    /// Tracks `inner`, of which no call has failed so far.
+    /// Tracks `inner`, of which no call has failed so far: `has_failed` answers false, as of
+    /// `Tracked::new(rt.stdin())`.
     pub fn new(inner: T) -> Self
         ensures inner { result.inner ≡ inner }
         ensures fresh { result.failed ≡ false }
