@@ -1,7 +1,7 @@
 -- What a formatter is kept under, which key a line uses, and how many formatters are made for lines.
 -- Defined in docs/requests.md, "What a cache keeps".
 -- Cited by `run`.
-use Rattle.std.specs.Prelude.{◌≡◌, ℕ, Bool, true, List, [], map, min, Option, Some, None, Result, Ok, is_ok}
+use Rattle.std.specs.Prelude.{◌≡◌, ℕ, Bool, true, ◌&&◌, List, [], map, min, Option, Some, None, Result, Ok, is_ok}
 use Rattle.fixed_decimal.specs.Number.{Number}
 use Rattle.fixed_decimal.specs.SignedValue.{SignedValue}
 use Rattle.icu_decimal.specs.declared.options.GroupingStrategy.{GroupingStrategy}
@@ -116,6 +116,11 @@ answer_by (Compact formatter) value = compact_answer (compact_tables_of formatte
 abbrev pub answer_of_kind : Kind → BookTables → Preferences → GroupingStrategy → SignedValue Number → List ℕ
 answer_of_kind kind.Plain book preferences grouping = answer_with (found_in book preferences grouping)
 answer_of_kind (kind.Compact length) book preferences grouping = compact_with (found_compact length book preferences grouping)
+
+-- two keys are one: what the tags prefer, the kind and the grouping are the same, by these tests
+abbrev pub same_keys : (Preferences → Preferences → Bool) → (Kind → Kind → Bool) → (GroupingStrategy → GroupingStrategy → Bool) → FormatterKey → FormatterKey → Bool
+same_keys preferences kinds groupings one other =
+    preferences one.preferences other.preferences && (kinds one.kind other.kind && groupings one.grouping other.grouping)
 
 -- how many formatters are made for these lines, where so many may be kept: one for each use of a key that is not kept
 abbrev pub makes : (FormatterKey → FormatterKey → Bool) → BookTables → ℕ → List (List ℕ) → ℕ

@@ -2,13 +2,15 @@ ghost use Rattle.std.specs.Prelude.{◌≡◌, ◌≤◌, ◌⊎◌, false, true
 ghost use Rattle.locale_numbers_engine.specs.Outcomes.{ends_in_write};
 ghost use Rattle.locale_numbers_engine.specs.Run.{WritesAll, WritesTold, WritesPart, WritesFirst, CountsLines, CountsMade, GivesTooLong};
 ghost use Rattle.locale_numbers.specs.Answer.{answer_of};
-ghost use Rattle.locale_numbers.specs.FormatterKeys.{makes};
+ghost use Rattle.locale_numbers.specs.FormatterKeys.{makes, same_keys};
 
-use crate::formatter_key::FormatterKey;
+use crate::formatter_key::Kind;
 use crate::kept::Kept;
 use crate::kept_formatter::FormatterMaker;
 use crate::line_answerer::LineAnswerer;
 use crate::tables::Tables;
+use icu_decimal::DecimalFormatterPreferences;
+use icu_decimal::options::GroupingStrategy;
 use locale_numbers_cache::{FormatterCache, ReadKeys};
 use locale_numbers_engine::{ByteReader, ByteWriter, Report, RunError, run_with};
 use std::alloc::Global;
@@ -50,7 +52,8 @@ pub fn run<T: Tables, R: ByteReader, W: ByteWriter>(
         (W.contents writer.old) (W.contents writer.new)) }
     ensures lines { IfOk result (λ report. CountsLines (R.remaining reader.old) report.lines) }
     ensures made { IfOk result (λ report.
-        CountsMade (makes ⟦<FormatterKey as PartialEq>⟧.eq (T.book tables.now) capacity) (R.remaining reader.old) report.made) }
+        CountsMade (makes (same_keys ⟦<DecimalFormatterPreferences as PartialEq>⟧.eq ⟦<Kind as PartialEq>⟧.eq ⟦<GroupingStrategy as PartialEq>⟧.eq)
+        (T.book tables.now) capacity) (R.remaining reader.old) report.made) }
     ensures reader_stays_well { OnOk result (R.failed reader.new ≡ false) }
     ensures writer_stays_well { OnOk result (W.failed writer.new ≡ false) }
     ensures read { IsErrOf result RunError.Read →

@@ -1,6 +1,14 @@
-use Rattle.std.proofs.Common.{rules}
+use Rattle.std.proofs.Common.{rules, IfOk}
+use Rattle.locale_numbers_engine.specs.Run.{CountsMade}
+use Rattle.locale_numbers.specs.FormatterKeys.{makes}
 use Rattle.locale_numbers.specs.Front.{front_of}
+use Rattle.locale_numbers.specs.contracts.formatter_key.FormatterKeyPartialEq.TheImpl as keys
 use Rattle.locale_numbers.proofs.running.run.Goals as goal
 
 pub run_with-requires-clause-can_answer : goal.run_with-requires-clause-can_answer
 run_with-requires-clause-can_answer g c = (search rules, c.in_ok-new.ensures.sound front_of)
+
+pub returns-clause-made : goal.returns-clause-made
+returns-clause-made g c =
+    let counted : IfOk c.run_with.result (λ report. CountsMade (makes keys.ghosts.eq (g.T.Tables.book c.args.tables.now) c.args.capacity) (g.R.ByteReader.remaining c.args.reader.now) report.made) = search rules in
+    counted
