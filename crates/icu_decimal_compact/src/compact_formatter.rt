@@ -142,10 +142,10 @@ impl<'b> CompactDecimalFormatter<'b> {
     }
 
     // What a number without a sign is written as.
-    pub(crate) fn shown(
-        &self,
+    pub(crate) fn shown<'l>(
+        &'l self,
         number: &UnsignedDecimal,
-    ) -> Result<FormattedUnsignedCompactDecimal<'b>, AllocError>
+    ) -> Result<FormattedUnsignedCompactDecimal<'l>, AllocError>
         requires { CanShow (compact_tables_of self.now).patterns.entries number.now.count }
         ensures value { IfOk result (λ shown. shown ≡ compact_of (compact_tables_of self.now) number.now) }
         ensures room { OnErr result (IsLong number.now.count) }
@@ -156,7 +156,7 @@ impl<'b> CompactDecimalFormatter<'b> {
             shown.significand,
             shown.exponent,
             pattern,
-            self.plain,
+            &self.plain,
         ))
     }
 

@@ -23,7 +23,7 @@ pub struct FormattedUnsignedCompactDecimal<'l> {
     number: Decimal,
     exponent: u8,
     pattern: Option<&'l Pattern>,
-    plain: DecimalFormatter<'l>,
+    plain: &'l DecimalFormatter<'l>,
 }
 
 impl<'l> Model for FormattedUnsignedCompactDecimal<'l> {
@@ -34,7 +34,7 @@ impl<'l> Model for FormattedUnsignedCompactDecimal<'l> {
 
     ghost use Rattle.icu_decimal_text.specs.HeldTables.{tables_of};
 
-    ghost view = { λ s. record { plain = record { number = s.number.absolute; tables = tables_of s.plain }; exponent = s.exponent; pattern = option_map (λ p. p.now) s.pattern } };
+    ghost view = { λ s. record { plain = record { number = s.number.absolute; tables = tables_of s.plain.now }; exponent = s.exponent; pattern = option_map (λ p. p.now) s.pattern } };
 }
 
 impl<'l> FormattedUnsignedCompactDecimal<'l> {
@@ -43,9 +43,9 @@ impl<'l> FormattedUnsignedCompactDecimal<'l> {
         significand: UnsignedDecimal,
         exponent: u8,
         pattern: Option<&'l Pattern>,
-        plain: DecimalFormatter<'l>,
+        plain: &'l DecimalFormatter<'l>,
     ) -> Self
-        ensures { result ≡ record { plain = record { number = significand; tables = tables_of plain.entry }; exponent = exponent; pattern = option_map (λ p. p.now) pattern.entry } }
+        ensures { result ≡ record { plain = record { number = significand; tables = tables_of plain.now }; exponent = exponent; pattern = option_map (λ p. p.now) pattern.entry } }
     {
         FormattedUnsignedCompactDecimal {
             number: Decimal::new(Sign::None, significand),

@@ -84,6 +84,10 @@ ten_at [] i within tens = absurd (omega (arith, within))
 ten_at (d ∷ ds) zero within tens = tens.0
 ten_at (d ∷ ds) (suc i) within tens = ten_at ds i (omega (arith, within)) tens.1
 
+-- a piece that holds a text holds the bytes that it has
+pub held_itself : (p : Piece) (text : List ℕ) → Holds p text → Holds p (take p.len p.bytes)
+held_itself p text held = record { long = held.long; short = held.short; is = refl; utf8 = subst (λ t. ∥ IsUtf8 t ∥₁) (sym held.is) held.utf8 }
+
 -- an ASCII character is its own byte
 pub one_ascii : (c : ℕ) → c < 128 → IsAscii (c ∷ [])
 one_ascii c ascii zero = ascii
@@ -92,7 +96,7 @@ one_ascii c ascii (suc i) = omega arith
 pub ascii_held : (c : ℕ) → c < 128 → Holds (record { bytes = c ∷ 0 ∷ 0 ∷ 0 ∷ []; len = 1 }) (encode_utf8 c)
 ascii_held c ascii =
     let one : encode_utf8 c ≡ c ∷ [] = encode_ascii c ascii in
-    record { long = refl; short = omega arith; is = sym one; utf8 = subst IsUtf8 (sym one) (IsUtf8-from_ascii (c ∷ []) (one_ascii c ascii)) }
+    record { long = refl; short = omega arith; is = sym one; utf8 = ∣ subst IsUtf8 (sym one) (IsUtf8-from_ascii (c ∷ []) (one_ascii c ascii)) ∣₁ }
 
 -- a place before the end, and the end itself
 pub at_or_before : {P : Type 0} (d last : ℕ) → d < last + 1 → (d < last → P) → (d ≡ last → P) → P

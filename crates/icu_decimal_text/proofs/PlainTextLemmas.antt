@@ -102,6 +102,9 @@ tens_dropped (suc n) (d ∷ ds) tens = tens_dropped n ds tens.1
 pub tens_rest : (ds rest : List ℕ) (d : ℕ) → ds ≡ d ∷ rest → AllBelowBase 10 ds → AllBelowBase 10 rest
 tens_rest ds rest d is tens = (subst (AllBelowBase 10) is tens).1
 
+pub tens_first : (ds rest : List ℕ) (d : ℕ) → ds ≡ d ∷ rest → AllBelowBase 10 ds → d < 10
+tens_first ds rest d is tens = (subst (AllBelowBase 10) is tens).0
+
 -- the events of their characters
 pub bytes_chained : (table ds : List ℕ) → bytes (chained (map (digit_text table) ds)) ≡ chained (map (digit_events table) ds)
 bytes_chained table [] = no_bytes

@@ -5,4 +5,4 @@ use Rattle.icu_decimal_text.specs.declared.formatter.DecimalFormatter.{DecimalFo
 use Rattle.icu_decimal_text.specs.PlainText.{Tables}
 
 abbrev pub tables_of : DecimalFormatter → Tables
-tables_of f = record { symbols = f.symbols.now; digits = f.digits.now; strategy = f.strategy }
+tables_of f = record { symbols = f.symbols.symbols.now; digits = f.digits.chars.now; strategy = f.strategy }

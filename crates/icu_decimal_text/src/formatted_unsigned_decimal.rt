@@ -23,7 +23,7 @@ use writeable::{Error, LengthHint, Sink, Writeable, display};
 #[derive(Debug, Drop)]
 pub struct FormattedUnsignedDecimal<'l> {
     number: &'l UnsignedDecimal,
-    tables: DecimalFormatter<'l>,
+    tables: &'l DecimalFormatter<'l>,
 }
 
 impl<'l> Model for FormattedUnsignedDecimal<'l> {
@@ -33,13 +33,13 @@ impl<'l> Model for FormattedUnsignedDecimal<'l> {
 
     ghost use Rattle.icu_decimal_text.specs.HeldTables.{tables_of};
 
-    ghost view = { λ s. record { number = s.number.now; tables = tables_of s.tables } };
+    ghost view = { λ s. record { number = s.number.now; tables = tables_of s.tables.now } };
 }
 
 impl<'l> FormattedUnsignedDecimal<'l> {
     // The number with these tables.
-    pub(crate) fn new(number: &'l UnsignedDecimal, tables: DecimalFormatter<'l>) -> Self
-        ensures { result ≡ record { number = number.now; tables = tables_of tables.entry } }
+    pub(crate) fn new(number: &'l UnsignedDecimal, tables: &'l DecimalFormatter<'l>) -> Self
+        ensures { result ≡ record { number = number.now; tables = tables_of tables.now } }
     {
         FormattedUnsignedDecimal { number, tables }
     }
@@ -134,11 +134,11 @@ fn is_same_strategy(one: GroupingStrategy, other: GroupingStrategy) -> bool
 }
 
 // Whether the tables are equal.
-fn are_same_tables(one: DecimalFormatter<'_>, other: DecimalFormatter<'_>) -> bool
-    ensures { result ≡ same_tables (tables_of one.entry) (tables_of other.entry) }
+fn are_same_tables(one: &DecimalFormatter<'_>, other: &DecimalFormatter<'_>) -> bool
+    ensures { result ≡ same_tables (tables_of one.now) (tables_of other.now) }
 {
-    *one.symbols == *other.symbols
-        && (have_same_digits(one.digits, other.digits)
+    *one.symbols.symbols == *other.symbols.symbols
+        && (have_same_digits(one.digits.chars, other.digits.chars)
             && is_same_strategy(one.strategy, other.strategy))
 }
 

@@ -8,12 +8,12 @@ ghost use Rattle.icu_decimal_text.specs.PlainText.{decimal_text, formatted};
 
 use crate::formatted_sign::FormattedSign;
 use crate::formatted_unsigned_decimal::FormattedUnsignedDecimal;
+use crate::piece_tables::{DigitTable, SymbolTable};
 use fixed_decimal::Decimal;
 use icu_decimal_provider::options::{DecimalFormatterOptions, GroupingStrategy, strategy_of};
 use icu_decimal_provider::preferences::DecimalFormatterPreferences;
 use icu_decimal_provider::provider::{
-    DataError, DataProvider, DecimalDigitsV1, DecimalSymbols, DecimalSymbolsV1, load_digits,
-    load_symbols,
+    DataError, DataProvider, DecimalDigitsV1, DecimalSymbolsV1, load_digits, load_symbols,
 };
 use std::alloc::{AllocError, Global};
 use writeable::Writeable;
@@ -26,8 +26,8 @@ pub type FormattedDecimal<'l> = FormattedSign<'l, FormattedUnsignedDecimal<'l>>;
 /// That of `en` writes -1234.5 as `-1,234.5`. After ICU4X's `DecimalFormatter`.
 #[derive(Clone, Copy, Debug)]
 pub struct DecimalFormatter<'b> {
-    pub(crate) symbols: &'b DecimalSymbols,
-    pub(crate) digits: &'b [char; 10],
+    pub(crate) symbols: SymbolTable<'b>,
+    pub(crate) digits: DigitTable<'b>,
     pub(crate) strategy: GroupingStrategy,
 }
 
@@ -35,8 +35,8 @@ impl<'b> DecimalFormatter<'b> {
     /// The formatter of these preferences and options, with tables of the provider: the symbols that the preferences ask for,
     /// then the digits.
     ///
-    /// With the sample book, preferences of `en-u-nu-thai` and default options it writes `๑,๐๐๐,๐๐๗`. Errors as `load_symbols` and
-    /// `load_digits`. It takes no memory.
+    /// With the sample book, preferences of `en-u-nu-thai` and default options it writes 1000007 as `๑,๐๐๐,๐๐๗`. Errors as
+    /// `load_symbols` and `load_digits`. It takes no memory.
     pub fn try_new_unstable<P>(
         provider: &'b P,
         preferences: DecimalFormatterPreferences,
@@ -49,8 +49,8 @@ impl<'b> DecimalFormatter<'b> {
         let symbols = load_symbols(provider, &preferences)?;
         let digits = load_digits(provider, &preferences, symbols)?;
         Ok(DecimalFormatter {
-            symbols,
-            digits,
+            symbols: SymbolTable::new(symbols),
+            digits: DigitTable::new(digits),
             strategy: strategy_of(options),
         })
     }
@@ -61,8 +61,8 @@ impl<'b> DecimalFormatter<'b> {
     pub fn format<'l>(&'l self, value: &'l Decimal) -> FormattedDecimal<'l>
         ensures { result ≡ formatted (tables_of self.now) value.now }
     {
-        let symbols = self.symbols;
-        let number = FormattedUnsignedDecimal::new(&value.absolute, *self);
+        let symbols = self.symbols.symbols;
+        let number = FormattedUnsignedDecimal::new(&value.absolute, self);
         FormattedSign::new(value.sign, symbols, number)
     }
 

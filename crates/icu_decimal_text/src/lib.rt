@@ -17,6 +17,7 @@ mod formatted_unsigned_decimal;
 mod formatter;
 pub mod grouper;
 pub mod laws;
+mod piece_tables;
 mod short_text;
 mod tables;
 mod text_pieces;

@@ -1,14 +1,17 @@
 //! Short texts: some digits, or a whole number, put together in one place and written by one call of the sink.
 
-ghost use Rattle.std.specs.Prelude.{◌≡◌, ◌+◌, ◌*◌, ◌<◌, ◌≤◌, ◌++◌, ◌∷◌, [], drop, encode_utf8, length, map, take, IfSome};
+ghost use Rattle.std.specs.Prelude.{◌≡◌, ◌+◌, ◌*◌, ◌<◌, ◌≤◌, ◌++◌, [], drop, length, map, take, IfSome};
 ghost use Rattle.std.specs.Int.Digits.{AllBelowBase};
 ghost use Rattle.fixed_decimal.specs.Number.{fraction_digits, whole_digits};
 ghost use Rattle.icu_decimal_text.specs.HeldTables.{tables_of};
 ghost use Rattle.icu_decimal_text.specs.LaterGroups.{groups_ahead};
+ghost use Rattle.icu_decimal_text.specs.Pieces.{Holds};
 ghost use Rattle.icu_decimal_text.specs.PlainText.{chained, digit_text, fraction_text, unsigned_text, whole_text};
 
 use crate::formatter::DecimalFormatter;
 use crate::grouper::GroupSizes;
+use crate::piece_tables::DigitTable;
+use crate::text_pieces::{Piece, put_piece};
 use crate::writing::{digits_shown, fraction_len, highest};
 use fixed_decimal::{ShownDigits, UnsignedDecimal};
 use std::marker::Model;
@@ -47,19 +50,6 @@ impl ShortText {
         }
     }
 
-    // The text of a number. `None`: it shows more digits, or may have more bytes, than are put together here.
-    pub(crate) fn of(tables: DecimalFormatter<'_>, number: &UnsignedDecimal) -> Option<Self>
-        ensures { IfSome result (λ text. text ≡ unsigned_text (tables_of tables.entry) number.now) }
-    {
-        if digits_shown(number) > FEW {
-            return None;
-        }
-        let mut text = Self::new();
-        text.push_whole(tables, number)?;
-        text.push_fraction(tables, number)?;
-        Some(text)
-    }
-
     // The bytes as a text.
     pub(crate) fn as_str(&self) -> &str
         ensures { result.now ≡ self.now }
@@ -67,37 +57,13 @@ impl ShortText {
         unsafe { str::from_utf8_unchecked(&self.bytes[..self.len]) }
     }
 
-    // Adds an ASCII character.
-    fn push_ascii(&mut self, character: u8)
-        requires room { length self.old < 64 }
-        requires ascii { character < 128 }
-        ensures { self.new ≡ self.old ++ character ∷ [] }
+    // Adds a piece.
+    fn push(&mut self, piece: Piece)
+        requires room { length self.old + 4 ≤ 64 }
+        requires piece { Holds piece (take piece.len piece.bytes) }
+        ensures { self.new ≡ self.old ++ take piece.len piece.bytes }
     {
-        self.bytes[self.len] = character;
-        self.len += 1;
-    }
-
-    // Adds a text.
-    fn push_str(&mut self, text: &str)
-        requires { length self.old + length text.now ≤ 64 }
-        ensures { self.new ≡ self.old ++ text.now }
-    {
-        let end = self.len + text.len();
-        self.bytes[self.len..end].copy_from_slice(text.as_bytes());
-        self.len = end;
-    }
-
-    // Adds a character.
-    fn push(&mut self, character: char)
-        requires { length self.old + 4 ≤ 64 }
-        ensures { self.new ≡ self.old ++ encode_utf8 character }
-    {
-        if (character as u32) < 128 {
-            self.push_ascii(character as u8);
-        } else {
-            let mut bytes = [0; 4];
-            self.push_str(character.encode_utf8(&mut bytes));
-        }
+        self.len = put_piece(&mut self.bytes, self.len, piece);
     }
 
     // Adds the next digits, so many.
@@ -105,11 +71,11 @@ impl ShortText {
         &mut self,
         digits: &mut ShownDigits<'_>,
         count: usize,
-        table: &[char; 10],
+        table: &DigitTable<'_>,
     )
         requires room { length self.old + 4 * count ≤ 64 }
         requires tens { AllBelowBase 10 digits.old }
-        ensures text { self.new ≡ self.old ++ chained (map (digit_text table.now) (take count digits.old)) }
+        ensures text { self.new ≡ self.old ++ chained (map (digit_text table.now.chars.now) (take count digits.old)) }
         ensures digits { digits.new ≡ drop count digits.old }
     {
         let mut left = count;
@@ -118,27 +84,45 @@ impl ShortText {
             let Some(digit) = digits.next() else {
                 return;
             };
-            self.push(table[digit as usize]);
+            self.push(table.pieces[digit as usize]);
         }
     }
 
-    // Adds a text and the next digits, so many. `None`: they may not have room.
-    fn push_group(
+    // Adds the next digits, so many. `None`: they may not have room.
+    fn push_first(
         &mut self,
-        before: &str,
         digits: &mut ShownDigits<'_>,
         count: usize,
-        table: &[char; 10],
+        table: &DigitTable<'_>,
     ) -> Option<()>
         requires { AllBelowBase 10 digits.old }
-        ensures text { IfSome result (λ _. self.new ≡ self.old ++ (before.now ++ chained (map (digit_text table.now) (take count digits.old)))) }
+        ensures text { IfSome result (λ _. self.new ≡ self.old ++ chained (map (digit_text table.now.chars.now) (take count digits.old))) }
         ensures digits { IfSome result (λ _. digits.new ≡ drop count digits.old) }
     {
-        let room = ROOM - self.len;
-        if room < before.len() || (room - before.len()) / 4 < count {
+        if (ROOM - self.len) / 4 < count {
             return None;
         }
-        self.push_str(before);
+        self.push_digits(digits, count, table);
+        Some(())
+    }
+
+    // Adds a piece and the next digits, so many. `None`: they may not have room.
+    fn push_group(
+        &mut self,
+        before: Piece,
+        digits: &mut ShownDigits<'_>,
+        count: usize,
+        table: &DigitTable<'_>,
+    ) -> Option<()>
+        requires before { Holds before (take before.len before.bytes) }
+        requires tens { AllBelowBase 10 digits.old }
+        ensures text { IfSome result (λ _. self.new ≡ self.old ++ (take before.len before.bytes ++ chained (map (digit_text table.now.chars.now) (take count digits.old)))) }
+        ensures digits { IfSome result (λ _. digits.new ≡ drop count digits.old) }
+    {
+        if (ROOM - self.len) / 4 <= count {
+            return None;
+        }
+        self.push(before);
         self.push_digits(digits, count, table);
         Some(())
     }
@@ -146,13 +130,14 @@ impl ShortText {
     // Adds groups, each with the separator before it. `None`: they may not have room.
     fn push_groups(
         &mut self,
-        separator: &str,
+        separator: Piece,
         digits: &mut ShownDigits<'_>,
         sizes: &mut GroupSizes,
-        table: &[char; 10],
+        table: &DigitTable<'_>,
     ) -> Option<()>
-        requires { AllBelowBase 10 digits.old }
-        ensures { IfSome result (λ _. self.new ≡ self.old ++ groups_ahead separator.now (digit_text table.now) sizes.old digits.old) }
+        requires separator { Holds separator (take separator.len separator.bytes) }
+        requires tens { AllBelowBase 10 digits.old }
+        ensures { IfSome result (λ _. self.new ≡ self.old ++ groups_ahead (take separator.len separator.bytes) (digit_text table.now.chars.now) sizes.old digits.old) }
     {
         while let Some(size) = sizes.next() {
             self.push_group(separator, digits, size, table)?;
@@ -161,11 +146,17 @@ impl ShortText {
     }
 
     // Adds the integer digits in their groups. `None`: they may not have room.
-    fn push_whole(&mut self, tables: DecimalFormatter<'_>, number: &UnsignedDecimal) -> Option<()>
-        ensures { IfSome result (λ _. self.new ≡ self.old ++ whole_text (tables_of tables.entry) (whole_digits number.now)) }
+    fn push_whole(
+        &mut self,
+        tables: &DecimalFormatter<'_>,
+        separator: Piece,
+        number: &UnsignedDecimal,
+    ) -> Option<()>
+        requires { Holds separator (tables_of tables.now).symbols.strings.grouping_separator }
+        ensures { IfSome result (λ _. self.new ≡ self.old ++ whole_text (tables_of tables.now) (whole_digits number.now)) }
     {
-        let symbols = tables.symbols;
-        let table = tables.digits;
+        let symbols = tables.symbols.symbols;
+        let table = &tables.digits;
         let mut sizes = GroupSizes::of(
             highest(number) + 1,
             tables.strategy,
@@ -173,28 +164,41 @@ impl ShortText {
         );
         let mut digits = number.whole_digits();
         let first = sizes.next().unwrap_or(0);
-        self.push_group("", &mut digits, first, table)?;
-        self.push_groups(symbols.grouping_separator(), &mut digits, &mut sizes, table)
+        self.push_first(&mut digits, first, table)?;
+        self.push_groups(separator, &mut digits, &mut sizes, table)
     }
 
     // Adds the decimal separator and the fraction digits, where there are any. `None`: they may not have room.
     fn push_fraction(
         &mut self,
-        tables: DecimalFormatter<'_>,
+        tables: &DecimalFormatter<'_>,
+        separator: Piece,
         number: &UnsignedDecimal,
     ) -> Option<()>
-        ensures { IfSome result (λ _. self.new ≡ self.old ++ fraction_text (tables_of tables.entry) (fraction_digits number.now)) }
+        requires { Holds separator (tables_of tables.now).symbols.strings.decimal_separator }
+        ensures { IfSome result (λ _. self.new ≡ self.old ++ fraction_text (tables_of tables.now) (fraction_digits number.now)) }
     {
         let count = fraction_len(number) as usize;
         if count == 0 {
             return Some(());
         }
-        let separator = tables.symbols.decimal_separator();
-        self.push_group(
-            separator,
-            &mut number.fraction_digits(),
-            count,
-            tables.digits,
-        )
+        let mut digits = number.fraction_digits();
+        self.push_group(separator, &mut digits, count, &tables.digits)
+    }
+
+    // Adds the text of a number. `None`: it shows more digits than are put together here, or they may not have room.
+    pub(crate) fn push_number(
+        &mut self,
+        tables: &DecimalFormatter<'_>,
+        number: &UnsignedDecimal,
+    ) -> Option<()>
+        ensures { IfSome result (λ _. self.new ≡ self.old ++ unsigned_text (tables_of tables.now) number.now) }
+    {
+        if digits_shown(number) > FEW {
+            return None;
+        }
+        let separators = tables.symbols.separators?;
+        self.push_whole(tables, separators.group, number)?;
+        self.push_fraction(tables, separators.decimal, number)
     }
 }

@@ -11,13 +11,13 @@ impl<'b> DecimalFormatter<'b> {
     pub fn symbols(&self) -> &'b DecimalSymbols
         ensures { result.now ≡ (tables_of self.now).symbols }
     {
-        self.symbols
+        self.symbols.symbols
     }
 
     /// The ten digits that it writes with, from zero up: of `thai` `๐` to `๙`. It takes no memory.
     pub fn digits(&self) -> &'b [char; 10]
         ensures { result.now ≡ (tables_of self.now).digits }
     {
-        self.digits
+        self.digits.chars
     }
 }

@@ -7,6 +7,7 @@ ghost use Rattle.icu_decimal_text.specs.LaterGroups.{groups_ahead};
 ghost use Rattle.icu_decimal_text.specs.Pieces.{Holds, HoldTable};
 
 use crate::grouper::GroupSizes;
+use crate::piece_tables::DigitTable;
 
 // How many digits are put together at once. Groups of one, two, three and four digits fill it.
 pub(crate) const CHUNK: usize = 48;
@@ -17,8 +18,8 @@ pub(crate) const CHUNK_BYTES: usize = 384;
 // A text of at most four bytes, in a word of four.
 #[derive(Clone, Copy, Debug)]
 pub(crate) struct Piece {
-    bytes: [u8; 4],
-    len: u8,
+    pub bytes: [u8; 4],
+    pub len: u8,
 }
 
 impl Piece {
@@ -50,6 +51,13 @@ impl Piece {
     }
 }
 
+// The grouping separator and the decimal separator, as pieces.
+#[derive(Clone, Copy, Debug)]
+pub(crate) struct Separators {
+    pub group: Piece,
+    pub decimal: Piece,
+}
+
 // The characters of a table as pieces.
 pub(crate) fn pieces_of(table: &[char; 10]) -> [Piece; 10]
     ensures { HoldTable result table.now }
@@ -67,8 +75,8 @@ pub(crate) fn pieces_of(table: &[char; 10]) -> [Piece; 10]
 }
 
 // Puts a piece behind so many bytes; the answer is how many there are then.
-fn put_piece(waiting: &mut [u8; CHUNK_BYTES], len: usize, piece: Piece) -> usize
-    requires room { len + 4 ≤ 384 }
+pub(crate) fn put_piece<const N: usize>(waiting: &mut [u8; N], len: usize, piece: Piece) -> usize
+    requires room { len + 4 ≤ N }
     requires long { length piece.bytes ≡ 4 }
     requires short { piece.len ≤ 4 }
     ensures text { take result waiting.new ≡ take len waiting.old ++ take piece.len piece.bytes }
@@ -87,19 +95,17 @@ fn put_digits(
     waiting: &mut [u8; CHUNK_BYTES],
     len: usize,
     digits: &[u8],
-    table: &[char; 10],
-    pieces: &[Piece; 10],
+    table: &DigitTable<'_>,
 ) -> usize
     requires room { len + 4 * length digits.now ≤ 384 }
     requires tens { AllBelowBase 10 digits.now }
-    requires pieces { HoldTable pieces.now table.now }
-    ensures text { take result waiting.new ≡ take len waiting.old ++ chained (map (digit_text table.now) digits.now) }
+    ensures text { take result waiting.new ≡ take len waiting.old ++ chained (map (digit_text table.now.chars.now) digits.now) }
     ensures room { result ≤ len + 4 * length digits.now }
 {
     let mut len = len;
     let mut at = 0;
     while at < digits.len() {
-        len = put_piece(waiting, len, pieces[digits[at] as usize]);
+        len = put_piece(waiting, len, table.pieces[digits[at] as usize]);
         at += 1;
     }
     len
@@ -112,16 +118,14 @@ pub(crate) fn put_groups(
     separator: Piece,
     digits: &[u8],
     sizes: &mut GroupSizes,
-    table: &[char; 10],
-    pieces: &[Piece; 10],
+    table: &DigitTable<'_>,
 ) -> usize
     requires room { len + 4 * (length digits.now + length sizes.old) ≤ 384 }
     requires whole { sum sizes.old ≡ length digits.now }
     requires long { length separator.bytes ≡ 4 }
     requires short { separator.len ≤ 4 }
     requires tens { AllBelowBase 10 digits.now }
-    requires pieces { HoldTable pieces.now table.now }
-    ensures text { take result waiting.new ≡ take len waiting.old ++ groups_ahead (take separator.len separator.bytes) (digit_text table.now) sizes.old digits.now }
+    ensures text { take result waiting.new ≡ take len waiting.old ++ groups_ahead (take separator.len separator.bytes) (digit_text table.now.chars.now) sizes.old digits.now }
     ensures room { result ≤ len + 4 * (length digits.now + length sizes.old) }
 {
     let mut len = len;
@@ -129,7 +133,7 @@ pub(crate) fn put_groups(
     while let Some(size) = sizes.next() {
         let (group, behind) = ahead.split_at(size);
         len = put_piece(waiting, len, separator);
-        len = put_digits(waiting, len, group, table, pieces);
+        len = put_digits(waiting, len, group, table);
         ahead = behind;
     }
     len

@@ -11,8 +11,9 @@ ghost use Rattle.icu_decimal_text.specs.LaterGroups.{groups_ahead};
 
 use crate::formatter::DecimalFormatter;
 use crate::grouper::GroupSizes;
+use crate::piece_tables::DigitTable;
 use crate::short_text::ShortText;
-use crate::text_pieces::{CHUNK, CHUNK_BYTES, Piece, pieces_of, put_groups};
+use crate::text_pieces::{CHUNK, CHUNK_BYTES, Piece, put_groups};
 use crate::writing::{fraction_len, highest, write_digits, write_fraction_digits};
 use fixed_decimal::{ShownDigits, UnsignedDecimal};
 use std::iter::ExactSizeIterator;
@@ -64,7 +65,7 @@ fn write_chunks<S: Sink>(
     separator: &str,
     digits: &mut ShownDigits<'_>,
     sizes: &mut GroupSizes,
-    table: &[char; 10],
+    table: &DigitTable<'_>,
     sink: &mut S,
 ) -> Result<(), Error>
     requires fine { S.refused sink.old ≡ false }
@@ -72,19 +73,18 @@ fn write_chunks<S: Sink>(
     requires tens { AllBelowBase 10 digits.old }
     ensures tens { OnOk result (AllBelowBase 10 digits.new) }
     ensures digits { OnOk result (drop (sum sizes.new) digits.new ≡ drop (sum sizes.old) digits.old) }
-    ensures ok { OnOk result (IsWriting S.takes S.refused sink.old (bytes (groups_ahead separator.now (digit_text table.now) sizes.old digits.old)) sink.new (bytes (groups_ahead separator.now (digit_text table.now) sizes.new digits.new))) }
+    ensures ok { OnOk result (IsWriting S.takes S.refused sink.old (bytes (groups_ahead separator.now (digit_text table.now.chars.now) sizes.old digits.old)) sink.new (bytes (groups_ahead separator.now (digit_text table.now.chars.now) sizes.new digits.new))) }
     ensures refused { S.refused sink.new ≡ is_err result }
-    ensures begun { OnErr result (HasBegun S.takes S.lacks_room sink.old (bytes (groups_ahead separator.now (digit_text table.now) sizes.old digits.old)) sink.new) }
+    ensures begun { OnErr result (HasBegun S.takes S.lacks_room sink.old (bytes (groups_ahead separator.now (digit_text table.now.chars.now) sizes.old digits.old)) sink.new) }
 {
     let piece = Piece::new(separator);
-    let pieces = pieces_of(table);
     let mut waiting = [0; CHUNK_BYTES];
     while digits.len() >= CHUNK {
         let Some(mut groups) = sizes.next_chunk() else {
             return Ok(());
         };
         let chunk = next_digits(digits);
-        let len = put_groups(&mut waiting, 0, piece, &chunk, &mut groups, table, &pieces);
+        let len = put_groups(&mut waiting, 0, piece, &chunk, &mut groups, table);
         write_waiting(&waiting, len, sink)?;
     }
     Ok(())
@@ -96,15 +96,15 @@ fn write_group<S: Sink>(
     separator: &str,
     digits: &mut ShownDigits<'_>,
     size: usize,
-    table: &[char; 10],
+    table: &DigitTable<'_>,
     sink: &mut S,
 ) -> Result<(), Error>
     requires fine { S.refused sink.old ≡ false }
     requires tens { AllBelowBase 10 digits.old }
     ensures digits { OnOk result (digits.new ≡ drop size digits.old) }
-    ensures ok { OnOk result (S.takes sink.old (bytes separator.now ++ bytes (chained (map (digit_text table.now) (take size digits.old)))) sink.new) }
+    ensures ok { OnOk result (S.takes sink.old (bytes separator.now ++ bytes (chained (map (digit_text table.now.chars.now) (take size digits.old)))) sink.new) }
     ensures refused { S.refused sink.new ≡ is_err result }
-    ensures begun { OnErr result (HasBegun S.takes S.lacks_room sink.old (bytes separator.now ++ bytes (chained (map (digit_text table.now) (take size digits.old)))) sink.new) }
+    ensures begun { OnErr result (HasBegun S.takes S.lacks_room sink.old (bytes separator.now ++ bytes (chained (map (digit_text table.now.chars.now) (take size digits.old)))) sink.new) }
 {
     sink.write_str(separator)?;
     write_digits(digits, size, table, sink)
@@ -115,15 +115,15 @@ fn write_few<S: Sink>(
     separator: &str,
     digits: &mut ShownDigits<'_>,
     sizes: &mut GroupSizes,
-    table: &[char; 10],
+    table: &DigitTable<'_>,
     sink: &mut S,
 ) -> Result<(), Error>
     requires fine { S.refused sink.old ≡ false }
     requires tens { AllBelowBase 10 digits.old }
     ensures digits { OnOk result (digits.new ≡ drop (sum sizes.old) digits.old) }
-    ensures ok { OnOk result (S.takes sink.old (bytes (groups_ahead separator.now (digit_text table.now) sizes.old digits.old)) sink.new) }
+    ensures ok { OnOk result (S.takes sink.old (bytes (groups_ahead separator.now (digit_text table.now.chars.now) sizes.old digits.old)) sink.new) }
     ensures refused { S.refused sink.new ≡ is_err result }
-    ensures begun { OnErr result (HasBegun S.takes S.lacks_room sink.old (bytes (groups_ahead separator.now (digit_text table.now) sizes.old digits.old)) sink.new) }
+    ensures begun { OnErr result (HasBegun S.takes S.lacks_room sink.old (bytes (groups_ahead separator.now (digit_text table.now.chars.now) sizes.old digits.old)) sink.new) }
 {
     while let Some(size) = sizes.next() {
         write_group(separator, digits, size, table, sink)?;
@@ -136,15 +136,15 @@ fn write_groups<S: Sink>(
     separator: &str,
     digits: &mut ShownDigits<'_>,
     sizes: &mut GroupSizes,
-    table: &[char; 10],
+    table: &DigitTable<'_>,
     sink: &mut S,
 ) -> Result<(), Error>
     requires fine { S.refused sink.old ≡ false }
     requires tens { AllBelowBase 10 digits.old }
     ensures digits { OnOk result (digits.new ≡ drop (sum sizes.old) digits.old) }
-    ensures ok { OnOk result (S.takes sink.old (bytes (groups_ahead separator.now (digit_text table.now) sizes.old digits.old)) sink.new) }
+    ensures ok { OnOk result (S.takes sink.old (bytes (groups_ahead separator.now (digit_text table.now.chars.now) sizes.old digits.old)) sink.new) }
     ensures refused { S.refused sink.new ≡ is_err result }
-    ensures begun { OnErr result (HasBegun S.takes S.lacks_room sink.old (bytes (groups_ahead separator.now (digit_text table.now) sizes.old digits.old)) sink.new) }
+    ensures begun { OnErr result (HasBegun S.takes S.lacks_room sink.old (bytes (groups_ahead separator.now (digit_text table.now.chars.now) sizes.old digits.old)) sink.new) }
 {
     if separator.len() <= 4 && digits.len() >= CHUNK {
         write_chunks(separator, digits, sizes, table, sink)?;
@@ -157,15 +157,15 @@ fn write_groups<S: Sink>(
 pub(crate) fn write_run<S: Sink>(
     digits: &mut ShownDigits<'_>,
     count: usize,
-    table: &[char; 10],
+    table: &DigitTable<'_>,
     sink: &mut S,
 ) -> Result<(), Error>
     requires fine { S.refused sink.old ≡ false }
     requires tens { AllBelowBase 10 digits.old }
     ensures digits { OnOk result (digits.new ≡ drop count digits.old) }
-    ensures ok { OnOk result (S.takes sink.old (bytes (chained (map (digit_text table.now) (take count digits.old)))) sink.new) }
+    ensures ok { OnOk result (S.takes sink.old (bytes (chained (map (digit_text table.now.chars.now) (take count digits.old)))) sink.new) }
     ensures refused { S.refused sink.new ≡ is_err result }
-    ensures begun { OnErr result (HasBegun S.takes S.lacks_room sink.old (bytes (chained (map (digit_text table.now) (take count digits.old)))) sink.new) }
+    ensures begun { OnErr result (HasBegun S.takes S.lacks_room sink.old (bytes (chained (map (digit_text table.now.chars.now) (take count digits.old)))) sink.new) }
 {
     if count < CHUNK || count > u16::MAX as usize {
         return write_digits(digits, count, table, sink);
@@ -176,17 +176,17 @@ pub(crate) fn write_run<S: Sink>(
 
 // Writes the text of the integer digits.
 fn write_whole_text<S: Sink>(
-    tables: DecimalFormatter<'_>,
+    tables: &DecimalFormatter<'_>,
     number: &UnsignedDecimal,
     sink: &mut S,
 ) -> Result<(), Error>
     requires { S.refused sink.old ≡ false }
-    ensures ok { OnOk result (S.takes sink.old (bytes (whole_text (tables_of tables.entry) (whole_digits number.now))) sink.new) }
+    ensures ok { OnOk result (S.takes sink.old (bytes (whole_text (tables_of tables.now) (whole_digits number.now))) sink.new) }
     ensures refused { S.refused sink.new ≡ is_err result }
-    ensures begun { OnErr result (HasBegun S.takes S.lacks_room sink.old (bytes (whole_text (tables_of tables.entry) (whole_digits number.now))) sink.new) }
+    ensures begun { OnErr result (HasBegun S.takes S.lacks_room sink.old (bytes (whole_text (tables_of tables.now) (whole_digits number.now))) sink.new) }
 {
-    let symbols = tables.symbols;
-    let table = tables.digits;
+    let symbols = tables.symbols.symbols;
+    let table = &tables.digits;
     let mut sizes = GroupSizes::of(highest(number) + 1, tables.strategy, symbols.grouping_sizes);
     let mut digits = number.whole_digits();
     let first = sizes.next().unwrap_or(0);
@@ -203,35 +203,36 @@ fn write_whole_text<S: Sink>(
 // Writes the decimal separator and the fraction digits, where there are any.
 #[tactic(auto, using(crate::proofs::PlainTextLemmas::text_none))]
 fn write_fraction_text<S: Sink>(
-    tables: DecimalFormatter<'_>,
+    tables: &DecimalFormatter<'_>,
     number: &UnsignedDecimal,
     sink: &mut S,
 ) -> Result<(), Error>
     requires { S.refused sink.old ≡ false }
-    ensures ok { OnOk result (S.takes sink.old (bytes (fraction_text (tables_of tables.entry) (fraction_digits number.now))) sink.new) }
+    ensures ok { OnOk result (S.takes sink.old (bytes (fraction_text (tables_of tables.now) (fraction_digits number.now))) sink.new) }
     ensures refused { S.refused sink.new ≡ is_err result }
-    ensures begun { OnErr result (HasBegun S.takes S.lacks_room sink.old (bytes (fraction_text (tables_of tables.entry) (fraction_digits number.now))) sink.new) }
+    ensures begun { OnErr result (HasBegun S.takes S.lacks_room sink.old (bytes (fraction_text (tables_of tables.now) (fraction_digits number.now))) sink.new) }
 {
     if fraction_len(number) == 0 {
         return Ok(());
     }
-    let symbols = tables.symbols;
+    let symbols = tables.symbols.symbols;
     sink.write_str(symbols.decimal_separator())?;
-    write_fraction_digits(tables.digits, number, sink)
+    write_fraction_digits(&tables.digits, number, sink)
 }
 
 // Writes the text of a number without a sign.
 pub(crate) fn write_unsigned_text<S: Sink>(
-    tables: DecimalFormatter<'_>,
+    tables: &DecimalFormatter<'_>,
     number: &UnsignedDecimal,
     sink: &mut S,
 ) -> Result<(), Error>
     requires { S.refused sink.old ≡ false }
-    ensures ok { OnOk result (S.takes sink.old (bytes (unsigned_text (tables_of tables.entry) number.now)) sink.new) }
+    ensures ok { OnOk result (S.takes sink.old (bytes (unsigned_text (tables_of tables.now) number.now)) sink.new) }
     ensures refused { S.refused sink.new ≡ is_err result }
-    ensures begun { OnErr result (HasBegun S.takes S.lacks_room sink.old (bytes (unsigned_text (tables_of tables.entry) number.now)) sink.new) }
+    ensures begun { OnErr result (HasBegun S.takes S.lacks_room sink.old (bytes (unsigned_text (tables_of tables.now) number.now)) sink.new) }
 {
-    if let Some(text) = ShortText::of(tables, number) {
+    let mut text = ShortText::new();
+    if text.push_number(tables, number).is_some() {
         return sink.write_str(text.as_str());
     }
     write_whole_text(tables, number, sink)?;

@@ -13,6 +13,7 @@ ghost use Rattle.icu_decimal_text.specs.LaterGroups.{later_events};
 
 use crate::formatter::DecimalFormatter;
 use crate::grouper::GroupSizes;
+use crate::piece_tables::DigitTable;
 use crate::short_text::ShortText;
 use crate::text_writing::write_run;
 use fixed_decimal::{ShownDigits, UnsignedDecimal};
@@ -39,16 +40,16 @@ const PIECE: usize = 16;
 fn write_piece<S: Sink>(
     digits: &mut ShownDigits<'_>,
     count: usize,
-    table: &[char; 10],
+    table: &DigitTable<'_>,
     sink: &mut S,
 ) -> Result<(), Error>
     requires fine { S.refused sink.old ≡ false }
     requires few { count ≤ 16 }
     requires tens { AllBelowBase 10 digits.old }
     ensures digits { digits.new ≡ drop count digits.old }
-    ensures ok { OnOk result (S.takes sink.old (chained (map (digit_events table.now) (take count digits.old))) sink.new) }
+    ensures ok { OnOk result (S.takes sink.old (chained (map (digit_events table.now.chars.now) (take count digits.old))) sink.new) }
     ensures refused { S.refused sink.new ≡ is_err result }
-    ensures begun { OnErr result (HasBegun S.takes S.lacks_room sink.old (chained (map (digit_events table.now) (take count digits.old))) sink.new) }
+    ensures begun { OnErr result (HasBegun S.takes S.lacks_room sink.old (chained (map (digit_events table.now.chars.now) (take count digits.old))) sink.new) }
 {
     let mut text = ShortText::new();
     text.push_digits(digits, count, table);
@@ -59,15 +60,15 @@ fn write_piece<S: Sink>(
 pub(crate) fn write_digits<S: Sink>(
     digits: &mut ShownDigits<'_>,
     count: usize,
-    table: &[char; 10],
+    table: &DigitTable<'_>,
     sink: &mut S,
 ) -> Result<(), Error>
     requires fine { S.refused sink.old ≡ false }
     requires tens { AllBelowBase 10 digits.old }
     ensures digits { OnOk result (digits.new ≡ drop count digits.old) }
-    ensures ok { OnOk result (S.takes sink.old (chained (map (digit_events table.now) (take count digits.old))) sink.new) }
+    ensures ok { OnOk result (S.takes sink.old (chained (map (digit_events table.now.chars.now) (take count digits.old))) sink.new) }
     ensures refused { S.refused sink.new ≡ is_err result }
-    ensures begun { OnErr result (HasBegun S.takes S.lacks_room sink.old (chained (map (digit_events table.now) (take count digits.old))) sink.new) }
+    ensures begun { OnErr result (HasBegun S.takes S.lacks_room sink.old (chained (map (digit_events table.now.chars.now) (take count digits.old))) sink.new) }
 {
     let mut left = count;
     while left > 0 {
@@ -83,15 +84,15 @@ fn write_group<S: Sink>(
     separator: &str,
     digits: &mut ShownDigits<'_>,
     count: usize,
-    table: &[char; 10],
+    table: &DigitTable<'_>,
     sink: &mut S,
 ) -> Result<(), Error>
     requires fine { S.refused sink.old ≡ false }
     requires tens { AllBelowBase 10 digits.old }
     ensures digits { OnOk result (digits.new ≡ drop count digits.old) }
-    ensures ok { OnOk result (S.takes sink.old (as_part (decimal_part (codes "group")) separator.now ++ chained (map (digit_events table.now) (take count digits.old))) sink.new) }
+    ensures ok { OnOk result (S.takes sink.old (as_part (decimal_part (codes "group")) separator.now ++ chained (map (digit_events table.now.chars.now) (take count digits.old))) sink.new) }
     ensures refused { S.refused sink.new ≡ is_err result }
-    ensures begun { OnErr result (HasBegun S.takes S.lacks_room sink.old (as_part (decimal_part (codes "group")) separator.now ++ chained (map (digit_events table.now) (take count digits.old))) sink.new) }
+    ensures begun { OnErr result (HasBegun S.takes S.lacks_room sink.old (as_part (decimal_part (codes "group")) separator.now ++ chained (map (digit_events table.now.chars.now) (take count digits.old))) sink.new) }
 {
     write_part(parts::GROUP, separator, sink)?;
     write_digits(digits, count, table, sink)
@@ -102,14 +103,14 @@ fn write_groups<S: Sink>(
     separator: &str,
     digits: &mut ShownDigits<'_>,
     sizes: &mut GroupSizes,
-    table: &[char; 10],
+    table: &DigitTable<'_>,
     sink: &mut S,
 ) -> Result<(), Error>
     requires fine { S.refused sink.old ≡ false }
     requires tens { AllBelowBase 10 digits.old }
-    ensures ok { OnOk result (S.takes sink.old (later_events separator.now table.now sizes.old digits.old) sink.new) }
+    ensures ok { OnOk result (S.takes sink.old (later_events separator.now table.now.chars.now sizes.old digits.old) sink.new) }
     ensures refused { S.refused sink.new ≡ is_err result }
-    ensures begun { OnErr result (HasBegun S.takes S.lacks_room sink.old (later_events separator.now table.now sizes.old digits.old) sink.new) }
+    ensures begun { OnErr result (HasBegun S.takes S.lacks_room sink.old (later_events separator.now table.now.chars.now sizes.old digits.old) sink.new) }
 {
     while let Some(size) = sizes.next() {
         write_group(separator, digits, size, table, sink)?;
@@ -127,17 +128,17 @@ pub(crate) fn highest(number: &UnsignedDecimal) -> u16
 
 // Writes the integer digits in their groups.
 fn write_whole<S: Sink>(
-    tables: DecimalFormatter<'_>,
+    tables: &DecimalFormatter<'_>,
     number: &UnsignedDecimal,
     sink: &mut S,
 ) -> Result<(), Error>
     requires { S.refused sink.old ≡ false }
-    ensures ok { OnOk result (S.takes sink.old (whole_events (tables_of tables.entry) (whole_digits number.now)) sink.new) }
+    ensures ok { OnOk result (S.takes sink.old (whole_events (tables_of tables.now) (whole_digits number.now)) sink.new) }
     ensures refused { S.refused sink.new ≡ is_err result }
-    ensures begun { OnErr result (HasBegun S.takes S.lacks_room sink.old (whole_events (tables_of tables.entry) (whole_digits number.now)) sink.new) }
+    ensures begun { OnErr result (HasBegun S.takes S.lacks_room sink.old (whole_events (tables_of tables.now) (whole_digits number.now)) sink.new) }
 {
-    let symbols = tables.symbols;
-    let table = tables.digits;
+    let symbols = tables.symbols.symbols;
+    let table = &tables.digits;
     let mut sizes = GroupSizes::of(highest(number) + 1, tables.strategy, symbols.grouping_sizes);
     let mut digits = number.whole_digits();
     let first = sizes.next().unwrap_or(0);
@@ -167,14 +168,14 @@ pub(crate) fn digits_shown(number: &UnsignedDecimal) -> usize
 
 // Writes the fraction digits.
 pub(crate) fn write_fraction_digits<S: Sink>(
-    table: &[char; 10],
+    table: &DigitTable<'_>,
     number: &UnsignedDecimal,
     sink: &mut S,
 ) -> Result<(), Error>
     requires { S.refused sink.old ≡ false }
-    ensures ok { OnOk result (S.takes sink.old (chained (map (digit_events table.now) (fraction_digits number.now))) sink.new) }
+    ensures ok { OnOk result (S.takes sink.old (chained (map (digit_events table.now.chars.now) (fraction_digits number.now))) sink.new) }
     ensures refused { S.refused sink.new ≡ is_err result }
-    ensures begun { OnErr result (HasBegun S.takes S.lacks_room sink.old (chained (map (digit_events table.now) (fraction_digits number.now))) sink.new) }
+    ensures begun { OnErr result (HasBegun S.takes S.lacks_room sink.old (chained (map (digit_events table.now.chars.now) (fraction_digits number.now))) sink.new) }
 {
     let mut shown = number.fraction_digits();
     write_run(&mut shown, fraction_len(number) as usize, table, sink)
@@ -182,14 +183,14 @@ pub(crate) fn write_fraction_digits<S: Sink>(
 
 // Writes the integer digits as their part.
 fn write_integer<S: Sink>(
-    tables: DecimalFormatter<'_>,
+    tables: &DecimalFormatter<'_>,
     number: &UnsignedDecimal,
     sink: &mut S,
 ) -> Result<(), Error>
     requires { S.refused sink.old ≡ false }
-    ensures ok { OnOk result (S.takes sink.old (integer_events (tables_of tables.entry) (whole_digits number.now)) sink.new) }
+    ensures ok { OnOk result (S.takes sink.old (integer_events (tables_of tables.now) (whole_digits number.now)) sink.new) }
     ensures refused { S.refused sink.new ≡ is_err result }
-    ensures begun { OnErr result (HasBegun S.takes S.lacks_room sink.old (integer_events (tables_of tables.entry) (whole_digits number.now)) sink.new) }
+    ensures begun { OnErr result (HasBegun S.takes S.lacks_room sink.old (integer_events (tables_of tables.now) (whole_digits number.now)) sink.new) }
 {
     sink.open_part(parts::INTEGER)?;
     write_whole(tables, number, sink)?;
@@ -198,50 +199,50 @@ fn write_integer<S: Sink>(
 
 // Writes the fraction digits as their part.
 fn write_fraction_part<S: Sink>(
-    digits: &[char; 10],
+    table: &DigitTable<'_>,
     number: &UnsignedDecimal,
     sink: &mut S,
 ) -> Result<(), Error>
     requires { S.refused sink.old ≡ false }
-    ensures ok { OnOk result (S.takes sink.old (opening (decimal_part (codes "fraction")) ++ (chained (map (digit_events digits.now) (fraction_digits number.now)) ++ closing)) sink.new) }
+    ensures ok { OnOk result (S.takes sink.old (opening (decimal_part (codes "fraction")) ++ (chained (map (digit_events table.now.chars.now) (fraction_digits number.now)) ++ closing)) sink.new) }
     ensures refused { S.refused sink.new ≡ is_err result }
-    ensures begun { OnErr result (HasBegun S.takes S.lacks_room sink.old (opening (decimal_part (codes "fraction")) ++ (chained (map (digit_events digits.now) (fraction_digits number.now)) ++ closing)) sink.new) }
+    ensures begun { OnErr result (HasBegun S.takes S.lacks_room sink.old (opening (decimal_part (codes "fraction")) ++ (chained (map (digit_events table.now.chars.now) (fraction_digits number.now)) ++ closing)) sink.new) }
 {
     sink.open_part(parts::FRACTION)?;
-    write_fraction_digits(digits, number, sink)?;
+    write_fraction_digits(table, number, sink)?;
     sink.close_part()
 }
 
 // Writes the decimal separator and the fraction digits, where there are any.
 #[tactic(auto, using(crate::proofs::PlainTextLemmas::fraction_some, crate::proofs::PlainTextLemmas::fraction_none))]
 fn write_fraction<S: Sink>(
-    tables: DecimalFormatter<'_>,
+    tables: &DecimalFormatter<'_>,
     number: &UnsignedDecimal,
     sink: &mut S,
 ) -> Result<(), Error>
     requires { S.refused sink.old ≡ false }
-    ensures ok { OnOk result (S.takes sink.old (fraction_events (tables_of tables.entry) (fraction_digits number.now)) sink.new) }
+    ensures ok { OnOk result (S.takes sink.old (fraction_events (tables_of tables.now) (fraction_digits number.now)) sink.new) }
     ensures refused { S.refused sink.new ≡ is_err result }
-    ensures begun { OnErr result (HasBegun S.takes S.lacks_room sink.old (fraction_events (tables_of tables.entry) (fraction_digits number.now)) sink.new) }
+    ensures begun { OnErr result (HasBegun S.takes S.lacks_room sink.old (fraction_events (tables_of tables.now) (fraction_digits number.now)) sink.new) }
 {
     if fraction_len(number) == 0 {
         return Ok(());
     }
-    let symbols = tables.symbols;
+    let symbols = tables.symbols.symbols;
     write_part(parts::DECIMAL, symbols.decimal_separator(), sink)?;
-    write_fraction_part(tables.digits, number, sink)
+    write_fraction_part(&tables.digits, number, sink)
 }
 
 // Writes a number without a sign.
 pub(crate) fn write_unsigned<S: Sink>(
-    tables: DecimalFormatter<'_>,
+    tables: &DecimalFormatter<'_>,
     number: &UnsignedDecimal,
     sink: &mut S,
 ) -> Result<(), Error>
     requires { S.refused sink.old ≡ false }
-    ensures ok { OnOk result (S.takes sink.old (unsigned_events (record { number = number.now; tables = tables_of tables.entry })) sink.new) }
+    ensures ok { OnOk result (S.takes sink.old (unsigned_events (record { number = number.now; tables = tables_of tables.now })) sink.new) }
     ensures refused { S.refused sink.new ≡ is_err result }
-    ensures begun { OnErr result (HasBegun S.takes S.lacks_room sink.old (unsigned_events (record { number = number.now; tables = tables_of tables.entry })) sink.new) }
+    ensures begun { OnErr result (HasBegun S.takes S.lacks_room sink.old (unsigned_events (record { number = number.now; tables = tables_of tables.now })) sink.new) }
 {
     write_integer(tables, number, sink)?;
     write_fraction(tables, number, sink)

@@ -3,16 +3,12 @@ use Rattle.icu_decimal_text.specs.PlainText.{chained, digit_text}
 use Rattle.icu_decimal_text.proofs.PieceLemmas.{ten_at, text_next, text_past}
 use Rattle.icu_decimal_text.proofs.text_pieces.put_digits.Goals as goal
 
-pub put_piece-len-requires-clause-short : goal.put_piece-len-requires-clause-short
-put_piece-len-requires-clause-short c =
-    (c.requires.pieces (slice_index c.args.digits.now c.loop-at.at) (ten_at c.args.digits.now c.loop-at.at c.loop-at-test.true c.requires.tens)).short
-
 pub loop-at-preserved : goal.loop-at-preserved
 loop-at-preserved c =
-    let table = c.args.table.now in
+    let table = c.args.table.now.chars.now in
     let digits = c.args.digits.now in
     let at = c.loop-at.at in
-    let piece = c.requires.pieces (slice_index digits at) (ten_at digits at c.loop-at-test.true c.requires.tens) in
+    let piece = c.args.table.now.held (slice_index digits at) (ten_at digits at c.loop-at-test.true c.requires.tens) in
     record {
       at = let going = c.loop-at-test.true in omega (arith, going);
       text = ap (λ front. front ++ chained (map (digit_text table) (drop (at + 1) digits))) c.put_piece-len.ensures.text
@@ -26,5 +22,5 @@ loop-at-preserved c =
 pub returns-clause-text : goal.returns-clause-text
 returns-clause-text c =
     sym (append-nil (take c.loop-at.len c.loop-at.waiting))
-    ∙ ap (λ text. take c.loop-at.len c.loop-at.waiting ++ text) (sym (text_past c.args.table.now c.args.digits.now c.loop-at.at (let past = c.loop-at-test.false in omega (arith, past))))
+    ∙ ap (λ text. take c.loop-at.len c.loop-at.waiting ++ text) (sym (text_past c.args.table.now.chars.now c.args.digits.now c.loop-at.at (let past = c.loop-at-test.false in omega (arith, past))))
     ∙ c.loop-at.invariant.text

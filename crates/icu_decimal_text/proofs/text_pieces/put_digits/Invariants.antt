@@ -5,7 +5,7 @@ use Rattle.icu_decimal_text.proofs.text_pieces.put_digits.Given as goal
 abbrev pub invariant-loop-at : goal.invariant-loop-at
 invariant-loop-at l = record {
   at : l.at ≤ length l.digits;
-  text : take l.len l.waiting ++ chained (map (digit_text l.table) (drop l.at l.digits)) ≡ take l.initial.len l.initial.waiting ++ chained (map (digit_text l.table) l.digits);
+  text : take l.len l.waiting ++ chained (map (digit_text l.table.chars.now) (drop l.at l.digits)) ≡ take l.initial.len l.initial.waiting ++ chained (map (digit_text l.table.chars.now) l.digits);
   room : l.len ≤ l.initial.len + 4 * l.at;
 }
 

@@ -1,3 +1,4 @@
+use Rattle.std.proofs.lemmas.Str.{IsUtf8-had}
 use Rattle.std.proofs.Common.{◌∙◌, IsUtf8, ap, arith, length, length-drop, subst, sym, take}
 use Rattle.std.specs.Int.Digits.{AllBelowBase}
 use Rattle.writeable.specs.AnnotatedText.{bytes}
@@ -19,8 +20,8 @@ write_waiting-requires-clause-utf8 g c =
     let taken = c.in-Some.groups in
     let tens = subst (AllBelowBase 10) (sym c.next_digits-chunk.ensures.chunk) (tens_taken 48 c.loop-digits.digits c.loop-digits.invariant.tens) in
     subst IsUtf8 (sym c.put_groups-len.ensures.text)
-    (utf8_groups (take piece.len piece.bytes) c.args.table.now taken c.next_digits-chunk.result
-    (subst IsUtf8 (sym c.new-piece.ensures.is) c.new-piece.ensures.utf8) (λ d below. (c.pieces_of-pieces.ensures d below).utf8) tens)
+    (utf8_groups (take piece.len piece.bytes) c.args.table.now.chars.now taken c.next_digits-chunk.result
+    (subst IsUtf8 (sym c.new-piece.ensures.is) (IsUtf8-had _ c.new-piece.ensures.utf8)) (λ d below. IsUtf8-had _ (c.args.table.now.held d below).utf8) tens)
 
 pub loop-digits-smaller : goal.loop-digits-smaller
 loop-digits-smaller g c =
@@ -31,7 +32,7 @@ loop-digits-smaller g c =
 
 pub loop-digits-preserved : goal.loop-digits-preserved
 loop-digits-preserved g c =
-    let table = c.args.table.now in
+    let table = c.args.table.now.chars.now in
     let separator = c.args.separator.now in
     let taken = c.in-Some.groups in
     let was = c.loop-digits.digits in
@@ -49,7 +50,7 @@ loop-digits-preserved g c =
 
 pub returns-in_err-write_waiting-clause-begun : goal.returns-in_err-write_waiting-clause-begun
 returns-in_err-write_waiting-clause-begun g c =
-    let table = c.args.table.now in
+    let table = c.args.table.now.chars.now in
     let separator = c.args.separator.now in
     let taken = c.in-Some.groups in
     let was = c.loop-digits.digits in

@@ -11,7 +11,7 @@ use Rattle.icu_decimal_text.proofs.text_writing.write_few.Goals as goal
 
 pub loop-size-preserved : goal.loop-size-preserved
 loop-size-preserved g c =
-    let table = c.args.table.now in
+    let table = c.args.table.now.chars.now in
     let separator = c.args.separator.now in
     let size = c.in-Some.size in
     let was = c.loop-size.digits in
@@ -26,7 +26,7 @@ loop-size-preserved g c =
 
 pub returns-in_err-write_group-clause-begun : goal.returns-in_err-write_group-clause-begun
 returns-in_err-write_group-clause-begun g c =
-    let table = c.args.table.now in
+    let table = c.args.table.now.chars.now in
     let separator = c.args.separator.now in
     let size = c.in-Some.size in
     let was = c.loop-size.digits in
@@ -37,4 +37,4 @@ returns-in_err-write_group-clause-begun g c =
 pub returns-clause-ok : goal.returns-clause-ok
 returns-clause-ok g c =
     writing_ends g.S.Sink.takes g.S.Sink.refused _ _ _
-    (rw (no_bytes_ahead c.args.separator.now c.args.table.now c.loop-size.sizes c.loop-size.digits c.in_default.ensures.steps.0) at c.loop-size.invariant.writing)
+    (rw (no_bytes_ahead c.args.separator.now c.args.table.now.chars.now c.loop-size.sizes c.loop-size.digits c.in_default.ensures.steps.0) at c.loop-size.invariant.writing)

@@ -10,5 +10,5 @@ abbrev pub invariant-loop-size : goal.invariant-loop-size
 invariant-loop-size g l = record {
   tens : AllBelowBase 10 l.digits;
   digits : drop (sum l.sizes) l.digits ≡ drop (sum l.initial.sizes) l.initial.digits;
-  writing : IsWriting g.S.Sink.takes g.S.Sink.refused l.initial.sink (bytes (groups_ahead l.separator (digit_text l.table) l.initial.sizes l.initial.digits)) l.sink (bytes (groups_ahead l.separator (digit_text l.table) l.sizes l.digits));
+  writing : IsWriting g.S.Sink.takes g.S.Sink.refused l.initial.sink (bytes (groups_ahead l.separator (digit_text l.table.chars.now) l.initial.sizes l.initial.digits)) l.sink (bytes (groups_ahead l.separator (digit_text l.table.chars.now) l.sizes l.digits));
 }

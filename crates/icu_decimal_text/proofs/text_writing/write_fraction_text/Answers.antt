@@ -7,7 +7,7 @@ use Rattle.icu_decimal_text.proofs.text_writing.write_fraction_text.Goals as goa
 
 pub returns-in_err-write_str-clause-begun : goal.returns-in_err-write_str-clause-begun
 returns-in_err-write_str-clause-begun g c =
-    let t = tables_of c.args.tables in
+    let t = tables_of c.args.tables.now in
     let v = c.args.number.now in
     let written : c.decimal_separator.result.now ≡ t.symbols.strings.decimal_separator = c.decimal_separator.ensures ∙ ap (λ s. s.decimal_separator) c.deref.ensures in
     let length = c.fraction_len.ensures.value in
@@ -18,7 +18,7 @@ returns-in_err-write_str-clause-begun g c =
 
 pub returns-clause-ok : goal.returns-clause-ok
 returns-clause-ok g c =
-    let t = tables_of c.args.tables in
+    let t = tables_of c.args.tables.now in
     let v = c.args.number.now in
     let written : c.decimal_separator.result.now ≡ t.symbols.strings.decimal_separator = c.decimal_separator.ensures ∙ ap (λ s. s.decimal_separator) c.deref.ensures in
     let length = c.fraction_len.ensures.value in
@@ -29,7 +29,7 @@ returns-clause-ok g c =
 
 pub returns-clause-begun : goal.returns-clause-begun
 returns-clause-begun g c =
-    let t = tables_of c.args.tables in
+    let t = tables_of c.args.tables.now in
     let v = c.args.number.now in
     let written : c.decimal_separator.result.now ≡ t.symbols.strings.decimal_separator = c.decimal_separator.ensures ∙ ap (λ s. s.decimal_separator) c.deref.ensures in
     let length = c.fraction_len.ensures.value in

@@ -8,7 +8,7 @@ use Rattle.icu_decimal_text.proofs.writing.write_digits.Goals as goal
 
 pub loop-left-preserved : goal.loop-left-preserved
 loop-left-preserved g c =
-    let table = c.args.table.now in
+    let table = c.args.table.now.chars.now in
     let left = c.loop-left.left in
     let size = c.min-size.result in
     let was = c.loop-left.digits in
@@ -25,7 +25,7 @@ loop-left-preserved g c =
 
 pub returns-in_err-write_piece-clause-begun : goal.returns-in_err-write_piece-clause-begun
 returns-in_err-write_piece-clause-begun g c =
-    let table = c.args.table.now in
+    let table = c.args.table.now.chars.now in
     let left = c.loop-left.left in
     let size = c.min-size.result in
     let was = c.loop-left.digits in
@@ -38,7 +38,7 @@ returns-in_err-write_piece-clause-begun g c =
 pub returns-clause-ok : goal.returns-clause-ok
 returns-clause-ok g c =
     writing_ends g.S.Sink.takes g.S.Sink.refused _ _ _
-    (rw (no_piece c.args.table.now c.loop-left.digits c.loop-left.left (omega arith)) at c.loop-left.invariant.writing)
+    (rw (no_piece c.args.table.now.chars.now c.loop-left.digits c.loop-left.left (omega arith)) at c.loop-left.invariant.writing)
 
 pub returns-clause-digits : goal.returns-clause-digits
 returns-clause-digits g c =

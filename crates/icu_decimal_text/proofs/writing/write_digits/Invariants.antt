@@ -9,7 +9,7 @@ invariant-loop-left g l = record {
   left : l.left ≤ l.count;
   tens : AllBelowBase 10 l.digits;
   digits : drop l.left l.digits ≡ drop l.count l.initial.digits;
-  writing : IsWriting g.S.Sink.takes g.S.Sink.refused l.initial.sink (chained (map (digit_events l.table) (take l.count l.initial.digits))) l.sink (chained (map (digit_events l.table) (take l.left l.digits)));
+  writing : IsWriting g.S.Sink.takes g.S.Sink.refused l.initial.sink (chained (map (digit_events l.table.chars.now) (take l.count l.initial.digits))) l.sink (chained (map (digit_events l.table.chars.now) (take l.left l.digits)));
 }
 
 abbrev pub decreases-loop-left : goal.decreases-loop-left

@@ -10,8 +10,8 @@ write_run-requires-clause-tens g c =
 
 pub returns-clause-ok : goal.returns-clause-ok
 returns-clause-ok g c =
-    rw (sym (fraction_run c.args.table.now c.args.number.now c.fraction_len.result c.fraction_digits-shown.result c.fraction_digits-shown.ensures c.fraction_len.ensures.value)) c.write_run.ensures.ok
+    rw (sym (fraction_run c.args.table.now.chars.now c.args.number.now c.fraction_len.result c.fraction_digits-shown.result c.fraction_digits-shown.ensures c.fraction_len.ensures.value)) c.write_run.ensures.ok
 
 pub returns-clause-begun : goal.returns-clause-begun
 returns-clause-begun g c =
-    rw (sym (fraction_run c.args.table.now c.args.number.now c.fraction_len.result c.fraction_digits-shown.result c.fraction_digits-shown.ensures c.fraction_len.ensures.value)) c.write_run.ensures.begun
+    rw (sym (fraction_run c.args.table.now.chars.now c.args.number.now c.fraction_len.result c.fraction_digits-shown.result c.fraction_digits-shown.ensures c.fraction_len.ensures.value)) c.write_run.ensures.begun

@@ -9,7 +9,7 @@ use Rattle.icu_decimal_text.proofs.writing.write_groups.Goals as goal
 
 pub loop-size-preserved : goal.loop-size-preserved
 loop-size-preserved g c =
-    let table = c.args.table.now in
+    let table = c.args.table.now.chars.now in
     let separator = c.args.separator.now in
     let size = c.in-Some.size in
     let was = c.loop-size.digits in

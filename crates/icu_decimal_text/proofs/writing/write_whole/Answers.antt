@@ -9,7 +9,7 @@ use Rattle.icu_decimal_text.proofs.writing.write_whole.Goals as goal
 
 pub returns-in_err-write_digits-clause-begun : goal.returns-in_err-write_digits-clause-begun
 returns-in_err-write_digits-clause-begun g c =
-    let t = tables_of c.args.tables in
+    let t = tables_of c.args.tables.now in
     let v = c.args.number.now in
     let digits = c.highest.result + 1 in
     let ds = c.whole_digits-digits.result in
@@ -33,7 +33,7 @@ write_groups-requires-clause-tens g c =
 
 pub returns-clause-ok : goal.returns-clause-ok
 returns-clause-ok g c =
-    let t = tables_of c.args.tables in
+    let t = tables_of c.args.tables.now in
     let v = c.args.number.now in
     let digits = c.highest.result + 1 in
     let ds = c.whole_digits-digits.result in
@@ -46,7 +46,7 @@ returns-clause-ok g c =
 
 pub returns-clause-begun : goal.returns-clause-begun
 returns-clause-begun g c =
-    let t = tables_of c.args.tables in
+    let t = tables_of c.args.tables.now in
     let v = c.args.number.now in
     let digits = c.highest.result + 1 in
     let ds = c.whole_digits-digits.result in

@@ -8,7 +8,7 @@ invariant-loop-left l = record {
   left : l.left ≤ l.count;
   tens : AllBelowBase 10 l.digits;
   digits : drop l.left l.digits ≡ drop l.count l.initial.digits;
-  text : l.self ++ chained (map (digit_text l.table) (take l.left l.digits)) ≡ l.initial.self ++ chained (map (digit_text l.table) (take l.count l.initial.digits));
+  text : l.self ++ chained (map (digit_text l.table.chars.now) (take l.left l.digits)) ≡ l.initial.self ++ chained (map (digit_text l.table.chars.now) (take l.count l.initial.digits));
   room : length l.self + 4 * l.left ≤ 64;
 }
 

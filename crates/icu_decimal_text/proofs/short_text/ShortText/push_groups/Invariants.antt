@@ -1,4 +1,4 @@
-use Rattle.std.proofs.Common.{◌≡◌, ◌++◌}
+use Rattle.std.proofs.Common.{◌≡◌, ◌++◌, take}
 use Rattle.std.specs.Int.Digits.{AllBelowBase}
 use Rattle.icu_decimal_text.specs.LaterGroups.{groups_ahead}
 use Rattle.icu_decimal_text.specs.PlainText.{digit_text}
@@ -7,5 +7,5 @@ use Rattle.icu_decimal_text.proofs.short_text.ShortText.push_groups.Given as goa
 abbrev pub invariant-loop-size : goal.invariant-loop-size
 invariant-loop-size l = record {
   tens : AllBelowBase 10 l.digits;
-  text : l.self ++ groups_ahead l.separator (digit_text l.table) l.sizes l.digits ≡ l.initial.self ++ groups_ahead l.separator (digit_text l.table) l.initial.sizes l.initial.digits;
+  text : l.self ++ groups_ahead (take l.separator.len l.separator.bytes) (digit_text l.table.chars.now) l.sizes l.digits ≡ l.initial.self ++ groups_ahead (take l.separator.len l.separator.bytes) (digit_text l.table.chars.now) l.initial.sizes l.initial.digits;
 }

@@ -4,11 +4,12 @@ use Rattle.icu_decimal_text.specs.Grouper.{group_sizes}
 use Rattle.icu_decimal_text.specs.HeldTables.{tables_of}
 use Rattle.icu_decimal_text.specs.LaterGroups.{groups_ahead}
 use Rattle.icu_decimal_text.specs.PlainText.{chained, digit_text}
+use Rattle.icu_decimal_text.proofs.PieceLemmas.{held_itself}
 use Rattle.icu_decimal_text.proofs.PlainTextLemmas.{grouped_text, tens_down, tens_dropped}
 use Rattle.icu_decimal_text.proofs.short_text.ShortText.push_whole.Goals as goal
 
-pub push_group-requires : goal.push_group-requires
-push_group-requires c =
+pub push_first-requires : goal.push_first-requires
+push_first-requires c =
     let v = c.args.number.now in
     subst (AllBelowBase 10) (sym c.whole_digits-digits.ensures) (tens_down v.count 32768 (v.high - 32767))
 
@@ -16,23 +17,25 @@ pub push_groups-requires : goal.push_groups-requires
 push_groups-requires c =
     let v = c.args.number.now in
     let shown = subst (AllBelowBase 10) (sym c.whole_digits-digits.ensures) (tens_down v.count 32768 (v.high - 32767)) in
-    subst (AllBelowBase 10) (sym c.in_ok-push_group.ensures.digits)
-    (tens_dropped c.unwrap_or-first.result c.whole_digits-digits.result shown)
+    record {
+      separator = held_itself c.args.separator _ c.requires;
+      tens = subst (AllBelowBase 10) (sym c.in_ok-push_first.ensures.digits)
+          (tens_dropped c.unwrap_or-first.result c.whole_digits-digits.result shown);
+    }
 
 pub returns : goal.returns
 returns c =
-    let t = tables_of c.args.tables in
+    let t = tables_of c.args.tables.now in
     let v = c.args.number.now in
     let digits = c.highest.result + 1 in
     let ds = c.whole_digits-digits.result in
     let first = c.unwrap_or-first.result in
-    let after = c.push_group.new.digits in
+    let after = c.push_first.new.digits in
     let others = c.next.new.self in
-    let separator = c.grouping_separator.result.now in
+    let separator = take c.args.separator.len c.args.separator.bytes in
     let cut : c.of-sizes.result ≡ group_sizes t.strategy t.symbols.grouping_sizes digits = rw (← c.symbols.view_is) c.of-sizes.ensures in
-    let written : separator ≡ t.symbols.strings.grouping_separator = c.grouping_separator.ensures ∙ ap (λ s. s.grouping_separator) c.deref.ensures in
-    let whole = grouped_text t v digits first c.of-sizes.result others ds after separator c.next.result (omega (arith, c.highest.ensures.value)) cut c.next.ensures.steps c.unwrap_or-first.ensures c.whole_digits-digits.ensures c.in_ok-push_group.ensures.digits written in
+    let whole = grouped_text t v digits first c.of-sizes.result others ds after separator c.next.result (omega (arith, c.highest.ensures.value)) cut c.next.ensures.steps c.unwrap_or-first.ensures c.whole_digits-digits.ensures c.in_ok-push_first.ensures.digits c.requires.is in
     let group = chained (map (digit_text t.digits) (take first ds)) in
     let behind = groups_ahead separator (digit_text t.digits) others after in
-    let joined : c.push_group.new.self ++ behind ≡ c.args.self.now ++ (group ++ behind) = ap (λ text. text ++ behind) c.in_ok-push_group.ensures.text ∙ append_assoc c.args.self.now group behind in
+    let joined : c.push_first.new.self ++ behind ≡ c.args.self.now ++ (group ++ behind) = ap (λ text. text ++ behind) c.in_ok-push_first.ensures.text ∙ append_assoc c.args.self.now group behind in
     rw whole (rw joined at c.push_groups.ensures)
