@@ -1,4 +1,4 @@
-//! Rows over the calls of `icu_decimal`: decimals' texts and their parts, and texts read back.
+//! Rows over the calls of `icu_decimal`: decimals' texts and their parts, texts read back, tables and errors.
 
 #![tactic(auto)]
 
@@ -10,5 +10,7 @@ mod loading;
 mod one_locale;
 #[cfg(test)]
 mod reading;
+#[cfg(test)]
+mod refusing;
 #[cfg(test)]
 mod shown;

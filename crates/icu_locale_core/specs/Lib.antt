@@ -39,7 +39,6 @@ pub use Rattle.icu_locale_core_langid.specs.Parts
 pub use Rattle.icu_locale_core_langid.specs.Modes
 pub use Rattle.icu_locale_core_langid.specs.LanguageText
 pub use Rattle.icu_locale_core_langid.specs.SameLanguage
-pub use Rattle.icu_locale_core_langid.specs.SameLanguageLaws
 pub use Rattle.icu_locale_core_langid.specs.NormalizedText
 -- Sets, values and maps: read, written, ordered, after a change.
 pub use Rattle.icu_locale_core_sets.specs.SubtagSets

@@ -8,8 +8,7 @@ use Rattle.std.specs.Hash as fed
 use Rattle.icu_locale_core_grammar.specs.Subtags.{same_text}
 use Rattle.icu_locale_core_grammar.specs.Collections.{Entry}
 use Rattle.icu_locale_core_grammar.specs.Meaning.{UnicodeMeaning, TransformMeaning}
-use Rattle.icu_locale_core_langid.specs.SameLanguage.{same_language}
-use Rattle.icu_locale_core_langid.specs.SameLanguageLaws.{language_fed}
+use Rattle.icu_locale_core_langid.specs.SameLanguage.{language_fed, same_language}
 use Rattle.icu_locale_core_entries.specs.Orders.{same_entries, same_value}
 use Rattle.icu_locale_core_extensions.specs.ExtensionsValue.{ExtensionsValue}
 

@@ -69,7 +69,7 @@ fn read_body(alloc: Global, body: SubtagIterator<'_>) -> Result<Unicode, ParseEr
 }
 
 impl Unicode {
-    /// No attribute and no keyword. It takes no memory.
+    /// No attribute and no keyword: `is_empty` is true. It takes no memory.
     pub fn new(alloc: Global) -> Self
         ensures { result ≡ no_unicode }
     {
@@ -94,7 +94,8 @@ impl Unicode {
         self.attributes.clear();
     }
 
-    /// An equal extension. `AllocError` is answered for memory alone, and an empty one takes none.
+    /// An equal extension: of `u-nu-thai` another `u-nu-thai`. `AllocError` is answered for memory alone, and an empty one takes
+    /// none.
     pub fn try_clone(&self) -> Result<Self, AllocError>
         ensures succeeds { self.now ≡ no_unicode → IsOk result }
         ensures value { IfOk result (λ unicode. unicode ≡ self.now) }
@@ -110,9 +111,10 @@ impl Unicode {
     /// Puts the attributes and keywords of the other extension into this one; of equal keys the other's value stands.
     ///
     /// `u-foo-nu-thai` with `u-bar-nu-latn` becomes `u-bar-foo-nu-latn`. `AllocError` is answered for memory alone, and leaves
-    /// the extension; an empty other one takes none.
+    /// the extension; where either is empty, none is taken.
     pub fn extend(&mut self, other: Unicode) -> Result<(), AllocError>
         ensures succeeds { other ≡ no_unicode → IsOk result }
+        ensures empty { self.old ≡ no_unicode → IsOk result }
         ensures attributes { OnOk result (self.new.head ≡ set_of (self.old.head ++ other.head)) }
         ensures keywords { OnOk result (self.new.entries ≡ joined_maps other.entries self.old.entries) }
         ensures err { OnErr result (self.new ≡ self.old) }
@@ -130,8 +132,9 @@ impl Unicode {
 
     /// The extension in this text, with its singleton: `u-FOO-nu-thai` has the attribute `foo` and `nu` with `thai`.
     ///
-    /// `InvalidExtension`: the text is no such extension, as `u` alone, `u-nu-` and `t-de`. `Memory`: a growth was refused; no
-    /// memory is taken where the first piece is not `u`, or neither an attribute nor a key is right behind it. Source: UTS 35, sections 3.2 and 3.6.
+    /// `InvalidExtension`: the text is no such extension, as `u` alone, `u-nu-` and `t-de`. `Memory`: memory was refused; none is
+    /// taken where the first piece is not `u`, or neither an attribute nor a key is right behind it. Source: UTS 35, sections 3.2
+    /// and 3.6.
     pub fn try_from_str(alloc: Global, s: &str) -> Result<Self, ParseError>
         ensures value { IfOk result (ReadsUnicode s.now) }
         ensures fault { IfErr result (IsRefused (ReadsUnicode s.now)) }

@@ -1,21 +1,14 @@
 -- The laws of `==` and of `hash` of language identifiers.
 -- Defined in docs/tags.md, "Orders".
--- The proofs of the laws of the impls; `laws` cites the statements.
-use Rattle.std.proofs.Common.{◌≡◌, true, ◌&&◌, ◌++◌, Option, None, Some, refl, ap, subst, Decides}
+-- Cited by the impls of `PartialEq`, `Eq` and `Hash` of `LanguageIdentifier`, whose laws it proves; `laws` cites the statements.
+use Rattle.std.proofs.Common.{◌≡◌, true, ◌&&◌, Option, None, Some, refl, ap, subst, Decides}
 use Rattle.std.specs.Cmp.{IsEquivalence, on_equiv, and_equiv}
 use Rattle.std.specs.Cmp.Lexicographic.{pointwise, bytes_decides, pointwise_decides, nat_list_eq_equiv, lists_equiv, options_equiv}
 use Rattle.std.specs.Option.{option_eq}
-use Rattle.std.specs.Hash as fed
 use Rattle.std.proofs.lemmas.Bool.{and_parts}
 use Rattle.icu_locale_core_grammar.specs.Subtags.{Text, same_text}
 use Rattle.icu_locale_core_grammar.specs.LanguagePart.{LanguageId}
-use Rattle.icu_locale_core_langid.specs.SameLanguage.{same_language}
-
--- what a hasher is fed
-abbrev pub language_fed : LanguageId → fed.HashWrites
-language_fed a = fed.str a.language ++ (fed.option fed.str a.script ++ (fed.option fed.str a.region ++ fed.slice fed.str a.variants))
-
--- ---- the same
+use Rattle.icu_locale_core_langid.specs.SameLanguage.{language_fed, same_language}
 
 pub same_equiv : IsEquivalence same_language
 same_equiv =

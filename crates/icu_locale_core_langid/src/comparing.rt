@@ -5,8 +5,8 @@ ghost use Rattle.std.specs.Cmp.{partial_equiv_from_equiv};
 ghost use Rattle.writeable.specs.Order.{byte_order};
 ghost use Rattle.icu_locale_core_langid.specs.LanguageText.{language_text};
 ghost use Rattle.icu_locale_core_grammar.specs.TagOrder.{language_cmp};
-ghost use Rattle.icu_locale_core_langid.specs.SameLanguage.{same_language};
-ghost use Rattle.icu_locale_core_langid.specs.SameLanguageLaws.{same_equiv, language_fed, same_alike};
+ghost use Rattle.icu_locale_core_langid.specs.SameLanguage.{language_fed, same_language};
+ghost use Rattle.icu_locale_core_langid.specs.SameLanguageLaws.{same_equiv, same_alike};
 
 use crate::language_identifier::LanguageIdentifier;
 use std::cmp::Ordering;

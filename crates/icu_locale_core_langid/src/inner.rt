@@ -47,8 +47,8 @@ fn write_inner_parts<S: Sink>(id: &LanguageIdentifier, sink: &mut S) -> Result<(
 impl LanguageIdentifier {
     /// Writes the identifier as it stands within `t`: each piece in lower case, with a hyphen before it.
     ///
-    /// Of `en-Latn-US` it writes `-en-latn-us`. `Error`, only where the sink refused: it took a beginning. It takes no memory
-    /// but the sink's.
+    /// Of `en-Latn-US` it writes `-en-latn-us`. The sink has not refused yet. `Error`, only where the sink refused: it took a
+    /// beginning. It takes no memory but the sink's.
     #[tactic(auto, using(crate::proofs::LanguageTextLemmas::inner_joined))]
     pub fn write_inner_to<S: Sink>(&self, sink: &mut S) -> Result<(), Error>
         requires { S.refused sink.old ≡ false }

@@ -20,8 +20,8 @@ use writeable::{Writeable, strict_cmp};
 
 /// The text of the value: these bytes themselves where they are it, else a new text.
 ///
-/// The value `en-US` gives a new text for `EN-us`, and borrows `en-US`. `Memory`, the only refusal: a growth was refused, and
-/// memory is taken for a new text alone.
+/// The value `en-US` gives a new text for `EN-us`, and borrows `en-US`. `Memory`, the only refusal: memory was refused, which is
+/// taken for a new text alone.
 pub fn text_or_input<'a, T: Writeable>(
     alloc: Global,
     value: &T,

@@ -81,7 +81,7 @@ fn leaves(mode: ParserMode, rest: &SubtagIterator<'_>) -> bool
 ///
 /// Of the pieces `en`, `US`, `u`, `nu`, mode `Locale` reads `en-US` and leaves `u`, `nu`. `InvalidLanguage`: the first piece
 /// is no language, or there is none. `InvalidSubtag`: a later piece does not fit and the mode does not leave it. `Memory`:
-/// a growth was refused; memory is taken for variants alone. After a refusal all pieces are left.
+/// memory was refused, which is taken for variants alone. After a refusal all pieces are left.
 pub fn parse_language_identifier_from_iter(
     alloc: Global,
     iter: &mut SubtagIterator<'_>,

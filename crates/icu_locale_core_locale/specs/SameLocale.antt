@@ -4,8 +4,7 @@
 use Rattle.std.specs.Prelude.{◌≡◌, ◌↔◌, Bool, true, ◌&&◌, ◌++◌}
 use Rattle.std.specs.Hash as fed
 use Rattle.icu_locale_core_grammar.specs.Meaning.{TagMeaning}
-use Rattle.icu_locale_core_langid.specs.SameLanguage.{same_language}
-use Rattle.icu_locale_core_langid.specs.SameLanguageLaws.{language_fed}
+use Rattle.icu_locale_core_langid.specs.SameLanguage.{language_fed, same_language}
 use Rattle.icu_locale_core_extensions.specs.ExtensionsValue.{ExtensionsValue}
 use Rattle.icu_locale_core_extensions.specs.SameExtension.{same_extensions, extensions_fed}
 

@@ -20,3 +20,9 @@ pub none_joined : (set ts : List Text) → (length ts == 0) ≡ true → Rises s
 none_joined set ts none rises =
     let empty : ts ≡ [] = nil_from_length ts (eqb-true (length ts) 0 none) in
     sym (ap (λ l. set_of (set ++ l)) empty ∙ ap set_of (append-nil set) ∙ set_of_rising set rises)
+
+-- no set yet, and the texts of one
+pub joined_to_none : (set ts : List Text) → (length set == 0) ≡ true → Rises ts → ts ≡ set_of (set ++ ts)
+joined_to_none set ts none rises =
+    let empty : set ≡ [] = nil_from_length set (eqb-true (length set) 0 none) in
+    sym (ap (λ (s : List Text). set_of (s ++ ts)) empty ∙ set_of_rising ts rises)

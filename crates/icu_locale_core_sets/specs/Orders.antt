@@ -1,6 +1,7 @@
 -- The laws of comparing lists of texts, text by text in byte order.
 -- Defined in docs/tags.md, "Sets and maps".
--- The proofs of the laws of `==`, `cmp` and `hash` of sets and lists.
+-- Cited by the impls of `PartialOrd` and `Hash` of sets, of private subtags and of the values of keywords and fields, whose laws
+-- it proves.
 use Rattle.std.specs.Prelude.{◌≡◌, true, List, Some, refl}
 use Rattle.std.proofs.Common.{ap, subst}
 use Rattle.std.specs.Cmp.{IsPartialOrder, Agrees}

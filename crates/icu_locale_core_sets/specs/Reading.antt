@@ -1,6 +1,6 @@
 -- Why a list of pieces is not read, and what is still to be read of one.
 -- UTS 35, sections 3.6 and 3.7; docs/tags.md, "Parts read alone".
--- Cited by the readers of attributes and of private pieces.
+-- Cited by the readers of attributes and of private subtags.
 use Rattle.std.specs.Prelude.{◌≡◌, ◌↔◌, ◌⊎◌, Bool, true, false, ◌&&◌, List, [], ◌∷◌, ◌++◌, map, fold}
 use Rattle.icu_locale_core_grammar.specs.declared.error.ParseError.{ParseError}
 use Rattle.icu_locale_core_grammar.specs.declared.error.ParseError.TheVariants.{InvalidExtension, Memory}

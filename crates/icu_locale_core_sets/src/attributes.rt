@@ -17,14 +17,14 @@ use icu_locale_core_subtags::SubtagIterator;
 use icu_locale_core_subtags::unicode::{Attribute, AttributeRule};
 use std::alloc::{AllocError, Global};
 
-/// The attributes of a `u` extension: none of them twice, in byte order.
+/// The attributes of a `u` extension: none of them twice, in byte order, as `bar`, `foo`.
 pub type Attributes = SubtagSet<AttributeRule>;
 
 impl SubtagSet<AttributeRule> {
     /// The set of the attributes of this text, pieces of 3 to 8 letters and digits in either case between hyphens.
     ///
     /// `foo-Bar-FOO` has `bar`, `foo`; the empty text has none. `InvalidExtension` where a piece is no attribute; `Memory`
-    /// where a growth was refused, and no memory is taken where the first piece is no attribute. Source: UTS 35, section 3.6.
+    /// where memory was refused, and none is taken where the first piece is no attribute. Source: UTS 35, section 3.6.
     pub fn try_from_str(alloc: Global, s: &str) -> Result<Attributes, ParseError>
         ensures succeeds { s.now ≡ [] → IsOk result }
         ensures value { IfOk result (ReadsAttributes s.now) }
@@ -71,14 +71,20 @@ impl SubtagSet<AttributeRule> {
     /// Puts the attributes of the other set into this one.
     ///
     /// `bar`, `foo` with `baz`, `foo` becomes `bar`, `baz`, `foo`. `AllocError` is answered for memory alone, and the set is
-    /// then as before; where the other set is empty, none is taken.
+    /// then as before; where either set is empty, none is taken.
     pub fn extend_from_attributes(&mut self, other: Attributes) -> Result<(), AllocError>
         ensures succeeds { other ≡ [] → IsOk result }
+        ensures empty { self.old ≡ [] → IsOk result }
         ensures value { OnOk result (self.new ≡ set_of (self.old ++ other)) }
         ensures err { OnErr result (self.new ≡ self.old) }
     {
         if other.is_empty() {
             texts_rise(self);
+            return Ok(());
+        }
+        if self.is_empty() {
+            texts_rise(&other);
+            *self = other;
             return Ok(());
         }
         let mut joined = self.growing()?;

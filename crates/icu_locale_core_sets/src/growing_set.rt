@@ -37,7 +37,7 @@ impl<R: SubtagRule<8>> Model for GrowingSet<R> {
 }
 
 impl<R: SubtagRule<8>> GrowingSet<R> {
-    /// The empty set. It takes no memory.
+    /// The empty set, of which `is_empty` is true. It takes no memory.
     pub fn new(alloc: Global) -> Self
         ensures { result ≡ [] }
     {

@@ -1,4 +1,4 @@
-//! Printing the pieces of a list, with hyphens before or between them.
+//! Printing the subtags of a list, with hyphens before or between them.
 
 ghost use Rattle.std.specs.Prelude.{◌≡◌, ◌++◌, ◌<◌, ◌^◌, false, [], ◌∷◌, is_err, length, flat_map, OnOk, OnErr, SomeIff};
 ghost use Rattle.writeable.specs.AnnotatedText.{bytes};
@@ -8,7 +8,9 @@ ghost use Rattle.icu_locale_core_grammar.specs.Pieces.{hyphen, hyphened};
 use icu_locale_core_subtags::{SubtagOf, SubtagRule};
 use writeable::{Error, Sink, Writeable};
 
-/// Writes a hyphen and the piece: `-1996`. `Error`, only where the sink refused: it took a beginning.
+/// Writes a hyphen and the subtag: `-1996`.
+///
+/// The sink has not refused yet. `Error`, only where the sink refused: it took a beginning. It takes no memory but the sink's.
 pub fn write_piece<R: SubtagRule<N>, const N: usize, S: Sink>(
     piece: &SubtagOf<R, N>,
     sink: &mut S,
@@ -22,10 +24,10 @@ pub fn write_piece<R: SubtagRule<N>, const N: usize, S: Sink>(
     piece.write_to(sink)
 }
 
-/// Writes the pieces into `sink`, each with a hyphen before it: `-1996-valencia`.
+/// Writes the subtags into `sink`, each with a hyphen before it: `-1996-valencia`.
 ///
-/// `Ok`: the sink took them all behind what it held. `Error`, only where the sink refused: it took a beginning. It takes
-/// no memory but the sink's.
+/// The sink has not refused yet. `Ok`: the sink took them all behind what it held. `Error`, only where the sink refused: it took
+/// a beginning. It takes no memory but the sink's.
 pub fn write_pieces<R: SubtagRule<8>, S: Sink>(
     pieces: &[SubtagOf<R, 8>],
     sink: &mut S,
@@ -52,9 +54,9 @@ pub fn pieces_length<R: SubtagRule<8>>(pieces: &[SubtagOf<R, 8>]) -> Option<usiz
     Some(length)
 }
 
-/// Writes the first piece, and the others with a hyphen before each: `1996-valencia`.
+/// Writes the first subtag, and the others with a hyphen before each: `1996-valencia`.
 ///
-/// `Error`, only where the sink refused: it took a beginning. It takes no memory but the sink's.
+/// The sink has not refused yet. `Error`, only where the sink refused: it took a beginning. It takes no memory but the sink's.
 pub fn write_joined<R: SubtagRule<8>, S: Sink>(
     first: &SubtagOf<R, 8>,
     others: &[SubtagOf<R, 8>],

@@ -6,7 +6,7 @@ use crate::subtag_set::SubtagSet;
 use icu_locale_core_subtags::{Variant, VariantRule};
 use std::alloc::{AllocError, Global};
 
-/// The variants of a language identifier: none of them twice, in byte order.
+/// The variants of a language identifier: none of them twice, in byte order, as `1996`, `fonipa`.
 pub type Variants = SubtagSet<VariantRule>;
 
 impl SubtagSet<VariantRule> {

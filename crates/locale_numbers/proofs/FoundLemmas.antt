@@ -1,11 +1,13 @@
 -- Which tables preferences find: two that ask for the same find the same.
-use Rattle.std.proofs.Common.{◌≡◌, ℕ, List, [], ◌∷◌, ◌++◌, Some, Result, Ok, Err, refl, ap, ap₂, ◌∙◌}
+use Rattle.std.proofs.Common.{◌≡◌, ℕ, List, [], ◌∷◌, ◌++◌, Some, Result, Ok, Err, refl, ap, ap₂, ◌∙◌, subst, sym}
 use Rattle.std.specs.Prelude.{option_to_list}
 use Rattle.icu_locale_core.specs.TagPreferences.{Preferences, language_priority}
 use Rattle.icu_decimal.specs.declared.error.DataError.{DataError}
 use Rattle.icu_decimal.specs.declared.options.GroupingStrategy.{GroupingStrategy}
 use Rattle.icu_decimal.specs.Choice.{first_found}
 use Rattle.icu_decimal.specs.FoundTables.{found_tables, with_digits, with_symbols}
+use Rattle.icu_decimal.specs.PlainText.{Tables}
+use Rattle.icu_decimal.specs.ReadingLaws.{AreTables}
 use Rattle.icu_decimal.specs.Identifiers.{Identifier, digits_identifiers, of_asked, of_locale, symbols_identifiers}
 use Rattle.icu_decimal.specs.Symbols.{Symbols}
 
@@ -26,3 +28,17 @@ module _ (symbols : Identifier → Result Symbols DataError) (digits : Identifie
       ap₂ (λ locale system. option_to_list (of_asked locale system) ++ of_locale locale ∷ []) locales systems in
       ap (λ ids. with_symbols strategy digits p (first_found symbols ids)) asked
       ∙ digits_alike p q systems (first_found symbols (symbols_identifiers q))
+
+-- ---- what is found, by the formatter that was made
+
+abbrev made_or : Tables → Result Tables DataError → Tables
+made_or other (Ok tables) = tables
+made_or other (Err error) = other
+
+-- the tables of a formatter are those found
+pub found_are : (found : Result Tables DataError) (made tables : Tables) → found ≡ Ok made → found ≡ Ok tables → AreTables made → AreTables tables
+found_are found made tables one other held = subst AreTables (ap (made_or made) (sym one ∙ other)) held
+
+-- where none was made, none are found
+pub none_found : (found : Result Tables DataError) (error : DataError) (tables : Tables) → found ≡ Err error → found ≡ Ok tables → AreTables tables
+none_found found error tables one other = absurd (cc)

@@ -1,6 +1,6 @@
 -- That the buffer of answers is a sink: nothing changes nothing, two texts are one, and what does not fit does not fit with more.
 -- Defined in docs/annotated-text.md, "Sinks".
--- The proofs of the laws of `Sink`, which the impl cites.
+-- Cited by the impl of `Sink` of `AnswerSink`, whose laws it proves, and by the proofs of its calls.
 use Rattle.std.proofs.Common.{◌≡◌, ◌+◌, List, ◌++◌, [], length, refl, sym, ap, ◌∙◌, arith}
 use Rattle.std.specs.Prelude.{string_bytes}
 use Rattle.std.proofs.lemmas.List.{append_assoc, append-nil, length-append}

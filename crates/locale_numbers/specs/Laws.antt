@@ -1,7 +1,7 @@
 -- Laws over the definitions alone, for readers of the clauses that cite them.
 -- Defined in docs/requests.md, "Answer line", and docs/numbers.md, "The text" and "Rounding".
 -- Cited by the functions of `laws`.
-use Rattle.std.specs.Prelude.{◌≡◌, ◌<◌, ◌↔◌, List, ℕ, ℤ, ◌∷◌, ◌++◌, true, Some, Ok}
+use Rattle.std.specs.Prelude.{◌≡◌, ◌<◌, ◌↔◌, Bool, List, ℕ, ℤ, ◌∷◌, ◌++◌, Result, true, Some, Ok}
 use Rattle.std.specs.Str.{IsUtf8}
 use Rattle.fixed_decimal.specs.CompactText.{IsBeyondCompact, IsNoCompactText, ReadsCompact}
 use Rattle.fixed_decimal.specs.Number.{Number, place}
@@ -14,6 +14,7 @@ use Rattle.fixed_decimal.specs.TextLaws.{IsDecimal}
 use Rattle.icu_decimal.specs.PlainText.{Tables, decimal_text}
 use Rattle.icu_decimal.specs.Readable.{is_readable_by}
 use Rattle.icu_decimal.specs.ReadingLaws.{AreTables}
+use Rattle.icu_decimal.specs.declared.error.DataError.{DataError}
 use Rattle.icu_decimal.specs.declared.options.GroupingStrategy.{GroupingStrategy}
 use Rattle.icu_decimal.specs.declared.options.GroupingStrategy.TheVariants.{Auto, Always}
 use Rattle.icu_locale_core.specs.Pieces.{pieces}
@@ -27,6 +28,7 @@ use Rattle.locale_numbers.specs.Request.{tab, Asked}
 use Rattle.locale_numbers.specs.Rounded.{rounded}
 use Rattle.locale_numbers.specs.Wanted.{wanted_of}
 use Rattle.locale_numbers.specs.Answer.{written, found_in, answer_asked, answer_of}
+use Rattle.locale_numbers.specs.declared.formatter_key.FormatterKey.{FormatterKey}
 use Rattle.locale_numbers.specs.declared.request.Form.TheVariants.{Plain, Read}
 use Rattle.locale_numbers.specs.declared.sign_field.SignAsked.TheVariants.{Keep}
 use Rattle.locale_numbers.specs.declared.rounding_field.RoundingAsked.{RoundingAsked}
@@ -111,6 +113,10 @@ pub record FindsTables (book : BookTables) (asked : Asked) (tables : Tables) : T
   pub found : found_in book preferences asked.grouping ≡ Ok tables
   pub are : AreTables tables
 
+-- what is found is ten digits, and symbols that are texts
+abbrev pub AreTexts : Result Tables DataError → Type 0
+AreTexts found = (tables : Tables) → found ≡ Ok tables → AreTables tables
+
 -- the number that is answered for a text, sent as it is, is written as that text
 abbrev pub ReadIsWrittenAgain : Type 0
 ReadIsWrittenAgain = (book : BookTables) (asked : Asked) (tables : Tables) (text digits : List ℕ)
@@ -136,3 +142,9 @@ RoundedIsWrittenAgain = (book : BookTables) (asked : Asked) (tables : Tables) (t
     → answer_asked book (Some asked) ≡ written text
     → answer_asked book (Some (reading_request asked text)) ≡ written digits
     → answer_asked book (Some (plain_request asked asked.rounding digits)) ≡ written text
+
+-- ---- keys
+
+-- a test of keys is true exactly where they are one
+abbrev pub TellsKeys : (FormatterKey → FormatterKey → Bool) → Type 0
+TellsKeys same = (one other : FormatterKey) → same one other ≡ true ↔ (one ≡ other)

@@ -39,7 +39,7 @@ abbrev pub IsRefusal : List ℕ → ProgramFault → Type 0
 IsRefusal text (Book cause) = IsRefused text cause
 IsRefusal text _ = ⊥
 
--- a file can't be read, or memory was wanting
+-- a file can't be read, or memory was refused
 abbrev pub IsOfFile : ProgramFault → Type 0
 IsOfFile File = Unit {0}
 IsOfFile (Book refusal.Memory) = Unit {0}
@@ -57,7 +57,7 @@ abbrev pub IsBeforeLines : ProgramFault → Type 0
 IsBeforeLines (Run fault) = ⊥
 IsBeforeLines _ = Unit {0}
 
--- before a book is read, the words are at fault, or memory was wanting
+-- before a book is read, the words are at fault, or memory was refused
 abbrev pub IsOfWords : ProgramFault → Type 0
 IsOfWords Usage = Unit {0}
 IsOfWords (Run run.Memory) = Unit {0}

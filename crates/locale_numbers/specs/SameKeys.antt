@@ -1,6 +1,6 @@
 -- Keys of formatters whose parts are `==` are one value.
 -- Defined in docs/requests.md, "What a cache keeps".
--- The proof of the law of keys, which `FormatterKey` cites.
+-- Cited by the impl of `CacheKey` of `FormatterKey`, whose law it proves.
 use Rattle.std.specs.Prelude.{◌≡◌, Bool, true, false, ◌&&◌, Option, None, Some, refl}
 use Rattle.std.specs.Option.{option_eq}
 use Rattle.std.specs.Cmp.Lexicographic.{bytes_decides}

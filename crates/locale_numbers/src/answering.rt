@@ -88,7 +88,7 @@ fn push_line<'a, F: Formatters<'a>>(
 /// `-1.20M`; with `read` and `-987,654.321` by `ok`, a tab and `-987654.321`. A line that is refused is
 /// answered by `err`, a tab and the first word that applies: `shape`, `tag`, `number`, `limit`,
 /// `table`, `range`, `exponent`, `unreadable`, `not-written`; an empty line by `shape`. A line feed in it
-/// is an ordinary byte. Takes memory, and fails for want of it alone. Tags are the whole locale tags of
+/// is an ordinary byte. Takes memory, and fails only where that is refused. Tags are the whole locale tags of
 /// UTS 35, of which the preferences alone count; the lines are defined in docs/requests.md.
 pub fn answer(alloc: Global, book: &Book, line: &[u8]) -> Result<Vec<u8>, AllocError>
     ensures text { IfOk result (λ text. text.items ≡ answer_of book.now line.now) }

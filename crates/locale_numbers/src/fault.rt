@@ -16,10 +16,9 @@ pub enum ProgramFault {
     Usage,
     /// The file of the book can't be opened, as `/no/such/book.json`, or not be read to its end.
     File,
-    /// The book is refused, as the text `[1` by `BookError::Json`, or memory was wanting while it was read.
+    /// The book is refused, as the text `[1` by `BookError::Json`, or memory was refused while it was read.
     Book(BookError),
-    /// The reader or the writer failed, as `RunError::Read` says of the reader, or memory was wanting while lines were
-    /// answered.
+    /// The reader or the writer failed, as `RunError::Read` says of the reader, or memory was refused while lines were answered.
     Run(RunError),
 }
 

@@ -22,7 +22,7 @@ pub(crate) trait Formatters<'a> {
     // Handing one out may take memory.
     ghost may_take_memory: { Self → Type 0 };
 
-    /// The formatter of a key; `None` where the book lacks one of its tables.
+    /// The formatter of a key; `None` where the book lacks one of its tables. The condition is that it is ready to hand one out.
     fn formatter(
         &mut self,
         key: Hashed<FormatterKey>,

@@ -46,7 +46,7 @@ fn key_by(
 
 /// What a front asks: it is read as a line with no text. `None` where it is none.
 ///
-/// Its tag may take memory, and it fails for want of it alone.
+/// Its tag may take memory, and it fails only where that is refused.
 pub(crate) fn read_front(alloc: Global, bytes: &[u8]) -> Result<Option<Front>, AllocError>
     ensures { IfOk result (λ front. front ≡ front_of bytes.now) }
 {

@@ -46,7 +46,7 @@ pub(crate) struct FormatterMaker<'a, T: Tables> {
 }
 
 // The plain formatter of a key.
-fn plain_formatter<'a, T: Tables>(
+pub(crate) fn plain_formatter<'a, T: Tables>(
     tables: &'a T,
     key: FormatterKey,
 ) -> Result<DecimalFormatter<'a>, DataError>

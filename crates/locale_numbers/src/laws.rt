@@ -1,11 +1,19 @@
 //! Laws over the definitions that the clauses of this crate cite. Each function is a proof: it
-//! computes nothing.
-ghost use Rattle.locale_numbers.specs.Laws.{HasOneReading, HasOneCompactReading, HasOneRounding, AlikeTagsAreAnsweredAlike, NormalTextIsAnsweredAlike, AutoIsAnsweredAsAlways, ReadIsWrittenAgain, RoundedIsWrittenAgain, WrittenReadsBack};
+//! answers nothing.
+ghost use Rattle.locale_numbers.specs.Answer.{found_in};
+ghost use Rattle.locale_numbers.specs.FormatterKeys.{same_keys};
+ghost use Rattle.locale_numbers.specs.Laws.{HasOneReading, HasOneCompactReading, HasOneRounding, AlikeTagsAreAnsweredAlike, NormalTextIsAnsweredAlike, AutoIsAnsweredAsAlways, AreTexts, ReadIsWrittenAgain, RoundedIsWrittenAgain, TellsKeys, WrittenReadsBack};
 
+use crate::formatter_key::{FormatterKey, Kind};
+use crate::kept_formatter::plain_formatter;
+use crate::tables::Tables;
 use icu_decimal::laws::reading::{
     both_trips, plain_reading_is_the_reading, texts_have_one_decimal,
 };
+use icu_decimal::options::GroupingStrategy;
+use icu_decimal::{DecimalFormatterPreferences, is_readable};
 pub use locale_numbers_book::laws::{data_locales_are_read, tags_are_read};
+use locale_numbers_cache::laws::equal_keys_are_one;
 pub use locale_numbers_cache::laws::{last_used_are_kept, unused_keys_miss};
 pub use locale_numbers_engine::laws::{
     each_input_splits, lines_are_the_pieces, outputs_join, whole_lines_are_the_pieces,
@@ -30,7 +38,7 @@ pub fn roundings_have_one_end()
 {}
 
 /// Of a tag its language, script, region and first variant count, and its `sd` and `nu` where they read: nothing else in a tag
-/// changes an answer, neither `rg` nor any other keyword, attribute, extension, private piece or later variant. Variants stand
+/// changes an answer, neither `rg` nor any other keyword, attribute, extension, private subtag or later variant. Variants stand
 /// in the order of their bytes: the first one of `de-fonipa-1996` is `1996`. `EN-X-Foo` and `en` are answered alike.
 pub fn alike_tags_are_answered_alike()
     ensures { AlikeTagsAreAnsweredAlike }
@@ -45,6 +53,25 @@ pub fn normal_text_is_answered_alike()
 pub fn auto_is_answered_as_always()
     ensures { AutoIsAnsweredAsAlways }
 {}
+
+/// What is found in tables is ten digits, and symbols that are texts, as the laws of reading back ask for: with preferences of
+/// `en`, in the sample book, `0` to `9` and `-`, `+`, `.`, `,`. It makes a formatter to tell, and takes no memory.
+pub fn found_tables_are_texts<T: Tables>(
+    tables: &T,
+    preferences: DecimalFormatterPreferences,
+    grouping: GroupingStrategy,
+)
+    ensures { AreTexts (found_in (T.book tables.now) preferences grouping) }
+{
+    let key = FormatterKey {
+        preferences,
+        kind: Kind::Plain,
+        grouping,
+    };
+    if let Ok(formatter) = plain_formatter(tables, key) {
+        let _ = is_readable(&formatter);
+    }
+}
 
 /// The answer to a text that is read back, sent as a plain number with `keep` and no rounding, writes that text: with `en`,
 /// `-987,654.321` is answered by `-987654.321`, and this by `-987,654.321`.
@@ -70,4 +97,12 @@ pub fn rounded_is_written_again()
 {
     plain_reading_is_the_reading();
     texts_have_one_decimal();
+}
+
+/// What formatters are kept under is told apart exactly where preferences, kinds of tables or groupings differ: `en` and `en-x-foo`
+/// have one key under `plain` and `auto`, and another under `min2`.
+pub fn keys_are_told_apart()
+    ensures { TellsKeys (same_keys ⟦<DecimalFormatterPreferences as PartialEq>⟧.eq ⟦<Kind as PartialEq>⟧.eq ⟦<GroupingStrategy as PartialEq>⟧.eq) }
+{
+    equal_keys_are_one::<FormatterKey>();
 }

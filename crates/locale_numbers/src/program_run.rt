@@ -1,4 +1,6 @@
 ghost use Rattle.std.specs.Prelude.{◌≡◌, ◌≤◌, ◌⊎◌, false, true, IfOk, IfErr, OnOk, IsErrOf, IsSome};
+ghost use Rattle.std.specs.IoError.{error_kind};
+ghost use Rattle.std.specs.declared.io.ErrorKind.TheVariants.{OutOfMemory};
 ghost use Rattle.locale_numbers_engine.specs.Run.{WritesAll, WritesTold, WritesPart, WritesFirst, GivesTooLong};
 ghost use Rattle.locale_numbers.specs.Answer.{answer_of};
 ghost use Rattle.locale_numbers.specs.Program.{Says, OfText, OfBook, IsRefusal, IsOfFile, MayCome, IsBeforeLines};
@@ -15,7 +17,9 @@ use std::{fs, io};
 
 // The fault that a failed call on the book's file is: out of memory, or the file.
 fn file_fault(error: io::Error) -> ProgramFault
-    ensures { IsOfFile result }
+    ensures of_file { IsOfFile result }
+    ensures memory { error_kind error ≡ OutOfMemory → result ≡ ProgramFault.Book BookError.Memory }
+    ensures file { ¬ (error_kind error ≡ OutOfMemory) → result ≡ ProgramFault.File }
 {
     if error.kind() == io::ErrorKind::OutOfMemory {
         ProgramFault::Book(BookError::Memory)
@@ -84,8 +88,8 @@ fn read_book<F: Files>(rt: &F, alloc: Global, path: Option<&str>) -> Result<Book
 /// written:
 ///
 /// - File: the file can't be opened, or not be read to its end.
-/// - Book: its text is refused, or memory was wanting while it was read.
-/// - Run: the reader or the writer failed, or memory was wanting while lines were answered.
+/// - Book: its text is refused, or memory was refused while it was read.
+/// - Run: the reader or the writer failed, or memory was refused while lines were answered.
 ///
 /// It never answers Usage, which is for [`read_words`](crate::read_words).
 pub fn program<F: Files, R: ByteReader, W: ByteWriter>(

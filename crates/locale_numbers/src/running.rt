@@ -35,7 +35,7 @@ use std::alloc::Global;
 ///
 /// - Read: a read failed, or the reader still gave bytes after 18,446,744,073,709,551,615 reads. The
 ///   whole lines that it gave have been answered.
-/// - Write: a write or the flush failed, or a write took no byte. A front of the output is written.
+/// - Write: a write or the flush failed, or a write took no byte. A beginning of the output is written.
 /// - Memory: a request for memory was refused. Some first lines have been answered, each whole.
 pub fn run<T: Tables, R: ByteReader, W: ByteWriter>(
     alloc: Global,

@@ -115,8 +115,8 @@ fn start_with<F: Files, R: ByteReader, W: ByteWriter>(
 ///
 /// - Usage: the words are not those of [`read_words`], or one is not UTF-8.
 /// - File: the book's file can't be opened, or not be read to its end.
-/// - Book: its text is refused, or memory was wanting while it was read.
-/// - Run: the reader or the writer failed, or memory was wanting.
+/// - Book: its text is refused, or memory was refused while it was read.
+/// - Run: the reader or the writer failed, or memory was refused.
 ///
 /// Of the words that a program is given the runtime tells nothing, so the clauses leave open which book it is: that is
 /// said of [`read_words`] and of [`program`](crate::program).
@@ -148,7 +148,7 @@ pub fn start<H: Env + AllocGlobal + Files, R: ByteReader, W: ByteWriter>(
     ensures writer_failed { IsErrOf result (ProgramFault.Run RunError.Write) →
         W.failed writer.new ≡ true }
 
-    // Memory may be wanting for the words too.
+    // Memory may be refused for the words too.
     ensures memory { IsErrOf result (ProgramFault.Run RunError.Memory) →
         ((reader.new ≡ reader.old) × (writer.new ≡ writer.old)) ⊎ OfSomeBook (λ book.
         WritesFirst (answer_of book) (R.remaining reader.old)

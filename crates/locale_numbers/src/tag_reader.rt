@@ -54,7 +54,7 @@ fn read_any(alloc: Global, tag: &[u8]) -> Result<Option<DecimalFormatterPreferen
 
 /// What a tag prefers, or `None` where the bytes are no tag.
 ///
-/// A tag of one variant and one keyword at most takes no memory. Any other takes memory, and fails for want of it alone.
+/// A tag of one variant and one keyword at most takes no memory. Any other takes memory, and fails only where that is refused.
 pub(crate) fn read_preferences(
     alloc: Global,
     tag: &[u8],

@@ -1,4 +1,5 @@
 -- The hash that is kept beside a value.
+-- Defined in docs/requests.md, "What a cache keeps".
 -- Cited by `Hashed`.
 use Rattle.std.specs.Prelude.{ℕ, List}
 use Rattle.std.specs.List.{fold}

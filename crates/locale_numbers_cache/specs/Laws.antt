@@ -1,7 +1,7 @@
 -- Which keys are kept, and which uses miss, said without going through the uses one by one.
 -- Defined in docs/requests.md, "What a cache keeps".
 -- Cited by the laws of `laws.rt`.
-use Rattle.std.specs.Prelude.{ℕ, ◌≡◌, ◌+◌, Bool, List, [], ◌∷◌, ◌++◌, take, reverse, if◌then◌else◌}
+use Rattle.std.specs.Prelude.{ℕ, ◌≡◌, ◌↔◌, ◌+◌, Bool, true, List, [], ◌∷◌, ◌++◌, take, reverse, if◌then◌else◌}
 use Rattle.locale_numbers_cache.specs.Recent.{has, without, recent_after, misses}
 
 module _ {K : Type 0} (same : K → K → Bool) where
@@ -27,3 +27,7 @@ module _ {K : Type 0} (same : K → K → Bool) where
   abbrev pub UnusedKeysMiss : Type 0
   UnusedKeysMiss = (capacity : ℕ) (keys : List K) (key : K)
       → misses same capacity [] (keys ++ key ∷ []) ≡ misses same capacity [] keys + (if has same key (last_used capacity keys) then 0 else 1)
+
+  -- keys are one exactly where the test says so
+  abbrev pub EqualKeysAreOne : Type 0
+  EqualKeysAreOne = (one other : K) → same one other ≡ true ↔ (one ≡ other)

@@ -35,7 +35,7 @@ impl<K: CacheKey, F: Drop> FormatterCache<K, F> {
     /// A cache that keeps nothing yet, `capacity` things at most, 1 at least: with 16 it keeps up to sixteen, and `made`
     /// answers 0.
     ///
-    /// It fails where it is out of memory.
+    /// The condition is that the capacity is 1 at least. It fails where it is out of memory.
     pub fn new(alloc: Global, capacity: usize) -> Result<Self, AllocError>
         requires { 1 ≤ capacity }
         ensures { IfOk result (λ cache. cache ≡ cached [] capacity 0) }
@@ -47,10 +47,10 @@ impl<K: CacheKey, F: Drop> FormatterCache<K, F> {
 
     /// Sees to it that what the maker makes for `key` is kept and is the latest; `false` where it makes nothing for it.
     ///
-    /// It is made only where it is not kept already, and then pushes out what was used longest ago where the cache is full:
-    /// with a capacity of 2, after the keys 1, 2, 1 the key 3 pushes out 2. A key for which nothing is made changes nothing. It
-    /// fails where it is out of memory, and then the cache is as before; for a key that is kept, or for which nothing is made,
-    /// it takes none.
+    /// It is made only where it is not kept already, and then pushes out what was used longest ago where the cache is full: with
+    /// a capacity of 2, after the keys 1, 2, 1 the key 3 pushes out 2. A key for which nothing is made changes nothing. The
+    /// condition is that all that is kept is what this maker makes for its key. It fails where it is out of memory, and then the
+    /// cache is as before; for a key that is kept, or for which nothing is made, it takes none.
     pub fn keep<M: Maker<K, F>>(&mut self, maker: &M, key: K) -> Result<bool, AllocError>
         requires { IsSound (M.finds maker.now) (M.is_made maker.now) self.old }
         ensures succeeds { M.finds maker.now key ≡ false → IsOk result }

@@ -1,8 +1,13 @@
 //! Laws on what is kept and on misses: each function says one, and does nothing.
 
-ghost use Rattle.locale_numbers_cache.specs.Laws.{LastUsedAreKept, UnusedKeysMiss};
+ghost use Rattle.locale_numbers_cache.specs.Laws.{EqualKeysAreOne, LastUsedAreKept, UnusedKeysMiss};
 
 use crate::cache_key::CacheKey;
+
+/// Keys are `==` exactly where they are one value: what the tag `EN` prefers is what `en` does, and not what `de` does.
+pub fn equal_keys_are_one<K: CacheKey>()
+    ensures { EqualKeysAreOne K.eq }
+{}
 
 /// The keys kept are the different keys that were used last, as many as the capacity says: of the keys 1, 2, 1, 3, 3 with a
 /// capacity of 2 they are 3 and 1.

@@ -65,7 +65,8 @@ impl<K: Copy> ReadKeys<K> {
     /// The key of the bytes, which are read only where their pair of places does not remember them: of `a` and then `a` the
     /// first.
     ///
-    /// Bytes of more than 256 are read each time. It fails where it is out of memory, and then remembers what it did.
+    /// The condition is that each key it remembers is the one that this reader reads. Bytes of more than 256 are read each time.
+    /// It fails where it is out of memory, and then remembers what it did.
     pub fn key_of<R: KeyReader<K>>(&mut self, reader: &R, bytes: &[u8]) -> Result<K, AllocError>
         requires { All (AreRead (R.key_of reader.now)) self.old }
         ensures value { IfOk result (λ key. key ≡ R.key_of reader.now bytes.now) }

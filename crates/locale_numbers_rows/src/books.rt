@@ -1,9 +1,14 @@
 //! The books that lines name.
 use locale_numbers::SAMPLE_BOOK;
 
-// The English symbols, grouped by three and then by two.
-const THREE_TWO: &str = r#"[[["en","","latn","-","","+","",".",",",3,2,1]],
- [["latn","0123456789"]],[],[],[]]"#;
+// The sample book, with English grouped by three and then by two.
+const THREE_TWO: &str = r#"[[["en","","latn","-","","+","",".",",",3,2,1],
+  ["ar-EG","","arab","-","","+","","٫","٬",3,3,1]],
+ [["latn","0123456789"],["arab","٠١٢٣٤٥٦٧٨٩"],["thai","๐๑๒๓๔๕๖๗๘๙"]],
+ [["en",[["one","i = 1 and v = 0 @integer 1"],["other"," @integer 0, 2"]]]],
+ [["en","",[[3,3,[["other",["","K"]]]],[6,6,[["other",["","M"]]]]],null]],
+ [["en","",[[3,3,[["1",["a thousand"]],["other",["","-thousands"]]]],
+   [6,6,[["one",["","-million"]],["other",["","-millions"]]]]],null]]]"#;
 
 // The English symbols, grouped where two digits stand in front.
 const TWO_IN_FRONT: &str = r#"[[["en","","latn","-","","+","",".",",",3,3,2]],

@@ -1,4 +1,4 @@
-//! Tables that count how often digits were found in them.
+//! Tables that count how often they are asked for digits.
 use icu_decimal::plurals::PluralRules;
 use icu_decimal::provider::{
     CompactPatterns, DataError, DataIdentifier, DataProvider, DecimalCompactLongV1,
@@ -7,13 +7,13 @@ use icu_decimal::provider::{
 use locale_numbers::{Book, Tables};
 use std::cell::Cell;
 
-/// The tables of a book, and a count of the digits that were found.
+/// The tables of a book, and a count of the loads of digits.
 #[derive(Drop)]
 pub struct Counting<'b> {
     /// The book.
     pub book: &'b Book,
-    /// How often digits were found.
-    pub digits_found: Cell<u64>,
+    /// How often digits were asked for, found or not.
+    pub digits_asked: Cell<u64>,
 }
 
 impl<'b> DataProvider<DecimalDigitsV1> for Counting<'b> {
@@ -22,12 +22,9 @@ impl<'b> DataProvider<DecimalDigitsV1> for Counting<'b> {
     ghost table = { λ s id. digits_under s.book.now id };
 
     fn load(&self, id: &DataIdentifier) -> Result<&[char; 10], DataError> {
-        let found = DataProvider::<DecimalDigitsV1>::load(self.book, id);
-        if found.is_ok() {
-            self.digits_found
-                .set(self.digits_found.get().saturating_add(1));
-        }
-        found
+        self.digits_asked
+            .set(self.digits_asked.get().saturating_add(1));
+        DataProvider::<DecimalDigitsV1>::load(self.book, id)
     }
 }
 

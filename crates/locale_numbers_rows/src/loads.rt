@@ -11,10 +11,10 @@ use locale_numbers::{Book, Report, RunError, Tracked, run};
 use std::alloc::Global;
 use std::cell::Cell;
 
-// An outcome, how often digits were found, and what the writer holds.
-fn with_found(alloc: Global, outcome: &str, found: u64, held: &[u8]) -> Result<String, RowError> {
+// An outcome, how often digits were asked for, and what the writer holds.
+fn with_asked(alloc: Global, outcome: &str, asked: u64, held: &[u8]) -> Result<String, RowError> {
     let output = escaped(alloc, held)?;
-    let text = format!(in alloc; "{outcome}, digits found {found}, \"{output}\"");
+    let text = format!(in alloc; "{outcome}, digits asked for {asked}, \"{output}\"");
     drop(output);
     Ok(text?)
 }
@@ -23,16 +23,16 @@ fn with_found(alloc: Global, outcome: &str, found: u64, held: &[u8]) -> Result<S
 fn left_text(
     alloc: Global,
     outcome: Result<Report, RunError>,
-    found: u64,
+    asked: u64,
     held: &[u8],
 ) -> Result<String, RowError> {
     let outcome = outcome_text(alloc, outcome)?;
-    let text = with_found(alloc, &outcome, found, held);
+    let text = with_asked(alloc, &outcome, asked, held);
     drop(outcome);
     text
 }
 
-// What a run leaves whose reads give so many bytes, and how often digits were found for it.
+// What a run leaves whose reads give so many bytes, and how often it asked for digits.
 fn loads_text(
     alloc: Global,
     book: &Book,
@@ -44,14 +44,14 @@ fn loads_text(
 {
     let tables = Counting {
         book,
-        digits_found: Cell::new(0),
+        digits_asked: Cell::new(0),
     };
     let mut reader = reader_of(input, Giving::steady(at_once));
     let mut writer = Tracked::new(Vec::new(alloc));
     let outcome = run(alloc, &tables, capacity, &mut reader, &mut writer);
-    let found = tables.digits_found.get();
+    let asked = tables.digits_asked.get();
     let held = writer.into_inner();
-    let text = left_text(alloc, outcome, found, &held);
+    let text = left_text(alloc, outcome, asked, &held);
     drop(held);
     text
 }
@@ -111,7 +111,7 @@ fn alike_text(alloc: Global, book: &Book, capacity: usize, input: &[u8]) -> Resu
     }
 }
 
-/// `run_loads BOOK CAPACITY INPUT`: what the run leaves, and how often digits were found in the tables,
+/// `run_loads BOOK CAPACITY INPUT`: what the run leaves, and how often it asked the tables for digits,
 /// where it is the same by reads of one byte, of three bytes and of the whole.
 pub fn loads_row(alloc: Global, arguments: &[&str]) -> Result<String, RowError> {
     let [book, capacity, input] = arguments else {

@@ -1,4 +1,4 @@
-//! Equality, order, hash and `Debug` of private pieces: those of their lists of texts.
+//! Equality, order, hash and `Debug` of private subtags: those of their lists of texts.
 
 ghost use Rattle.std.specs.Prelude.{Some, refl};
 ghost use Rattle.std.specs.Cmp.{on_equiv, on_total, on_po, on_per, partial_equiv_from_equiv};
@@ -37,7 +37,7 @@ impl PartialOrd for Private {
     }
 }
 
-/// Piece by piece in byte order; where one list begins the other, the shorter is less.
+/// Subtag by subtag in byte order; where one list begins the other, the shorter is less: `x-a` than `x-a-b`.
 impl Ord for Private {
     ghost cmp = { λ s t. slice_cmp text_cmp s t };
 

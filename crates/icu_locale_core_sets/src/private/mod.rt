@@ -1,4 +1,4 @@
-//! The private pieces of a tag.
+//! The private subtags of a tag.
 
 ghost use Rattle.std.specs.Prelude.{◌≡◌, ◌==◌, ℕ, false, List, [], ◌∷◌, ◌++◌, length, IfOk, IfErr, IsOk, OnOk, OnErr, slice_get};
 ghost use Rattle.std.specs.Option.{option_copied};
@@ -23,7 +23,7 @@ use std::alloc::{AllocError, Global};
 use std::marker::Model;
 use std::slice;
 
-/// The private pieces of a tag, those behind `x`, in the order written.
+/// The private subtags of a tag, those behind `x`, in the order written: `foo`, `a` of `x-foo-a`.
 #[derive(Drop)]
 pub struct Private {
     items: Vec<Subtag>,
@@ -49,7 +49,7 @@ fn is_singleton(piece: &[u8]) -> bool
 }
 
 impl Private {
-    /// No private pieces: `is_empty` is true of them. It takes no memory.
+    /// No private subtags: `is_empty` is true of them. It takes no memory.
     pub fn new(alloc: Global) -> Self
         ensures { result ≡ [] }
     {
@@ -58,7 +58,7 @@ impl Private {
         }
     }
 
-    /// This private piece alone: `foo` gives `x-foo`. `AllocError` is answered for memory alone.
+    /// This private subtag alone: `foo` gives `x-foo`. `AllocError` is answered for memory alone.
     pub fn new_single(alloc: Global, subtag: Subtag) -> Result<Self, AllocError>
         ensures { IfOk result (λ private. private ≡ subtag ∷ []) }
     {
@@ -67,12 +67,12 @@ impl Private {
         Ok(private)
     }
 
-    /// The private pieces of this text: `x`, and 1 or more pieces of 1 to 8 letters and digits, in either case, with hyphens
+    /// The private subtags of this text: `x`, and 1 or more pieces of 1 to 8 letters and digits, in either case, with hyphens
     /// between them.
     ///
-    /// `X-Foo-a` has `foo`, `a`. `InvalidExtension` where the text has another form, as `foo`, `x` and `x-toolongpiece`;
-    /// `Memory` where a growth was refused, and no memory is taken where the first piece is not `x`, or no private piece is right
-    /// behind it. Source: UTS 35, section 3.2.
+    /// `X-Foo-a` has `foo`, `a`. `InvalidExtension` where the text has another form, as `foo`, `x` and `x-toolongpiece`; `Memory`
+    /// where memory was refused, and none is taken where the first piece is not `x`, or no private subtag is right behind it.
+    /// Source: UTS 35, section 3.2.
     pub fn try_from_str(alloc: Global, s: &str) -> Result<Self, ParseError>
         ensures value { IfOk result (ReadsPrivate s.now) }
         ensures fault { IfErr result (IsRefused (ReadsPrivate s.now)) }
@@ -81,7 +81,7 @@ impl Private {
         Private::try_from_utf8(alloc, s.as_bytes())
     }
 
-    /// The private pieces of these bytes, as `try_from_str`.
+    /// The private subtags of these bytes, as `try_from_str`.
     pub fn try_from_utf8(alloc: Global, code_units: &[u8]) -> Result<Self, ParseError>
         ensures value { IfOk result (ReadsPrivate code_units.now) }
         ensures fault { IfErr result (IsRefused (ReadsPrivate code_units.now)) }
@@ -101,10 +101,10 @@ impl Private {
         Ok(private)
     }
 
-    /// The private pieces that these pieces are, without a singleton: no piece is the empty list.
+    /// The private subtags that these pieces are, without a singleton: `Foo`, `a` are `foo`, `a`, and no piece is the empty list.
     ///
-    /// `InvalidExtension` where one is no private piece; `Memory` where a growth was refused. No memory is taken where there is no
-    /// piece, or the first is no private one.
+    /// `InvalidExtension` where one is no private subtag; `Memory` where memory was refused, and none is taken where there is no
+    /// piece, or the first is no private subtag.
     pub fn try_from_iter(alloc: Global, iter: SubtagIterator<'_>) -> Result<Self, ParseError>
         ensures value { IfOk result (MeansOwn iter.entry) }
         ensures fault { IfErr result (IsRefused (MeansOwn iter.entry)) }
@@ -122,9 +122,9 @@ impl Private {
         Ok(private)
     }
 
-    /// Puts one more private piece behind the others: behind `foo` the piece `a` gives `foo`, `a`.
+    /// Puts one more private subtag behind the others: `a` behind `foo` gives `foo`, `a`.
     ///
-    /// `AllocError` is answered for memory alone, and the pieces are then as before.
+    /// `AllocError` is answered for memory alone, and the list is then as before.
     pub fn push(&mut self, subtag: Subtag) -> Result<(), AllocError>
         ensures value { OnOk result (self.new ≡ self.old ++ subtag ∷ []) }
         ensures err { OnErr result (self.new ≡ self.old) }
@@ -134,7 +134,7 @@ impl Private {
         Ok(())
     }
 
-    /// The private pieces, in the order written: of `x-b-a` they are `b`, `a`.
+    /// The private subtags, in the order written: of `x-b-a` they are `b`, `a`.
     pub fn as_slice(&self) -> &[Subtag]
         ensures value { result.now ≡ self.now }
         ensures lower { AreLower is_private_piece self.now }
@@ -142,7 +142,7 @@ impl Private {
         self.items.as_slice()
     }
 
-    /// The private pieces one after another, in the order written: of `x-foo-a` `foo`, and then `a`.
+    /// The private subtags one after another, in the order written: of `x-foo-a` `foo`, and then `a`.
     pub fn iter(&self) -> slice::Iter<'_, Subtag>
         ensures rest { iter_rest result ≡ self.now }
         ensures len { length (iter_rest result) ≡ length self.now }
@@ -151,43 +151,43 @@ impl Private {
         self.as_slice().iter()
     }
 
-    /// How many private pieces there are: 2 of `x-foo-a`.
+    /// How many private subtags there are: 2 of `x-foo-a`.
     pub fn len(&self) -> usize
         ensures { result ≡ length self.now }
     {
         self.items.len()
     }
 
-    /// Whether there is no private piece, as `new` gives them.
+    /// Whether there is no private subtag, as `new` gives them.
     pub fn is_empty(&self) -> bool
         ensures { result ≡ (length self.now == 0) }
     {
         self.items.is_empty()
     }
 
-    /// The private piece at this place, counted from 0: of `x-foo-a` at 1 it is `a`; `None` past the last.
+    /// The private subtag at this index, counted from 0: of `x-foo-a` at 1 it is `a`; `None` past the last.
     pub fn get(&self, index: usize) -> Option<&Subtag>
         ensures { option_copied result ≡ slice_get self.now index }
     {
         self.as_slice().get(index)
     }
 
-    /// The first private piece, `foo` of `x-foo-a`; `None` where there is none.
+    /// The first private subtag, `foo` of `x-foo-a`; `None` where there is none.
     pub fn first(&self) -> Option<&Subtag>
         ensures { option_copied result ≡ slice_get self.now 0 }
     {
         self.as_slice().first()
     }
 
-    /// Takes every private piece away: `x-foo-a` then prints as the empty text. It takes no memory.
+    /// Takes every private subtag away: `x-foo-a` then prints as the empty text. It takes no memory.
     pub fn clear(&mut self)
         ensures { self.new ≡ [] }
     {
         self.items.clear();
     }
 
-    /// The same private pieces: of `x-a-b` they are `a`, `b`. `AllocError` is answered for memory alone, and where there is no
-    /// piece none is taken.
+    /// The same private subtags: of `x-a-b` they are `a`, `b`. `AllocError` is answered for memory alone, and where there is none
+    /// no memory is taken.
     pub fn try_clone(&self) -> Result<Self, AllocError>
         ensures succeeds { self.now ≡ [] → IsOk result }
         ensures value { IfOk result (λ private. private ≡ self.now) }

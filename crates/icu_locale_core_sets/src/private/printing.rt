@@ -1,4 +1,4 @@
-//! Printing private pieces.
+//! Printing private subtags.
 
 ghost use Rattle.std.specs.Prelude.{◌≡◌, ◌<◌, ◌^◌, ◌++◌, false, is_err, length, flat_map, OnOk, OnErr, SomeIff};
 ghost use Rattle.writeable.specs.AnnotatedText.{bytes};
@@ -34,7 +34,7 @@ fn write_behind_singleton<S: Sink>(pieces: &[Subtag], sink: &mut S) -> Result<()
     write_pieces(pieces, sink)
 }
 
-/// `x` and the pieces, with hyphens between them: `x-foo-a`. Nothing where there is no piece.
+/// `x` and the subtags, with hyphens between them: `x-foo-a`. Nothing where there is none.
 impl Writeable for Private {
     ghost use Rattle.std.specs.Prelude.{◌≡◌, ◌<◌, ◌^◌, Some, length};
     ghost use Rattle.writeable.specs.AnnotatedText.{bytes, text_of};

@@ -38,7 +38,7 @@ impl<R: SubtagRule<8>> PartialOrd for SubtagSet<R> {
     }
 }
 
-/// Text by text in byte order; where one list begins the other, the shorter is less.
+/// Text by text in byte order; where one list begins the other, the shorter is less: `1996` than `1996`, `fonipa`.
 impl<R: SubtagRule<8>> Ord for SubtagSet<R> {
     ghost cmp = { λ s t. slice_cmp text_cmp s t };
 

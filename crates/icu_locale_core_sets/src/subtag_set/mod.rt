@@ -18,7 +18,8 @@ use std::alloc::{AllocError, Global};
 use std::marker::Model;
 use std::{mem, slice};
 
-/// A set of subtags of the rule R, each of at most 8 characters: none of them twice, in byte order of their texts.
+/// A set of subtags of the rule R, each of at most 8 characters: none of them twice, in byte order of their texts. Of the
+/// variants `fonipa` and `1996` it is `1996`, `fonipa`.
 #[derive(Drop)]
 pub struct SubtagSet<R: SubtagRule<8>> {
     items: Vec<SubtagOf<R, 8>>,
@@ -127,7 +128,7 @@ impl<R: SubtagRule<8>> SubtagSet<R> {
         self.items.is_empty()
     }
 
-    /// The subtag at this place, counted from 0: of `1996`, `fonipa` at 1 it is `fonipa`, and at 2 there is none.
+    /// The subtag at this index, counted from 0: of `1996`, `fonipa` at 1 it is `fonipa`, and at 2 there is none.
     pub fn get(&self, index: usize) -> Option<&SubtagOf<R, 8>>
         ensures { option_copied result ≡ slice_get self.now index }
     {
