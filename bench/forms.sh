@@ -1,7 +1,8 @@
 #!/bin/sh
 # What a line costs by its form, and lines of twenty tags in turn: ratios of processor time in one run.
 # Prints for each form its time over that of the plain lines of the same numbers; for `read` the texts are those that the plain
-# lines wrote. Then the time of lines whose tags come in turn over that of the same lines sorted by tag, with 32 formatters kept.
+# lines wrote. Then, with 32 formatters kept, the time of lines of twenty tags in turn: where all write Latin digits, over that of
+# the same numbers under one of them; where they write three systems of digits, over that of the same lines sorted by tag.
 # usage: bench/forms.sh [LINES]
 set -eu
 top=$(cd "$(dirname "$0")/.." && pwd)
@@ -64,12 +65,16 @@ write("short", lines_of("short", numbers))
 write("long", lines_of("long", numbers))
 write("in-turn", turns)
 write("by-tag", sorted(turns, key=lambda line: line.split("\t")[0]))
-kinds = ["plain", "read", "short", "long", "in-turn", "by-tag"]
+regions = "gb us de fr it es pt pl se no dk fi at be ch cz hu ie lu nl".split()
+write("alike", [f"en-u-rg-{regions[i % 20]}zzzz\tplain\tauto\tkeep\t-\t{text}" for i, text in enumerate(numbers)])
+write("one-tag", [f"en-u-rg-{regions[0]}zzzz\tplain\tauto\tkeep\t-\t{text}" for text in numbers])
+kinds = ["plain", "read", "short", "long", "one-tag", "alike", "by-tag", "in-turn"]
 best = {kind: run(kind) for kind in kinds}
 for _ in range(10):
     for kind in kinds:
         best[kind] = min(best[kind], run(kind))
 for kind in ["read", "short", "long"]:
-    print(f"{kind:<10}{best[kind] / best['plain']:>8.2f}")
-print(f"{'20 tags':<10}{best['in-turn'] / best['by-tag']:>8.2f}")
+    print(f"{kind:<20}{best[kind] / best['plain']:>8.2f}")
+print(f"{'20 tags':<20}{best['alike'] / best['one-tag']:>8.2f}")
+print(f"{'20 tags, 3 systems':<20}{best['in-turn'] / best['by-tag']:>8.2f}")
 PYTHON

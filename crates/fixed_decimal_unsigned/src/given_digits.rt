@@ -81,8 +81,9 @@ impl GivenDigits {
 
     /// Adds a digit behind the others: 3 behind 1, 2 makes 123 of 12.
     ///
-    /// Memory is taken where there are more than eight digits from the first to the last one that is not 0, and these
-    /// have no room yet; it is refused (`AllocError`) only there, and then nothing is added.
+    /// The condition is that the digit is 0 to 9, and that fewer than 2^63 were given. Memory is taken where there are more than
+    /// eight digits from the first to the last one that is not 0, and these have no room yet; it is refused (`AllocError`) only
+    /// there, and then nothing is added.
     pub fn push(&mut self, digit: u8) -> Result<(), AllocError>
         requires ten { digit < 10 }
         requires few { self.old.count < 2 ^ 63 }
@@ -99,7 +100,8 @@ impl GivenDigits {
 
     /// The number of these digits, so many of them behind the point: of 0, 1, 2, 5 and 2 it is `01.25`.
     ///
-    /// `None` exactly where a digit would stand past magnitudes -32768 to 32767. It takes no memory.
+    /// The condition is that at least one digit was given, and that `fraction` is at most as many. `None` exactly where a digit
+    /// would stand past magnitudes -32768 to 32767. It takes no memory.
     pub fn into_decimal(self, fraction: usize) -> Option<UnsignedDecimal>
         requires some { 0 < self.count }
         requires within { fraction ≤ self.count }

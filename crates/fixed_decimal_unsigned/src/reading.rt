@@ -21,7 +21,7 @@ const EXPONENT_CAP: usize = 65536;
 // So many digits fit in a word, and need no memory.
 const INLINE_DIGITS: usize = 8;
 
-/// The number that digits spell, or 65536 where it is larger: 12 of `012`.
+/// The number that digits spell, or 65536 where it is larger: 12 of `012`. The condition is that each byte is a digit.
 #[tactic(auto, using(crate::proofs::SpelledLemmas::digits_at, crate::proofs::SpelledLemmas::capped_more))]
 pub fn capped_number(text: &[u8]) -> usize
     requires { AreDigits text.now }

@@ -25,6 +25,8 @@ impl<L: Ledger> Model for Turns<L> {
 
 impl<L: Ledger> Turns<L> {
     /// No turns yet, counted in the ledger of a blank: the count is 0. It takes no memory.
+    ///
+    /// The condition is that the blank has the name and the parts of L, and that there is a part.
     pub fn new(blank: Blank) -> Turns<L>
         requires name { blank.name ≡ L.name }
         requires parts { blank.parts ≡ L.parts }

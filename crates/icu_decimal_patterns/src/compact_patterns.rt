@@ -130,7 +130,9 @@ impl CompactPatterns {
         self.entries.as_slice()
     }
 
-    /// The patterns of the entry at a place, from 0 on: those of `K` at place 0 of the short form of English. It takes no memory.
+    /// The patterns of the entry at an index, counted from 0: those of `K` at index 0 of the short form of English.
+    ///
+    /// The condition is that the index is below the number of entries. It takes no memory.
     pub fn elements(&self, place: usize) -> &PluralElements<Pattern>
         requires { place < length self.now.entries }
         ensures { slice_get self.now.patterns place ≡ Some result.now }

@@ -1,5 +1,6 @@
 -- How long the first piece of a text is.
--- Serves the proofs of the private `piece_len` and `first_piece`; no clause for callers cites it.
+-- Defined in docs/plurals.md, "Tokens".
+-- Cited by the private `piece_len`, and by the proofs of it and of `first_piece`; no clause for callers cites it.
 use Rattle.std.specs.Prelude.{ℕ, suc, cond, List, [], ◌∷◌}
 use Rattle.icu_decimal_plurals.specs.Tokens.{joins_next}
 

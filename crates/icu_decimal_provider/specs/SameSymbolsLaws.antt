@@ -1,6 +1,6 @@
 -- The tests of two tables of symbols are true exactly where the tables are equal.
 -- Defined in docs/formatters.md, "Symbols".
--- The proofs of the laws of `==`, which the impls cite.
+-- Cited by the impls of `PartialEq` and `Eq` of `DecimalSymbols` and of its texts, whose laws it proves.
 use Rattle.std.proofs.Common.{◌≡◌, ap, Decides}
 use Rattle.std.specs.Cmp.{unsigned_Decides}
 use Rattle.std.specs.Cmp.Lexicographic.{bytes_decides}

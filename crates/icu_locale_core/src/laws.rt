@@ -24,7 +24,7 @@ pub mod grammar {
 // Of subtags, one or many.
 pub use icu_locale_core_subtags::laws as subtags;
 
-// Of variants, attributes and private pieces.
+// Of variants, attributes and private subtags.
 pub use icu_locale_core_sets::laws as sets;
 
 // Of keywords, fields and their values.

@@ -1,4 +1,5 @@
 -- What a map ends as, where a `&mut` to one of its values is returned.
+-- Defined in docs/tags.md, "Keywords and fields as values".
 -- Cited by `get_mut`.
 use Rattle.std.specs.Prelude.{Bool, Option, List}
 use Rattle.std.specs.Borrow.{Lends, LendsIf, Fml, RattleType, MutBor}

@@ -1,4 +1,5 @@
 -- Where a key stands in a list of entries whose keys rise, or where it would.
+-- Defined in docs/tags.md, "Keywords and fields as values".
 -- Cited by the search for a key, and by the proofs of the calls that use it.
 use Rattle.std.specs.Prelude.{ℕ, suc, ◌≡◌, ◌<◌, ◌≤◌, List, ◌∷◌, ◌++◌, length, take, drop, slice_index_or}
 use Rattle.std.specs.List.{AllByRecursion}

@@ -15,8 +15,10 @@ use std::alloc::{AllocError, Global};
 use std::marker::PhantomData;
 
 impl<K: EntryKind> ValueOf<K> {
-    /// The value of the subtags in their order, without `true`. `AllocError` is answered for memory alone, and where the iterator
-    /// gives no item none is taken.
+    /// The value of the subtags in their order, without `true`: of `abc`, `true`, `def` it is `abc-def`.
+    ///
+    /// The condition is that the iterator ends. `AllocError` is answered for memory alone, and where the iterator gives no item
+    /// none is taken.
     pub fn try_from_iter<I: IntoIterator<Item = Subtag>>(
         alloc: Global,
         iter: I,
@@ -32,7 +34,7 @@ impl<K: EntryKind> ValueOf<K> {
         Ok(value)
     }
 
-    /// An equal value. `AllocError` is answered for memory alone, and the empty value takes none.
+    /// An equal value: of `abc-def` another `abc-def`. `AllocError` is answered for memory alone, and the empty value takes none.
     pub fn try_clone(&self) -> Result<Self, AllocError>
         ensures succeeds { self.now ≡ [] → IsOk result }
         ensures value { IfOk result (λ v. v ≡ self.now) }
@@ -56,8 +58,11 @@ fn copied<K: EntryKind>(key: &SubtagOf<K, 2>) -> Result<SubtagOf<K, 2>, AllocErr
 }
 
 impl<K: EntryKind> EntriesOf<K> {
-    /// The map of the entries; of equal keys the first stands. `AllocError` is answered for memory alone, and where the iterator
-    /// gives no item none is taken.
+    /// The map of the entries; of equal keys the first stands: of `nu` with `thai`, `ca` with `buddhist` and `nu` with `latn` it
+    /// is `ca-buddhist-nu-thai`.
+    ///
+    /// The condition is that the iterator ends. `AllocError` is answered for memory alone, and where the iterator gives no item
+    /// none is taken.
     pub fn try_from_iter<I: IntoIterator<Item = (SubtagOf<K, 2>, ValueOf<K>)>>(
         alloc: Global,
         iter: I,
@@ -73,7 +78,7 @@ impl<K: EntryKind> EntriesOf<K> {
         Ok(map)
     }
 
-    /// An equal map. `AllocError` is answered for memory alone, and the empty map takes none.
+    /// An equal map: of `nu-thai` another `nu-thai`. `AllocError` is answered for memory alone, and the empty map takes none.
     pub fn try_clone(&self) -> Result<Self, AllocError>
         ensures succeeds { self.now ≡ [] → IsOk result }
         ensures value { IfOk result (λ m. m ≡ self.now) }

@@ -15,7 +15,8 @@ use std::alloc::{AllocError, Global};
 use std::marker::Model;
 use std::{mem, slice};
 
-/// Keywords or fields: a map from keys to values, listed in byte order of the keys. No key stands twice.
+/// Keywords or fields: a map from keys to values, listed in byte order of the keys. No key stands twice. `ca-buddhist-nu-thai`
+/// has `buddhist` at `ca` and `thai` at `nu`.
 ///
 /// After ICU4X's `Keywords` and `Fields`.
 #[derive(Drop)]

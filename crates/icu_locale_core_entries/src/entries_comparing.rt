@@ -37,7 +37,7 @@ impl<K: EntryKind> PartialOrd for EntriesOf<K> {
     }
 }
 
-/// Entry by entry, by the keys and then the values; a beginning comes first.
+/// Entry by entry, by the keys and then the values; a beginning comes first: `nu` before `nu-latn`.
 impl<K: EntryKind> Ord for EntriesOf<K> {
     ghost cmp = { λ m n. entries_cmp m n };
 

@@ -113,7 +113,10 @@ fn entries_text_length<K: EntryKind>(map: &EntriesOf<K>) -> Option<usize>
 }
 
 impl<K: EntryKind> EntriesOf<K> {
-    /// Writes the entries in order of their keys, each piece with a hyphen before it: `-ca-buddhist-nu-thai`.
+    /// Writes the entries in order of their keys, each subtag with a hyphen before it: `-ca-buddhist-nu-thai`.
+    ///
+    /// The sink has not refused yet. `Error`, only where the sink refused: it took a beginning. It takes no memory but the
+    /// sink's.
     pub fn write_hyphened<S: Sink>(&self, sink: &mut S) -> Result<(), Error>
         requires { S.refused sink.old ≡ false }
         ensures ok { OnOk result (S.takes sink.old (bytes (hyphened_entries K.needs self.now)) sink.new) }
@@ -123,7 +126,7 @@ impl<K: EntryKind> EntriesOf<K> {
         write_entries(self.as_slice(), sink)
     }
 
-    /// How many bytes `write_hyphened` writes. `None` where a `usize` does not hold it.
+    /// How many bytes `write_hyphened` writes: 20 of `ca-buddhist-nu-thai`. `None` where a `usize` does not hold it.
     pub fn hyphened_length(&self) -> Option<usize>
         ensures { SomeIff result (length (hyphened_entries K.needs self.now) < 2 ^ 64) (length (hyphened_entries K.needs self.now)) }
     {

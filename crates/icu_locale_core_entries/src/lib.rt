@@ -39,10 +39,10 @@ pub mod unicode {
     use crate::value::ValueOf;
     use icu_locale_core_subtags::unicode::KeyRule;
 
-    /// Keywords: a map from keys to values, listed in byte order of the keys.
+    /// Keywords: a map from keys to values, listed in byte order of the keys, as `ca-buddhist-nu-thai`.
     pub type Keywords = EntriesOf<KeyRule>;
 
-    /// The value of a keyword: a list of subtags, none of which is `true`.
+    /// The value of a keyword: a list of subtags, none of which is `true`, as `islamic-civil` of `ca`.
     pub type Value = ValueOf<KeyRule>;
 }
 
@@ -52,9 +52,9 @@ pub mod transform {
     use crate::value::ValueOf;
     use icu_locale_core_subtags::transform::KeyRule;
 
-    /// Fields: a map from keys to values, listed in byte order of the keys.
+    /// Fields: a map from keys to values, listed in byte order of the keys, as `h0-hybrid-m0-und`.
     pub type Fields = EntriesOf<KeyRule>;
 
-    /// The value of a field: a list of subtags, none of which is `true`.
+    /// The value of a field: a list of subtags, none of which is `true`, as `hybrid` of `h0`.
     pub type Value = ValueOf<KeyRule>;
 }

@@ -27,7 +27,8 @@ pub(crate) fn retain_pairs<X: Drop, Y: Drop, F: FnMut(&X) -> bool + Drop>(
 impl EntriesOf<unicode::KeyRule> {
     /// Keeps the entries at whose keys `keep` answers true. It is asked once at each key, in order.
     ///
-    /// Of `ca-buddhist-nu-thai`, where it keeps `nu` alone, `nu-thai` is left. It takes no memory.
+    /// The condition is that `keep` may be called at any time. Of `ca-buddhist-nu-thai`, where it keeps `nu` alone, `nu-thai` is
+    /// left. It takes no memory.
     pub fn retain_by_key<F: FnMut(&unicode::Key) -> bool + Drop>(&mut self, keep: F)
         requires { F.IsAlwaysCallable keep }
         ensures { IsRetained (CalledAt F.FnMut) keep self.old self.new }
@@ -39,7 +40,8 @@ impl EntriesOf<unicode::KeyRule> {
 impl EntriesOf<transform::KeyRule> {
     /// Keeps the entries at whose keys `keep` answers true. It is asked once at each key, in order.
     ///
-    /// Of `h0-hybrid-m0-und`, where it keeps `m0` alone, `m0-und` is left. It takes no memory.
+    /// The condition is that `keep` may be called at any time. Of `h0-hybrid-m0-und`, where it keeps `m0` alone, `m0-und` is
+    /// left. It takes no memory.
     pub fn retain_by_key<F: FnMut(&transform::Key) -> bool + Drop>(&mut self, keep: F)
         requires { F.IsAlwaysCallable keep }
         ensures { IsRetained (CalledAt F.FnMut) keep self.old self.new }

@@ -37,7 +37,7 @@ impl<K: EntryKind> PartialOrd for ValueOf<K> {
     }
 }
 
-/// Subtag by subtag, in byte order; a beginning comes first.
+/// Subtag by subtag, in byte order; a beginning comes first: `abc` before `abc-def`.
 impl<K: EntryKind> Ord for ValueOf<K> {
     ghost cmp = { λ v w. texts_cmp v w };
 

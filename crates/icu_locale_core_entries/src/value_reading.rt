@@ -43,7 +43,7 @@ impl<K: EntryKind> ValueOf<K> {
     /// The value of this text: pieces of 3 to 8 letters and digits between hyphens, in lower case, without `true`.
     ///
     /// `ABC-true-def` is `abc-def`, and the empty text the empty value. `ParseError::InvalidExtension`: a piece is of another
-    /// kind. `ParseError::Memory`: there is no memory; none is taken where the first piece is of another kind.
+    /// kind. `ParseError::Memory`: memory was refused; none is taken where the first piece is of another kind.
     pub fn try_from_str(alloc: Global, s: &str) -> Result<Self, ParseError>
         ensures value { IfOk result (ReadsValue s.now) }
         ensures fault { IfErr result (IsRefused (ReadsValue s.now)) }

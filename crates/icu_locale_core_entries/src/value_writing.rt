@@ -13,6 +13,9 @@ use writeable::{Error, LengthHint, Sink, Writeable, display, strict_cmp};
 
 impl<K: EntryKind> ValueOf<K> {
     /// Writes the subtags, each with a hyphen before it: `-abc-def`. Of a field without a value it is `-true`.
+    ///
+    /// The sink has not refused yet. `Error`, only where the sink refused: it took a beginning. It takes no memory but the
+    /// sink's.
     pub fn write_hyphened<S: Sink>(&self, sink: &mut S) -> Result<(), Error>
         requires { S.refused sink.old ≡ false }
         ensures ok { OnOk result (S.takes sink.old (bytes (hyphened_value K.needs self.now)) sink.new) }

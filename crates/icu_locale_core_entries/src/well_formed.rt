@@ -27,7 +27,7 @@ impl<K: EntryKind> ValueOf<K> {
 }
 
 impl<K: EntryKind> EntriesOf<K> {
-    /// Whether each value is well-formed. It takes no memory.
+    /// Whether each value is well-formed: true of `nu-thai`, and of every map that was read. It takes no memory.
     pub fn is_well_formed(&self) -> bool
         ensures { IsTrue result ↔ AreNormalEntries K.accepts self.now }
     {

@@ -1,4 +1,4 @@
--- The order of the extensions of two tags: `u`, `t`, the private pieces, and then the others.
+-- The order of the extensions of two tags: `u`, `t`, the private subtags, and then the others.
 -- Defined in docs/tags.md, "Orders".
 -- Cited by `total_cmp` of extensions, and by the law of the orders.
 use Rattle.std.specs.Ordering.{then_cmp, on}

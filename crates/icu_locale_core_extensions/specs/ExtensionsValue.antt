@@ -1,4 +1,4 @@
--- What a contract sees of the extensions of a locale: what they mean, and the private pieces.
+-- What a contract sees of the extensions of a locale: what they mean, and the private subtags.
 -- Defined in docs/tags.md, "Meaning".
 -- Cited by the calls of `Extensions` and `Locale`.
 use Rattle.std.specs.Prelude.{Bool, ◌&&◌, ◌==◌, is_none, List, [], length}

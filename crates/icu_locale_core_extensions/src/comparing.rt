@@ -184,7 +184,7 @@ fn others_order(others: &[Other], against: &[Other]) -> Ordering
 }
 
 impl Extensions {
-    /// The order of two values, part by part: `u`, `t`, the private pieces, all others. It takes no memory.
+    /// The order of two values, part by part: `u`, `t`, the private subtags, all others. It takes no memory.
     ///
     /// `u-nu-latn` before `u-nu-thai`, and `t-de` before `u-foo`, which has an attribute. `Equal` exactly where they are equal.
     pub fn total_cmp(&self, other: &Self) -> Ordering

@@ -12,14 +12,15 @@ use icu_locale_core_sets::Private;
 use std::alloc::{AllocError, Global};
 use std::marker::Model;
 
-/// The extensions of a locale: `u`, `t`, the private pieces, and all others in the order held.
+/// The extensions of a locale: `u`, `t`, the private subtags, and all others in the order held. Those of `en-a-foo-u-nu-thai` are
+/// `a-foo` and `u-nu-thai`.
 #[derive(Drop)]
 pub struct Extensions {
     /// The extension `u`.
     pub unicode: Unicode,
     /// The extension `t`.
     pub transform: Transform,
-    /// The private pieces.
+    /// The private subtags.
     pub private: Private,
     /// All others; a reader lists them in byte order of their singletons.
     pub other: Vec<Other>,
@@ -60,7 +61,7 @@ fn copied(alloc: Global, others: &[Other]) -> Result<Vec<Other>, AllocError>
 }
 
 impl Extensions {
-    /// No extension. It takes no memory.
+    /// No extension: `is_empty` is true, and they print nothing. It takes no memory.
     pub fn new(alloc: Global) -> Self
         ensures { result ≡ nothing }
     {
@@ -81,7 +82,7 @@ impl Extensions {
         extensions
     }
 
-    /// Takes all extensions away, so that they print nothing. It takes no memory.
+    /// Takes all extensions away: of `a-foo-u-nu-thai` nothing is left, and they print nothing. It takes no memory.
     pub fn clear(&mut self)
         ensures { self.new ≡ nothing }
     {
@@ -110,7 +111,8 @@ impl Extensions {
         self.has_none()
     }
 
-    /// Equal extensions. `AllocError` is answered for memory alone, which is taken only where there is an extension.
+    /// Equal extensions: of `a-foo-u-nu-thai` another `a-foo-u-nu-thai`. `AllocError` is answered for memory alone, which is
+    /// taken only where there is an extension.
     pub fn try_clone(&self) -> Result<Self, AllocError>
         ensures succeeds { self.now ≡ nothing → IsOk result }
         ensures value { IfOk result (λ extensions. extensions ≡ self.now) }

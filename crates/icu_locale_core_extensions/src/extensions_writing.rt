@@ -42,7 +42,7 @@ fn write_others<S: Sink>(others: &[Other], mut begins: bool, sink: &mut S) -> Re
     Ok(begins)
 }
 
-// Writes the first extensions, `t`, `u`, the last extensions and the private pieces.
+// Writes the first extensions, `t`, `u`, the last extensions and the private subtags.
 fn write_in_order<S: Sink>(
     first: &[Other],
     extensions: &Extensions,
@@ -62,11 +62,12 @@ fn write_in_order<S: Sink>(
     write_placed(&extensions.private, begins, sink)
 }
 
-/// Writes the extensions `u` and `t`, all others and the private pieces in the order of a tag: `a-foo-t-de-u-nu-thai-z-bar-x-b`.
+/// Writes the extensions `u` and `t`, all others and the private subtags in the order of a tag: `a-foo-t-de-u-nu-thai-z-bar-x-b`.
 ///
 /// A hyphen stands before each piece, but before the first of all where it `begins` the text. The others stand as they are
-/// given, `t` and `u` before the first of them whose singleton is above `t`; an empty extension writes nothing. `Error`, only
-/// where the sink refused: it took a beginning. It takes no memory but the sink's. Source: UTS 35, section 3.2.1.
+/// given, `t` and `u` before the first of them whose singleton is above `t`; an empty extension writes nothing. The sink has not
+/// refused yet. `Error`, only where the sink refused: it took a beginning. It takes no memory but the sink's. Source: UTS 35,
+/// section 3.2.1.
 pub fn write_extensions<S: Sink>(
     extensions: &Extensions,
     begins: bool,
@@ -94,7 +95,7 @@ fn text_length(extensions: &Extensions) -> Option<usize>
     }
 }
 
-/// The extensions in byte order of their singletons, and the private pieces: `u-nu-thai-x-foo`. Nothing where there are none.
+/// The extensions in byte order of their singletons, and the private subtags: `u-nu-thai-x-foo`. Nothing where there are none.
 ///
 /// It is what a tag has of them, without the hyphen before it. Source: UTS 35, section 3.2.1.
 impl Writeable for Extensions {

@@ -28,7 +28,7 @@ use std::cmp::Ordering;
 use std::marker::Model;
 use std::slice;
 
-/// An extension that is neither `u`, `t` nor `x`: its singleton and its pieces, `a-foo-bar`.
+/// An extension that is neither `u`, `t` nor `x`: its singleton and its subtags, `a-foo-bar`.
 ///
 /// Source: RFC 5646 (BCP 47), section 2.2.6.
 #[derive(Drop)]
@@ -94,7 +94,7 @@ impl Other {
         ExtensionType::Other(self.get_ext_byte())
     }
 
-    /// The pieces one after another: `foo` and then `bar` of `a-foo-bar`.
+    /// The subtags one after another: `foo` and then `bar` of `a-foo-bar`.
     pub fn iter(&self) -> slice::Iter<'_, Subtag>
         ensures rest { iter_rest result ≡ self.now.1 }
         ensures len { length (iter_rest result) ≡ length self.now.1 }
@@ -103,7 +103,8 @@ impl Other {
         self.as_slice().iter()
     }
 
-    /// An equal extension. `AllocError` is answered for memory alone, and without a piece none is taken.
+    /// An equal extension: of `a-foo` another `a-foo`. `AllocError` is answered for memory alone, and without a subtag none is
+    /// taken.
     pub fn try_clone(&self) -> Result<Self, AllocError>
         ensures succeeds { self.now.1 ≡ [] → IsOk result }
         ensures value { IfOk result (λ other. other ≡ self.now) }
@@ -118,21 +119,21 @@ impl Other {
         })
     }
 
-    /// The pieces: `foo`, `bar` of `a-foo-bar`.
+    /// The subtags: `foo`, `bar` of `a-foo-bar`.
     pub fn as_slice(&self) -> &[Subtag]
         ensures { result.now ≡ self.now.1 }
     {
         self.subtags.as_slice()
     }
 
-    /// Whether it has no piece; then it prints nothing. False of each that was read.
+    /// Whether it has no subtag; then it prints nothing. False of `a-foo`, and of each that was read.
     pub fn is_empty(&self) -> bool
         ensures { result ≡ (length self.now.1 == 0) }
     {
         self.subtags.is_empty()
     }
 
-    /// Takes all pieces away, and leaves the singleton. It takes no memory.
+    /// Takes all subtags away, and leaves the singleton: `a-foo` then prints nothing. It takes no memory.
     pub fn clear(&mut self)
         ensures { self.new ≡ (self.old.0, []) }
     {
@@ -162,10 +163,10 @@ fn read_body(
 }
 
 impl Other {
-    /// The extension in this text, with its singleton: `A-Foo-bar` has the singleton `a` and the pieces `foo`, `bar`.
+    /// The extension in this text, with its singleton: `A-Foo-bar` has the singleton `a` and the subtags `foo`, `bar`.
     ///
-    /// `InvalidExtension`: the text is no such extension, as `a` alone, `a-b`, and one of `u`, `t` or `x`. `Memory`: a growth
-    /// was refused; no memory is taken where the first piece is no such singleton, or no piece of an extension is right behind it.
+    /// `InvalidExtension`: the text is no such extension, as `a` alone, `a-b`, and one of `u`, `t` or `x`. `Memory`: memory was
+    /// refused; none is taken where the first piece is no such singleton, or no subtag of an extension is right behind it.
     /// Source: RFC 5646 (BCP 47), section 2.2.6.
     pub fn try_from_str(alloc: Global, s: &str) -> Result<Self, ParseError>
         ensures value { IfOk result (ReadsOther s.now) }

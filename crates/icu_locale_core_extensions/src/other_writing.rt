@@ -1,4 +1,4 @@
-//! Printing extensions that have no rule of their own, and the private pieces.
+//! Printing extensions that have no rule of their own, and the private subtags.
 
 use crate::block_writing::{Block, length_hint, write_alone};
 use crate::other::Other;

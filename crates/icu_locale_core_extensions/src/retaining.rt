@@ -24,10 +24,11 @@ fn retain_others<F: FnMut(ExtensionType) -> bool + Drop>(others: &mut Vec<Other>
 }
 
 impl Extensions {
-    /// Keeps the extensions at whose types `predicate` answers true, and takes the pieces of `u`, `t` and `x` away elsewhere.
+    /// Keeps the extensions at whose types `predicate` answers true, and takes the subtags of `u`, `t` and `x` away elsewhere.
     ///
-    /// It is asked once at each type, also where there is none of it: at `u`, `t`, `x`, and then at each other as it stands. Of
-    /// `a-foo-u-nu-thai`, where it keeps `u` alone, `u-nu-thai` is left. It takes no memory.
+    /// It is asked once at each type, also where there is none of it: at `u`, `t`, `x`, and then at each other as it stands. The
+    /// condition is that it may be called at any time. Of `a-foo-u-nu-thai`, where it keeps `u` alone, `u-nu-thai` is left. It
+    /// takes no memory.
     pub fn retain_by_type<F: FnMut(ExtensionType) -> bool + Drop>(&mut self, mut predicate: F)
         requires { F.IsAlwaysCallable predicate }
         ensures { IsRetainedByType (λ p asked b q. F.step p asked b q) predicate self.old self.new }

@@ -77,7 +77,7 @@ fn cloned_language(
 }
 
 impl Transform {
-    /// No language part and no field. It takes no memory.
+    /// No language part and no field: `is_empty` is true. It takes no memory.
     pub fn new(alloc: Global) -> Self
         ensures { result ≡ no_transform }
     {
@@ -102,7 +102,7 @@ impl Transform {
         self.fields.clear();
     }
 
-    /// An equal extension. `AllocError` is answered for memory alone, and an empty one takes none.
+    /// An equal extension: of `t-de` another `t-de`. `AllocError` is answered for memory alone, and an empty one takes none.
     pub fn try_clone(&self) -> Result<Self, AllocError>
         ensures succeeds { self.now ≡ no_transform → IsOk result }
         ensures value { IfOk result (λ transform. transform ≡ self.now) }
@@ -114,8 +114,9 @@ impl Transform {
 
     /// The extension in this text, with its singleton: `t-DE-m0-true` has the language part `de` and the field `m0` without a value.
     ///
-    /// `InvalidExtension`: the text is no such extension, as `t` alone, `t-h0` and `u-foo`. `Memory`: a growth was refused; no
-    /// memory is taken where the first piece is not `t`, or neither a language nor a key is right behind it. Source: UTS 35, sections 3.2 and 3.7.
+    /// `InvalidExtension`: the text is no such extension, as `t` alone, `t-h0` and `u-foo`. `Memory`: memory was refused; none is
+    /// taken where the first piece is not `t`, or neither a language nor a key is right behind it. Source: UTS 35, sections 3.2
+    /// and 3.7.
     pub fn try_from_str(alloc: Global, s: &str) -> Result<Self, ParseError>
         ensures value { IfOk result (ReadsTransform s.now) }
         ensures fault { IfErr result (IsRefused (ReadsTransform s.now)) }

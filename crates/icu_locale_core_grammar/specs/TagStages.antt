@@ -1,4 +1,4 @@
--- The stages of a tag that is being read: the language part, the pieces of an extension, the private pieces.
+-- The stages of a tag that is being read: the language part, the pieces of an extension, the private subtags.
 -- Defined in docs/tags.md, "Stages".
 -- Cited by the functions that read tags, and by the law that these stages read tags and no more.
 use Rattle.std.specs.Prelude.{Bool, true, false, not, ◌&&◌, List, [], ◌∷◌, ◌++◌, Option, None, Some, is_none, option_map, if◌then◌else◌}

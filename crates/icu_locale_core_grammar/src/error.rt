@@ -22,7 +22,7 @@ pub enum ParseError {
     /// A singleton that already stands comes where a new one could: `en-a-foo-a-bar`.
     #[error("Duplicated extension")]
     DuplicatedExtension,
-    /// There is no memory for what was read.
+    /// A request for memory was refused, as one for the variant of `de-1996`.
     #[error("Out of memory")]
     Memory,
 }

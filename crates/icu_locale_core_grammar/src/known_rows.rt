@@ -15,7 +15,7 @@ ghost use Rattle.icu_locale_core_grammar.specs.declared.error.ParseError.TheVari
 pub fn printed_rows()
     // a script, a region and variants: case by place, variants in order
     ensures script_region_variants { IsPrinted (codes "en-latn-us-fonipa-1996") (codes "en-Latn-US-1996-fonipa") }
-    // extensions by singleton; a private piece may be any letter, and twice
+    // extensions by singleton; a private subtag may be any letter, and twice
     ensures blocks_in_order { IsPrinted (codes "en-b-foo-a-bar-x-B-a") (codes "en-a-bar-b-foo-x-b-a") }
     // of two equal keys the first stands
     ensures first_of_equal_keys { IsPrinted (codes "en-u-ca-buddhist-ca-coptic") (codes "en-u-ca-buddhist") }
@@ -105,7 +105,7 @@ pub fn refused_rows()
     ensures field_then_field { IsRefused (codes "und-t-h0-k0-foo") InvalidExtension }
     // a piece that is too long within an extension
     ensures too_long_within { IsRefused (codes "en-a-toolongpiece") InvalidExtension }
-    // no private piece
+    // no private subtag
     ensures ends_behind_x { IsRefused (codes "en-x") InvalidExtension }
     // a variant stands twice within `t`
     ensures repeated_variant_within { IsRefused (codes "und-t-de-1996-1996") InvalidExtension }

@@ -1,4 +1,4 @@
--- The text of a locale as it is written: the language part, and the extensions with the private pieces.
+-- The text of a locale as it is written: the language part, and the extensions with the private subtags.
 -- UTS 35, section 3.2.1, "Canonical Unicode Locale Identifiers"; docs/tags.md, "Normal text".
 -- Cited by all that writes the text of a locale.
 use Rattle.std.specs.Prelude.{List, ◌++◌, flat_map}

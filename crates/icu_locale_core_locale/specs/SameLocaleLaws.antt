@@ -1,6 +1,6 @@
 -- The laws of `==` and of `hash` of locales.
 -- Defined in docs/tags.md, "Orders".
--- The proofs of the laws of the impls.
+-- Cited by the impls of `PartialEq`, `Eq` and `Hash` of `Locale`, whose laws it proves.
 use Rattle.std.proofs.Common.{◌≡◌, true, ap, subst, Decides}
 use Rattle.std.specs.Cmp.{IsEquivalence, on_equiv, and_equiv}
 use Rattle.std.proofs.lemmas.Bool.{and_parts}

@@ -91,7 +91,8 @@ impl Locale {
         self.id.is_unknown() && self.extensions.is_empty()
     }
 
-    /// An equal locale. `AllocError` is answered for memory alone, and without a variant and an extension none is taken.
+    /// An equal locale: of `en-u-nu-thai` another `en-u-nu-thai`. `AllocError` is answered for memory alone, and without a
+    /// variant and an extension none is taken.
     pub fn try_clone(&self) -> Result<Self, AllocError>
         ensures succeeds { self.now.language.variants ≡ [] → extensions_of self.now ≡ nothing → IsOk result }
         ensures value { IfOk result (λ locale. locale ≡ self.now) }
@@ -104,7 +105,7 @@ impl Locale {
     /// The locale that the tag means, in any case: `EN-u-NU-Thai` is `en-u-nu-thai`.
     ///
     /// `InvalidLanguage`, `InvalidSubtag`, `InvalidExtension` and `DuplicatedExtension` name the place of the first piece that
-    /// no tag has there, or of the end. `Memory`: a growth was refused; memory is taken for variants and extensions alone.
+    /// no tag has there, or of the end. `Memory`: memory was refused, which is taken for variants and extensions alone.
     /// Source: UTS 35, section 3.2.
     pub fn try_from_str(alloc: Global, s: &str) -> Result<Self, ParseError>
         ensures value { IfOk result (MeansTag (pieces s.now)) }

@@ -4,7 +4,7 @@ ghost use Rattle.std.specs.Prelude.{◌≡◌};
 
 use thiserror::Error;
 
-/// Why a value states no preference.
+/// Why a value states no preference: `InvalidKeywordValue` of `abc` as a `FirstDay`.
 #[derive(Clone, Copy, Debug, PartialEq, Eq, Hash, Error)]
 pub enum PreferencesParseError {
     /// The value is none of those that the type takes: `fw-abc`, `nu-latn-thai`.
@@ -13,7 +13,7 @@ pub enum PreferencesParseError {
 }
 
 impl PreferencesParseError {
-    /// The number of the fault, 1. It takes no memory.
+    /// The number of the fault: 1 of `InvalidKeywordValue`, the only one. It takes no memory.
     pub fn number(&self) -> u8
         ensures { result ≡ 1 }
     {

@@ -11,7 +11,7 @@ use icu_locale_core_subtags::Subtag;
 use icu_locale_core_subtags::laws::subtags_are_words;
 use tinystr::TinyAsciiStr;
 
-/// What the one subtag of a value may spell.
+/// What the one subtag of a value may spell: `ustx` spells a subdivision, and `eur` a currency.
 pub trait OnePiece: Copy {
     ghost use Rattle.std.specs.Prelude.{◌≡◌, ℕ, List, Option, None, Some, MatchOption};
     ghost use Rattle.icu_locale_core_preference_keywords.specs.TypedKeywords.{IsOwnPiece};
@@ -26,7 +26,8 @@ pub trait OnePiece: Copy {
     fn stated_in(value: &Value) -> Option<Self>
         ensures { MatchOption result (stated value.now ≡ None) (λ own. (stated value.now ≡ Some own) × IsOwnPiece stated piece own) };
 
-    /// The subtag that spells it: `ustx` of the subdivision of `US` and `tx`. It takes no memory.
+    /// The subtag that spells it: `ustx` of the subdivision of `US` and `tx`. The condition is that this subtag is in lower case,
+    /// is not `true`, and states it again. It takes no memory.
     fn subtag(self) -> Subtag
         requires { IsOwnPiece stated piece self }
         ensures { result ≡ piece self };

@@ -28,7 +28,7 @@ pub trait PieceKey {
     fn names() -> (&'static str, &'static str);
 }
 
-/// The value of a keyword that is one subtag, and what it spells. Source: UTS 35, section 3.6.1.
+/// The value of a keyword that is one subtag, and what it spells: `thai` of `nu-thai`. Source: UTS 35, section 3.6.1.
 #[derive_where(Copy)]
 #[derive_where(PartialEq, Eq, Hash; P)]
 pub struct PieceKeyword<K: PieceKey, P: OnePiece> {
@@ -75,7 +75,7 @@ impl<K: PieceKey, P: OnePiece> Clone for PieceKeyword<K, P> {
     }
 }
 
-/// A value of one subtag that spells a P states it.
+/// A value of one subtag that spells a P states it: `ustx` a subdivision.
 impl<K: PieceKey, P: OnePiece> PreferenceKey for PieceKeyword<K, P> {
     ghost keyword = { K.keyword };
 

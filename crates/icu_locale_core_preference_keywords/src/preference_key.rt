@@ -8,7 +8,8 @@ use icu_locale_core_entries::unicode::Value;
 use icu_locale_core_subtags::unicode::Key;
 use std::alloc::{AllocError, Global};
 
-/// A preference that a keyword of a locale holds: its key, what a value states, and the value of a preference.
+/// A preference that a keyword of a locale holds: its key, what a value states, and the value of a preference. Of `FirstDay` the
+/// key is `fw`, and `sun` states `FirstDay::Sun`.
 ///
 /// Source: UTS 35, section 3.6.
 pub trait PreferenceKey: Sized {

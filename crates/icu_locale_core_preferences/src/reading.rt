@@ -89,7 +89,7 @@ impl DataLocale {
     ///
     /// `en-us-u-sd-ustx` reads as `en-US-u-sd-ustx`. The faults of a tag come first, as `Locale::try_from_str` names them.
     /// `InvalidSubtag`: a second variant, as in `de-1996-fonipa`. `InvalidExtension`: anything else that a data locale does not
-    /// hold, as in `en-u-nu-latn`, `en-x-foo` and `en-u-sd-12a`. `Memory`: a growth was refused; memory is taken for variants and
+    /// hold, as in `en-u-nu-latn`, `en-x-foo` and `en-u-sd-12a`. `Memory`: memory was refused, which is taken for variants and
     /// extensions alone. Source: UTS 35, section 3.
     pub fn try_from_str(alloc: Global, s: &str) -> Result<Self, ParseError>
         ensures value { IfOk result (MeansDataLocale (pieces s.now)) }

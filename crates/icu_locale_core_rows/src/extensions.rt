@@ -129,7 +129,7 @@ fn emptied_order(alloc: Global, whole: &Other) -> Answer {
     two_texts(debug(alloc, is_empty), debug(alloc, order))
 }
 
-/// The answer to a call of private pieces.
+/// The answer to a call of private subtags.
 pub fn private_pieces(alloc: Global, call: Call<'_>) -> Answer {
     match call.name {
         "new" => last_printed(alloc, Private::new(alloc)),

@@ -49,7 +49,7 @@ fn normalized_bytes(alloc: Global, bytes: &str) -> Answer {
     text
 }
 
-// How many private pieces the locale has of a front and a piece behind it so many times.
+// How many private subtags the locale has of a front and a piece behind it so many times.
 fn repeated(alloc: Global, call: Call<'_>, times: usize) -> Answer {
     let text = text_of(alloc, call.first, call.second, times)?;
     let read = Locale::try_from_str(alloc, text.as_str());
@@ -146,7 +146,7 @@ fn of_locale(alloc: Global, call: Call<'_>, locale: &Locale) -> Answer {
     }
 }
 
-// The language, or how many variants, fields, other extensions or private pieces there are.
+// The language, or how many variants, fields, other extensions or private subtags there are.
 fn part_of(alloc: Global, name: &str, locale: &Locale) -> Answer {
     match name {
         "language" => printed(alloc, &locale.id.language),

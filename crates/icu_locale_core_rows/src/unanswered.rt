@@ -10,7 +10,7 @@ pub type Answer = Result<String, Unanswered>;
 /// Why a row has no value for its answer.
 #[derive(Clone, Copy)]
 pub enum Unanswered {
-    /// There is no memory. It ends the program.
+    /// Memory was refused. It ends the program.
     Memory,
     /// The call refused a text; the answer is the name of the refusal.
     Refused(ParseError),

@@ -1,6 +1,6 @@
 -- The pieces of what is left of a text, where something is left.
 -- Defined in docs/tags.md, "Pieces".
--- The value of a `SubtagIterator`.
+-- Cited by `SubtagIterator`, whose value it is.
 use Rattle.std.specs.Prelude.{List, [], Option, None, Some}
 use Rattle.std.specs.Borrow.{Bor}
 use Rattle.icu_locale_core_grammar.specs.Subtags.{Text}

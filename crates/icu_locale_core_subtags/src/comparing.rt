@@ -57,7 +57,7 @@ impl<R: SubtagRule<N>, const N: usize> PartialOrd for SubtagOf<R, N> {
     }
 }
 
-/// The byte order of the texts.
+/// The byte order of the texts: the language `de` is less than `en`.
 impl<R: SubtagRule<N>, const N: usize> Ord for SubtagOf<R, N> {
     ghost cmp = { λ s t. slice_cmp nat_cmp s t };
 

@@ -22,7 +22,8 @@ pub fn text_of_json(value: &Value) -> &str
 }
 
 impl<R: SubtagRule<N>, const N: usize> SubtagOf<R, N> {
-    /// The text in normal case as a JSON value: `en` gives `"en"`. It takes memory.
+    /// The text in normal case as a JSON value: `en` gives `"en"`. It takes memory; `AllocError` is answered where that is
+    /// refused.
     pub fn to_json(&self, alloc: Global) -> Result<Value, AllocError>
         ensures { IfOk result (λ value. view value ≡ string self.now) }
     {

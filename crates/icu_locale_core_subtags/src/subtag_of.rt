@@ -8,7 +8,7 @@ use std::marker::{Model, PhantomData};
 use std::str::FromStr;
 use tinystr::TinyAsciiStr;
 
-/// A subtag of the rule R, of at most N characters: its text in normal case.
+/// A subtag of the rule R, of at most N characters: its text in normal case, as `Latn` for a script.
 #[derive_where(Clone, Copy)]
 pub struct SubtagOf<R: SubtagRule<N>, const N: usize> {
     pub(crate) text: TinyAsciiStr<N>,

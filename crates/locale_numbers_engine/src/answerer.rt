@@ -18,7 +18,8 @@ pub trait Answerer {
     /// Puts the answer to `line`, with no line feed after it, behind what `out` holds: in upper
     /// case `b` puts `B` behind `A` and a line feed.
     ///
-    /// It fails only where it is out of memory; a part of the answer may then stand there.
+    /// The condition is that it is ready, as it is again after each answer. It fails only where it is out
+    /// of memory; a part of the answer may then stand there.
     fn answer_onto(&mut self, line: &[u8], out: &mut String) -> Result<(), AllocError>
         requires { is_ready self.old }
         ensures text { OnOk result (
@@ -29,7 +30,8 @@ pub trait Answerer {
         ensures ready { is_ready self.new }
         ensures err { OnErr result (Grows (string_bytes out.old) (string_bytes out.new)) };
 
-    /// How many things it has made: 2 after two lines, where it makes one for each.
+    /// How many things it has made: 2 after two lines, where it makes one for each. The condition is that
+    /// it is ready.
     fn made(&self) -> u64
         requires { is_ready self.now }
         ensures value { result ≡ made_over self.now [] };

@@ -49,7 +49,7 @@ pub fn answer_line<A: Answerer>(
     }
 }
 
-// The same for a line of which `held` has the front, and `end` the rest.
+// The same for a line of which `held` has the beginning, and `end` the rest.
 pub fn answer_held<A: Answerer>(
     answerer: &mut A,
     held: &mut Vec<u8>,

@@ -20,7 +20,7 @@ pub trait ByteReader {
     // Whether a read has failed.
     ghost failed: { Self → Bool };
 
-    /// Fills a front of `buffer`, and answers how many bytes that is: 2, where of `one` a buffer of
+    /// Fills a beginning of `buffer`, and answers how many bytes that is: 2, where of `one` a buffer of
     /// two bytes gets `on`.
     ///
     /// Of a buffer that has room, 0 is the end of the bytes. A failed read gives none.

@@ -121,13 +121,15 @@ fn stream<A: Answerer, R: ByteReader, W: ByteWriter>(
 /// With an answerer that turns letters to upper case the bytes `one`, line feed, `two` give `ONE`,
 /// line feed, `TWO`, line feed, and a report of 2 lines.
 ///
-/// The bytes are read once, in pieces of 65,536. What is held meanwhile is one piece, the front of a
+/// The bytes are read once, in pieces of 65,536. What is held meanwhile is one piece, the beginning of a
 /// line that goes on, and answers: these are written before the next piece is read, and whenever they
 /// come to 65,536 bytes. After the last answer the writer is flushed once.
 ///
+/// Of neither `reader` nor `writer` a call may have failed before, and the answerer is ready.
+///
 /// - Read: a read failed, or the reader still gave bytes after 18,446,744,073,709,551,615 reads. The
 ///   whole lines that it gave have been answered, and the writer has been flushed.
-/// - Write: a write or the flush failed, or a write took no byte. A front of the output is written.
+/// - Write: a write or the flush failed, or a write took no byte. A beginning of the output is written.
 /// - Memory: a request for memory was refused, here or by the answerer. Some first lines have been
 ///   answered, each whole.
 pub fn run_with<A: Answerer, R: ByteReader, W: ByteWriter>(

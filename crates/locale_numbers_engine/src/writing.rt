@@ -8,7 +8,7 @@ use crate::byte_writer::{ByteWriteFault, ByteWriter};
 // How many bytes are read at once, and how long the ready answers may grow before they are written.
 pub const PIECE: usize = 65_536;
 
-// Writes all of these bytes; after a fault a front of them was written.
+// Writes all of these bytes; after a fault a beginning of them was written.
 pub fn write_whole<W: ByteWriter>(writer: &mut W, bytes: &[u8]) -> Result<(), ByteWriteFault>
     requires { W.failed writer.old ≡ false }
     ensures wrote { MatchResult result

@@ -1,6 +1,6 @@
 -- Laws of small texts, beside the clauses of the calls: one form, one fault, and how the changes of a text meet.
 -- Defined in docs/small-text.md, "Laws".
--- Each is the clause of a function of `laws` that has an empty body.
+-- Cited by the functions of `laws`, each of which has an empty body.
 use Rattle.std.specs.Prelude.{◌≡◌, ℕ, ◌^◌, ◌<◌, ◌≤◌, Bool, List, ◌++◌, length, take, replicate, nat_eq}
 use Rattle.std.specs.Bool.{Decides}
 use Rattle.std.specs.Ordering.{nat_cmp, is_eq}

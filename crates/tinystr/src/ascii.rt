@@ -8,19 +8,19 @@ use crate::bytes::{form_of, text_len};
 use std::marker::Model;
 use std::str;
 
-/// A text of at most N bytes, each 1 to 127, held in the value itself.
+/// A text of at most N bytes, each 1 to 127, held in the value itself: `tEsT` at 4.
 #[derive(Clone, Copy)]
 pub struct TinyAsciiStr<const N: usize> {
     bytes: [u8; N],
 }
 
-/// A text of at most 4 bytes.
+/// A text of at most 4 bytes: `Latn`.
 pub type TinyStr4 = TinyAsciiStr<4>;
 
-/// A text of at most 8 bytes.
+/// A text of at most 8 bytes: `buddhist`.
 pub type TinyStr8 = TinyAsciiStr<8>;
 
-/// A text of at most 16 bytes.
+/// A text of at most 16 bytes: `ar-EG-u-nu-thai`.
 pub type TinyStr16 = TinyAsciiStr<16>;
 
 impl<const N: usize> Model for TinyAsciiStr<N> {
@@ -43,9 +43,9 @@ impl<const N: usize> TinyAsciiStr<N> {
     /// The empty text: its `len` is 0 at every N.
     pub const EMPTY: Self = TinyAsciiStr { bytes: [0; N] };
 
-    /// The text of these bytes, which the caller knows to be a text and then NULs.
+    /// The text of these bytes: `[97, 0, 0, 0]` is `a`.
     ///
-    /// `[97, 0, 0, 0]` is `a`. Bytes that may be another list go to `try_from_raw`.
+    /// The condition is that they are a text and then NULs. Bytes that may be another list go to `try_from_raw`.
     pub fn from_utf8_unchecked(code_units: [u8; N]) -> Self
         requires { IsForm N code_units }
         ensures { result ≡ text_of code_units.entry }
@@ -53,9 +53,9 @@ impl<const N: usize> TinyAsciiStr<N> {
         TinyAsciiStr { bytes: code_units }
     }
 
-    /// The text of these bytes, which the caller knows to be one that fits: `[97, 98]` is `ab`.
+    /// The text of these bytes: `[97, 98]` is `ab`.
     ///
-    /// Bytes that may be no text, or too many, go to `try_from_utf8`.
+    /// The condition is that they are a text that fits. Bytes that may be no text, or too many, go to `try_from_utf8`.
     pub fn of_text(text: &[u8]) -> Self
         requires { IsSmall N text.now }
         ensures { result ≡ text.now }

@@ -39,7 +39,7 @@ impl<const N: usize> PartialOrd for TinyAsciiStr<N> {
     }
 }
 
-/// The order of the texts by their bytes.
+/// The order of the texts by their bytes: `B` is less than `a`.
 impl<const N: usize> Ord for TinyAsciiStr<N> {
     ghost cmp = { λ s t. slice_cmp nat_cmp s t };
 
@@ -78,7 +78,7 @@ impl<const N: usize> fmt::Display for TinyAsciiStr<N> {
     }
 }
 
-/// The empty text.
+/// The empty text: its `len` is 0 at every N.
 impl<const N: usize> Default for TinyAsciiStr<N> {
     ghost is_default = { λ s. s ≡ [] };
 

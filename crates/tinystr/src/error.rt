@@ -16,10 +16,10 @@ pub enum ParseError {
         /// How many units there are.
         len: usize,
     },
-    /// A NUL stands before another unit, or, for readers other than `try_from_raw`, at the end.
+    /// A NUL stands before another unit, as in `[0, 97]`, or, for readers other than `try_from_raw`, at the end.
     #[error("a NUL stands in the text")]
     ContainsNull,
-    /// A unit is above 127, and nothing before it is wrong.
+    /// A unit is above 127, and nothing before it is wrong: `[97, 200]` at 4.
     #[error("a unit is not ASCII")]
     NonAscii,
 }
@@ -37,13 +37,13 @@ impl ParseError {
     }
 }
 
-/// Why bytes or a JSON value are no form of a value.
+/// Why bytes or a JSON value are no form of a value: of the byte `[97]` at 2 it is `Length(1)`.
 #[derive(Clone, Copy, Debug, Drop, PartialEq, Eq, Error)]
 pub enum UleError {
     /// So many bytes are no form, whatever they hold; of a JSON value that is no text it is `Length(0)`.
     #[error("{0} bytes are no form")]
     Length(usize),
-    /// The count is right, and the bytes are no form; or the text in a JSON value is refused.
+    /// The count is right, and the bytes are no form, as `[0, 97]` at 2; or the text in a JSON value is refused.
     #[error("the bytes are no small text")]
     Parse,
 }

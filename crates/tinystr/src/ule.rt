@@ -38,7 +38,8 @@ impl<const N: usize> TinyAsciiStr<N> {
 
     /// Whether the bytes are forms one after another: `a`, NUL, `b`, NUL at 2 are those of `a` and `b`.
     ///
-    /// A count that N does not divide is `Length` of that count; else `Parse` where one of them is no form.
+    /// The condition is that N is above 0. A count that N does not divide is `Length` of that count; else `Parse` where one of
+    /// them is no form.
     pub fn validate_bytes(bytes: &[u8]) -> Result<(), UleError>
         requires { 0 < N }
         ensures succeeds { IsOk result ↔ AreForms N bytes.now }

@@ -10,7 +10,7 @@ use crate::{ParseError, TinyAsciiStr, UleError};
 use std::marker::Model;
 use tinystr_words::put_at;
 
-/// N bytes that may be the form of a text.
+/// N bytes that may be the form of a text, or not: `[97, 0]` and `[0, 200]` at 2.
 #[derive(Clone, Copy, Debug, PartialEq, Eq, PartialOrd, Ord)]
 pub struct UnvalidatedTinyAsciiStr<const N: usize> {
     bytes: [u8; N],
@@ -89,7 +89,7 @@ impl<const N: usize> UnvalidatedTinyAsciiStr<N> {
 
     /// Whether the bytes are values one after another: four bytes at 2 are, three are `Length(3)`.
     ///
-    /// Only a count of bytes that N does not divide is refused, as `Length` of that count.
+    /// The condition is that N is above 0. Only a count of bytes that N does not divide is refused, as `Length` of that count.
     pub fn validate_bytes(bytes: &[u8]) -> Result<(), UleError>
         requires { 0 < N }
         ensures succeeds { IsOk result ↔ (length bytes.now % N ≡ 0) }
@@ -111,7 +111,7 @@ impl<const N: usize> Default for UnvalidatedTinyAsciiStr<N> {
     }
 }
 
-/// The form of the text.
+/// The form of the text: `[97, 0]` of `a` at 2.
 impl<const N: usize> From<TinyAsciiStr<N>> for UnvalidatedTinyAsciiStr<N> {
     ghost from_gives = { λ text bytes. bytes ≡ padded N text };
 

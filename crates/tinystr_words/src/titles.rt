@@ -24,7 +24,7 @@ fn title_word(bytes: &[u8]) -> u64
     changed_word::<ToLowercase>(turned, bytes.len()) ^ FIRST_CASE
 }
 
-/// Raises the first byte and lowers the rest.
+/// Raises the first byte and lowers the rest. The condition is that each byte is below 128.
 pub fn make_title(bytes: &mut [u8])
     requires { IsAscii bytes.old }
     ensures { bytes.new ≡ map_first to_ascii_uppercase to_ascii_lowercase bytes.old }

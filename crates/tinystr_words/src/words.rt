@@ -5,7 +5,8 @@ ghost use Rattle.tinystr_words.specs.Words.{word_bytes, filled, nuls_last, text_
 
 use crate::slices::put_at;
 
-/// How many bytes of the word stand before its NULs, which are the last: 2 of `[97, 98, 0, 0, 0, 0, 0, 0]`.
+/// How many bytes of the word stand before its NULs: 2 of `[97, 98, 0, 0, 0, 0, 0, 0]`. The condition is that the NULs are the
+/// last.
 pub fn word_len(word: u64) -> usize
     requires last { nuls_last (word_bytes word) ≡ true }
     ensures { result ≡ text_bytes (word_bytes word) }
@@ -23,7 +24,7 @@ pub(crate) fn word_at(bytes: &[u8]) -> u64
     u64::from_le_bytes(eight)
 }
 
-/// The word of at most eight bytes, filled up with NULs: of `[97, 98]` it is 25185.
+/// The word of these bytes, filled up with NULs: of `[97, 98]` it is 25185. The condition is that they are at most eight.
 ///
 /// It takes them one by one, which costs least where their count is not known beforehand.
 pub fn short_word(bytes: &[u8]) -> u64

@@ -47,7 +47,8 @@ pub trait Writeable {
         written
     }
 
-    /// How many bytes the text has: for `"a,b"` exactly 3. It takes no memory.
+    /// Bounds of how many bytes the text has: for `"a,b"` exactly 3; a value that says nothing has 0 and
+    /// more. It takes no memory.
     fn writeable_length_hint(&self) -> LengthHint
         ensures { IsWithinHint result (length (text_of (events self.now))) }
     {

@@ -31,7 +31,7 @@ pub struct ExtensionStage {
     pub id: LanguageIdentifier,
     /// The singletons of the extensions before, in lower case.
     pub seen: Singletons,
-    /// The extensions before; their private pieces are not looked at.
+    /// The extensions before; their private subtags are not looked at.
     pub extensions: Extensions,
     /// The pieces so far.
     pub body: BodyStage,
@@ -46,7 +46,7 @@ pub enum LocaleStage {
     InLanguage(Option<LanguageStage>),
     /// In an extension.
     InExtension(ExtensionStage),
-    /// Behind `x`, the private pieces by themselves.
+    /// Behind `x`, the private subtags by themselves.
     InPrivate(LanguageIdentifier, Extensions, Private),
 }
 
@@ -174,7 +174,7 @@ fn after_extension(
     }
 }
 
-// Behind `x`: one more private piece.
+// Behind `x`: one more private subtag.
 #[tactic(auto, unfolding(icu_locale_core_grammar::specs::Stepping::whole_after))]
 fn after_private(
     id: LanguageIdentifier,
@@ -212,7 +212,7 @@ pub fn next_stage(
     }
 }
 
-// The extensions with these private pieces.
+// The extensions with these private subtags.
 fn with_private(mut extensions: Extensions, private: Private) -> Extensions
     ensures { result ≡ record { blocks = extensions.blocks; own = private } }
 {

@@ -1,4 +1,4 @@
-//! A private piece.
+//! A private subtag.
 
 ghost use Rattle.std.specs.Prelude.{◌≡◌};
 ghost use Rattle.icu_locale_core_grammar.specs.declared.error.ParseError.{ParseError};
@@ -14,7 +14,7 @@ use tinystr::TinyAsciiStr;
 /// 1 to 8 letters and digits, in lower case: `a`.
 pub struct PieceRule;
 
-/// A private piece: 1 to 8 letters and digits, in lower case. `A1` reads as `a1`; other texts are `InvalidExtension`.
+/// A private subtag: 1 to 8 letters and digits, in lower case. `A1` reads as `a1`; other texts are `InvalidExtension`.
 ///
 /// Source: UTS 35, section 3.2, `pu_extensions`.
 pub type Subtag = SubtagOf<PieceRule, 8>;

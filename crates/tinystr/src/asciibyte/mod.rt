@@ -7,7 +7,7 @@ ghost use Rattle.std.specs.List.{All};
 
 use std::marker::Model;
 
-/// A byte from 0 to 127.
+/// A byte from 0 to 127: `B65` is that of `A`.
 #[derive(Clone, Copy, Debug, PartialEq, Eq, PartialOrd, Ord, Hash)]
 pub struct AsciiByte {
     value: u8,
@@ -35,7 +35,7 @@ impl AsciiByte {
     }
 }
 
-/// The bytes as ASCII bytes: `b"ab"` gives `[B97, B98]`. Each is below 128.
+/// The bytes as ASCII bytes: `b"ab"` gives `[B97, B98]`. The condition is that each is below 128.
 pub fn to_ascii_byte_array<const N: usize>(bytes: &[u8; N]) -> [AsciiByte; N]
     requires { All (λ b. b < 128) bytes.now }
     ensures { result ≡ bytes.now }

@@ -21,10 +21,10 @@ pub struct Aligned<const M: usize> {
     word: u64,
 }
 
-/// A text of at most 4 bytes in one word.
+/// A text of at most 4 bytes in one word: `Latn`.
 pub type Aligned4 = Aligned<4>;
 
-/// A text of at most 8 bytes in one word.
+/// A text of at most 8 bytes in one word: `buddhist`.
 pub type Aligned8 = Aligned<8>;
 
 impl<const M: usize> Model for Aligned<M> {

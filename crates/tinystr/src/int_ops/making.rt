@@ -20,7 +20,7 @@ fn word_of<const N: usize>(src: &[AsciiByte; N]) -> u64
 }
 
 impl Aligned4 {
-    /// The text of these bytes, which are a text and then NULs, and at most 4: `[B97, B0]` is `a`.
+    /// The text of these bytes: `[B97, B0]` is `a`. The condition is that they are a text and then NULs, and at most 4.
     pub fn from_ascii_bytes<const N: usize>(src: &[AsciiByte; N]) -> Self
         requires fits { N ≤ 4 }
         requires form { IsForm N src.now }
@@ -31,7 +31,7 @@ impl Aligned4 {
 }
 
 impl Aligned8 {
-    /// The text of these bytes, which are a text and then NULs, and at most 8: `[B97, B0]` is `a`.
+    /// The text of these bytes: `[B97, B0]` is `a`. The condition is that they are a text and then NULs, and at most 8.
     pub fn from_ascii_bytes<const N: usize>(src: &[AsciiByte; N]) -> Self
         requires fits { N ≤ 8 }
         requires form { IsForm N src.now }
