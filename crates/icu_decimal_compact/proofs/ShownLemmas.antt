@@ -50,7 +50,7 @@ lowest_is (suc most) count low l = go (count % 10 ^ suc most == 0) refl (λ h. l
         omega (arith, up, under)
     go false e ih = ih (lowest_under most count low l (not_zero (count % 10 ^ suc most) e))
 
-below_top : (count m : ℕ) → top count ≤ m → count < 10 ^ (m + 1)
+pub below_top : (count m : ℕ) → top count ≤ m → count < 10 ^ (m + 1)
 below_top zero m h = tens_positive (m + 1)
 below_top (suc n) m h =
     let below = (top_is (suc n) (omega arith)).below in

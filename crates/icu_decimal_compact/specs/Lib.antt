@@ -11,3 +11,4 @@ pub mod HeldCompact
 pub mod PatternAt
 -- statements of laws
 pub mod AbstractLaws
+pub mod CompactLaws

@@ -1,12 +1,17 @@
 //! Laws of what abstract formatters write. No call is made: each clause is the law.
+ghost use Rattle.std.specs.Prelude.{◌≡◌, ◌<◌};
+ghost use Rattle.icu_decimal_patterns.specs.SmallEntries.{AreSmall, IsSmall};
+ghost use Rattle.icu_decimal_shown.specs.Entries.{Rises};
 ghost use Rattle.icu_decimal_text.specs.HeldTables.{tables_of};
 ghost use Rattle.icu_decimal_text.specs.PlainText.{decimal_events, decimal_text, formatted};
 ghost use Rattle.icu_decimal_compact.specs.AbstractLaws.{WritesText, WritesTogether};
+ghost use Rattle.icu_decimal_compact.specs.CompactLaws.{ShownFormAnswers, ShownFormIsInRange, ShownFormIsShownValue, ShownFormWritesSame, ShownIsCompact, SignificandIsNumber};
 ghost use Rattle.icu_decimal_compact.specs.CompactText.{compact_decimal_events, compact_decimal_text, compact_formatted};
 ghost use Rattle.icu_decimal_compact.specs.HeldCompact.{compact_tables_of};
 
 use crate::abstract_formatter::AbstractFormatter;
 use crate::compact_formatter::CompactDecimalFormatter;
+use icu_decimal_shown::CompactEntry;
 use icu_decimal_text::DecimalFormatter;
 
 /// The affixes that `write_sign` writes, round what `write_unsigned` writes for a number without its sign, are what `format`
@@ -18,3 +23,53 @@ pub fn sign_round_unsigned()
     ensures compact { WritesTogether ⟦<CompactDecimalFormatter<'static> as AbstractFormatter>⟧.unsigned_events ⟦<CompactDecimalFormatter<'static> as AbstractFormatter>⟧.affixes (λ f d. compact_decimal_events (compact_formatted (compact_tables_of f) d)) }
     ensures compact_text { WritesText ⟦<CompactDecimalFormatter<'static> as AbstractFormatter>⟧.unsigned_events ⟦<CompactDecimalFormatter<'static> as AbstractFormatter>⟧.affixes (λ f d. compact_decimal_text (compact_tables_of f) d) }
 {}
+
+/// What is shown for a number, sent back as an exact form of the same tables. Under rising types it is refused exactly where the entry of
+/// the shown value's magnitude has another exponent, and else written under that entry (`answer`); it has the same text where that
+/// entry is the one shown (`same`), and it is in range where the number can be shown (`in_range`).
+pub fn shown_forms_are_answered()
+    ensures answer { ShownFormAnswers }
+    ensures same { ShownFormWritesSame }
+    ensures in_range { ShownFormIsInRange }
+    ensures value { ShownFormIsShownValue }
+{}
+
+/// What is shown for a number is a compact number, where the number can be shown and the entries fit into bytes.
+pub fn shown_values_are_compact()
+    ensures significand { SignificandIsNumber }
+    ensures compact { ShownIsCompact }
+{}
+
+// A byte is below 256.
+fn is_small(byte: u8) -> u8
+    ensures small { byte < 256 }
+    ensures value { result ≡ byte }
+{
+    byte
+}
+
+// An entry fits into bytes.
+fn is_small_entry(entry: &CompactEntry) -> u8
+    ensures { IsSmall entry.now }
+{
+    let _ = is_small(entry.log10_type);
+    is_small(entry.exponent)
+}
+
+// All entries fit into bytes.
+fn entries_are_small(entries: &[CompactEntry])
+    ensures { AreSmall entries.now }
+{
+    for entry in entries {
+        let _ = is_small_entry(entry);
+    }
+}
+
+/// The types of a formatter's table rise, and its numbers fit into bytes: of English in short form 3 and 6. It takes no memory.
+pub fn held_entries_are_sound(formatter: &CompactDecimalFormatter<'_>)
+    ensures rises { Rises 0 (compact_tables_of formatter.now).patterns.entries }
+    ensures small { AreSmall (compact_tables_of formatter.now).patterns.entries }
+{
+    let entries = formatter.patterns.entries();
+    entries_are_small(entries);
+}

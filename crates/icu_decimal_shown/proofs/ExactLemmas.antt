@@ -170,7 +170,7 @@ module _ (ones : ℕ) (entries : List CompactEntry) (n : ℕ) where
     plain_zero true e z m = let p = tens_positive (suc (magnitude ones n)) in let c = carried_power e in absurd (omega arith)
     plain_zero false e z m = ⊎_elim (λ h. h) (λ h. omega arith) (entry_fits ones 0 entries (magnitude ones n) r)
 
-    exact_at : magnitude ones (chosen ones entries n).count + (chosen ones entries n).exponent ≡ magnitude ones (shown_under ones entries n)
+    pub exact_at : magnitude ones (chosen ones entries n).count + (chosen ones entries n).exponent ≡ magnitude ones (shown_under ones entries n)
     exact_at = ⊎_elim
         (λ z.
         let m : magnitude ones n ≡ ones = ⊎_elim (λ b. ap (magnitude ones) b.0) (λ b. let p = tens_positive (magnitude ones n) in let low = b.0 in absurd (omega arith)) (shown_between ones (exponent_place ones entries) n) in

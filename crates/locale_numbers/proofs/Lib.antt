@@ -2,12 +2,15 @@ pub mod AlikeTags
 pub mod AnsweringLemmas
 pub mod CompactAnswerLemmas
 pub mod CompactReadingLemmas
+pub mod CompactTrips
 pub mod DigitsLemmas
 pub mod FoundCompactLemmas
 pub mod FoundLemmas
+pub mod FoundSound
 pub mod FrontLemmas
 pub mod KeptLemmas
 pub mod KnownCompactAnswers
+pub mod KnownTrips
 pub mod KnownValues
 pub mod LawsLemmas
 pub mod NumberBounds

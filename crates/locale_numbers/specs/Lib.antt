@@ -4,6 +4,7 @@ pub mod AnswerSink
 pub mod AnswerSinkLaws
 pub mod Changing
 pub mod CompactAnswer
+pub mod CompactLaws
 pub mod CompactReading
 pub mod Cutting
 pub mod Fault

@@ -82,7 +82,7 @@ fn compact_preferences(plain: DecimalFormatterPreferences) -> CompactDecimalForm
 }
 
 // The compact formatter of a key's preferences and grouping, with the patterns of a length.
-fn compact_formatter<'a, T: Tables>(
+pub(crate) fn compact_formatter<'a, T: Tables>(
     tables: &'a T,
     length: PatternLength,
     key: FormatterKey,

@@ -1,17 +1,24 @@
 //! Laws over the definitions that the clauses of this crate cite. Each function is a proof: it
 //! answers nothing.
 ghost use Rattle.locale_numbers.specs.Answer.{found_in};
+ghost use Rattle.locale_numbers.specs.CompactAnswer.{found_compact};
+ghost use Rattle.locale_numbers.specs.declared.request.PatternLength.TheVariants.{Short, Long};
+ghost use Rattle.locale_numbers.specs.CompactLaws.{FoundTablesAreSound, IsSoundWhereFound, PrintedIsAnswered, PrintedIsNear, PrintedIsWrittenAgain, PrintedKeepsOrder, PrintedPrintsItself, ZeroIsPrintedForZero};
 ghost use Rattle.locale_numbers.specs.FormatterKeys.{same_keys};
 ghost use Rattle.locale_numbers.specs.Laws.{HasOneReading, HasOneCompactReading, HasOneRounding, AlikeTagsAreAnsweredAlike, NormalTextIsAnsweredAlike, AutoIsAnsweredAsAlways, AreTexts, ReadIsWrittenAgain, RoundedIsWrittenAgain, TellsKeys, WrittenReadsBack};
 
 use crate::formatter_key::{FormatterKey, Kind};
-use crate::kept_formatter::plain_formatter;
+use crate::kept_formatter::{compact_formatter, plain_formatter};
+use crate::request::PatternLength;
 use crate::tables::Tables;
+use icu_decimal::laws::abstract_formatter::{held_entries_are_sound, shown_forms_are_answered, shown_values_are_compact};
+use icu_decimal::laws::shown::{exact_forms_of_shown_values, tables_show_values};
 use icu_decimal::laws::reading::{
     both_trips, plain_reading_is_the_reading, texts_have_one_decimal,
 };
 use icu_decimal::options::GroupingStrategy;
 use icu_decimal::{DecimalFormatterPreferences, is_readable};
+use locale_numbers_book::laws::tables_are_sound;
 pub use locale_numbers_book::laws::{data_locales_are_read, tags_are_read};
 use locale_numbers_cache::laws::equal_keys_are_one;
 pub use locale_numbers_cache::laws::{last_used_are_kept, unused_keys_miss};
@@ -105,4 +112,88 @@ pub fn keys_are_told_apart()
     ensures { TellsKeys (same_keys ⟦<DecimalFormatterPreferences as PartialEq>⟧.eq ⟦<Kind as PartialEq>⟧.eq ⟦<GroupingStrategy as PartialEq>⟧.eq) }
 {
     equal_keys_are_one::<FormatterKey>();
+}
+
+/// The value that a compact answer prints, sent back in the exact form with the same tag and grouping, `keep` and no rounding, is refused
+/// by `exponent` exactly where the entry of its magnitude has another exponent, and by no other word.
+pub fn printed_value_is_answered()
+    ensures { PrintedIsAnswered }
+{
+    shown_values_are_compact();
+    shown_forms_are_answered();
+}
+
+/// It is answered by the same compact text, where the entry of its magnitude is the one that was used: with `en`, `1650` is answered by
+/// `1.6K` and `1.6c3`, and this by `1.6K`.
+pub fn printed_value_is_written_again()
+    ensures { PrintedIsWrittenAgain }
+{
+    shown_values_are_compact();
+    shown_forms_are_answered();
+    exact_forms_of_shown_values();
+}
+
+/// Of two numbers the smaller never prints a larger value.
+pub fn printed_values_keep_order()
+    ensures { PrintedKeepsOrder }
+{
+    shown_values_are_compact();
+    shown_forms_are_answered();
+    tables_show_values();
+}
+
+/// A printed value is off by at most a twentieth; zero is printed for zero alone; a number that was printed prints itself.
+pub fn printed_values_are_near()
+    ensures near { PrintedIsNear }
+    ensures zero_value { ZeroIsPrintedForZero }
+    ensures itself { PrintedPrintsItself }
+{
+    shown_values_are_compact();
+    shown_forms_are_answered();
+    tables_show_values();
+}
+
+/// What requests find in a book is sound, as the laws of printed values ask for: of `SAMPLE_BOOK` with `en` the types 3 and 6.
+pub fn found_compact_tables_are_sound()
+    ensures { FoundTablesAreSound }
+{
+    tables_are_sound();
+}
+
+/// What is found in tables is sound, for the short form: in the sample book with `en` the types 3 and 6. It makes a formatter to tell,
+/// and takes no memory.
+pub fn found_short_tables_are_sound<T: Tables>(
+    tables: &T,
+    preferences: DecimalFormatterPreferences,
+    grouping: GroupingStrategy,
+)
+    ensures { IsSoundWhereFound (found_compact Short (T.book tables.now) preferences grouping) }
+{
+    let key = FormatterKey {
+        preferences,
+        kind: Kind::Compact(PatternLength::Short),
+        grouping,
+    };
+    if let Ok(formatter) = compact_formatter(tables, PatternLength::Short, key) {
+        held_entries_are_sound(&formatter);
+    }
+}
+
+/// What is found in tables is sound, for the long form: in the sample book with `en` the types 3 and 6. It makes a formatter to tell,
+/// and takes no memory.
+pub fn found_long_tables_are_sound<T: Tables>(
+    tables: &T,
+    preferences: DecimalFormatterPreferences,
+    grouping: GroupingStrategy,
+)
+    ensures { IsSoundWhereFound (found_compact Long (T.book tables.now) preferences grouping) }
+{
+    let key = FormatterKey {
+        preferences,
+        kind: Kind::Compact(PatternLength::Long),
+        grouping,
+    };
+    if let Ok(formatter) = compact_formatter(tables, PatternLength::Long, key) {
+        held_entries_are_sound(&formatter);
+    }
 }

@@ -17,7 +17,7 @@ use Rattle.locale_numbers_book.specs.Laws.{TablesAreMade}
 le_true : (a b : ℕ) → a ≤ b → nat_le a b ≡ true
 le_true a b h = grind (arith, nat_tests, h)
 
-true_le : (a b : ℕ) → nat_le a b ≡ true → a ≤ b
+pub true_le : (a b : ℕ) → nat_le a b ≡ true → a ≤ b
 true_le a b h = grind (arith, nat_tests, h)
 
 order_tested : (least : ℕ) (xs : List TypePatterns) → NeverFalls least xs → never_fall_from least xs ≡ true
@@ -41,7 +41,7 @@ none_of : {A : Type 0} (o : Option A) → not (is_some o) ≡ true → o ≡ Non
 none_of None h = refl
 none_of (Some a) h = cc
 
-table_meant : (zero : Option Patterns) (given : List TypePatterns) (table : CompactTable) → table_made zero given ≡ Some table → IsTable zero given table
+pub table_meant : (zero : Option Patterns) (given : List TypePatterns) (table : CompactTable) → table_made zero given ≡ Some table → IsTable zero given table
 table_meant zero given table made = by (never_fall_from 0 given) (not (is_some (first_fault (kept_of zero given)))) refl refl made
   where
     by : (a b : Bool) → never_fall_from 0 given ≡ a → not (is_some (first_fault (kept_of zero given))) ≡ b

@@ -8,6 +8,7 @@ pub mod FormLemmas
 pub mod RulesLemmas
 pub mod CompactLemmas
 pub mod CompactFaults
+pub mod SoundLemmas
 pub mod BookLemmas
 pub mod KnownValues
 pub mod KnownFaults

@@ -3,14 +3,17 @@
 -- Defined in docs/books.md, "Tags", "The form" and "Faults".
 -- Cited by the functions of `laws.rt`.
 use Rattle.std.specs.Prelude.{◌≡◌, ◌↔◌, List, Option, Some}
+use Rattle.std.specs.List.{AllByRecursion}
 use Rattle.std.specs.Bool.{Decides}
 use Rattle.serde_json.specs.Data.{Data}
 use Rattle.icu_locale_core.specs.Subtags.{Text}
 use Rattle.icu_locale_core.specs.Meaning.{TagMeaning, MeansTag}
 use Rattle.icu_locale_core.specs.TagPreferences.{DataLocaleMeaning}
 use Rattle.icu_locale_core.specs.DataTags.{MeansDataLocale}
+use Rattle.icu_decimal.specs.Entries.{Rises}
 use Rattle.icu_decimal.specs.Identifiers.{Identifier}
 use Rattle.icu_decimal.specs.KeptEntries.{CompactTable, IsTable, Patterns, TypePatterns}
+use Rattle.icu_decimal.specs.SmallEntries.{AreSmall}
 use Rattle.locale_numbers_book.specs.Book.{BookTables, IsBook}
 use Rattle.locale_numbers_book.specs.CompactEntries.{table_made}
 use Rattle.locale_numbers_book.specs.Keys.{same_key}
@@ -35,3 +38,16 @@ TablesAreMade = (zero : Option Patterns) (given : List TypePatterns) (table : Co
 -- a value is one book at most
 abbrev pub IsOneBook : Type 0
 IsOneBook = (value : Data) (book other : BookTables) → IsBook value book → IsBook value other → book ≡ other
+
+-- the types of a table rise, and its numbers fit into bytes
+pub record IsSoundTable (table : CompactTable) : Type 0 where
+  pub rises : Rises 0 table.entries
+  pub small : AreSmall table.entries
+
+-- each table is sound
+abbrev pub AreSoundTables : List (Identifier × CompactTable) → Type 0
+AreSoundTables tables = AllByRecursion (λ pair. IsSoundTable pair.1) tables
+
+-- all tables of patterns of a book are sound
+abbrev pub BookTablesAreSound : Type 0
+BookTablesAreSound = (value : Data) (book : BookTables) → IsBook value book → AreSoundTables book.short × AreSoundTables book.long

@@ -1,5 +1,5 @@
 //! Laws of the definitions, each the contract of a function that does nothing.
-ghost use Rattle.locale_numbers_book.specs.Laws.{TagsAreRead, DataLocalesAreRead, KeysAreOneWhereEqual, TablesAreMade, IsOneBook};
+ghost use Rattle.locale_numbers_book.specs.Laws.{TagsAreRead, DataLocalesAreRead, KeysAreOneWhereEqual, TablesAreMade, IsOneBook, BookTablesAreSound};
 
 /// The function by which a line is answered reads as a tag exactly what means one in the grammar, and as that meaning:
 /// `EN-u-NU-Wxyz` as the language `en` with the system `wxyz`, and `en-` as none.
@@ -28,4 +28,10 @@ pub fn tables_are_made()
 /// A JSON value is one book at most: `[[],[],[],[],[]]` is the book without tables alone.
 pub fn is_one_book()
     ensures { IsOneBook }
+{}
+
+/// The types of each table of patterns of a book rise strictly, each exponent fits its type, and both fit into bytes: in `SAMPLE_BOOK`
+/// the types 3 and 6 of `en`.
+pub fn tables_are_sound()
+    ensures { BookTablesAreSound }
 {}

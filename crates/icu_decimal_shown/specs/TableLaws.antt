@@ -1,0 +1,40 @@
+-- Laws of the value shown under a table: order is kept, nothing is far off, a shown value shows itself; what is sent has its magnitude.
+-- Defined in docs/compact-text.md, "Laws".
+-- Cited by the functions of the module `laws`.
+use Rattle.std.specs.Prelude.{◌≡◌, ℕ, ◌+◌, ◌*◌, ◌≤◌, ◌↔◌, List}
+use Rattle.fixed_decimal.specs.Rounding.{distance}
+use Rattle.icu_decimal_shown.specs.declared.entry.CompactEntry.{CompactEntry}
+use Rattle.icu_decimal_shown.specs.Choice.{CanShow, chosen, shown_under}
+use Rattle.icu_decimal_shown.specs.Entries.{Rises}
+use Rattle.icu_decimal_shown.specs.ExactForms.{IsInRange}
+use Rattle.icu_decimal_shown.specs.ShownValue.{magnitude}
+
+-- of two numbers the smaller never shows a larger value
+abbrev pub TableKeepsOrder : Type 0
+TableKeepsOrder = (ones : ℕ) (entries : List CompactEntry) (n m : ℕ) → n ≤ m → shown_under ones entries n ≤ shown_under ones entries m
+
+-- a shown value is off by at most a twentieth of its number
+abbrev pub TableShowsNear : Type 0
+TableShowsNear = (ones : ℕ) (entries : List CompactEntry) (n : ℕ) → 20 * distance n (shown_under ones entries n) ≤ n
+
+-- zero is shown for zero, and for zero alone
+abbrev pub TableShowsZero : Type 0
+TableShowsZero = (ones : ℕ) (entries : List CompactEntry) (n : ℕ) → shown_under ones entries n ≡ 0 ↔ n ≡ 0
+
+-- a number equal to a shown value shows itself
+abbrev pub ShownValueShowsItself : Type 0
+ShownValueShowsItself = (ones : ℕ) (entries : List CompactEntry) (n m : ℕ) → m ≡ shown_under ones entries n → shown_under ones entries m ≡ m
+
+-- a number of which the shown value is one can be shown
+abbrev pub ShownValueCanBeShown : Type 0
+ShownValueCanBeShown = (entries : List CompactEntry) (n m : ℕ) → CanShow entries n → m ≡ shown_under 32768 entries n → CanShow entries m
+
+-- what is sent back has the magnitude of the shown value
+abbrev pub ExactFormHasShownMagnitude : Type 0
+ExactFormHasShownMagnitude = (ones : ℕ) (entries : List CompactEntry) (n : ℕ) → 1 ≤ ones → Rises 0 entries
+    → let c = chosen ones entries n in magnitude ones c.count + c.exponent ≡ magnitude ones (shown_under ones entries n)
+
+-- so it is in range where the number can be shown
+abbrev pub ExactFormIsInRange : Type 0
+ExactFormIsInRange = (entries : List CompactEntry) (n : ℕ) → Rises 0 entries → CanShow entries n
+    → let c = chosen 32768 entries n in IsInRange c.count c.exponent
