@@ -4,6 +4,6 @@ pub use icu_decimal_patterns::{CompactPatterns, DecimalCompactLongV1, DecimalCom
 pub use icu_decimal_plurals::PluralsCardinalV1;
 pub use icu_decimal_provider::provider::{
     DataError, DataIdentifier, DataMarker, DataProvider, DecimalDigitsV1, DecimalSymbolStrsBuilder,
-    DecimalSymbols, DecimalSymbolsStrs, DecimalSymbolsV1, GroupingSizes, load_digits, load_symbols,
-    load_with_fallback,
+    DecimalSymbols, DecimalSymbolsStrs, DecimalSymbolsV1, GroupingSizes, ParentProvider,
+    load_by_chain, load_digits, load_symbols, load_with_fallback,
 };

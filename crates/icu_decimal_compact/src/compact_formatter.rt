@@ -3,6 +3,7 @@
 ghost use Rattle.std.specs.Prelude.{◌≡◌, ◌↔◌, IfOk, IsTrue, OnErr, option_map, string_bytes};
 ghost use Rattle.std.specs.Option.{option_and_then};
 ghost use Rattle.std.specs.Result.{result_map_both};
+ghost use Rattle.icu_decimal_chains.specs.Chains.{chain};
 ghost use Rattle.fixed_decimal.specs.Number.{place};
 ghost use Rattle.fixed_decimal.specs.Range.{IsLong};
 ghost use Rattle.icu_decimal_patterns.specs.Elements.{slot_of};
@@ -23,7 +24,9 @@ use icu_decimal_patterns::{
 use icu_decimal_plurals::{PluralOperands, PluralRules, PluralsCardinalV1};
 use icu_decimal_provider::options::CompactDecimalFormatterOptions;
 use icu_decimal_provider::preferences::CompactDecimalFormatterPreferences;
-use icu_decimal_provider::provider::{DataError, DataProvider, DecimalDigitsV1, DecimalSymbolsV1};
+use icu_decimal_provider::provider::{
+    DataError, DataProvider, DecimalDigitsV1, DecimalSymbolsV1, ParentProvider,
+};
 use icu_decimal_shown::{can_show, exponent_for_magnitude, show};
 use icu_decimal_text::{DecimalFormatter, FormattedSign};
 use std::alloc::{AllocError, Global};
@@ -70,8 +73,9 @@ impl<'b> CompactDecimalFormatter<'b> {
         P: DataProvider<DecimalSymbolsV1>
             + DataProvider<DecimalDigitsV1>
             + DataProvider<PluralsCardinalV1>
-            + DataProvider<DecimalCompactShortV1>,
-        ensures { result_map_both compact_tables_of (λ error. error) result ≡ found_compact_tables (λ id. ⟦<P as DataProvider<DecimalSymbolsV1>>⟧.table provider.now id) (λ id. ⟦<P as DataProvider<DecimalDigitsV1>>⟧.table provider.now id) (λ id. ⟦<P as DataProvider<PluralsCardinalV1>>⟧.table provider.now id) (λ id. ⟦<P as DataProvider<DecimalCompactShortV1>>⟧.table provider.now id) preferences options.grouping_strategy }
+            + DataProvider<DecimalCompactShortV1>
+            + ParentProvider,
+        ensures { result_map_both compact_tables_of (λ error. error) result ≡ found_compact_tables (chain (P.next provider.now) (P.limit provider.now)) (λ id. ⟦<P as DataProvider<DecimalSymbolsV1>>⟧.table provider.now id) (λ id. ⟦<P as DataProvider<DecimalDigitsV1>>⟧.table provider.now id) (λ id. ⟦<P as DataProvider<PluralsCardinalV1>>⟧.table provider.now id) (λ id. ⟦<P as DataProvider<DecimalCompactShortV1>>⟧.table provider.now id) preferences options.grouping_strategy }
     {
         let plain = load_plain(provider, &preferences, options)?;
         let rules = load_rules(provider, &preferences)?;
@@ -93,8 +97,9 @@ impl<'b> CompactDecimalFormatter<'b> {
         P: DataProvider<DecimalSymbolsV1>
             + DataProvider<DecimalDigitsV1>
             + DataProvider<PluralsCardinalV1>
-            + DataProvider<DecimalCompactLongV1>,
-        ensures { result_map_both compact_tables_of (λ error. error) result ≡ found_compact_tables (λ id. ⟦<P as DataProvider<DecimalSymbolsV1>>⟧.table provider.now id) (λ id. ⟦<P as DataProvider<DecimalDigitsV1>>⟧.table provider.now id) (λ id. ⟦<P as DataProvider<PluralsCardinalV1>>⟧.table provider.now id) (λ id. ⟦<P as DataProvider<DecimalCompactLongV1>>⟧.table provider.now id) preferences options.grouping_strategy }
+            + DataProvider<DecimalCompactLongV1>
+            + ParentProvider,
+        ensures { result_map_both compact_tables_of (λ error. error) result ≡ found_compact_tables (chain (P.next provider.now) (P.limit provider.now)) (λ id. ⟦<P as DataProvider<DecimalSymbolsV1>>⟧.table provider.now id) (λ id. ⟦<P as DataProvider<DecimalDigitsV1>>⟧.table provider.now id) (λ id. ⟦<P as DataProvider<PluralsCardinalV1>>⟧.table provider.now id) (λ id. ⟦<P as DataProvider<DecimalCompactLongV1>>⟧.table provider.now id) preferences options.grouping_strategy }
     {
         let plain = load_plain(provider, &preferences, options)?;
         let rules = load_rules(provider, &preferences)?;

@@ -1,6 +1,7 @@
 // The tables that preferences for compact numbers ask a provider for.
 ghost use Rattle.std.specs.Prelude.{◌≡◌};
 ghost use Rattle.std.specs.Result.{result_map_both};
+ghost use Rattle.icu_decimal_chains.specs.Chains.{chain};
 ghost use Rattle.icu_decimal_provider.specs.Choice.{first_found};
 ghost use Rattle.icu_decimal_text.specs.FoundTables.{found_tables};
 ghost use Rattle.icu_decimal_text.specs.HeldTables.{tables_of};
@@ -12,18 +13,21 @@ use icu_decimal_provider::preferences::{
     CompactDecimalFormatterPreferences, DecimalFormatterPreferences,
 };
 use icu_decimal_provider::provider::{
-    DataError, DataIdentifier, DataMarker, DataProvider, DecimalDigitsV1, DecimalSymbolsV1,
-    load_with_fallback,
+    DataError, DataMarker, DataProvider, DecimalDigitsV1, DecimalSymbolsV1, ParentProvider,
+    load_by_chain,
 };
 use icu_decimal_text::DecimalFormatter;
 
 // The plain formatter of the same preferences and options.
-pub fn load_plain<'p, P: DataProvider<DecimalSymbolsV1> + DataProvider<DecimalDigitsV1>>(
+pub fn load_plain<
+    'p,
+    P: DataProvider<DecimalSymbolsV1> + DataProvider<DecimalDigitsV1> + ParentProvider,
+>(
     provider: &'p P,
     preferences: &CompactDecimalFormatterPreferences,
     options: CompactDecimalFormatterOptions,
 ) -> Result<DecimalFormatter<'p>, DataError>
-    ensures { result_map_both tables_of (λ error. error) result ≡ found_tables (λ id. ⟦<P as DataProvider<DecimalSymbolsV1>>⟧.table provider.now id) (λ id. ⟦<P as DataProvider<DecimalDigitsV1>>⟧.table provider.now id) preferences.now options.grouping_strategy }
+    ensures { result_map_both tables_of (λ error. error) result ≡ found_tables (chain (P.next provider.now) (P.limit provider.now)) (λ id. ⟦<P as DataProvider<DecimalSymbolsV1>>⟧.table provider.now id) (λ id. ⟦<P as DataProvider<DecimalDigitsV1>>⟧.table provider.now id) preferences.now options.grouping_strategy }
 {
     DecimalFormatter::try_new_unstable(
         provider,
@@ -32,32 +36,28 @@ pub fn load_plain<'p, P: DataProvider<DecimalSymbolsV1> + DataProvider<DecimalDi
     )
 }
 
-// The plural rules of the locale.
-pub fn load_rules<'p, P: DataProvider<PluralsCardinalV1>>(
+// The plural rules of the locale, along its chain.
+pub fn load_rules<'p, P: DataProvider<PluralsCardinalV1> + ParentProvider>(
     provider: &'p P,
     preferences: &CompactDecimalFormatterPreferences,
 ) -> Result<&'p PluralRules, DataError>
-    ensures { result_map_both (λ found. found.now) (λ error. error) result ≡ first_found (λ id. P.table provider.now id) (rules_identifiers preferences.now) }
+    ensures { result_map_both (λ found. found.now) (λ error. error) result ≡ first_found (λ id. P.table provider.now id) (rules_identifiers (chain (P.next provider.now) (P.limit provider.now)) preferences.now) }
 {
     let locale = preferences
         .locale_preferences
         .to_data_locale_language_priority();
-    load_with_fallback::<PluralsCardinalV1, P>(provider, &[DataIdentifier::for_locale(locale)])
+    load_by_chain::<PluralsCardinalV1, P>(provider, &locale, None)
 }
 
-// The patterns of the locale: with the numbering system that is preferred, where one is, and then without.
-pub fn load_patterns<'p, M: DataMarker, P: DataProvider<M>>(
+// The patterns of the locale, along its chain: with the numbering system that is preferred, where one is, and then without.
+pub fn load_patterns<'p, M: DataMarker, P: DataProvider<M> + ParentProvider>(
     provider: &'p P,
     preferences: &CompactDecimalFormatterPreferences,
 ) -> Result<&'p M::DataStruct, DataError>
-    ensures { result_map_both (λ found. found.now) (λ error. error) result ≡ first_found (λ id. P.table provider.now id) (patterns_identifiers preferences.now) }
+    ensures { result_map_both (λ found. found.now) (λ error. error) result ≡ first_found (λ id. P.table provider.now id) (patterns_identifiers (chain (P.next provider.now) (P.limit provider.now)) preferences.now) }
 {
     let locale = preferences
         .locale_preferences
         .to_data_locale_language_priority();
-    let named = DataIdentifier::for_locale(locale);
-    match DecimalFormatterPreferences::from(preferences).nu_id(&locale) {
-        Some(asked) => load_with_fallback::<M, P>(provider, &[asked, named]),
-        None => load_with_fallback::<M, P>(provider, &[named]),
-    }
+    load_by_chain::<M, P>(provider, &locale, preferences.numbering_system)
 }

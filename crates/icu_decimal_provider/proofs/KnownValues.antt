@@ -8,7 +8,7 @@ use Rattle.icu_locale_core.specs.TagPreferences.{LocalePreferencesMeaning, DataL
 use Rattle.icu_decimal_provider.specs.declared.error.DataError.{DataError}
 use Rattle.icu_decimal_provider.specs.declared.options.GroupingStrategy.{GroupingStrategy}
 use Rattle.icu_decimal_provider.specs.Choice.{first_found}
-use Rattle.icu_decimal_provider.specs.Identifiers.{of_both, of_locale, of_system, symbols_identifiers, digits_identifiers}
+use Rattle.icu_decimal_provider.specs.Identifiers.{of_both, of_locale, of_system, identifiers_along, symbols_identifiers, digits_identifiers}
 use Rattle.icu_decimal_provider.specs.Options.{strategy_in}
 use Rattle.icu_decimal_provider.specs.Preferences.{nothing_preferred, joined, fails}
 
@@ -52,11 +52,17 @@ data_of language = record { language = language; script = None; region = None; v
 abbrev asking : Text → Option Text → Preferences
 asking language system = record { locale = locale_of language; numbering_system = system }
 
-english_symbols : symbols_identifiers (asking (codes "en") None) ≡ of_locale (data_of (codes "en")) ∷ []
+-- without parents
+english_symbols : symbols_identifiers (λ locale. locale ∷ []) (asking (codes "en") None) ≡ of_locale (data_of (codes "en")) ∷ []
 english_symbols = refl
 
-thai_symbols : symbols_identifiers (asking (codes "en") (Some (codes "thai"))) ≡ of_both (codes "thai") (data_of (codes "en")) ∷ of_locale (data_of (codes "en")) ∷ []
+thai_symbols : symbols_identifiers (λ locale. locale ∷ []) (asking (codes "en") (Some (codes "thai"))) ≡ of_both (codes "thai") (data_of (codes "en")) ∷ of_locale (data_of (codes "en")) ∷ []
 thai_symbols = refl
+
+-- with a parent: the whole chain with the system, then the whole chain without
+along_parents : identifiers_along (Some (codes "thai")) (data_of (codes "en") ∷ data_of (codes "und") ∷ [])
+    ≡ of_both (codes "thai") (data_of (codes "en")) ∷ of_both (codes "thai") (data_of (codes "und")) ∷ of_locale (data_of (codes "en")) ∷ of_locale (data_of (codes "und")) ∷ []
+along_parents = refl
 
 named_digits : digits_identifiers None (codes "latn") ≡ of_system (codes "latn") ∷ []
 named_digits = refl

@@ -1,3 +1,4 @@
+pub mod ChainLoadingLemmas
 pub mod ChoiceLemmas
 pub mod KnownValues
 pub mod SameLemmas

@@ -1,7 +1,8 @@
 //! Laws, beside the clauses of the calls: equal values are one value, and what the first table is.
 
-ghost use Rattle.std.specs.Prelude.{◌≡◌, ◌↔◌, IsTrue};
+ghost use Rattle.std.specs.Prelude.{◌≡◌, ◌↔◌, IsTrue, List};
 ghost use Rattle.icu_locale_core.specs.Subtags.{Text};
+ghost use Rattle.icu_locale_core.specs.TagPreferences.{DataLocaleMeaning};
 ghost use Rattle.icu_decimal_provider.specs.Identifiers.{symbols_identifiers, digits_identifiers};
 ghost use Rattle.icu_decimal_provider.specs.Laws.{FirstIsFound};
 
@@ -30,7 +31,7 @@ pub fn same_preferences(
     other: &DecimalFormatterPreferences,
 ) -> bool
     ensures same { IsTrue result ↔ (one.now ≡ other.now) }
-    ensures symbols { IsTrue result → symbols_identifiers one.now ≡ symbols_identifiers other.now }
+    ensures symbols { IsTrue result → (chain : DataLocaleMeaning → List DataLocaleMeaning) → symbols_identifiers chain one.now ≡ symbols_identifiers chain other.now }
     ensures digits { IsTrue result → (named : Text) → digits_identifiers one.now.numbering_system named ≡ digits_identifiers other.now.numbering_system named }
     ensures hashed { IsTrue result → ⟦<DecimalFormatterPreferences as Hash>⟧.hash_input one.now ≡ ⟦<DecimalFormatterPreferences as Hash>⟧.hash_input other.now }
 {

@@ -5,8 +5,10 @@ use icu_decimal::pattern::Pattern;
 use icu_decimal::plurals::{PluralElements, PluralRules};
 use icu_decimal::provider::{
     CompactPatterns, DataError, DataIdentifier, DataProvider, DecimalCompactLongV1,
-    DecimalCompactShortV1, DecimalDigitsV1, DecimalSymbols, DecimalSymbolsV1, PluralsCardinalV1,
+    DecimalCompactShortV1, DecimalDigitsV1, DecimalSymbols, DecimalSymbolsV1, ParentProvider,
+    PluralsCardinalV1,
 };
+use icu_locale_core::DataLocale;
 use serde_json::Value;
 use std::alloc::{AllocError, Global};
 use std::collections::BTreeMap;
@@ -21,6 +23,17 @@ pub struct OneLocale<'t> {
     pub digits: [char; 10],
     pub rules: &'t PluralRules,
     pub patterns: &'t CompactPatterns,
+}
+
+// No locale has a parent.
+impl ParentProvider for OneLocale<'_> {
+    fn parent(&self, _locale: &DataLocale) -> Option<DataLocale> {
+        None
+    }
+
+    fn chain_limit(&self) -> u128 {
+        0
+    }
 }
 
 impl DataProvider<DecimalSymbolsV1> for OneLocale<'_> {

@@ -1,7 +1,9 @@
 // A provider that answers every identifier with the tables of one locale, whose symbols it is lent.
 use icu_decimal::provider::{
     DataError, DataIdentifier, DataProvider, DecimalDigitsV1, DecimalSymbols, DecimalSymbolsV1,
+    ParentProvider,
 };
+use icu_locale_core::DataLocale;
 
 #[derive(Clone, Copy)]
 pub struct OneLocale<'t> {
@@ -26,5 +28,16 @@ impl DataProvider<DecimalDigitsV1> for OneLocale<'_> {
 
     fn load(&self, id: &DataIdentifier) -> Result<&[char; 10], DataError> {
         Ok(&self.digits)
+    }
+}
+
+// No locale has a parent.
+impl ParentProvider for OneLocale<'_> {
+    fn parent(&self, _locale: &DataLocale) -> Option<DataLocale> {
+        None
+    }
+
+    fn chain_limit(&self) -> u128 {
+        0
     }
 }

@@ -4,7 +4,9 @@ use icu_decimal::options::GroupingStrategy;
 use icu_decimal::preferences::DecimalFormatterPreferences;
 use icu_decimal::provider::{
     DataError, DataIdentifier, DataProvider, DecimalDigitsV1, DecimalSymbols, DecimalSymbolsV1,
+    ParentProvider,
 };
+use icu_locale_core::DataLocale;
 use std::alloc::Global;
 use std::test::Fail;
 
@@ -35,6 +37,17 @@ impl DataProvider<DecimalDigitsV1> for WithoutTables {
     }
 }
 
+// No locale has a parent.
+impl ParentProvider for WithoutTables {
+    fn parent(&self, _locale: &DataLocale) -> Option<DataLocale> {
+        None
+    }
+
+    fn chain_limit(&self) -> u128 {
+        0
+    }
+}
+
 // A provider that has symbols, and refuses digits.
 #[derive(Clone, Copy)]
 struct WithoutDigits<'t> {
@@ -62,10 +75,21 @@ impl DataProvider<DecimalDigitsV1> for WithoutDigits<'_> {
     }
 }
 
+// No locale has a parent.
+impl ParentProvider for WithoutDigits<'_> {
+    fn parent(&self, _locale: &DataLocale) -> Option<DataLocale> {
+        None
+    }
+
+    fn chain_limit(&self) -> u128 {
+        0
+    }
+}
+
 // The error of a formatter of this provider; `None` where one is made.
 fn refusal_by<P>(provider: &P) -> Option<DataError>
 where
-    P: DataProvider<DecimalSymbolsV1> + DataProvider<DecimalDigitsV1>,
+    P: DataProvider<DecimalSymbolsV1> + DataProvider<DecimalDigitsV1> + ParentProvider,
 {
     let preferences = DecimalFormatterPreferences::default();
     let options = GroupingStrategy::Auto.into();

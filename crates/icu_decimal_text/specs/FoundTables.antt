@@ -2,7 +2,7 @@
 -- Defined in docs/formatters.md, "Choosing tables" and "Options".
 -- Cited by `DecimalFormatter::try_new_unstable`.
 use Rattle.std.specs.Prelude.{ℕ, List, Option, Result, Ok, Err}
-use Rattle.icu_decimal_provider.specs.TagPreferences.{Preferences}
+use Rattle.icu_decimal_provider.specs.TagPreferences.{DataLocaleMeaning, Preferences}
 use Rattle.icu_decimal_provider.specs.declared.error.DataError.{DataError}
 use Rattle.icu_decimal_provider.specs.declared.options.GroupingStrategy.{GroupingStrategy}
 use Rattle.icu_decimal_provider.specs.Choice.{first_found}
@@ -22,7 +22,7 @@ with_symbols strategy digits p (Ok symbols) =
     with_digits strategy symbols (first_found digits (digits_identifiers p.numbering_system symbols.strings.numsys))
 with_symbols strategy digits p (Err error) = Err error
 
--- the tables of preferences and options, of providers of symbols and of digits
-abbrev pub found_tables : (Identifier → Result Symbols DataError) → (Identifier → Result (List ℕ) DataError) → Preferences → Option GroupingStrategy → Result Tables DataError
-found_tables symbols digits p option =
-    with_symbols (strategy_in option) digits p (first_found symbols (symbols_identifiers p))
+-- the tables of preferences and options, of providers of symbols, along a chain of locales, and of digits
+abbrev pub found_tables : (DataLocaleMeaning → List DataLocaleMeaning) → (Identifier → Result Symbols DataError) → (Identifier → Result (List ℕ) DataError) → Preferences → Option GroupingStrategy → Result Tables DataError
+found_tables chain symbols digits p option =
+    with_symbols (strategy_in option) digits p (first_found symbols (symbols_identifiers chain p))

@@ -5,7 +5,7 @@ use Rattle.std.specs.Prelude.{◌≡◌, ℕ, List, Option, Result}
 use Rattle.writeable.specs.AnnotatedText.{text_of}
 use Rattle.fixed_decimal.specs.Number.{Number}
 use Rattle.fixed_decimal.specs.SignedValue.{SignedValue}
-use Rattle.icu_decimal_provider.specs.TagPreferences.{Preferences}
+use Rattle.icu_decimal_provider.specs.TagPreferences.{DataLocaleMeaning, Preferences}
 use Rattle.icu_decimal_provider.specs.declared.error.DataError.{DataError}
 use Rattle.icu_decimal_provider.specs.declared.options.GroupingStrategy.{GroupingStrategy}
 use Rattle.icu_decimal_provider.specs.Identifiers.{Identifier}
@@ -19,7 +19,7 @@ UnsignedIsText = (p : PlainNumber) → text_of (unsigned_events p) ≡ unsigned_
 abbrev pub DecimalIsText : Type 0
 DecimalIsText = (t : Tables) (d : SignedValue Number) → text_of (decimal_events (formatted t d)) ≡ decimal_text t d
 
--- both find the same tables, of every provider and with every option
+-- both find the same tables, of every provider, along every chain and with every option
 abbrev pub FindTheSameTables : Preferences → Preferences → Type 0
-FindTheSameTables p q = (symbols : Identifier → Result Symbols DataError) (digits : Identifier → Result (List ℕ) DataError) (option : Option GroupingStrategy)
-    → found_tables symbols digits p option ≡ found_tables symbols digits q option
+FindTheSameTables p q = (chain : DataLocaleMeaning → List DataLocaleMeaning) (symbols : Identifier → Result Symbols DataError) (digits : Identifier → Result (List ℕ) DataError) (option : Option GroupingStrategy)
+    → found_tables chain symbols digits p option ≡ found_tables chain symbols digits q option

@@ -2,6 +2,7 @@
 
 ghost use Rattle.std.specs.Prelude.{◌≡◌, IfOk, string_bytes};
 ghost use Rattle.std.specs.Result.{result_map_both};
+ghost use Rattle.icu_decimal_chains.specs.Chains.{chain};
 ghost use Rattle.icu_decimal_text.specs.FoundTables.{found_tables};
 ghost use Rattle.icu_decimal_text.specs.HeldTables.{tables_of};
 ghost use Rattle.icu_decimal_text.specs.PlainText.{decimal_text, formatted};
@@ -13,7 +14,8 @@ use fixed_decimal::Decimal;
 use icu_decimal_provider::options::{DecimalFormatterOptions, GroupingStrategy, strategy_of};
 use icu_decimal_provider::preferences::DecimalFormatterPreferences;
 use icu_decimal_provider::provider::{
-    DataError, DataProvider, DecimalDigitsV1, DecimalSymbolsV1, load_digits, load_symbols,
+    DataError, DataProvider, DecimalDigitsV1, DecimalSymbolsV1, ParentProvider,
+    load_digits, load_symbols,
 };
 use std::alloc::{AllocError, Global};
 use writeable::Writeable;
@@ -43,8 +45,8 @@ impl<'b> DecimalFormatter<'b> {
         options: DecimalFormatterOptions,
     ) -> Result<Self, DataError>
     where
-        P: DataProvider<DecimalSymbolsV1> + DataProvider<DecimalDigitsV1>,
-        ensures { result_map_both tables_of (λ error. error) result ≡ found_tables (λ id. ⟦<P as DataProvider<DecimalSymbolsV1>>⟧.table provider.now id) (λ id. ⟦<P as DataProvider<DecimalDigitsV1>>⟧.table provider.now id) preferences options.grouping_strategy }
+        P: DataProvider<DecimalSymbolsV1> + DataProvider<DecimalDigitsV1> + ParentProvider,
+        ensures { result_map_both tables_of (λ error. error) result ≡ found_tables (chain (P.next provider.now) (P.limit provider.now)) (λ id. ⟦<P as DataProvider<DecimalSymbolsV1>>⟧.table provider.now id) (λ id. ⟦<P as DataProvider<DecimalDigitsV1>>⟧.table provider.now id) preferences options.grouping_strategy }
     {
         let symbols = load_symbols(provider, &preferences)?;
         let digits = load_digits(provider, &preferences, symbols)?;

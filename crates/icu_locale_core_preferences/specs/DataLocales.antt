@@ -1,7 +1,9 @@
--- What a language identifier prefers, and the data locale of it, of a language, a script and a region, and of `und` alone.
+-- What a language identifier prefers, and the data locale of it, of a language, a script and a region, and of `und` alone; and a data
+-- locale cut by one part.
 -- Defined in docs/tags.md, "Preferences" and "Data locales".
--- Cited by the conversions into preferences and data locales, and by their defaults.
-use Rattle.std.specs.Prelude.{[], Option, None}
+-- Cited by the conversions into preferences and data locales, by their defaults, and by `DataLocale::truncated`.
+use Rattle.std.specs.Prelude.{[], Option, None, Some, if◌then◌else◌}
+use Rattle.std.specs.Option.{is_some}
 use Rattle.icu_locale_core_grammar.specs.Subtags.{Text}
 use Rattle.icu_locale_core_grammar.specs.LanguagePart.{LanguageId}
 use Rattle.icu_locale_core_grammar.specs.TagPreferences.{LocalePreferencesMeaning, DataLocaleMeaning, locale_preferences_of, language_priority}
@@ -22,3 +24,12 @@ triple_data language script region = language_data (with_parts language script r
 -- the language `und` alone
 abbrev pub unknown_data : DataLocaleMeaning
 unknown_data = triple_data unknown_language None None
+
+-- the data locale without the first of subdivision, variant, region and script that it has; none where it has none of them
+abbrev pub truncated : DataLocaleMeaning → Option DataLocaleMeaning
+truncated d =
+    if is_some d.subdivision then Some (record d { subdivision = None })
+    else if is_some d.variant then Some (record d { variant = None })
+    else if is_some d.region then Some (record d { region = None })
+    else if is_some d.script then Some (record d { script = None })
+    else None

@@ -2,7 +2,7 @@
 
 ghost use Rattle.std.specs.Prelude.{◌≡◌, ◌↔◌, IsTrue};
 ghost use Rattle.icu_locale_core_grammar.specs.TagPreferences.{locale_preferences_of, language_priority};
-ghost use Rattle.icu_locale_core_preferences.specs.DataLocales.{language_data, triple_data, unknown_data};
+ghost use Rattle.icu_locale_core_preferences.specs.DataLocales.{language_data, triple_data, truncated, unknown_data};
 
 use crate::locale_preferences::LocalePreferences;
 use icu_locale_core_langid::LanguageIdentifier;
@@ -69,6 +69,26 @@ impl DataLocale {
             && self.region.is_none()
             && self.variant.is_none()
             && self.subdivision.is_none()
+    }
+
+    /// The data locale without the first of subdivision, variant, region and script that it has: of `zh-Hant-TW` it is `zh-Hant`,
+    /// of that `zh`, and of `zh` none. It takes no memory.
+    pub fn truncated(&self) -> Option<Self>
+        ensures { result ≡ truncated self.now }
+    {
+        if self.subdivision.is_some() {
+            return Some(DataLocale { subdivision: None, ..*self });
+        }
+        if self.variant.is_some() {
+            return Some(DataLocale { variant: None, ..*self });
+        }
+        if self.region.is_some() {
+            return Some(DataLocale { region: None, ..*self });
+        }
+        if self.script.is_some() {
+            return Some(DataLocale { script: None, ..*self });
+        }
+        None
     }
 }
 

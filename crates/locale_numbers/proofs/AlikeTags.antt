@@ -19,7 +19,7 @@ use Rattle.icu_locale_core.proofs.PlainPieces.{tag_plain, joined-pieces}
 use Rattle.icu_locale_core.proofs.NormalTags.{read_again}
 use Rattle.icu_decimal.specs.declared.options.GroupingStrategy.{GroupingStrategy}
 use Rattle.locale_numbers_book.specs.Book.{BookTables}
-use Rattle.locale_numbers_book.specs.Tables.{symbols_under, digits_under, rules_under}
+use Rattle.locale_numbers_book.specs.Tables.{chain_in, symbols_under, digits_under, rules_under}
 use Rattle.locale_numbers.specs.NumberReading.{reading_of}
 use Rattle.locale_numbers.specs.ReadAnswer.{read_with}
 use Rattle.locale_numbers.specs.Request.{Asked, tab, fields, form_named, grouping_named, sign_named, takes, request_by, request_in, request_of}
@@ -155,12 +155,12 @@ locales_same m n a =
 found_same : (book : BookTables) (m n : TagMeaning) → AreAlike m n → (grouping : GroupingStrategy)
     → found_in book (preferences_of m) grouping ≡ found_in book (preferences_of n) grouping
 found_same book m n a grouping =
-    found_alike (symbols_under book) (digits_under book) grouping (preferences_of m) (preferences_of n) (locales_same m n a) a.numbering_system
+    found_alike (chain_in book) (symbols_under book) (digits_under book) grouping (preferences_of m) (preferences_of n) (locales_same m n a) a.numbering_system
 
 compact_same : (book : BookTables) (m n : TagMeaning) → AreAlike m n → (length : PatternLength) (grouping : GroupingStrategy)
     → found_compact length book (preferences_of m) grouping ≡ found_compact length book (preferences_of n) grouping
 compact_same book m n a length grouping =
-    compact_alike (symbols_under book) (digits_under book) (rules_under book) (patterns_under length book) grouping (preferences_of m) (preferences_of n)
+    compact_alike (chain_in book) (symbols_under book) (digits_under book) (rules_under book) (patterns_under length book) grouping (preferences_of m) (preferences_of n)
     (locales_same m n a) a.numbering_system
 
 asks_alike : (book : BookTables) (text other : List ℕ) (m n : TagMeaning) → AreAlike m n → AreAnsweredAlike book text other (Some (preferences_of m)) (Some (preferences_of n))

@@ -2,7 +2,7 @@
 use Rattle.std.proofs.Common.{◌≡◌, ℕ, List, Some, Result, Ok, Err, is_ok, false, refl, ap, ◌∙◌}
 use Rattle.fixed_decimal.specs.Number.{Number}
 use Rattle.fixed_decimal.specs.SignedValue.{SignedValue}
-use Rattle.icu_locale_core.specs.TagPreferences.{Preferences}
+use Rattle.icu_locale_core.specs.TagPreferences.{DataLocaleMeaning, Preferences}
 use Rattle.icu_decimal.specs.declared.error.DataError.{DataError}
 use Rattle.icu_decimal.specs.declared.options.DecimalFormatterOptions.{DecimalFormatterOptions}
 use Rattle.icu_decimal.specs.declared.options.GroupingStrategy.{GroupingStrategy}
@@ -12,7 +12,7 @@ use Rattle.icu_decimal.specs.Identifiers.{Identifier}
 use Rattle.icu_decimal.specs.PlainText.{Tables}
 use Rattle.icu_decimal.specs.Symbols.{Symbols}
 use Rattle.locale_numbers_book.specs.Book.{BookTables}
-use Rattle.locale_numbers_book.specs.Tables.{symbols_under, digits_under}
+use Rattle.locale_numbers_book.specs.Tables.{symbols_under, digits_under, chain_in}
 use Rattle.locale_numbers.specs.Answer.{answer_with, found_in, refused}
 use Rattle.locale_numbers.specs.CompactAnswer.{compact_with, found_compact}
 use Rattle.locale_numbers.specs.FormatterKeys.{answer_of_kind, finds_kind}
@@ -21,18 +21,21 @@ use Rattle.locale_numbers.specs.declared.formatter_key.Kind.TheVariants.{Plain, 
 use Rattle.locale_numbers.specs.declared.refusal.Refusal.TheVariants as refusal
 
 -- tables that answer as a book does are found as in the book
-pub found_by : (symbols : Identifier → Result Symbols DataError) (digits : Identifier → Result (List ℕ) DataError) (book : BookTables) (p : Preferences) (grouping : GroupingStrategy) (options : DecimalFormatterOptions) (found : Result Tables DataError)
+pub found_by : (chain : DataLocaleMeaning → List DataLocaleMeaning) (symbols : Identifier → Result Symbols DataError) (digits : Identifier → Result (List ℕ) DataError) (book : BookTables) (p : Preferences) (grouping : GroupingStrategy) (options : DecimalFormatterOptions) (found : Result Tables DataError)
+    → ((l : DataLocaleMeaning) → chain l ≡ chain_in book l)
     → ((id : Identifier) → symbols id ≡ symbols_under book id) → ((id : Identifier) → digits id ≡ digits_under book id)
     → options ≡ record { grouping_strategy = Some grouping }
-    → found ≡ found_tables symbols digits p options.grouping_strategy
+    → found ≡ found_tables chain symbols digits p options.grouping_strategy
     → found ≡ found_in book p grouping
-found_by symbols digits book p grouping options found symbols_agree digits_agree made is =
+found_by chain symbols digits book p grouping options found chains_agree symbols_agree digits_agree made is =
+    let chains_are : chain ≡ chain_in book = λ i l. chains_agree l i in
     let symbols_are : symbols ≡ symbols_under book = λ i id. symbols_agree id i in
     let digits_are : digits ≡ digits_under book = λ i id. digits_agree id i in
     is
-    ∙ ap (λ (o : DecimalFormatterOptions). found_tables symbols digits p o.grouping_strategy) made
-    ∙ ap (λ s. found_tables s digits p (Some grouping)) symbols_are
-    ∙ ap (λ d. found_tables (symbols_under book) d p (Some grouping)) digits_are
+    ∙ ap (λ (o : DecimalFormatterOptions). found_tables chain symbols digits p o.grouping_strategy) made
+    ∙ ap (λ along. found_tables along symbols digits p (Some grouping)) chains_are
+    ∙ ap (λ s. found_tables (chain_in book) s digits p (Some grouping)) symbols_are
+    ∙ ap (λ d. found_tables (chain_in book) (symbols_under book) d p (Some grouping)) digits_are
 
 -- ---- where no tables are found, each kind answers so
 

@@ -22,7 +22,7 @@ use Rattle.icu_decimal.specs.Rules.{Rules}
 use Rattle.icu_decimal.specs.Symbols.{Symbols}
 use Rattle.icu_locale_core.specs.TagPreferences.{Preferences}
 use Rattle.locale_numbers_book.specs.Book.{BookTables}
-use Rattle.locale_numbers_book.specs.Tables.{digits_under, rules_under, symbols_under}
+use Rattle.locale_numbers_book.specs.Tables.{chain_in, digits_under, rules_under, symbols_under}
 use Rattle.locale_numbers.specs.Answer.{answer_asked, answer_in, answer_tagged, answer_to, answer_with, exact_to, found_in, refused, written}
 use Rattle.locale_numbers.specs.Changing.{changed, signed_as}
 use Rattle.locale_numbers.specs.CompactAnswer.{compact_with, exact_with, found_compact, patterns_under}
@@ -72,7 +72,7 @@ twin_symbols book p (Ok symbols) = twin_digits symbols (first_found (digits_unde
 twin_symbols book p (Err error) = failed error
 
 twins_of : (book : BookTables) (p : Preferences) → AreTwins (found_in book p Auto) (found_in book p Always)
-twins_of book p = twin_symbols book p (first_found (symbols_under book) (symbols_identifiers p))
+twins_of book p = twin_symbols book p (first_found (symbols_under book) (symbols_identifiers (chain_in book) p))
 
 twins_write : (one two : Result Tables DataError) → AreTwins one two → (value : SignedValue Number) → answer_with one value ≡ answer_with two value
 twins_write one two (found symbols digits) value = refl
@@ -100,7 +100,7 @@ twin_plain one two (failed error) rules patterns = compact_failed error
 compact_twins_of : (length : PatternLength) (book : BookTables) (p : Preferences) → AreCompactTwins (found_compact length book p Auto) (found_compact length book p Always)
 compact_twins_of length book p =
     twin_plain (found_in book p Auto) (found_in book p Always) (twins_of book p)
-    (first_found (rules_under book) (rules_identifiers p)) (first_found (patterns_under length book) (patterns_identifiers p))
+    (first_found (rules_under book) (rules_identifiers (chain_in book) p)) (first_found (patterns_under length book) (patterns_identifiers (chain_in book) p))
 
 twins_show : (one two : Result CompactTables DataError) → AreCompactTwins one two → (value : SignedValue Number) → compact_with one value ≡ compact_with two value
 twins_show one two (compact_found symbols digits rules patterns) value = refl

@@ -11,7 +11,7 @@ use Rattle.icu_decimal.specs.FoundTables.{found_tables}
 use Rattle.icu_decimal.specs.PlainText.{Tables, decimal_text}
 use Rattle.icu_locale_core.specs.TagPreferences.{Preferences}
 use Rattle.locale_numbers_book.specs.Book.{BookTables}
-use Rattle.locale_numbers_book.specs.Tables.{symbols_under, digits_under}
+use Rattle.locale_numbers_book.specs.Tables.{symbols_under, digits_under, chain_in}
 use Rattle.locale_numbers.specs.Changing.{changed, signed_as}
 use Rattle.locale_numbers.specs.CompactAnswer.{compact_with, exact_with, found_compact}
 use Rattle.locale_numbers.specs.CompactReading.{CompactReading, compact_beyond, compact_nothing, compact_number, compact_reading_of}
@@ -28,7 +28,7 @@ use Rattle.locale_numbers.specs.declared.refusal.Refusal.TheVariants as refusal
 
 -- the tables of a book that preferences find, with a grouping
 abbrev pub found_in : BookTables → Preferences → GroupingStrategy → Result Tables DataError
-found_in book preferences grouping = found_tables (symbols_under book) (digits_under book) preferences (Some grouping)
+found_in book preferences grouping = found_tables (chain_in book) (symbols_under book) (digits_under book) preferences (Some grouping)
 
 -- a number written with some tables, where they are found
 abbrev pub answer_with : Result Tables DataError → SignedValue Number → List ℕ

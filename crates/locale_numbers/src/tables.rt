@@ -2,7 +2,7 @@
 
 use icu_decimal::provider::{
     DataProvider, DecimalCompactLongV1, DecimalCompactShortV1, DecimalDigitsV1, DecimalSymbolsV1,
-    PluralsCardinalV1,
+    ParentProvider, PluralsCardinalV1,
 };
 use locale_numbers_book::Book;
 
@@ -15,11 +15,14 @@ pub trait Tables: DataProvider<DecimalSymbolsV1>
     + DataProvider<DecimalDigitsV1>
     + DataProvider<PluralsCardinalV1>
     + DataProvider<DecimalCompactShortV1>
-    + DataProvider<DecimalCompactLongV1> {
+    + DataProvider<DecimalCompactLongV1>
+    + ParentProvider {
     ghost use Rattle.std.specs.Prelude.{◌≡◌};
     ghost use Rattle.icu_decimal.specs.Identifiers.{Identifier};
+    ghost use Rattle.icu_decimal_chains.specs.Chains.{chain};
+    ghost use Rattle.icu_locale_core.specs.TagPreferences.{DataLocaleMeaning};
     ghost use Rattle.locale_numbers_book.specs.Book.{BookTables};
-    ghost use Rattle.locale_numbers_book.specs.Tables.{symbols_under, digits_under, rules_under, short_under, long_under};
+    ghost use Rattle.locale_numbers_book.specs.Tables.{symbols_under, digits_under, rules_under, short_under, long_under, parent_under, chain_in};
 
     // the book that the tables are those of
     ghost book: { Self → BookTables };
@@ -34,6 +37,11 @@ pub trait Tables: DataProvider<DecimalSymbolsV1>
     ghost short: { (s : Self) (id : Identifier) → Self.DataProvider-4.table s id ≡ short_under (book s) id };
 
     ghost long: { (s : Self) (id : Identifier) → Self.DataProvider-5.table s id ≡ long_under (book s) id };
+
+    // the next locale is that of the book, and the limit cuts no more of a chain than the book's
+    ghost parents: { (s : Self) (l : DataLocaleMeaning) → Self.next s l ≡ parent_under (book s) l };
+
+    ghost chains: { (s : Self) (l : DataLocaleMeaning) → chain (Self.next s) (Self.limit s) l ≡ chain_in (book s) l };
 }
 
 impl Tables for Book {
@@ -50,4 +58,8 @@ impl Tables for Book {
     ghost short = { λ s id. refl };
 
     ghost long = { λ s id. refl };
+
+    ghost parents = { λ s l. refl };
+
+    ghost chains = { λ s l. refl };
 }

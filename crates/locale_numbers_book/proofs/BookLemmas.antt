@@ -17,7 +17,8 @@ one_book value book other m n =
     let rules = some_same book.rules other.rules (sym m.rules ∙ n.rules) in
     let short = some_same book.short other.short (sym m.short ∙ n.short) in
     let long = some_same book.long other.long (sym m.long ∙ n.long) in
-    λ i. record { symbols = symbols i; digits = digits i; rules = rules i; short = short i; long = long i }
+    let parents : book.parents ≡ other.parents = m.parents ∙ sym n.parents in
+    λ i. record { symbols = symbols i; digits = digits i; rules = rules i; short = short i; long = long i; parents = parents i }
 
 -- ---- the five arrays
 

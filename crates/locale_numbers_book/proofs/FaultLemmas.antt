@@ -35,7 +35,7 @@ told_first a b Condition h = rw h refl
 told_first a b Types h = rw h refl
 told_first a b Exponents h = rw h refl
 told_first a b Duplicate h = rw h refl
-told_first a b Cycle h = h
+told_first a b Cycle h = rw h refl
 told_first a b Memory h = tt
 
 pub told_behind : (a b : Option BookError) (e : BookError) → a ≡ None → IsTold b e → IsTold (option_or a b) e
@@ -57,7 +57,7 @@ refused_value text value Condition reads h = (value, reads, h)
 refused_value text value Types reads h = (value, reads, h)
 refused_value text value Exponents reads h = (value, reads, h)
 refused_value text value Duplicate reads h = (value, reads, h)
-refused_value text value Cycle reads h = h
+refused_value text value Cycle reads h = (value, reads, h)
 refused_value text value Memory reads h = tt
 
 pub refused_text : (text : List ℕ) (e : BookError) → IsJsonOrMemory e → (e ≡ Json → IsNoJson text) → IsRefused text e
@@ -71,7 +71,7 @@ refused_text text Condition only json = absurd only
 refused_text text Types only json = absurd only
 refused_text text Exponents only json = absurd only
 refused_text text Duplicate only json = absurd only
-refused_text text Cycle only json = only
+refused_text text Cycle only json = absurd only
 refused_text text Memory only json = tt
 
 -- ---- one more entry

@@ -123,7 +123,7 @@ no_fields = refl
 -- ---- tables
 
 abbrev latin_alone : BookTables
-latin_alone = record { symbols = []; digits = (codes "latn", codes "0123456789") ∷ []; rules = []; short = []; long = [] }
+latin_alone = record { symbols = []; digits = (codes "latn", codes "0123456789") ∷ []; rules = []; short = []; long = []; parents = None }
 
 abbrev english : DataLocaleMeaning
 english = record { language = codes "en"; script = None; region = None; variant = None; subdivision = None }

@@ -2,31 +2,15 @@
 -- Defined in docs/books.md, "The form".
 -- Cited by the steps of `Book::from_json`, by both laws of keys, and by Book.antt and Tables.antt.
 use Rattle.std.specs.Prelude.{Bool, true, not, ◌&&◌, List, [], ◌∷◌, Option, Some, None, option_and_then, is_some, if◌then◌else◌}
-use Rattle.std.specs.Option.{option_eq}
 use Rattle.std.specs.Str.{bytes_eq}
 use Rattle.serde_json.specs.Data.{Data, Items}
-use Rattle.icu_locale_core.specs.TagPreferences.{Subdivision, DataLocaleMeaning}
 use Rattle.icu_decimal.specs.Identifiers.{Identifier}
+pub use Rattle.locale_numbers_parents.specs.Places.{same_subdivision, same_data_locale, table_at}
 use Rattle.locale_numbers_book.specs.Entries.{all_of}
 
 -- two keys are one where each of their parts is
-abbrev pub same_subdivision : Subdivision → Subdivision → Bool
-same_subdivision a b = bytes_eq a.region b.region && bytes_eq a.suffix b.suffix
-
-abbrev pub same_data_locale : DataLocaleMeaning → DataLocaleMeaning → Bool
-same_data_locale a b =
-    bytes_eq a.language b.language
-    && (option_eq bytes_eq a.script b.script
-    && (option_eq bytes_eq a.region b.region
-    && (option_eq bytes_eq a.variant b.variant && option_eq same_subdivision a.subdivision b.subdivision)))
-
 abbrev pub same_key : Identifier → Identifier → Bool
 same_key a b = same_data_locale a.locale b.locale && bytes_eq a.attributes b.attributes
-
--- what stands with a key in a list of pairs
-abbrev pub table_at : {K V : Type 0} → (K → K → Bool) → K → List (K × V) → Option V
-table_at same key [] = None
-table_at same key (pair ∷ pairs) = if same key pair.0 then Some pair.1 else table_at same key pairs
 
 abbrev pub has_no_key_twice : {K V : Type 0} → (K → K → Bool) → List (K × V) → Bool
 has_no_key_twice same [] = true

@@ -7,6 +7,7 @@ pub mod Keys
 pub mod RulesEntries
 pub mod CompactEntries
 pub mod Faults
+pub mod ParentEntries
 pub mod CompactSteps
 pub mod Book
 pub mod Refusal

@@ -4,20 +4,18 @@
 use Rattle.std.specs.Prelude.{◌≡◌, ℕ, List, Option, Some}
 use Rattle.serde_json.specs.Data.{Data}
 use Rattle.locale_numbers_book.specs.declared.error.BookError.{BookError}
-use Rattle.locale_numbers_book.specs.declared.error.BookError.TheVariants.{Json, Cycle, Memory}
+use Rattle.locale_numbers_book.specs.declared.error.BookError.TheVariants.{Json, Memory}
 use Rattle.locale_numbers_book.specs.Faults.{book_fault}
 use Rattle.locale_numbers_book.specs.Json.{Reads, IsNoJson}
 
 -- the error tells the fault that is found, or is out of memory
 abbrev pub IsTold : Option BookError → BookError → Type 0
 IsTold found Json = ⊥
-IsTold found Cycle = ⊥
 IsTold found Memory = Unit {0}
 IsTold found told = found ≡ Some told
 
 -- the bytes have no reading, or say a value with this fault
 abbrev pub IsRefused : List ℕ → BookError → Type 0
 IsRefused text Json = IsNoJson text
-IsRefused text Cycle = ⊥
 IsRefused text Memory = Unit {0}
 IsRefused text told = (value : Data) × Reads text value × (book_fault value ≡ Some told)

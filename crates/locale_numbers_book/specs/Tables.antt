@@ -1,15 +1,18 @@
 -- What stands in a book under an identifier, of each of its tables.
 -- Defined in docs/books.md, "Choosing tables".
 -- Cited by the impls of `DataProvider` for `Book`, and by the answer to a line.
-use Rattle.std.specs.Prelude.{ℕ, ◌==◌, length, List, Option, None, Result, if◌then◌else◌}
+use Rattle.std.specs.Prelude.{ℕ, ◌==◌, length, List, Option, None, Some, Result, if◌then◌else◌}
 use Rattle.std.specs.Str.{bytes_eq}
 use Rattle.icu_locale_core.specs.DataLocales.{unknown_data}
+use Rattle.icu_locale_core.specs.TagPreferences.{DataLocaleMeaning}
+use Rattle.icu_decimal_chains.specs.Chains.{chain}
 use Rattle.icu_decimal.specs.declared.error.DataError.{DataError}
 use Rattle.icu_decimal.specs.Choice.{answered}
 use Rattle.icu_decimal.specs.Identifiers.{Identifier}
 use Rattle.icu_decimal.specs.KeptEntries.{CompactTable}
 use Rattle.icu_decimal.specs.Rules.{Rules}
 use Rattle.icu_decimal.specs.Symbols.{Symbols}
+use Rattle.locale_numbers_parents.specs.Parents.{Entry, most_steps, parent_step}
 use Rattle.locale_numbers_book.specs.Book.{BookTables}
 use Rattle.locale_numbers_book.specs.Keys.{same_data_locale, same_key, table_at}
 
@@ -39,3 +42,22 @@ short_under book id = answered (table_at same_key id book.short)
 
 abbrev pub long_under : BookTables → Identifier → Result CompactTable DataError
 long_under book id = answered (table_at same_key id book.long)
+
+-- ---- parents
+
+-- without parents a chain is one locale alone
+abbrev pub step_in : Option (List Entry) → DataLocaleMeaning → Option DataLocaleMeaning
+step_in None locale = None
+step_in (Some entries) locale = parent_step entries locale
+
+abbrev pub steps_in : Option (List Entry) → ℕ
+steps_in None = 0
+steps_in (Some entries) = most_steps entries
+
+-- the locale that is asked for after this one
+abbrev pub parent_under : BookTables → DataLocaleMeaning → Option DataLocaleMeaning
+parent_under book locale = step_in book.parents locale
+
+-- the locales that are asked for
+abbrev pub chain_in : BookTables → DataLocaleMeaning → List DataLocaleMeaning
+chain_in book locale = chain (parent_under book) (steps_in book.parents) locale

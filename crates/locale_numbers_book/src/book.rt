@@ -11,16 +11,21 @@ ghost use Rattle.locale_numbers_book.specs.Faults.{book_fault};
 ghost use Rattle.locale_numbers_book.specs.Json.{Reads};
 ghost use Rattle.locale_numbers_book.specs.Refusal.{IsRefused, IsTold};
 ghost use Rattle.locale_numbers_book.specs.Room.{book_may_grow};
+ghost use Rattle.locale_numbers_book.specs.Tables.{parent_under, steps_in};
+ghost use Rattle.icu_decimal_chains.specs.Chains.{Follows, walk};
+ghost use Rattle.icu_locale_core.specs.TagPreferences.{DataLocaleMeaning};
 
 use crate::BookError;
 use crate::json::{Arrays, arrays_of, table_of, value_of};
 use icu_decimal::plurals::PluralRules;
 use icu_decimal::provider::{
     CompactPatterns, DataError, DataIdentifier, DataProvider, DecimalCompactLongV1,
-    DecimalCompactShortV1, DecimalDigitsV1, DecimalSymbols, DecimalSymbolsV1, PluralsCardinalV1,
+    DecimalCompactShortV1, DecimalDigitsV1, DecimalSymbols, DecimalSymbolsV1, ParentProvider,
+    PluralsCardinalV1,
 };
 use icu_locale_core::DataLocale;
 use indexmap::IndexMap;
+use locale_numbers_parents::Parents;
 use serde_json::Value;
 use std::alloc::Global;
 use std::marker::Model;
@@ -35,6 +40,7 @@ pub struct Book {
     rules: IndexMap<DataLocale, PluralRules>,
     short: IndexMap<DataIdentifier, CompactPatterns>,
     long: IndexMap<DataIdentifier, CompactPatterns>,
+    parents: Option<Parents>,
 }
 
 impl Model for Book {
@@ -42,7 +48,7 @@ impl Model for Book {
 
     ghost Value = { BookTables };
 
-    ghost view = { λ b. record { symbols = b.symbols.entries; digits = b.digits.entries; rules = b.rules.entries; short = b.short.entries; long = b.long.entries } };
+    ghost view = { λ b. record { symbols = b.symbols.entries; digits = b.digits.entries; rules = b.rules.entries; short = b.short.entries; long = b.long.entries; parents = b.parents } };
 }
 
 // What is there, or that nothing is.
@@ -77,6 +83,7 @@ fn tables_of(alloc: Global, arrays: Arrays) -> Result<Book, BookError>
             rules,
             short,
             long,
+            parents: None,
         }),
         Err(fault) => Err(fault),
     }
@@ -202,5 +209,34 @@ impl DataProvider<DecimalCompactLongV1> for Book {
 
     fn load(&self, id: &DataIdentifier) -> Result<&CompactPatterns, DataError> {
         found(self.long.get(id))
+    }
+}
+
+/// The parents of a book: after a locale the one that is listed, or else the locale without its last part. A book without parents has
+/// none after any.
+///
+/// In `SAMPLE_BOOK` no locale has a parent. It takes no memory.
+impl ParentProvider for Book {
+    ghost use Rattle.locale_numbers_book.specs.Tables.{parent_under, steps_in};
+
+    ghost next = { parent_under };
+
+    ghost limit = { λ book. steps_in book.parents };
+
+    fn parent(&self, locale: &DataLocale) -> Option<DataLocale> {
+        match &self.parents {
+            Some(parents) => parents.parent(locale),
+            None => None,
+        }
+    }
+
+    fn chain_limit(&self) -> u128
+        ensures value { result ≡ steps_in self.now.parents }
+        ensures cuts_none { (l : DataLocaleMeaning) → Follows (parent_under self.now) l (walk (parent_under self.now) result l) }
+    {
+        match &self.parents {
+            Some(parents) => parents.chain_limit(),
+            None => 0,
+        }
     }
 }

@@ -2,8 +2,10 @@
 use icu_decimal::plurals::PluralRules;
 use icu_decimal::provider::{
     CompactPatterns, DataError, DataIdentifier, DataProvider, DecimalCompactLongV1,
-    DecimalCompactShortV1, DecimalDigitsV1, DecimalSymbols, DecimalSymbolsV1, PluralsCardinalV1,
+    DecimalCompactShortV1, DecimalDigitsV1, DecimalSymbols, DecimalSymbolsV1, ParentProvider,
+    PluralsCardinalV1,
 };
+use icu_locale_core::DataLocale;
 use locale_numbers::{Book, Tables};
 use std::cell::Cell;
 
@@ -68,6 +70,22 @@ impl<'b> DataProvider<DecimalCompactLongV1> for Counting<'b> {
     }
 }
 
+impl<'b> ParentProvider for Counting<'b> {
+    ghost use Rattle.locale_numbers.specs.Tables.{parent_under, steps_in};
+
+    ghost next = { λ s locale. parent_under s.book.now locale };
+
+    ghost limit = { λ s. steps_in s.book.now.parents };
+
+    fn parent(&self, locale: &DataLocale) -> Option<DataLocale> {
+        self.book.parent(locale)
+    }
+
+    fn chain_limit(&self) -> u128 {
+        self.book.chain_limit()
+    }
+}
+
 impl<'b> Tables for Counting<'b> {
     ghost use Rattle.std.specs.Prelude.{refl};
 
@@ -82,4 +100,8 @@ impl<'b> Tables for Counting<'b> {
     ghost short = { λ s id. refl };
 
     ghost long = { λ s id. refl };
+
+    ghost parents = { λ s l. refl };
+
+    ghost chains = { λ s l. refl };
 }

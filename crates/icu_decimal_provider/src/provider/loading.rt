@@ -2,15 +2,18 @@
 
 ghost use Rattle.std.specs.Prelude.{◌≡◌, ◌∷◌, ◌++◌, [], option_to_list};
 ghost use Rattle.std.specs.Result.{result_map_both};
+ghost use Rattle.icu_decimal_chains.specs.Chains.{chain};
 ghost use Rattle.icu_decimal_provider.specs.Choice.{first_found};
 ghost use Rattle.icu_decimal_provider.specs.Identifiers.{symbols_identifiers, digits_identifiers};
 
 use crate::error::DataError;
 use crate::preferences::DecimalFormatterPreferences;
+use crate::provider::chain_loading::load_by_chain;
 use crate::provider::data_provider::{DataMarker, DataProvider};
 use crate::provider::fallback::load_with_fallback;
 use crate::provider::identifier::DataIdentifier;
 use crate::provider::markers::{DecimalDigitsV1, DecimalSymbolsV1};
+use crate::provider::parents::ParentProvider;
 use crate::provider::symbols::DecimalSymbols;
 
 // The first table of one identifier or none, and of another behind it.
@@ -27,22 +30,21 @@ fn load_one_or<'p, M: DataMarker, P: DataProvider<M>>(
     }
 }
 
-/// The symbols that the preferences ask for: under their locale with their numbering system, where they have one, then under
-/// their locale alone.
+/// The symbols that the preferences ask for: along the chain of their locale, each with their numbering system, where they have
+/// one, then each alone.
 ///
 /// With the sample book `en-u-nu-wxyz` gets those of `en`. The locale is the form with the language first. Errors as
-/// `load_with_fallback`. It takes no memory.
-pub fn load_symbols<'p, P: DataProvider<DecimalSymbolsV1>>(
+/// `load_by_chain`. It takes no memory.
+pub fn load_symbols<'p, P: DataProvider<DecimalSymbolsV1> + ParentProvider>(
     provider: &'p P,
     preferences: &DecimalFormatterPreferences,
 ) -> Result<&'p DecimalSymbols, DataError>
-    ensures { result_map_both (λ found. found.now) (λ error. error) result ≡ first_found (λ id. P.table provider.now id) (symbols_identifiers preferences.now) }
+    ensures { result_map_both (λ found. found.now) (λ error. error) result ≡ first_found (λ id. P.table provider.now id) (symbols_identifiers (chain (P.next provider.now) (P.limit provider.now)) preferences.now) }
 {
     let locale = preferences
         .locale_preferences
         .to_data_locale_language_priority();
-    let asked = preferences.nu_id(&locale);
-    load_one_or::<DecimalSymbolsV1, P>(provider, asked, DataIdentifier::for_locale(locale))
+    load_by_chain::<DecimalSymbolsV1, P>(provider, &locale, preferences.numbering_system)
 }
 
 /// The ten digits that the preferences ask for: those of their numbering system, where they have one, then those of the system

@@ -2,6 +2,7 @@
 mod compact;
 mod entries;
 mod entry;
+mod parents;
 mod fields;
 mod form;
 mod rules;

@@ -5,5 +5,5 @@ use Rattle.icu_decimal_text.proofs.laws.same_tables.Goals as goal
 pub returns : goal.returns
 returns c = record {
   same = c.same_preferences.ensures.same;
-  tables = λ same symbols digits option. ap (λ p. found_tables symbols digits p option) (c.same_preferences.ensures.same.0 same);
+  tables = λ same chain symbols digits option. ap (λ p. found_tables chain symbols digits p option) (c.same_preferences.ensures.same.0 same);
 }

@@ -1,0 +1,29 @@
+-- Chains: what stands after a start, one step each, up to where no step is left.
+-- Defined in docs/formatters.md, "Choosing tables".
+-- Cited by all that asks for tables along the parents of a locale, and by the test whether a book's parents come back.
+use Rattle.std.specs.Prelude.{◌≡◌, ℕ, zero, suc, List, [], ◌∷◌, Option, None, Some}
+use Rattle.std.specs.Option.{option_and_then, option_map_or}
+
+module _ {A : Type 0} (next : A → Option A) where
+  -- these stand after the start, up to the end
+  abbrev pub Follows : A → List A → Type 0
+  Follows start [] = next start ≡ None
+  Follows start (x ∷ xs) = (next start ≡ Some x) × Follows x xs
+
+  -- what stands after the start, so many steps at most
+  abbrev pub walk : ℕ → A → List A
+  walk zero start = []
+  walk (suc n) start = option_map_or (λ x. x ∷ walk n x) (next start) []
+
+  -- the start, and so many steps behind it at most
+  abbrev pub chain : ℕ → A → List A
+  chain n start = start ∷ walk n start
+
+  -- where so many steps lead
+  abbrev pub after : ℕ → A → Option A
+  after zero start = Some start
+  after (suc n) start = option_and_then (λ x. after n x) (next start)
+
+  -- some steps, one at least, lead back
+  abbrev pub ComesBack : A → Type 0
+  ComesBack start = (n : ℕ) × (after (suc n) start ≡ Some start)

@@ -1,0 +1,85 @@
+//! The sixth array of a book: locales and their parents.
+ghost use Rattle.std.specs.Prelude.{◌≡◌, true, [], ◌∷◌, IfOk, IfErr, OnOk, Some, None};
+ghost use Rattle.serde_json.specs.View.{items_view, view};
+ghost use Rattle.locale_numbers_book.specs.declared.error.BookError.TheVariants.{Shape, Tag};
+ghost use Rattle.locale_numbers_book.specs.Entries.{all_of};
+ghost use Rattle.locale_numbers_book.specs.Faults.{first_broken};
+ghost use Rattle.std.specs.Prelude.{is_some};
+ghost use Rattle.locale_numbers_book.specs.ParentEntries.{AddsParent, has_parent_shape, parent_entry, parent_fault, parents_faults};
+ghost use Rattle.locale_numbers_book.specs.Refusal.{IsTold};
+
+use super::entries::has_count;
+use super::fields::{is_text_at, locale};
+use crate::BookError;
+use icu_locale_core::DataLocale;
+use locale_numbers_parents::{ParentFault, Parents};
+use serde_json::Value;
+use std::alloc::Global;
+
+/// Whether an entry is two texts.
+fn has_parent_shape(entry: &Value) -> bool
+    ensures { result ≡ has_parent_shape (view entry.now) }
+{
+    has_count(entry, 2) && is_text_at(entry, 0) && is_text_at(entry, 1)
+}
+
+/// The locale and the parent of an entry.
+fn parent_entry(alloc: Global, entry: &Value) -> Result<(DataLocale, DataLocale), BookError>
+    ensures value { IfOk result (λ pair. parent_entry (view entry.now) ≡ Some pair) }
+    ensures shape { OnOk result (has_parent_shape (view entry.now) ≡ true) }
+    ensures fault { IfErr result (λ fault. IsTold (first_broken ((Shape, has_parent_shape (view entry.now)) ∷ (Tag, is_some (parent_entry (view entry.now))) ∷ [])) fault) }
+{
+    if !has_parent_shape(entry) {
+        return Err(BookError::Shape);
+    }
+    let Ok(found) = locale(alloc, entry, 0) else {
+        return Err(BookError::Memory);
+    };
+    let Some(place) = found else {
+        return Err(BookError::Tag);
+    };
+    let Ok(found) = locale(alloc, entry, 1) else {
+        return Err(BookError::Memory);
+    };
+    let Some(parent) = found else {
+        return Err(BookError::Tag);
+    };
+    Ok((place, parent))
+}
+
+/// Adds what an entry says, and lets the entry go.
+fn add_parent(alloc: Global, parents: &mut Parents, entry: Value) -> Result<(), BookError>
+    ensures added { OnOk result (AddsParent (view entry) parents.old parents.new) }
+    ensures fault { IfErr result (λ fault. IsTold (parent_fault parents.old (view entry)) fault) }
+{
+    let read = parent_entry(alloc, &entry);
+    drop(entry);
+    let (place, parent) = match read {
+        Ok(pair) => pair,
+        Err(fault) => return Err(fault),
+    };
+    match parents.add(place, parent) {
+        Ok(()) => Ok(()),
+        Err(fault) => match fault {
+            ParentFault::Duplicate => Err(BookError::Duplicate),
+            ParentFault::Cycle => Err(BookError::Cycle),
+            ParentFault::Memory => Err(BookError::Memory),
+        },
+    }
+}
+
+/// The parents that the entries of an array make; each entry is let go once it is read.
+pub fn parents_of(alloc: Global, entries: Vec<Value>) -> Result<Parents, BookError>
+    ensures value { IfOk result (λ parents. all_of parent_entry (items_view entries.items) ≡ Some parents) }
+    ensures sound { OnOk result (parents_faults [] (items_view entries.items) ≡ None) }
+    ensures fault { IfErr result (λ fault. IsTold (parents_faults [] (items_view entries.items)) fault) }
+{
+    let mut parents = Parents::new(alloc);
+    for entry in entries {
+        match add_parent(alloc, &mut parents, entry) {
+            Ok(()) => {}
+            Err(fault) => return Err(fault),
+        }
+    }
+    Ok(parents)
+}

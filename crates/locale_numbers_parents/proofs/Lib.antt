@@ -1,0 +1,4 @@
+pub mod PlaceLemmas
+pub mod PairsLemmas
+pub mod ParentsLemmas
+pub mod KnownParents
