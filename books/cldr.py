@@ -11,6 +11,7 @@ from xml.etree import ElementTree
 BELOW_CONTRIBUTED = ("unconfirmed", "provisional")
 PARTS = ("defaultNumberingSystem", "otherNumberingSystems", "minimumGroupingDigits", "symbols", "decimalFormats")
 INHERITED = "↑↑↑"
+NO_OLD_NAMES = ("overlong", "bibliographic")
 DATA_LOCALE = re.compile(r"[a-z]{2,3}(-[A-Z][a-z]{3})?(-([A-Z]{2}|[0-9]{3}))?(-([a-z0-9]{5,8}|[0-9][a-z0-9]{3}))?")
 
 
@@ -86,6 +87,18 @@ class Cldr:
                 for it in kind.iter("pluralRules"):
                     rules = [(rule.get("count"), rule.text or "") for rule in it.iter("pluralRule")]
                     self.rules.update((name, rules) for name in it.get("locales", "").split())
+
+    def aliases(self, tag):
+        """The old codes of languages or regions, each with the first code that stands for it now."""
+        for it in parse(f"{self.folder}/supplemental/supplementalMetadata.xml").iter(tag):
+            now = it.get("replacement", "").split()
+            if now and it.get("type") and it.get("reason") not in NO_OLD_NAMES:
+                yield it.get("type"), now[0]
+
+    def likely(self):
+        """What a name without all of its parts most likely means, with all of them."""
+        for it in parse(f"{self.folder}/supplemental/likelySubtags.xml").iter("likelySubtag"):
+            yield it.get("from", ""), it.get("to", "")
 
     def chain(self, name):
         """The locale, its parent, and so on to root."""

@@ -1,0 +1,58 @@
+"""The other names that CLDR has for its locales: those of old languages and regions, and those without a script."""
+from cldr import tag_of
+from look_up import Locale, locale_of
+
+
+def data_locale(name):
+    """The data locale that a name of CLDR is, or None."""
+    return locale_of(tag_of(name))
+
+
+def listed_parents(cldr):
+    """The parents that CLDR lists, from locale to locale."""
+    pairs = ((data_locale(child), data_locale(parent)) for child, parent in cldr.parents.items())
+    return {child: parent for child, parent in pairs if child and parent}
+
+
+def without_script(cldr, locales):
+    """The locales that a language and a region name by themselves: zh-TW is zh-Hant-TW."""
+    found = {}
+    for name, likely in cldr.likely():
+        name, likely = data_locale(name), data_locale(likely)
+        if name and likely and name.region and likely._replace(script="") == name:
+            if Locale(likely.language, likely.script) in locales:
+                found[name] = likely
+    return found
+
+
+def of_old_regions(cldr, locales):
+    """The locales of each old region: en-RH is en-ZW."""
+    found = {}
+    for old, new in cldr.aliases("territoryAlias"):
+        for locale in locales:
+            if locale.region == new:
+                found[locale._replace(region=old)] = locale
+    return found
+
+
+def of_old_languages(cldr, locales):
+    """The locales of each old language: iw is he, and sh-ME is sr-Latn-ME."""
+    found = {}
+    for old, new in cldr.aliases("languageAlias"):
+        old, new = data_locale(old), data_locale(new)
+        if old and new:
+            found[old] = new
+            own = {part: "" for part in ("script", "region", "variant") if getattr(new, part)}
+            for locale in locales if old == Locale(old.language) else ():
+                if locale.language == new.language and all(getattr(locale, part) == getattr(new, part) for part in own):
+                    found[locale._replace(language=old.language, **own)] = locale
+    return found
+
+
+def other_names(cldr):
+    """Each other name of a locale with the locale that it is; no name is a locale of CLDR's."""
+    locales = {data_locale(name) for name in cldr.names.values()} - {None}
+    found = without_script(cldr, locales)
+    for more in (of_old_regions, of_old_languages):
+        found = {**more(cldr, sorted({*locales, *found})), **found}
+    return {name: found[name] for name in sorted(found) if name not in locales}
