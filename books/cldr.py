@@ -89,10 +89,11 @@ class Cldr:
                     self.rules.update((name, rules) for name in it.get("locales", "").split())
 
     def aliases(self, tag):
-        """The old codes of languages or regions, each with the first code that stands for it now."""
+        """The old codes of languages or regions, each with the one that stands for it now; a code that has become
+        several is none of them."""
         for it in parse(f"{self.folder}/supplemental/supplementalMetadata.xml").iter(tag):
             now = it.get("replacement", "").split()
-            if now and it.get("type") and it.get("reason") not in NO_OLD_NAMES:
+            if len(now) == 1 and it.get("type") and it.get("reason") not in NO_OLD_NAMES:
                 yield it.get("type"), now[0]
 
     def likely(self):

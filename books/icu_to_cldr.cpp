@@ -1,4 +1,4 @@
-// Writes what ICU's own bundles know of numbers into a folder in the form of CLDR's `common`: main/*.xml and three
+// Writes what ICU's own bundles know of numbers into a folder in the form of CLDR's `common`: main/*.xml and five
 // files of supplemental/. ICU leaves its aliases unseen: a table of root that is equal to the one of `latn` is
 // written as the alias that it is in CLDR.
 #include <unicode/localpointer.h>
@@ -151,6 +151,23 @@ static std::string parents() {
     return element("parentLocales", found);
 }
 
+// The old codes of languages or regions, as elements of this name.
+static std::string aliases(const char* kind, const std::string& name) {
+    std::string found;
+    for (const Table& old : items(below(below(open("metadata"), "alias"), kind))) {
+        found += "<" + name + " type=\"" + key(old) + "\" replacement=\"" + text(below(old, "replacement")) +
+                 "\" reason=\"" + text(below(old, "reason")) + "\"/>\n";
+    }
+    return found;
+}
+
+static std::string likely() {
+    std::string found;
+    for (const Table& name : items(open("likelySubtags")))
+        found += "<likelySubtag from=\"" + key(name) + "\" to=\"" + text(name) + "\"/>\n";
+    return element("likelySubtags", found);
+}
+
 static std::string plurals() {
     Table bundle = open("plurals");
     std::map<std::string, std::string> locales;
@@ -185,6 +202,9 @@ int main(int count, char** words) {
     write(folder / "supplemental" / "numberingSystems.xml", "supplementalData", systems());
     write(folder / "supplemental" / "supplementalData.xml", "supplementalData", parents());
     write(folder / "supplemental" / "plurals.xml", "supplementalData", plurals());
+    write(folder / "supplemental" / "supplementalMetadata.xml", "supplementalData",
+          aliases("language", "languageAlias") + aliases("territory", "territoryAlias"));
+    write(folder / "supplemental" / "likelySubtags.xml", "supplementalData", likely());
     UErrorCode code = U_ZERO_ERROR;
     UVersionInfo version;
     ulocdata_getCLDRVersion(version, &code);

@@ -2,8 +2,11 @@
 
 The scripts of this folder go by this model alone; nothing in it is taken from the program.
 """
+import json
 import re
 import typing
+
+from cldr import Fault
 
 ARRAYS = ("symbols", "digits", "plural rules", "short", "long", "parents")
 LOOKED_UP = ("symbols", "plural rules", "short", "long")
@@ -145,6 +148,21 @@ def book_of(value):
         return Book(value) if parents_fault(value[5] if len(value) > 5 else []) is None else None
     except (TypeError, ValueError, LookupError):
         return None
+
+
+def read_book(path):
+    """The book that a file holds."""
+    try:
+        with open(path, encoding="utf-8") as given:
+            value = json.load(given)
+    except OSError as fault:
+        raise Fault(f"{path} can't be read: {fault.strerror}") from None
+    except (ValueError, RecursionError) as fault:
+        raise Fault(f"{path} is no JSON: {fault}") from None
+    book = book_of(value)
+    if book is None:
+        raise Fault(f"{path} is no book of five or six arrays")
+    return book
 
 
 def differences(full, book):

@@ -49,10 +49,19 @@ def of_old_languages(cldr, locales):
     return found
 
 
+def meant(names, name):
+    """The locale that a name leads to, where a name may stand for another one: cnr is sr-ME, and this sr-Latn-ME."""
+    for _ in names:
+        if name not in names:
+            break
+        name = names[name]
+    return name
+
+
 def other_names(cldr):
     """Each other name of a locale with the locale that it is; no name is a locale of CLDR's."""
     locales = {data_locale(name) for name in cldr.names.values()} - {None}
     found = without_script(cldr, locales)
     for more in (of_old_regions, of_old_languages):
         found = {**more(cldr, sorted({*locales, *found})), **found}
-    return {name: found[name] for name in sorted(found) if name not in locales}
+    return {name: meant(found, name) for name in sorted(found) if name not in locales}

@@ -94,10 +94,13 @@ class Smaller:
         return [it for it in self.book.chain(locale) if it in self.bearing]
 
     def add_name(self, name, its):
-        """Adds the step from another name of a locale where the name would find other entries without it."""
-        found = self.with_entries(its)
-        if name not in self.steps and name not in self.passed and self.with_entries(name) != found:
-            self.steps[name] = found[0] if found else its
+        """Adds the step from another name of a locale where the name would find other entries without it. The step
+        goes to the first cut of the locale that has entries or a step of its own."""
+        if name in self.steps or name in self.passed or self.with_entries(name) == self.with_entries(its):
+            return
+        while its not in self.bearing and its not in self.steps and truncated(its):
+            its = truncated(its)
+        self.steps[name] = its
 
     def drop_steps(self):
         """Drops the steps that neither lead to an entry nor keep a locale from one."""
