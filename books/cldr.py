@@ -20,6 +20,7 @@ class Fault(Exception):
 
 
 def parse(path):
+    """The outer element of an XML file."""
     try:
         return ElementTree.parse(path).getroot()
     except FileNotFoundError:
@@ -31,6 +32,7 @@ def parse(path):
 
 
 def step(element):
+    """The step of an element: its name with the attributes that tell it from its sisters."""
     told = [element.get(name) for name in ("numberSystem", "type", "count") if element.get(name) is not None]
     return f"{element.tag}[{','.join(told)}]" if told else element.tag
 
@@ -69,6 +71,7 @@ class Cldr:
         self._supplemental()
 
     def _supplemental(self):
+        """Reads the systems, the parents and the plural rules."""
         self.digits, self.algorithmic = {}, []
         for it in parse(f"{self.folder}/supplemental/numberingSystems.xml").iter("numberingSystem"):
             if it.get("type") == "numeric" and len(it.get("digits", "")) == 10:
@@ -138,6 +141,7 @@ class Cldr:
         return self._read[name]
 
     def _walk(self, element, path, draft, tables, aliases):
+        """Takes the values and the aliases of an element and of all below it."""
         draft = element.get("draft", draft)
         if element.get("alt") is not None:
             self.left_out["alt"] += 1
@@ -161,6 +165,7 @@ class Cldr:
         return self._tables[key]
 
     def _merged(self, chain, path):
+        """The table of a path, made once for each locale that is asked for."""
         found = {}
         for name in chain:
             tables, aliases = self._of(name)

@@ -42,6 +42,7 @@ def around(form, number):
 
 
 def written(form, signs=None):
+    """The text of these characters, with signs in the place of those that stand for them."""
     return "".join(char if quoted or signs is None else signs.get(char, char) for char, quoted in form)
 
 
@@ -64,16 +65,20 @@ class Entries:
         self.arrays[1] = [[name, digits] for name, digits in sorted(cldr.digits.items())]
 
     def without(self, reason, tag, count=1):
+        """Counts what is left out of a locale for a reason; answers None, as there is no entry."""
         self.left_out[reason][tag] += count
 
     def default_system(self, chain):
+        """The system that a locale writes numbers in where none is asked for."""
         found = self.cldr.table(chain, ()).get("defaultNumberingSystem", "latn")
         return found if found in self.cldr.digits else "latn"
 
     def named_systems(self, chain):
+        """The systems with ten digits that a locale's data names."""
         return sorted(self.cldr.own_systems(chain) & set(self.cldr.digits))
 
     def add(self, name):
+        """Adds the entries of a locale to the arrays."""
         tag, chain = tag_of(name), self.cldr.chain(name)
         if not DATA_LOCALE.fullmatch(tag):
             return self.without("locales that no tag of a book names", tag)

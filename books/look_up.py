@@ -133,9 +133,9 @@ class Book:
         """The locales that have an entry of their own, in the order of their tags."""
         return sorted({locale for table in self.entries.values() for locale, _ in table}, key=text_of)
 
-    def named(self):
-        """The locales that the book names in its entries and in its sixth array, in the order of their tags."""
-        return sorted({*self.locales(), *(self.parents or {}), *(self.parents or {}).values()}, key=text_of)
+    def standing(self):
+        """The locales that have an entry or stand behind another one, in the order of their tags."""
+        return sorted({*self.locales(), *(self.parents or {}).values()}, key=text_of)
 
     def systems(self):
         """The systems that the book has digits or an entry for, in order."""

@@ -14,13 +14,13 @@ def listed_parents(cldr):
     return {child: parent for child, parent in pairs if child and parent}
 
 
-def without_script(cldr, locales):
-    """The locales that a language and a region name by themselves: zh-TW is zh-Hant-TW."""
+def without_script(cldr, known):
+    """The locales that a language and a region name by themselves: zh-TW is zh-Hant-TW, as zh-Hant is known."""
     found = {}
     for name, likely in cldr.likely():
         name, likely = data_locale(name), data_locale(likely)
         if name and likely and name.region and likely._replace(script="") == name:
-            if Locale(likely.language, likely.script) in locales:
+            if Locale(likely.language, likely.script) in known:
                 found[name] = likely
     return found
 
@@ -61,7 +61,7 @@ def meant(names, name):
 def other_names(cldr):
     """Each other name of a locale with the locale that it is; no name is a locale of CLDR's."""
     locales = {data_locale(name) for name in cldr.names.values()} - {None}
-    found = without_script(cldr, locales)
+    found = without_script(cldr, {*locales, *listed_parents(cldr)})
     for more in (of_old_regions, of_old_languages):
         found = {**more(cldr, sorted({*locales, *found})), **found}
     return {name: meant(found, name) for name in sorted(found) if name not in locales}
