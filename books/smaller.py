@@ -111,8 +111,8 @@ class Smaller:
 
     def arrays(self):
         """The six arrays, each in the order of its keys."""
-        keys = {kind: sorted(table, key=lambda it: (text_of(it[0]), it[1])) for kind, table in self.book.entries.items()}
-        found = {kind: [self.entry(kind, *key) for key in keys[kind]] for kind in LOOKED_UP}
+        in_order = lambda kind: sorted(self.book.entries[kind], key=lambda it: (text_of(it[0]), it[1]))
+        found = {kind: [self.entry(kind, *key) for key in in_order(kind)] for kind in LOOKED_UP}
         parents = sorted([text_of(locale), text_of(parent)] for locale, parent in self.steps.items())
         fault = parents_fault(parents)
         if fault:
