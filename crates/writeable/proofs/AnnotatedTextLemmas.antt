@@ -1,6 +1,8 @@
 -- The text of events.
-use Rattle.std.proofs.Common.{◌≡◌, ℕ, List, [], ◌∷◌, ◌++◌, refl, ap}
-use Rattle.writeable.specs.AnnotatedText.{byte, bytes, opening, closing, text_of}
+use Rattle.std.proofs.Common.{◌≡◌, ℕ, ◌+◌, List, [], ◌∷◌, ◌++◌, length, refl, ap, arith}
+use Rattle.std.proofs.lemmas.List.{length-append}
+use Rattle.writeable.specs.AnnotatedText.{Event, byte, bytes, opening, closing, text_of}
+use Rattle.writeable.specs.SinkLaws.{text_of_joined}
 use Rattle.writeable.specs.PartName.{PartName}
 
 -- bytes alone write themselves
@@ -29,3 +31,10 @@ text_of_opening part = refl
 pub text_of_closing : text_of closing ≡ []
 unfolding closing
 text_of_closing = refl
+
+-- how long a text between two others is with them
+pub affixed_length : (before behind : List ℕ) (es : List Event)
+    → length (text_of es) + length before + length behind ≡ length (text_of (bytes before ++ (es ++ bytes behind)))
+affixed_length before behind es =
+    rw (text_of_joined (bytes before) (es ++ bytes behind), text_of_joined es (bytes behind), text_of_bytes before, text_of_bytes behind,
+    length-append before (text_of es ++ behind), length-append (text_of es) behind) (omega arith)

@@ -1,15 +1,25 @@
 -- Writing in a loop, and what a call that was not refused answered.
-use Rattle.std.proofs.Common.{◌≡◌, ℕ, ◌+◌, ◌<◌, ◌≤◌, List, [], ◌++◌, length, drop, get_or, Bool, false, Result, Ok, Err, is_err, OnOk, refl, sym, ◌∙◌, ap, subst}
+use Rattle.std.proofs.Common.{◌≡◌, ℕ, ◌+◌, ◌<◌, ◌≤◌, List, [], ◌++◌, length, drop, get_or, Bool, false, Result, Ok, Err, is_err, OnOk, refl, sym, ◌∙◌, ap, subst, arith}
 use Rattle.std.specs.List.{flat_map}
 use Rattle.std.proofs.lemmas.Bool.{false≢true}
-use Rattle.std.proofs.lemmas.List.{append_assoc, append-nil, drop_more, drop_all}
-use Rattle.writeable.specs.AnnotatedText.{Event}
+use Rattle.std.proofs.lemmas.List.{append_assoc, append-nil, length-append, drop_more, drop_all}
+use Rattle.writeable.specs.AnnotatedText.{Event, text_of, without_parts, HasText}
+use Rattle.writeable.specs.SinkLaws.{text_of_joined}
 use Rattle.writeable.specs.Taking.{HasBegun, IsWriting, begun_first, begun_then}
+use Rattle.writeable.proofs.AnnotatedTextLemmas.{text_of_bytes}
 
 -- a call that was not refused answered Ok
 pub on_ok_where_fine : {T E P : Type 0} (r : Result T E) → false ≡ is_err r → OnOk r P → P
 on_ok_where_fine (Ok x) fine holds = holds
 on_ok_where_fine (Err e) fine holds = absurd (false≢true fine)
+
+-- an empty text has no byte that could be left
+pub no_text_is_left : (es front rest : List Event) → text_of es ≡ [] → without_parts es ≡ front ++ rest → HasText rest → ⊥
+no_text_is_left es front rest none whole left =
+    let texts : [] ≡ text_of front ++ text_of rest =
+    sym none ∙ sym (text_of_bytes (text_of es)) ∙ ap text_of whole ∙ text_of_joined front rest in
+    let lengths = ap length texts ∙ length-append (text_of front) (text_of rest) in
+    omega (arith, lengths, left)
 
 -- what the items from the i-th on write: the item, then those after it
 pub flat_map_next : {X : Type 0} (f : X → List Event) (xs : List X) (i : ℕ) (x : X) → i < length xs → x ≡ get_or xs i x

@@ -1,5 +1,6 @@
 -- what a reader must believe
 pub mod AnnotatedText
+pub mod Affixed
 pub mod Taking
 pub mod LengthHint
 pub mod Numbers

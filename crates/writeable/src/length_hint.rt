@@ -1,4 +1,5 @@
-ghost use Rattle.std.specs.Prelude.{◌≡◌, None, Some};
+ghost use Rattle.std.specs.Prelude.{◌≡◌, ℕ, ◌+◌, None, Some};
+ghost use Rattle.writeable.specs.LengthHint.{IsWithinHint};
 
 /// How long a text is, in bytes: at least `low`, and at most `high` where that is known. Of `a,b`
 /// it is from 3 to 3.
@@ -32,6 +33,20 @@ impl LengthHint {
         LengthHint {
             low: length,
             high: None,
+        }
+    }
+
+    // The hint of a text that has `bytes` more: `exact(3)` by 2 is from 5 to 5. An end that no
+    // `usize` holds says what is known without it.
+    pub(crate) fn longer_by(self, bytes: usize) -> Self
+        ensures { (n : ℕ) → IsWithinHint self n → IsWithinHint result (n + bytes) }
+    {
+        LengthHint {
+            low: self.low.saturating_add(bytes),
+            high: match self.high {
+                Some(most) => most.checked_add(bytes),
+                None => None,
+            },
         }
     }
 }

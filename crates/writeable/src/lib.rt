@@ -13,6 +13,7 @@
 
 #![tactic(auto)]
 
+mod affixed;
 mod compare_sink;
 mod count_sink;
 mod error;
@@ -26,6 +27,7 @@ mod sink;
 mod text_sink;
 mod write;
 
+pub use affixed::Affixed;
 pub use compare_sink::{CompareSink, strict_cmp};
 pub use count_sink::CountSink;
 pub use error::Error;

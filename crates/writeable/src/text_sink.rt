@@ -1,4 +1,4 @@
-ghost use Rattle.std.specs.Prelude.{◌≡◌, false, [], IfOk};
+ghost use Rattle.std.specs.Prelude.{◌≡◌, ◌++◌, false, [], IfOk, IsOk, OnOk, OnErr};
 ghost use Rattle.std.specs.String.{string_bytes};
 
 use crate::error::Error;
@@ -44,6 +44,7 @@ impl TextSink {
     pub(crate) fn with_capacity(alloc: Global, capacity: usize) -> Result<Self, AllocError>
         ensures text { IfOk result (λ sink. sink.text ≡ []) }
         ensures refused { IfOk result (λ sink. sink.refused ≡ false) }
+        ensures succeeds { capacity ≡ 0 → IsOk result }
     {
         Ok(Self::from_string(String::with_capacity(alloc, capacity)?))
     }
@@ -58,6 +59,18 @@ impl TextSink {
             text,
             refused: false,
         }
+    }
+
+    /// Writes `text` behind what the sink holds: `a,` and then `b` are `a,b`.
+    ///
+    /// It is `write_str` for one's own sink: `AllocError`, where memory for the bytes is refused, says
+    /// so by its type, and leaves the sink as it was. The empty text takes no memory.
+    pub fn push_str(&mut self, text: &str) -> Result<(), AllocError>
+        ensures ok { OnOk result (self.new ≡ record { text = self.old.text ++ text.now; refused = self.old.refused }) }
+        ensures kept { OnErr result (self.new ≡ self.old) }
+        ensures succeeds { text.now ≡ [] → IsOk result }
+    {
+        self.text.push_str(text)
     }
 
     /// What the sink holds, moved out: `a,b` after `write_str("a,b")`. It takes no memory.

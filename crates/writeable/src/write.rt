@@ -1,4 +1,4 @@
-ghost use Rattle.std.specs.Prelude.{◌≡◌, false, List, length, OnOk, OnErr, IfOk, is_err};
+ghost use Rattle.std.specs.Prelude.{◌≡◌, false, List, [], length, OnOk, OnErr, IfOk, IsOk, is_err};
 
 use crate::error::Error;
 use crate::length_hint::LengthHint;
@@ -57,10 +57,11 @@ pub trait Writeable {
 
     /// The text of the value, without its parts: `a,b` with parts gives the string `a,b`.
     ///
-    /// It takes memory; `AllocError` is answered where that is refused.
+    /// It allocates, unless the text is empty; `AllocError` where that is refused.
     #[tactic(auto, using(crate::proofs::AnnotatedTextLemmas::text_of_bytes))]
     final fn write_to_string(&self, alloc: Global) -> Result<String, AllocError>
-        ensures { IfOk result (λ text. string_bytes text ≡ text_of (events self.now)) }
+        ensures succeeds { text_of (events self.now) ≡ [] → IsOk result }
+        ensures ok { IfOk result (λ text. string_bytes text ≡ text_of (events self.now)) }
     {
         let mut sink = TextSink::with_capacity(alloc, self.writeable_length_hint().low)?;
         match self.write_text(&mut sink) {
