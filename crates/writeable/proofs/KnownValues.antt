@@ -2,10 +2,12 @@
 use Rattle.std.proofs.Common.{◌≡◌, [], ◌∷◌, ◌++◌, refl}
 use Rattle.std.specs.Prelude.{codes}
 use Rattle.std.specs.declared.cmp.Ordering.TheVariants.{Less, Equal, Greater}
+use Rattle.writeable.specs.Affixed.{affixed}
 use Rattle.writeable.specs.AnnotatedText.{bytes, opening, closing, annotated}
 use Rattle.writeable.specs.HeldParts.{held_after}
 use Rattle.writeable.specs.Order.{byte_order}
 use Rattle.writeable.specs.PartName.{PartName}
+use Rattle.writeable.specs.PartText.{part_texts}
 
 -- two parts
 outer : PartName
@@ -19,6 +21,17 @@ two_parts : annotated (opening outer ++ (bytes (codes "a") ++ (opening inner ++ 
     ≡ record { text = codes "a,b"; parts = record { start = 0; end = 3; part = outer } ∷ record { start = 1; end = 2; part = inner } ∷ [] }
 unfolding bytes opening closing
 two_parts = refl
+
+-- the texts of those parts: A has `a,b`, and B has `,`
+texts_of_two_parts : part_texts (codes "a,b") (record { start = 0; end = 3; part = outer } ∷ record { start = 1; end = 2; part = inner } ∷ [])
+    ≡ record { part = outer; text = codes "a,b" } ∷ record { part = inner; text = codes "," } ∷ []
+texts_of_two_parts = refl
+
+-- the euro sign, three bytes, before `5` as the part A, and ` net` behind it: A from 3 to 4
+between_texts : annotated (affixed (λ part. opening part ++ (bytes (codes "5") ++ closing)) (record { before = 226 ∷ 130 ∷ 172 ∷ []; value = outer; behind = codes " net" }))
+    ≡ record { text = 226 ∷ 130 ∷ 172 ∷ codes "5 net"; parts = record { start = 3; end = 4; part = outer } ∷ [] }
+unfolding bytes opening closing
+between_texts = refl
 
 -- a part without bytes is not listed
 empty_part : annotated (opening outer ++ (closing ++ bytes (codes "a"))) ≡ record { text = codes "a"; parts = [] }

@@ -1,5 +1,6 @@
 pub mod AnnotatedTextLemmas
 pub mod BalancedLemmas
+pub mod CutOutLemmas
 pub mod EndsLemmas
 pub mod HeldLemmas
 pub mod HeldPartsLemmas

@@ -8,6 +8,7 @@ pub mod Order
 pub mod Shown
 -- what a contract sees of a type
 pub mod PartName
+pub mod PartText
 pub mod HeldCount
 pub mod HeldParts
 pub mod HeldText

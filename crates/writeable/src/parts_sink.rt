@@ -1,8 +1,10 @@
 ghost use Rattle.std.specs.Prelude.{◌≡◌, ◌≢◌, ◌≤◌, false, [], map, insert, vec_len, cond, is_ok, if◌then◌else◌, ◌==◌, OnOk, OnErr};
 ghost use Rattle.writeable.specs.HeldParts.{held_after};
+ghost use Rattle.writeable.specs.PartText.{part_texts};
 
 use crate::error::Error;
 use crate::part::Part;
+use crate::part_texts::PartTexts;
 use crate::sink::Sink;
 use std::alloc::{AllocError, Global};
 use std::marker::Model;
@@ -27,13 +29,13 @@ pub struct PartsSink {
 }
 
 impl Model for PartsSink {
-    ghost use Rattle.std.specs.Prelude.{length, map};
+    ghost use Rattle.std.specs.Prelude.{map};
     ghost use Rattle.std.specs.String.{string_bytes};
     ghost use Rattle.writeable.specs.HeldParts.{HeldParts};
 
     ghost Value = { HeldParts };
 
-    ghost use Rattle.writeable.specs.ListedParts.{interval_of, open_interval, HavePlaces};
+    ghost use Rattle.writeable.specs.ListedParts.{interval_of, open_interval, FitTogether};
 
     ghost view = { λ s. record {
       held = record {
@@ -44,7 +46,7 @@ impl Model for PartsSink {
       refused = s.refused;
     } };
 
-    ghost invariant = { λ s. HavePlaces s.open_parts.items (length s.parts.items) };
+    ghost invariant = { λ s. FitTogether (string_bytes s.text) s.parts.items s.open_parts.items };
 }
 
 impl PartsSink {
@@ -77,6 +79,17 @@ impl PartsSink {
         ensures { map interval_of result.now ≡ self.now.held.parts }
     {
         self.parts.as_slice()
+    }
+
+    /// The parts that were closed with their texts, in the order of `parts`: open A, `a`, open B, `,`,
+    /// close, `b`, close gives A with `a,b`, then B with `,`. It takes no memory.
+    pub fn part_texts(&self) -> PartTexts<'_>
+        ensures { result ≡ part_texts self.now.held.text self.now.held.parts }
+    {
+        PartTexts {
+            text: self.text.as_str(),
+            rest: self.parts.as_slice(),
+        }
     }
 }
 
