@@ -36,5 +36,11 @@ text_of_closing = refl
 pub affixed_length : (before behind : List ℕ) (es : List Event)
     → length (text_of es) + length before + length behind ≡ length (text_of (bytes before ++ (es ++ bytes behind)))
 affixed_length before behind es =
-    rw (text_of_joined (bytes before) (es ++ bytes behind), text_of_joined es (bytes behind), text_of_bytes before, text_of_bytes behind,
-    length-append before (text_of es ++ behind), length-append (text_of es) behind) (omega arith)
+    rw (
+      text_of_joined (bytes before) (es ++ bytes behind),
+      text_of_joined es (bytes behind),
+      text_of_bytes before,
+      text_of_bytes behind,
+      length-append before (text_of es ++ behind),
+      length-append (text_of es) behind,
+    ) (omega arith)

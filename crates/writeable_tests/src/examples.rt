@@ -3,7 +3,9 @@ use crate::fakes::{Failing, INNER, OUTER, Pair};
 use std::cmp::Ordering;
 use std::fmt::{self, Write};
 use std::test::Fail;
-use writeable::{CompareSink, Error, LengthHint, Part, Sink, Writeable, display, strict_cmp};
+use writeable::{
+    Affixed, CompareSink, Error, LengthHint, Part, Sink, Writeable, display, strict_cmp,
+};
 
 #[derive(Drop)]
 struct Shown(Pair);
@@ -11,6 +13,15 @@ struct Shown(Pair);
 impl fmt::Display for Shown {
     fn fmt<W: fmt::Write>(&self, f: &mut fmt::Formatter<W>) -> fmt::Result {
         display(&self.0, f)
+    }
+}
+
+// A value with the euro sign before it, of three bytes, and ` net` behind it.
+fn net<T>(value: T) -> Affixed<'static, T> {
+    Affixed {
+        before: "€",
+        value,
+        behind: " net",
     }
 }
 
@@ -29,6 +40,8 @@ fn parts_errors_and_hints(rt: HostRuntime) {
         (LengthHint::at_least(2), 2, None),
         ("a,b".writeable_length_hint(), 3, Some(3)),
         (Pair.writeable_length_hint(), 0, None),
+        (net("5").writeable_length_hint(), 8, Some(8)),
+        (net(Pair).writeable_length_hint(), 7, None),
     ] {
         assert_eq!(rt; hint.low, low);
         assert_eq!(rt; hint.high, high);
@@ -67,6 +80,12 @@ fn orders_of_texts(rt: HostRuntime) {
 fn texts_of_values(rt: HostRuntime) -> Result<(), Fail> {
     assert_eq!(rt; Pair.write_to_string(rt.alloc())?.as_str(), "a,b");
     assert_eq!(rt; "٬".write_to_string(rt.alloc())?.as_str(), "٬");
+    assert_eq!(rt; "".write_to_string(rt.alloc())?.as_str(), "");
+    assert_eq!(rt; net("5").write_to_string(rt.alloc())?.as_str(), "€5 net");
+    assert_eq!(rt;
+        format!(in rt.alloc(); "{}", net(net(Pair)))?.as_str(),
+        "€€a,b net net"
+    );
     let shown = Shown(Pair);
     assert_eq!(rt; format!(in rt.alloc(); "<{shown}>")?.as_str(), "<a,b>");
     assert_eq!(rt; write!(Failing, "{shown}"), Err(fmt::Error));

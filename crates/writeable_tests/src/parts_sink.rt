@@ -4,7 +4,7 @@ ghost use Rattle.std.specs.Prelude.{◌≡◌, false};
 use crate::fakes::{INNER, OUTER, Pair};
 use std::alloc::{AllocError, Global};
 use std::test::Fail;
-use writeable::{Error, PartsSink, Sink, Writeable};
+use writeable::{Affixed, Error, PartsSink, Sink, Writeable};
 
 // Writes a script: `(` opens A, `[` opens B, `)` and `]` close, all else is text.
 fn write_script<S: Sink>(sink: &mut S, script: &str) -> Result<(), Error>
@@ -37,29 +37,44 @@ fn listing(alloc: Global, sink: &PartsSink) -> Result<String, AllocError> {
     Ok(text)
 }
 
+// The parts with their texts as `value=text`, each behind a blank.
+fn texts(alloc: Global, sink: &PartsSink) -> Result<String, AllocError> {
+    let mut listed = String::new(alloc);
+    for (part, text) in sink.part_texts() {
+        write!(listed, " {}={text}", part.value)?;
+    }
+    Ok(listed)
+}
+
 #[test]
 fn lists_closed_parts_with_bytes(rt: HostRuntime) -> Result<(), Fail> {
-    for (script, text, parts) in [
-        ("(a[,]b)", "a,b", " 0-3A 1-2B"),
-        ("a[,]", "a,", " 1-2B"),
+    for (script, text, parts, part_texts) in [
+        ("(a[,]b)", "a,b", " 0-3A 1-2B", " A=a,b B=,"),
+        ("a[,]", "a,", " 1-2B", " B=,"),
         // a part without bytes
-        ("()a", "a", ""),
-        ("(a[])", "a", " 0-1A"),
+        ("()a", "a", "", ""),
+        ("(a[])", "a", " 0-1A", " A=a"),
         // a part that is still open, then closed, and a closed one inside an open one
-        ("(a", "a", ""),
-        ("(a)", "a", " 0-1A"),
-        ("(a[b]", "ab", " 1-2B"),
+        ("(a", "a", "", ""),
+        ("(a)", "a", " 0-1A", " A=a"),
+        ("(a[b]", "ab", " 1-2B", " B=b"),
         // a close alone does nothing
-        (")(a))b", "ab", " 0-1A"),
+        (")(a))b", "ab", " 0-1A", " A=a"),
         // two parts at one start, in order of opening
-        ("([a])", "a", " 0-1A 0-1B"),
-        ("(a[b])(c)[d]", "abcd", " 0-2A 1-2B 2-3A 3-4B"),
+        ("([a])", "a", " 0-1A 0-1B", " A=a B=a"),
+        (
+            "(a[b])(c)[d]",
+            "abcd",
+            " 0-2A 1-2B 2-3A 3-4B",
+            " A=ab B=b A=c B=d",
+        ),
         // bytes, not characters
-        ("١[٬]", "١٬", " 2-4B"),
+        ("١[٬]", "١٬", " 2-4B", " B=٬"),
     ] {
         let sink = written(rt.alloc(), script)?;
         assert_eq!(rt; sink.text(), text, "{script}");
         assert_eq!(rt; listing(rt.alloc(), &sink)?.as_str(), parts, "{script}");
+        assert_eq!(rt; texts(rt.alloc(), &sink)?.as_str(), part_texts, "{script}");
         assert!(rt; !sink.has_refused());
     }
     Ok(())
@@ -86,6 +101,16 @@ fn lists_the_parts_of_a_value(rt: HostRuntime) -> Result<(), Fail> {
     let sink = parts_of(rt.alloc(), &Pair)?;
     assert_eq!(rt; sink.text(), "a,b");
     assert_eq!(rt; sink.parts(), [(0, 3, OUTER), (1, 2, INNER)].as_slice());
+    // three bytes before the parts
+    let net = Affixed {
+        before: "€",
+        value: Pair,
+        behind: " net",
+    };
+    let sink = parts_of(rt.alloc(), &net)?;
+    assert_eq!(rt; sink.text(), "€a,b net");
+    assert_eq!(rt; sink.parts(), [(3, 6, OUTER), (4, 5, INNER)].as_slice());
+    assert_eq!(rt; texts(rt.alloc(), &sink)?.as_str(), " A=a,b B=,");
     // the text alone has no parts
     let alone = text_behind(rt.alloc(), &Pair)?;
     assert_eq!(rt; alone.text(), "xa,b");

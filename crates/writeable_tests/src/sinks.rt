@@ -2,7 +2,7 @@
 ghost use Rattle.std.specs.Prelude.{◌≡◌, false};
 
 use crate::fakes::{OUTER, Pair, Short};
-use std::alloc::Global;
+use std::alloc::{AllocError, Global};
 use std::test::Fail;
 use writeable::{CountSink, Error, Sink, TextSink, Writeable};
 
@@ -37,11 +37,23 @@ fn moved_behind(text: String) -> Result<String, Error> {
     Ok(sink.into_string())
 }
 
+// Texts pushed into one's own sink.
+fn pushed(alloc: Global) -> Result<TextSink, AllocError> {
+    let mut sink = TextSink::new(alloc);
+    sink.push_str("a,")?;
+    sink.push_str("")?;
+    sink.push_str("b")?;
+    Ok(sink)
+}
+
 #[test]
 fn texts_of_a_sink(rt: HostRuntime) -> Result<(), Fail> {
     assert_eq!(rt; TextSink::new(rt.alloc()).text(), "");
     let sink = text_call_by_call(rt.alloc())?;
     assert_eq!(rt; sink.text(), "a,b٬");
+    assert!(rt; !sink.has_refused());
+    let sink = pushed(rt.alloc())?;
+    assert_eq!(rt; sink.text(), "a,b");
     assert!(rt; !sink.has_refused());
     assert_eq!(rt; pair_behind(rt.alloc(), "x")?.text(), "xa,b");
     let text = String::from_str(rt.alloc(), "x")?;
