@@ -32,15 +32,13 @@ pub text_of_closing : text_of closing ≡ []
 unfolding closing
 text_of_closing = refl
 
--- how long a text between two others is with them
+-- the text of events between two texts
+pub text_of_affixed : (before behind : List ℕ) (es : List Event) → text_of (bytes before ++ (es ++ bytes behind)) ≡ before ++ (text_of es ++ behind)
+text_of_affixed before behind es =
+    rw (text_of_joined (bytes before) (es ++ bytes behind), text_of_joined es (bytes behind), text_of_bytes before, text_of_bytes behind) refl
+
+-- and its length
 pub affixed_length : (before behind : List ℕ) (es : List Event)
     → length (text_of es) + length before + length behind ≡ length (text_of (bytes before ++ (es ++ bytes behind)))
 affixed_length before behind es =
-    rw (
-      text_of_joined (bytes before) (es ++ bytes behind),
-      text_of_joined es (bytes behind),
-      text_of_bytes before,
-      text_of_bytes behind,
-      length-append before (text_of es ++ behind),
-      length-append (text_of es) behind,
-    ) (omega arith)
+    rw (text_of_affixed before behind es, length-append before (text_of es ++ behind), length-append (text_of es) behind) (omega arith)

@@ -1,5 +1,5 @@
 -- Listed parts have whole characters of the text, and keep them when the text grows.
-use Rattle.std.proofs.Common.{◌≡◌, ℕ, ◌+◌, List, [], ◌∷◌, ◌++◌, length, drop, sym, subst, arith}
+use Rattle.std.proofs.Common.{◌≡◌, ℕ, List, ◌∷◌, ◌++◌, drop, sym, subst, arith}
 use Rattle.std.specs.Prelude.{All, IsUtf8, IsCharBoundary}
 use Rattle.std.proofs.lemmas.List.{drop-append-le, length-append}
 use Rattle.std.proofs.lemmas.List.Elements.{All-drop}

@@ -31,8 +31,8 @@ impl<'a, T> Model for Affixed<'a, T> {
 
 /// The text before, the value with its parts, the text behind: `€5 net`.
 ///
-/// `Error`, only where the sink refused: it took a beginning. Writing takes no memory but the sink's and the value's. The hint is
-/// the value's, with the lengths of the two texts added: of `€5 net` exactly 8.
+/// `Error`, only where the sink refused: it took a beginning. Writing allocates only what the sink and
+/// the value do. The hint is the value's, with the lengths of the two texts added: of `€5 net` exactly 8.
 impl<'a, T: Writeable> Writeable for Affixed<'a, T> {
     ghost use Rattle.std.specs.Prelude.{length};
     ghost use Rattle.writeable.specs.Affixed.{affixed};
@@ -57,7 +57,7 @@ impl<'a, T: Writeable> Writeable for Affixed<'a, T> {
     }
 }
 
-/// The same text, without its parts: `€5 net`. It takes no memory but the writer's and the value's.
+/// The same text, without its parts: `€5 net`. It allocates only what the writer and the value do.
 impl<'a, T: Writeable> fmt::Display for Affixed<'a, T> {
     ghost use Rattle.std.specs.Prelude.{Some};
     ghost use Rattle.writeable.specs.Affixed.{affixed};

@@ -5,7 +5,7 @@ use std::iter::FusedIterator;
 use std::marker::Model;
 
 /// The parts of a `PartsSink` with their texts, borrowed, in order of opening: of `a,b` with the part A
-/// around all of it and B around the comma, A with `a,b` and B with `,`.
+/// around all of it and B around the comma, A with `a,b` and B with `,`. It never allocates.
 #[derive(Drop)]
 pub struct PartTexts<'s> {
     pub(crate) text: &'s str,

@@ -82,7 +82,7 @@ impl PartsSink {
     }
 
     /// The parts that were closed with their texts, in the order of `parts`: open A, `a`, open B, `,`,
-    /// close, `b`, close gives A with `a,b`, then B with `,`. It takes no memory.
+    /// close, `b`, close gives A with `a,b`, then B with `,`. It never allocates.
     pub fn part_texts(&self) -> PartTexts<'_>
         ensures { result ≡ part_texts self.now.held.text self.now.held.parts }
     {

@@ -63,8 +63,8 @@ impl TextSink {
 
     /// Writes `text` behind what the sink holds: `a,` and then `b` are `a,b`.
     ///
-    /// It is `write_str` for one's own sink: `AllocError`, where memory for the bytes is refused, says
-    /// so by its type, and leaves the sink as it was. The empty text takes no memory.
+    /// `AllocError` where an allocation is refused, and then the sink is as it was. It allocates only
+    /// where the text outgrows its room; the empty text is never refused.
     pub fn push_str(&mut self, text: &str) -> Result<(), AllocError>
         ensures ok { OnOk result (self.new ≡ record { text = self.old.text ++ text.now; refused = self.old.refused }) }
         ensures kept { OnErr result (self.new ≡ self.old) }

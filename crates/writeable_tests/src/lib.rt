@@ -2,6 +2,7 @@
 
 #![tactic(auto)]
 
+pub mod caller;
 #[cfg(test)]
 mod examples;
 #[cfg(test)]
