@@ -20,12 +20,12 @@ pub use Rattle.icu_decimal_plurals.specs.Reading
 pub use Rattle.icu_decimal_plurals.specs.Rules
 pub use Rattle.icu_decimal_plurals.specs.Tokens
 pub use Rattle.icu_decimal_provider.specs.Choice
-pub use Rattle.icu_decimal_provider.specs.Cow
-pub use Rattle.icu_decimal_provider.specs.DataErrors
+pub use Rattle.icu_decimal_symbols.specs.Cow
+pub use Rattle.icu_decimal_symbols.specs.DataErrors
 pub use Rattle.icu_decimal_provider.specs.Identifiers
-pub use Rattle.icu_decimal_provider.specs.Options
+pub use Rattle.icu_decimal_symbols.specs.Options
 pub use Rattle.icu_decimal_provider.specs.Preferences
-pub use Rattle.icu_decimal_provider.specs.Symbols
+pub use Rattle.icu_decimal_symbols.specs.Symbols
 pub use Rattle.icu_decimal_reading.specs.PlainReading
 pub use Rattle.icu_decimal_reading.specs.Readable
 pub use Rattle.icu_decimal_reading.specs.ReadErrors
@@ -50,7 +50,7 @@ pub use Rattle.icu_decimal_patterns.specs.SamePattern
 pub use Rattle.icu_decimal_patterns.specs.SameTable
 -- How a table keeps its entries, for the crates above.
 pub use Rattle.icu_decimal_patterns.specs.KeptSteps
-pub use Rattle.icu_decimal_provider.specs.SameSymbols
+pub use Rattle.icu_decimal_symbols.specs.SameSymbols
 pub use Rattle.icu_decimal_text.specs.SameAffixes
 pub use Rattle.icu_decimal_text.specs.SamePlain
 -- Statements of laws.
@@ -63,7 +63,7 @@ pub use Rattle.icu_decimal_shown.specs.ShownLaws
 pub use Rattle.icu_decimal_shown.specs.TableLaws as ShownTableLaws
 pub use Rattle.icu_decimal_patterns.specs.SmallEntries
 pub use Rattle.icu_decimal_provider.specs.Laws
-pub use Rattle.icu_decimal_provider.specs.SameSymbolsLaws
+pub use Rattle.icu_decimal_symbols.specs.SameSymbolsLaws
 pub use Rattle.icu_decimal_text.specs.GroupLaws
 pub use Rattle.icu_decimal_text.specs.PartLaws
 pub use Rattle.icu_decimal_text.specs.TextLaws

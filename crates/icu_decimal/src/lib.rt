@@ -26,9 +26,10 @@ pub mod provider;
 pub use icu_decimal_compact::{
     AbstractFormatter, CompactDecimalFormatter, FormattedUnsignedCompactDecimal,
 };
+pub use icu_decimal_provider::preferences;
 pub use icu_decimal_provider::preferences::DecimalFormatterPreferences;
-pub use icu_decimal_provider::{Cow, options, parts, preferences};
 pub use icu_decimal_reading::{is_readable, read_plain, read_readable};
+pub use icu_decimal_symbols::{Cow, options, parts};
 pub use icu_decimal_text::{
     DecimalFormatter, FormattedDecimal, FormattedSign, FormattedUnsignedDecimal, grouper,
 };

@@ -3,7 +3,10 @@
 pub use icu_decimal_patterns::{CompactPatterns, DecimalCompactLongV1, DecimalCompactShortV1};
 pub use icu_decimal_plurals::PluralsCardinalV1;
 pub use icu_decimal_provider::provider::{
-    DataError, DataIdentifier, DataMarker, DataProvider, DecimalDigitsV1, DecimalSymbolStrsBuilder,
-    DecimalSymbols, DecimalSymbolsStrs, DecimalSymbolsV1, GroupingSizes, ParentProvider,
-    load_by_chain, load_digits, load_symbols, load_with_fallback,
+    DataIdentifier, DataProvider, DecimalDigitsV1, DecimalSymbolsV1, ParentProvider, load_by_chain,
+    load_digits, load_symbols, load_with_fallback,
+};
+pub use icu_decimal_symbols::{
+    DataError, DataMarker, DecimalSymbolStrsBuilder, DecimalSymbols, DecimalSymbolsStrs,
+    GroupingSizes,
 };

@@ -10,7 +10,7 @@ use Rattle.icu_decimal_plurals.specs.declared.category.PluralCategory.TheVariant
 use Rattle.icu_decimal_plurals.specs.declared.operand.Operand.TheVariants as operand
 use Rattle.icu_decimal_plurals.specs.Operands.{operands_of}
 use Rattle.icu_decimal_plurals.specs.Rules.{Rules, category_of}
-use Rattle.icu_decimal_provider.specs.Symbols.{english_symbols}
+use Rattle.icu_decimal_symbols.specs.Symbols.{english_symbols}
 use Rattle.icu_decimal_text.specs.Affixes.{WithSign, affixes_of, decimal_part}
 use Rattle.icu_decimal_text.specs.PlainText.{PlainNumber}
 use Rattle.icu_decimal_compact.specs.AbstractText.{plain_operands, shown_operands}

@@ -8,9 +8,9 @@ use Rattle.icu_decimal_plurals.specs.declared.operand.Operand.{Operand}
 use Rattle.icu_decimal_plurals.specs.declared.operand.Operand.TheVariants as operand
 use Rattle.icu_decimal_plurals.specs.Conditions.{RelationData}
 use Rattle.icu_decimal_plurals.specs.Rules.{Rules}
-use Rattle.icu_decimal_provider.specs.declared.options.GroupingStrategy.{GroupingStrategy}
-use Rattle.icu_decimal_provider.specs.declared.options.GroupingStrategy.TheVariants.{Auto, Never}
-use Rattle.icu_decimal_provider.specs.Symbols.{english_symbols}
+use Rattle.icu_decimal_symbols.specs.declared.options.GroupingStrategy.{GroupingStrategy}
+use Rattle.icu_decimal_symbols.specs.declared.options.GroupingStrategy.TheVariants.{Auto, Never}
+use Rattle.icu_decimal_symbols.specs.Symbols.{english_symbols}
 use Rattle.icu_decimal_shown.specs.declared.entry.CompactEntry.{CompactEntry}
 use Rattle.icu_decimal_text.specs.PlainText.{Tables}
 use Rattle.icu_decimal_compact.specs.CompactTables.{CompactTables}

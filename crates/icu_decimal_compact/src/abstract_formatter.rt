@@ -18,7 +18,7 @@ use crate::error::WriteFault;
 use crate::lent::Lent;
 use fixed_decimal::{Decimal, Sign, UnsignedDecimal};
 use icu_decimal_plurals::PluralOperands;
-use icu_decimal_provider::provider::DecimalSymbols;
+use icu_decimal_symbols::DecimalSymbols;
 use icu_decimal_text::{DecimalFormatter, FormattedSign};
 use std::alloc::AllocError;
 use writeable::{Error, Sink, Writeable};

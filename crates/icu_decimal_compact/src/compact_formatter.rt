@@ -22,12 +22,13 @@ use icu_decimal_patterns::{
     CompactPatterns, DecimalCompactLongV1, DecimalCompactShortV1, PluralElements,
 };
 use icu_decimal_plurals::{PluralOperands, PluralRules, PluralsCardinalV1};
-use icu_decimal_provider::options::CompactDecimalFormatterOptions;
 use icu_decimal_provider::preferences::CompactDecimalFormatterPreferences;
 use icu_decimal_provider::provider::{
-    DataError, DataProvider, DecimalDigitsV1, DecimalSymbolsV1, ParentProvider,
+    DataProvider, DecimalDigitsV1, DecimalSymbolsV1, ParentProvider,
 };
 use icu_decimal_shown::{can_show, exponent_for_magnitude, show};
+use icu_decimal_symbols::DataError;
+use icu_decimal_symbols::options::CompactDecimalFormatterOptions;
 use icu_decimal_text::{DecimalFormatter, FormattedSign};
 use std::alloc::{AllocError, Global};
 use writeable::Writeable;

@@ -8,14 +8,14 @@ ghost use Rattle.icu_decimal_text.specs.HeldTables.{tables_of};
 ghost use Rattle.icu_decimal_compact.specs.FoundCompactTables.{patterns_identifiers, rules_identifiers};
 
 use icu_decimal_plurals::{PluralRules, PluralsCardinalV1};
-use icu_decimal_provider::options::{CompactDecimalFormatterOptions, DecimalFormatterOptions};
 use icu_decimal_provider::preferences::{
     CompactDecimalFormatterPreferences, DecimalFormatterPreferences,
 };
 use icu_decimal_provider::provider::{
-    DataError, DataMarker, DataProvider, DecimalDigitsV1, DecimalSymbolsV1, ParentProvider,
-    load_by_chain,
+    DataProvider, DecimalDigitsV1, DecimalSymbolsV1, ParentProvider, load_by_chain,
 };
+use icu_decimal_symbols::options::{CompactDecimalFormatterOptions, DecimalFormatterOptions};
+use icu_decimal_symbols::{DataError, DataMarker};
 use icu_decimal_text::DecimalFormatter;
 
 // The plain formatter of the same preferences and options.

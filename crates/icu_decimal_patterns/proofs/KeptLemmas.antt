@@ -8,7 +8,7 @@ use Rattle.std.specs.Map.{keys_of}
 use Rattle.std.specs.Option.{option_or}
 use Rattle.std.specs.Ordering.{nat_cmp}
 use Rattle.std.specs.declared.cmp.Ordering.TheVariants.{Less}
-use Rattle.icu_decimal_provider.specs.declared.error.DataError.{DataError}
+use Rattle.icu_decimal_symbols.specs.declared.error.DataError.{DataError}
 use Rattle.icu_decimal_shown.specs.declared.entry.CompactEntry.{CompactEntry}
 use Rattle.icu_decimal_shown.specs.Entries.{IsEntry, Rises}
 use Rattle.icu_decimal_patterns.specs.Elements.{without_one}

@@ -7,7 +7,7 @@ use Rattle.std.specs.Option.{option_map_or}
 use Rattle.std.specs.Str.{bytes_eq}
 use Rattle.serde_json.specs.Data.{Data, Items, no_items, item}
 use Rattle.serde_json.specs.Find.{as_array, as_str, at}
-use Rattle.icu_decimal_provider.specs.declared.error.DataError.{DataError}
+use Rattle.icu_decimal_symbols.specs.declared.error.DataError.{DataError}
 use Rattle.icu_decimal_patterns.specs.KeptEntries.{Patterns}
 use Rattle.icu_decimal_patterns.specs.Pattern.{PatternText, literal, around}
 

@@ -5,7 +5,7 @@ use Rattle.std.specs.Prelude.{ℕ, suc, nat_lt, nat_le, Bool, true, ◌&&◌, Li
 use Rattle.serde_json.specs.Data.{Data, number, unsigned, string, array}
 use Rattle.serde_json.specs.Find.{at, as_array, as_number, as_u64}
 use Rattle.serde_json.specs.View.{items_of}
-use Rattle.icu_decimal_provider.specs.declared.error.DataError.{DataError}
+use Rattle.icu_decimal_symbols.specs.declared.error.DataError.{DataError}
 use Rattle.icu_decimal_shown.specs.declared.entry.CompactEntry.{CompactEntry}
 use Rattle.icu_decimal_patterns.specs.KeptEntries.{CompactTable, IsTable, IsTableFault, Patterns, TypePatterns}
 use Rattle.icu_decimal_patterns.specs.Pattern.{PatternText, literal, around}

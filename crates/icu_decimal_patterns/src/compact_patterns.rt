@@ -7,13 +7,13 @@ ghost use Rattle.icu_decimal_shown.specs.Entries.{Rises};
 ghost use Rattle.icu_decimal_patterns.specs.SameTable.{same_table, same_table_equiv};
 ghost use Rattle.icu_decimal_patterns.specs.KeptEntries.{IsFaulty, IsTable, IsTableFault, MakesEntries, NeverFalls, first_fault, of_type, table_of};
 ghost use Rattle.icu_decimal_patterns.specs.KeptSteps.{TypesRise, base_after, base_of, kept_of};
-ghost use Rattle.icu_decimal_provider.specs.declared.error.DataError.{DataError};
+ghost use Rattle.icu_decimal_symbols.specs.declared.error.DataError.{DataError};
 
 use crate::elements::PluralElements;
 use crate::kept::{Base, GivenTypes, first_fault, never_falls};
 use crate::pattern::Pattern;
-use icu_decimal_provider::error::DataError;
 use icu_decimal_shown::CompactEntry;
+use icu_decimal_symbols::error::DataError;
 use std::alloc::{AllocError, Global};
 use std::collections::BTreeMap;
 use std::marker::Model;

@@ -6,8 +6,8 @@ ghost use Rattle.icu_decimal_patterns.specs.KeptSteps.{TypesRise, base_of, kept_
 
 use crate::elements::PluralElements;
 use crate::pattern::Pattern;
-use icu_decimal_provider::error::DataError;
 use icu_decimal_shown::CompactEntry;
+use icu_decimal_symbols::error::DataError;
 use std::collections::BTreeMap;
 
 // The types that a table is made of, each with its exponent and its patterns.

@@ -1,7 +1,7 @@
 //! The kinds of tables of compact writing.
 
 use crate::compact_patterns::CompactPatterns;
-use icu_decimal_provider::provider::DataMarker;
+use icu_decimal_symbols::DataMarker;
 
 /// The table of a locale's short compact writing: `1.2K` in English.
 #[derive(Clone, Copy, Debug)]

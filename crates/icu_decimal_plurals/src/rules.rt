@@ -8,7 +8,7 @@ use crate::condition::Condition;
 use crate::error::ConditionError;
 use crate::operands::PluralOperands;
 use crate::reading::read_rules;
-use icu_decimal_provider::error::DataError;
+use icu_decimal_symbols::error::DataError;
 use std::alloc::Global;
 use std::marker::Model;
 

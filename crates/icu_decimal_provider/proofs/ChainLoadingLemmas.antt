@@ -4,8 +4,8 @@ use Rattle.std.specs.Prelude.{Result, Ok, Err}
 use Rattle.icu_locale_core.specs.Subtags.{Text}
 use Rattle.icu_locale_core.specs.TagPreferences.{DataLocaleMeaning}
 use Rattle.icu_decimal_chains.specs.Chains.{walk, chain}
-use Rattle.icu_decimal_provider.specs.declared.error.DataError.{DataError}
-use Rattle.icu_decimal_provider.specs.declared.error.DataError.TheVariants.{IdentifierNotFound, InvalidRequest, Decreasing, TooManyZeros, AboveType, Memory, Custom}
+use Rattle.icu_decimal_symbols.specs.declared.error.DataError.{DataError}
+use Rattle.icu_decimal_symbols.specs.declared.error.DataError.TheVariants.{IdentifierNotFound, InvalidRequest, Decreasing, TooManyZeros, AboveType, Memory, Custom}
 use Rattle.icu_decimal_provider.specs.Choice.{or_next, found_or, first_found}
 use Rattle.icu_decimal_provider.specs.Identifiers.{Identifier, of_both, identifiers_along, under_each}
 

@@ -1,6 +1,6 @@
 -- The first table, in terms of what is there: `specs/Choice.antt`.
 use Rattle.std.proofs.Common.{◌≡◌, List, [], ◌∷◌, Option, None, Some, refl}
-use Rattle.icu_decimal_provider.specs.declared.error.DataError.{DataError}
+use Rattle.icu_decimal_symbols.specs.declared.error.DataError.{DataError}
 use Rattle.icu_decimal_provider.specs.Identifiers.{Identifier}
 use Rattle.icu_locale_core.specs.Collections.{first_there}
 use Rattle.icu_decimal_provider.specs.Choice.{or_next, found_or, answered, first_there_is}

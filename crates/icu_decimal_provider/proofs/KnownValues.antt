@@ -5,11 +5,9 @@ use Rattle.icu_locale_core.specs.Subtags.{Text}
 use Rattle.icu_locale_core.specs.Collections.{Entry}
 use Rattle.icu_locale_core.specs.Meaning.{TagMeaning, no_transform}
 use Rattle.icu_locale_core.specs.TagPreferences.{LocalePreferencesMeaning, DataLocaleMeaning, Preferences, preferences_of, numbering_key}
-use Rattle.icu_decimal_provider.specs.declared.error.DataError.{DataError}
-use Rattle.icu_decimal_provider.specs.declared.options.GroupingStrategy.{GroupingStrategy}
+use Rattle.icu_decimal_symbols.specs.declared.error.DataError.{DataError}
 use Rattle.icu_decimal_provider.specs.Choice.{first_found}
 use Rattle.icu_decimal_provider.specs.Identifiers.{of_both, of_locale, of_system, identifiers_along, symbols_identifiers, digits_identifiers}
-use Rattle.icu_decimal_provider.specs.Options.{strategy_in}
 use Rattle.icu_decimal_provider.specs.Preferences.{nothing_preferred, joined, fails}
 
 -- ---- the first table: the answers of a provider to identifiers, in their order
@@ -107,11 +105,3 @@ other_wins = refl
 
 locale_wins : joined (asking (codes "en") (Some (codes "thai"))) (asking (codes "de") None) ≡ asking (codes "de") (Some (codes "thai"))
 locale_wins = refl
-
--- ---- options
-
-nothing_is_auto : strategy_in None ≡ GroupingStrategy.Auto
-nothing_is_auto = refl
-
-option_stays : strategy_in (Some GroupingStrategy.Min2) ≡ GroupingStrategy.Min2
-option_stays = refl

@@ -3,7 +3,7 @@
 -- Cited by `load_with_fallback`, `load_symbols`, `load_digits` and the law of the first table.
 use Rattle.std.specs.Prelude.{List, [], ◌∷◌, Option, None, Some, Result, Ok, Err}
 use Rattle.icu_locale_core.specs.Collections.{first_there}
-use Rattle.icu_decimal_provider.specs.declared.error.DataError.{DataError}
+use Rattle.icu_decimal_symbols.specs.declared.error.DataError.{DataError}
 
 -- what is answered where the first says this: what the rest says, if nothing stands there, and else this
 abbrev pub or_next : {T : Type 0} → Result T DataError → Result T DataError → Result T DataError

@@ -7,7 +7,9 @@ ghost use Rattle.icu_decimal_provider.specs.Identifiers.{symbols_identifiers, di
 ghost use Rattle.icu_decimal_provider.specs.Laws.{FirstIsFound};
 
 use crate::preferences::{CompactDecimalFormatterPreferences, DecimalFormatterPreferences};
-use crate::provider::{DataIdentifier, DataMarker, DecimalSymbolStrsBuilder, DecimalSymbols};
+use crate::provider::DataIdentifier;
+use icu_decimal_symbols::DataMarker;
+pub use icu_decimal_symbols::laws::{same_builders, same_symbols};
 use std::hash::Hash;
 
 /// Where a provider says of each identifier that its table is there or not found, and nothing else, the first that is there is
@@ -44,22 +46,6 @@ pub fn same_compact_preferences(
     one: &CompactDecimalFormatterPreferences,
     other: &CompactDecimalFormatterPreferences,
 ) -> bool
-    ensures { IsTrue result ↔ (one.now ≡ other.now) }
-{
-    one == other
-}
-
-/// Two tables of symbols are `==` exactly where they are one value: true of those of English and a copy of them, false of those
-/// of English and of the same with `;` for `,`.
-pub fn same_symbols(one: &DecimalSymbols, other: &DecimalSymbols) -> bool
-    ensures { IsTrue result ↔ (one.now ≡ other.now) }
-{
-    one == other
-}
-
-/// Two builders of texts are `==` exactly where they are one value: true of two with `-`, `+`, `.`, `,` and `latn`, false where
-/// one has `;` for `,`.
-pub fn same_builders(one: &DecimalSymbolStrsBuilder, other: &DecimalSymbolStrsBuilder) -> bool
     ensures { IsTrue result ↔ (one.now ≡ other.now) }
 {
     one == other

@@ -1,4 +1,4 @@
-//! What a formatter of decimals is made of: providers of tables, symbols, options, preferences, and the parts of its text.
+//! Where the tables of a formatter come from: preferences, the identifiers that they ask for, providers, and loading.
 //!
 //! The preferences of `ar-EG-u-nu-thai` ask a provider for the symbols of `ar-EG` and the digits of `thai`. The rules are in
 //! docs/formatters.md; the names are those of ICU4X's `icu_decimal`.
@@ -13,12 +13,6 @@
 //! ```
 #![tactic(auto)]
 
-mod cow;
-pub mod error;
 pub mod laws;
-pub mod options;
-pub mod parts;
 pub mod preferences;
 pub mod provider;
-
-pub use cow::Cow;

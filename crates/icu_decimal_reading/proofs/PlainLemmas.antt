@@ -14,7 +14,7 @@ use Rattle.fixed_decimal.specs.NumberText.{character}
 use Rattle.fixed_decimal.specs.SignedValue.{SignedValue}
 use Rattle.fixed_decimal.specs.declared.Sign.{Sign}
 use Rattle.fixed_decimal.specs.declared.Sign.TheVariants.{None as NoSign, Negative, Positive}
-use Rattle.icu_decimal_provider.specs.Symbols.{SymbolStrings}
+use Rattle.icu_decimal_symbols.specs.Symbols.{SymbolStrings}
 use Rattle.icu_decimal_text.specs.Affixes.{affixes_of}
 use Rattle.icu_decimal_text.specs.Grouper.{ends_at, group_sizes, marked}
 use Rattle.icu_decimal_text.specs.PlainText.{Tables, chained, decimal_text, digit_text, fraction_text, prefix_text, suffix_text, unsigned_text, whole_text}

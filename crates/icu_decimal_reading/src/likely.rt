@@ -7,7 +7,7 @@ ghost use Rattle.icu_decimal_reading.specs.Readable.{all_differ, is_readable_by}
 use crate::digits::digit_in;
 use arrayvec::ArrayVec;
 use fixed_decimal::{Decimal, Sign};
-use icu_decimal_provider::provider::DecimalSymbols;
+use icu_decimal_symbols::DecimalSymbols;
 use icu_decimal_text::DecimalFormatter;
 use std::alloc::Global;
 

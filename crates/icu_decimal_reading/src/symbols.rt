@@ -7,7 +7,7 @@ ghost use Rattle.icu_decimal_reading.specs.ReadingLaws.{AreTables};
 ghost use Rattle.icu_decimal_reading.specs.Readable.{are_clear, do_separators_differ, do_signs_differ, is_readable_by, is_same_pair};
 
 use crate::digits::{do_all_differ, has_none};
-use icu_decimal_provider::provider::DecimalSymbols;
+use icu_decimal_symbols::DecimalSymbols;
 use icu_decimal_text::DecimalFormatter;
 
 // Whether two texts are one.

@@ -6,9 +6,9 @@ use Rattle.std.proofs.lemmas.Nat.{mod-mul-add, div-add-mod', mod_below}
 use Rattle.std.proofs.lemmas.List.Sums.{sum_by-cons}
 use Rattle.std.proofs.Math.Nat.{pos_of_ne-zero}
 use Rattle.std.specs.List.{sum}
-use Rattle.icu_decimal_provider.specs.declared.provider.GroupingSizes.{GroupingSizes}
-use Rattle.icu_decimal_provider.specs.declared.options.GroupingStrategy.{GroupingStrategy}
-use Rattle.icu_decimal_provider.specs.declared.options.GroupingStrategy.TheVariants.{Auto, Never, Always, Min2}
+use Rattle.icu_decimal_symbols.specs.declared.grouping_sizes.GroupingSizes.{GroupingSizes}
+use Rattle.icu_decimal_symbols.specs.declared.options.GroupingStrategy.{GroupingStrategy}
+use Rattle.icu_decimal_symbols.specs.declared.options.GroupingStrategy.TheVariants.{Auto, Never, Always, Min2}
 use Rattle.icu_decimal_text.specs.GroupLaws.{GroupsAreCut, GroupsAreSeparated, IsCutFromTheRight}
 use Rattle.icu_decimal_text.specs.Grouper.{least_front, may_group, middle_size, is_grouped, cut_sizes, group_sizes, cut_by, groups, joined, ends_at, marked, separates}
 

@@ -6,8 +6,8 @@ use Rattle.fixed_decimal.specs.declared.Sign.{Sign}
 use Rattle.fixed_decimal.specs.declared.Sign.TheVariants.{None as NoSign, Negative, Positive}
 use Rattle.fixed_decimal.specs.Number.{Number}
 use Rattle.fixed_decimal.specs.SignedValue.{SignedValue}
-use Rattle.icu_decimal_provider.specs.declared.options.GroupingStrategy.TheVariants.{Auto}
-use Rattle.icu_decimal_provider.specs.Symbols.{english_strings}
+use Rattle.icu_decimal_symbols.specs.declared.options.GroupingStrategy.TheVariants.{Auto}
+use Rattle.icu_decimal_symbols.specs.Symbols.{english_strings}
 use Rattle.icu_decimal_text.specs.PartIntervals.{decimal_annotated, integer_parts}
 use Rattle.icu_decimal_text.specs.PlainText.{Tables}
 use Rattle.icu_decimal_text.proofs.KnownValues.{english, latin_digits, part_at, sizes_of}

@@ -1,14 +1,14 @@
 -- Values from outside that a wrong definition of groups does not survive: the tables of docs/plain-text.md.
 use Rattle.std.proofs.Common.{◌≡◌, ℕ, List, [], ◌∷◌, ◌++◌, refl}
 use Rattle.std.specs.Prelude.{codes}
-use Rattle.icu_decimal_provider.specs.declared.provider.GroupingSizes.{GroupingSizes}
-use Rattle.icu_decimal_provider.specs.declared.options.GroupingStrategy.{GroupingStrategy}
-use Rattle.icu_decimal_provider.specs.declared.options.GroupingStrategy.TheVariants.{Auto, Never, Always, Min2}
+use Rattle.icu_decimal_symbols.specs.declared.grouping_sizes.GroupingSizes.{GroupingSizes}
+use Rattle.icu_decimal_symbols.specs.declared.options.GroupingStrategy.{GroupingStrategy}
+use Rattle.icu_decimal_symbols.specs.declared.options.GroupingStrategy.TheVariants.{Auto, Never, Always, Min2}
 use Rattle.icu_decimal_text.specs.Grouper.{groups, joined, group_sizes}
 use Rattle.writeable.specs.AnnotatedText.{AnnotatedText, Interval, annotated, bytes, opening, closing}
 use Rattle.fixed_decimal.specs.declared.Sign.{Sign}
 use Rattle.fixed_decimal.specs.declared.Sign.TheVariants.{None as NoSign, Negative, Positive}
-use Rattle.icu_decimal_provider.specs.Symbols.{SymbolStrings, english_strings}
+use Rattle.icu_decimal_symbols.specs.Symbols.{SymbolStrings, english_strings}
 use Rattle.icu_decimal_text.specs.Affixes.{affixes_of, decimal_part, events_with_sign, prefix_events, suffix_events}
 use Rattle.icu_decimal_text.specs.PlainText.{Tables, fraction_events, fraction_text, integer_events, whole_text}
 

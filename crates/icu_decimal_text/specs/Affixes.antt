@@ -6,7 +6,7 @@ use Rattle.writeable.specs.AnnotatedText.{Event, bytes, opening, closing}
 use Rattle.writeable.specs.PartName.{PartName}
 use Rattle.fixed_decimal.specs.declared.Sign.{Sign}
 use Rattle.fixed_decimal.specs.declared.Sign.TheVariants.{None as NoSign, Negative, Positive}
-use Rattle.icu_decimal_provider.specs.Symbols.{SymbolStrings}
+use Rattle.icu_decimal_symbols.specs.Symbols.{SymbolStrings}
 
 -- the affixes of a sign, and the part that each of them is
 pub record AffixTexts : Type 0 where

@@ -2,8 +2,8 @@
 -- After UTS 35, part 3 (numbers), grouping of number patterns; docs/plain-text.md, "Groups".
 -- Cited by `groups_law`.
 use Rattle.std.specs.Prelude.{◌≡◌, ℕ, ◌+◌, ◌*◌, ◌<◌, ◌≤◌, true, List, [], ◌∷◌, ◌++◌, length, replicate}
-use Rattle.icu_decimal_provider.specs.declared.provider.GroupingSizes.{GroupingSizes}
-use Rattle.icu_decimal_provider.specs.declared.options.GroupingStrategy.{GroupingStrategy}
+use Rattle.icu_decimal_symbols.specs.declared.grouping_sizes.GroupingSizes.{GroupingSizes}
+use Rattle.icu_decimal_symbols.specs.declared.options.GroupingStrategy.{GroupingStrategy}
 use Rattle.icu_decimal_text.specs.Grouper.{group_sizes, groups, is_grouped, joined, marked, middle_size, separates}
 
 -- sizes of d digits cut from the right: the last is p, each before it q, the first from one to q

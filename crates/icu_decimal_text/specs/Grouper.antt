@@ -2,9 +2,9 @@
 -- After UTS 35, part 3 (numbers), grouping of number patterns; docs/plain-text.md, "Groups".
 -- Cited by `grouper::check` and by the law of groups.
 use Rattle.std.specs.Prelude.{ℕ, ◌+◌, ◌-◌, ◌*◌, ◌/◌, ◌%◌, max, Bool, true, false, cond, not, ◌&&◌, ◌||◌, ◌==◌, nat_le, List, [], ◌∷◌, ◌++◌, length, take, drop, replicate, sum, flat_map, ℤ, pos, negsuc}
-use Rattle.icu_decimal_provider.specs.declared.provider.GroupingSizes.{GroupingSizes}
-use Rattle.icu_decimal_provider.specs.declared.options.GroupingStrategy.{GroupingStrategy}
-use Rattle.icu_decimal_provider.specs.declared.options.GroupingStrategy.TheVariants.{Auto, Never, Always, Min2}
+use Rattle.icu_decimal_symbols.specs.declared.grouping_sizes.GroupingSizes.{GroupingSizes}
+use Rattle.icu_decimal_symbols.specs.declared.options.GroupingStrategy.{GroupingStrategy}
+use Rattle.icu_decimal_symbols.specs.declared.options.GroupingStrategy.TheVariants.{Auto, Never, Always, Min2}
 
 -- the least count of digits before the last separator: at least one, and at least two for `Min2`
 abbrev pub least_front : GroupingStrategy → ℕ → ℕ

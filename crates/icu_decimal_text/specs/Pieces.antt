@@ -2,7 +2,7 @@
 -- Defined in docs/plain-text.md, "Writing".
 -- Cited by private steps of the writer alone.
 use Rattle.std.specs.Prelude.{◌≡◌, ℕ, ◌<◌, ◌≤◌, List, [], IsUtf8, length, slice_index_or, take}
-use Rattle.icu_decimal_provider.specs.Symbols.{Symbols}
+use Rattle.icu_decimal_symbols.specs.Symbols.{Symbols}
 use Rattle.icu_decimal_text.specs.declared.text_pieces.Piece.{Piece}
 use Rattle.icu_decimal_text.specs.declared.text_pieces.Separators.{Separators}
 use Rattle.icu_decimal_text.specs.PlainText.{digit_text}

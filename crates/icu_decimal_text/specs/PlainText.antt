@@ -5,8 +5,8 @@ use Rattle.std.specs.Prelude.{ℕ, List, [], ◌∷◌, ◌++◌, map, flat_map,
 use Rattle.writeable.specs.AnnotatedText.{Event, bytes, opening, closing}
 use Rattle.fixed_decimal.specs.Number.{Number, whole_digits, fraction_digits}
 use Rattle.fixed_decimal.specs.SignedValue.{SignedValue}
-use Rattle.icu_decimal_provider.specs.declared.options.GroupingStrategy.{GroupingStrategy}
-use Rattle.icu_decimal_provider.specs.Symbols.{Symbols}
+use Rattle.icu_decimal_symbols.specs.declared.options.GroupingStrategy.{GroupingStrategy}
+use Rattle.icu_decimal_symbols.specs.Symbols.{Symbols}
 use Rattle.icu_decimal_text.specs.Affixes.{AffixTexts, WithSign, affixes_of, as_part, decimal_part, events_with_sign}
 use Rattle.icu_decimal_text.specs.Grouper.{groups, joined}
 

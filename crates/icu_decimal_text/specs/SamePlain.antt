@@ -7,10 +7,10 @@ use Rattle.std.specs.Cmp.{IsEquivalence, decided, unsigned_Decides}
 use Rattle.std.specs.Cmp.Lexicographic.{pointwise, bytes_decides}
 use Rattle.std.proofs.lemmas.Bool.Decides.{Decides-and, Decides-like}
 use Rattle.fixed_decimal.specs.Number.{Number}
-use Rattle.icu_decimal_provider.specs.declared.options.GroupingStrategy.{GroupingStrategy}
-use Rattle.icu_decimal_provider.specs.declared.options.GroupingStrategy.TheVariants.{Auto, Never, Always, Min2}
-use Rattle.icu_decimal_provider.specs.SameSymbols.{same_symbols}
-use Rattle.icu_decimal_provider.specs.SameSymbolsLaws.{same_symbols_decides}
+use Rattle.icu_decimal_symbols.specs.declared.options.GroupingStrategy.{GroupingStrategy}
+use Rattle.icu_decimal_symbols.specs.declared.options.GroupingStrategy.TheVariants.{Auto, Never, Always, Min2}
+use Rattle.icu_decimal_symbols.specs.SameSymbols.{same_symbols}
+use Rattle.icu_decimal_symbols.specs.SameSymbolsLaws.{same_symbols_decides}
 use Rattle.icu_decimal_text.specs.PlainText.{PlainNumber, Tables}
 
 -- a number for each strategy, and the strategy of each number

@@ -6,10 +6,10 @@ use Rattle.writeable.specs.AnnotatedText.{text_of}
 use Rattle.fixed_decimal.specs.Number.{Number}
 use Rattle.fixed_decimal.specs.SignedValue.{SignedValue}
 use Rattle.icu_decimal_provider.specs.TagPreferences.{DataLocaleMeaning, Preferences}
-use Rattle.icu_decimal_provider.specs.declared.error.DataError.{DataError}
-use Rattle.icu_decimal_provider.specs.declared.options.GroupingStrategy.{GroupingStrategy}
+use Rattle.icu_decimal_symbols.specs.declared.error.DataError.{DataError}
+use Rattle.icu_decimal_symbols.specs.declared.options.GroupingStrategy.{GroupingStrategy}
 use Rattle.icu_decimal_provider.specs.Identifiers.{Identifier}
-use Rattle.icu_decimal_provider.specs.Symbols.{Symbols}
+use Rattle.icu_decimal_symbols.specs.Symbols.{Symbols}
 use Rattle.icu_decimal_text.specs.FoundTables.{found_tables}
 use Rattle.icu_decimal_text.specs.PlainText.{PlainNumber, Tables, decimal_events, decimal_text, formatted, unsigned_events, unsigned_text}
 

@@ -11,8 +11,7 @@ ghost use Rattle.icu_decimal_text.specs.SameAffixes.{same_affixes};
 
 use crate::writing::write_part;
 use fixed_decimal::Sign;
-use icu_decimal_provider::parts;
-use icu_decimal_provider::provider::DecimalSymbols;
+use icu_decimal_symbols::{DecimalSymbols, parts};
 use std::alloc::AllocError;
 use std::fmt;
 use std::marker::Model;

@@ -11,7 +11,7 @@ use crate::formatter::DecimalFormatter;
 use crate::text_writing::write_unsigned_text;
 use crate::writing::{digits_shown, write_unsigned};
 use fixed_decimal::UnsignedDecimal;
-use icu_decimal_provider::options::GroupingStrategy;
+use icu_decimal_symbols::options::GroupingStrategy;
 use std::alloc::AllocError;
 use std::fmt;
 use std::marker::Model;

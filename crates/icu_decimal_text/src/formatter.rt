@@ -11,12 +11,12 @@ use crate::formatted_sign::FormattedSign;
 use crate::formatted_unsigned_decimal::FormattedUnsignedDecimal;
 use crate::piece_tables::{DigitTable, SymbolTable};
 use fixed_decimal::Decimal;
-use icu_decimal_provider::options::{DecimalFormatterOptions, GroupingStrategy, strategy_of};
 use icu_decimal_provider::preferences::DecimalFormatterPreferences;
 use icu_decimal_provider::provider::{
-    DataError, DataProvider, DecimalDigitsV1, DecimalSymbolsV1, ParentProvider,
-    load_digits, load_symbols,
+    DataProvider, DecimalDigitsV1, DecimalSymbolsV1, ParentProvider, load_digits, load_symbols,
 };
+use icu_decimal_symbols::DataError;
+use icu_decimal_symbols::options::{DecimalFormatterOptions, GroupingStrategy, strategy_of};
 use std::alloc::{AllocError, Global};
 use writeable::Writeable;
 

@@ -5,8 +5,8 @@ ghost use Rattle.icu_decimal_text.specs.Grouper.{cut_sizes, ends_at, group_sizes
 ghost use Rattle.icu_decimal_text.specs.HeldSizes.{size_if};
 
 use crate::text_pieces::CHUNK;
-use icu_decimal_provider::options::GroupingStrategy;
-use icu_decimal_provider::provider::GroupingSizes;
+use icu_decimal_symbols::GroupingSizes;
+use icu_decimal_symbols::options::GroupingStrategy;
 use std::iter::FusedIterator;
 use std::marker::Model;
 use std::mem;

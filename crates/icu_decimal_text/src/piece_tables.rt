@@ -5,7 +5,7 @@ ghost use Rattle.std.specs.Option.{ForSome};
 ghost use Rattle.icu_decimal_text.specs.Pieces.{HoldSeparators, HoldTable};
 
 use crate::text_pieces::{Piece, Separators, pieces_of};
-use icu_decimal_provider::provider::DecimalSymbols;
+use icu_decimal_symbols::DecimalSymbols;
 
 // Ten digits, and the text of each as a piece.
 #[derive(Clone, Copy, Debug)]

@@ -4,7 +4,7 @@ ghost use Rattle.std.specs.Prelude.{◌≡◌};
 ghost use Rattle.icu_decimal_text.specs.HeldTables.{tables_of};
 
 use crate::formatter::DecimalFormatter;
-use icu_decimal_provider::provider::DecimalSymbols;
+use icu_decimal_symbols::DecimalSymbols;
 
 impl<'b> DecimalFormatter<'b> {
     /// The symbols that it writes with: in English `-`, `+`, `.`, `,` and the sizes 3, 3, 1. It takes no memory.

@@ -17,7 +17,7 @@ use crate::piece_tables::DigitTable;
 use crate::short_text::ShortText;
 use crate::text_writing::write_run;
 use fixed_decimal::{ShownDigits, UnsignedDecimal};
-use icu_decimal_provider::parts;
+use icu_decimal_symbols::parts;
 use writeable::{Error, Part, Sink};
 
 // Writes a text as a part.

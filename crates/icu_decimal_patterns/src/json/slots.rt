@@ -4,13 +4,13 @@ ghost use Rattle.std.specs.Prelude.{◌≡◌, ◌↔◌, IfErr, IfOk, IsErrOf, 
 ghost use Rattle.std.specs.List.{list_all, list_any};
 ghost use Rattle.std.specs.Option.{option_map_or};
 ghost use Rattle.serde_json.specs.View.{view};
-ghost use Rattle.icu_decimal_provider.specs.declared.error.DataError.{DataError};
+ghost use Rattle.icu_decimal_symbols.specs.declared.error.DataError.{DataError};
 ghost use Rattle.icu_decimal_patterns.specs.SlotsJson.{IsCustomOrMemory, elements_in, elements_with, has_count, is_named, is_slot, is_slot_name, pattern_in, pattern_named, repeats_name, slot_name, slot_pattern, slots_of, texts_in};
 
 use crate::borrowed::{BorrowedPattern, owned_elements};
 use crate::elements::PluralElements;
 use crate::pattern::Pattern;
-use icu_decimal_provider::error::DataError;
+use icu_decimal_symbols::error::DataError;
 use serde_json::Value;
 use std::alloc::Global;
 

@@ -7,13 +7,13 @@ ghost use Rattle.serde_json.specs.View.{view};
 ghost use Rattle.icu_decimal_patterns.specs.KeptEntries.{IsFaulty, IsTable, IsTableFault, MakesEntries, NeverFalls, of_type};
 ghost use Rattle.icu_decimal_patterns.specs.TableJson.{IsTableJsonFault, SaysTable, rise_from, types_of};
 ghost use Rattle.icu_decimal_patterns.specs.TableSteps.{known_types};
-ghost use Rattle.icu_decimal_provider.specs.declared.error.DataError.{DataError};
+ghost use Rattle.icu_decimal_symbols.specs.declared.error.DataError.{DataError};
 
 use super::types::{first_fault, never_falls, rows_of, type_in};
 use crate::borrowed::owned_elements;
 use crate::compact_patterns::CompactPatterns;
 use crate::kept::GivenTypes;
-use icu_decimal_provider::error::DataError;
+use icu_decimal_symbols::error::DataError;
 use serde_json::Value;
 use std::alloc::{AllocError, Global};
 use std::collections::BTreeMap;

@@ -13,8 +13,8 @@ use super::slots::{has_count, slots_of};
 use crate::borrowed::BorrowedPattern;
 use crate::elements::PluralElements;
 use crate::kept::fault_of;
-use icu_decimal_provider::error::DataError;
 use icu_decimal_shown::CompactEntry;
+use icu_decimal_symbols::error::DataError;
 use serde_json::Value;
 
 // The patterns of a type, whose texts are borrowed.

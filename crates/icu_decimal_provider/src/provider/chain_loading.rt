@@ -6,10 +6,10 @@ ghost use Rattle.icu_decimal_chains.specs.Chains.{chain};
 ghost use Rattle.icu_decimal_provider.specs.Choice.{first_found};
 ghost use Rattle.icu_decimal_provider.specs.Identifiers.{identifiers_along, under_each};
 
-use crate::error::DataError;
-use crate::provider::data_provider::{DataMarker, DataProvider};
+use crate::provider::data_provider::DataProvider;
 use crate::provider::identifier::DataIdentifier;
 use crate::provider::parents::ParentProvider;
+use icu_decimal_symbols::{DataError, DataMarker};
 use icu_locale_core::DataLocale;
 use icu_locale_core::preferences::extensions::unicode::keywords::NumberingSystem;
 use tinystr::TinyAsciiStr;

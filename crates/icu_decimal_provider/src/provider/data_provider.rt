@@ -1,15 +1,9 @@
-//! Markers of tables, and who provides them.
+//! Who provides tables.
 
 ghost use Rattle.std.specs.Prelude.{◌≡◌};
 
-use crate::error::DataError;
 use crate::provider::identifier::DataIdentifier;
-
-/// A name for a kind of tables, which says their type: `DecimalSymbolsV1` is that of `DecimalSymbols`.
-pub trait DataMarker {
-    /// The type of the tables: `DecimalSymbols` for `DecimalSymbolsV1`.
-    type DataStruct;
-}
+use icu_decimal_symbols::DataError;
 
 /// A provider of the tables of one kind. What it answers is a function of the identifier: under `en` the sample book always lends
 /// the symbols of English.
@@ -18,7 +12,7 @@ pub trait DataMarker {
 pub trait DataProvider<M: DataMarker> {
     ghost use Rattle.std.specs.Prelude.{◌≡◌, Result};
     ghost use Rattle.std.specs.Result.{result_map_both};
-    ghost use Rattle.icu_decimal_provider.specs.declared.error.DataError.{DataError};
+    ghost use Rattle.icu_decimal_symbols.specs.declared.error.DataError.{DataError};
     ghost use Rattle.icu_decimal_provider.specs.Identifiers.{Identifier};
 
     // what stands under each identifier

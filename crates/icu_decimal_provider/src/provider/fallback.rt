@@ -4,9 +4,9 @@ ghost use Rattle.std.specs.Prelude.{◌≡◌};
 ghost use Rattle.std.specs.Result.{result_map_both};
 ghost use Rattle.icu_decimal_provider.specs.Choice.{first_found};
 
-use crate::error::DataError;
-use crate::provider::data_provider::{DataMarker, DataProvider};
+use crate::provider::data_provider::DataProvider;
 use crate::provider::identifier::DataIdentifier;
+use icu_decimal_symbols::{DataError, DataMarker};
 
 /// The table under the first identifier that the provider has.
 ///

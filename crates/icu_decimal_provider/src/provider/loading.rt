@@ -6,15 +6,14 @@ ghost use Rattle.icu_decimal_chains.specs.Chains.{chain};
 ghost use Rattle.icu_decimal_provider.specs.Choice.{first_found};
 ghost use Rattle.icu_decimal_provider.specs.Identifiers.{symbols_identifiers, digits_identifiers};
 
-use crate::error::DataError;
 use crate::preferences::DecimalFormatterPreferences;
 use crate::provider::chain_loading::load_by_chain;
-use crate::provider::data_provider::{DataMarker, DataProvider};
+use crate::provider::data_provider::DataProvider;
 use crate::provider::fallback::load_with_fallback;
 use crate::provider::identifier::DataIdentifier;
 use crate::provider::markers::{DecimalDigitsV1, DecimalSymbolsV1};
 use crate::provider::parents::ParentProvider;
-use crate::provider::symbols::DecimalSymbols;
+use icu_decimal_symbols::{DataError, DataMarker, DecimalSymbols};
 
 // The first table of one identifier or none, and of another behind it.
 fn load_one_or<'p, M: DataMarker, P: DataProvider<M>>(

@@ -1,7 +1,6 @@
 //! The kinds of tables.
 
-use crate::provider::data_provider::DataMarker;
-use crate::provider::symbols::DecimalSymbols;
+use icu_decimal_symbols::{DataMarker, DecimalSymbols};
 
 /// The symbols of a locale: what stands round and between the digits, and where groups end. Of `en` they are `-`, `+`, `.`, `,`
 /// and the sizes 3, 3, 1.

@@ -6,22 +6,15 @@
 mod chain_loading;
 mod data_provider;
 mod fallback;
-mod grouping_sizes;
 mod identifier;
 mod loading;
 mod markers;
 mod parents;
-mod strings;
-mod symbols;
 
-pub use crate::error::DataError;
 pub use chain_loading::load_by_chain;
-pub use data_provider::{DataMarker, DataProvider};
+pub use data_provider::DataProvider;
 pub use fallback::load_with_fallback;
-pub use grouping_sizes::GroupingSizes;
 pub use identifier::DataIdentifier;
 pub use loading::{load_digits, load_symbols};
 pub use markers::{DecimalDigitsV1, DecimalSymbolsV1};
 pub use parents::ParentProvider;
-pub use strings::{DecimalSymbolStrsBuilder, DecimalSymbolsStrs};
-pub use symbols::DecimalSymbols;

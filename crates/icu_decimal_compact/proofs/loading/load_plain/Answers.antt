@@ -1,6 +1,6 @@
 use Rattle.std.proofs.Common.{ap, ◌∙◌}
 use Rattle.icu_decimal_chains.specs.Chains.{chain}
-use Rattle.icu_decimal_provider.specs.declared.options.DecimalFormatterOptions.{DecimalFormatterOptions}
+use Rattle.icu_decimal_symbols.specs.declared.options.DecimalFormatterOptions.{DecimalFormatterOptions}
 use Rattle.icu_decimal_text.specs.FoundTables.{found_tables}
 use Rattle.icu_decimal_compact.proofs.loading.load_plain.Goals as goal
 

@@ -2,9 +2,9 @@
 
 ghost use Rattle.std.specs.Prelude.{◌≡◌, [], IfOk, IsOk, string_bytes};
 ghost use Rattle.std.specs.Cmp.{decided, partial_equiv_from_equiv};
-ghost use Rattle.icu_decimal_provider.specs.Symbols.{HasNoText};
-ghost use Rattle.icu_decimal_provider.specs.SameSymbols.{same_affixes, same_marks, same_strings};
-ghost use Rattle.icu_decimal_provider.specs.SameSymbolsLaws.{same_strings_decides};
+ghost use Rattle.icu_decimal_symbols.specs.Symbols.{HasNoText};
+ghost use Rattle.icu_decimal_symbols.specs.SameSymbols.{same_affixes, same_marks, same_strings};
+ghost use Rattle.icu_decimal_symbols.specs.SameSymbolsLaws.{same_strings_decides};
 
 use std::alloc::{AllocError, Global};
 use std::marker::Model;
@@ -34,7 +34,7 @@ pub struct DecimalSymbolStrsBuilder {
 
 impl Model for DecimalSymbolStrsBuilder {
     ghost use Rattle.std.specs.Prelude.{string_bytes};
-    ghost use Rattle.icu_decimal_provider.specs.Symbols.{SymbolStrings};
+    ghost use Rattle.icu_decimal_symbols.specs.Symbols.{SymbolStrings};
 
     ghost Value = { SymbolStrings };
 
@@ -155,7 +155,7 @@ pub struct DecimalSymbolsStrs {
 }
 
 impl Model for DecimalSymbolsStrs {
-    ghost use Rattle.icu_decimal_provider.specs.Symbols.{SymbolStrings};
+    ghost use Rattle.icu_decimal_symbols.specs.Symbols.{SymbolStrings};
 
     ghost Value = { SymbolStrings };
 

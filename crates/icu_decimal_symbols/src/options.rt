@@ -1,7 +1,7 @@
 //! Options: when a formatter writes grouping separators.
 
 ghost use Rattle.std.specs.Prelude.{◌≡◌, Some};
-ghost use Rattle.icu_decimal_provider.specs.Options.{strategy_in};
+ghost use Rattle.icu_decimal_symbols.specs.Options.{strategy_in};
 
 /// When grouping separators are written: with `Never`, 1000 is `1000`. The names are ICU4X's; source: UTS 35, part 3 (numbers),
 /// grouping of number patterns.
@@ -35,7 +35,7 @@ pub struct CompactDecimalFormatterOptions {
 /// The strategy `Min2`, so that `1000T` has no separator and `10,000T` has one. It takes no memory.
 impl Default for CompactDecimalFormatterOptions {
     ghost use Rattle.std.specs.Prelude.{◌≡◌, Some};
-    ghost use Rattle.icu_decimal_provider.specs.declared.options.GroupingStrategy.{GroupingStrategy};
+    ghost use Rattle.icu_decimal_symbols.specs.declared.options.GroupingStrategy.{GroupingStrategy};
 
     ghost is_default = { λ options. options ≡ record { grouping_strategy = Some GroupingStrategy.Min2 } };
 

@@ -2,8 +2,7 @@
 -- The names are those of the symbols of UTS 35, part 3 (numbers); docs/formatters.md, "Symbols".
 -- Cited by the calls of `DecimalSymbols` and its texts, and by all that writes with them.
 use Rattle.std.specs.Prelude.{◌≡◌, ℕ, List, [], codes}
-use Rattle.icu_locale_core.specs.Subtags.{Text}
-use Rattle.icu_decimal_provider.specs.declared.provider.grouping_sizes.GroupingSizes.{GroupingSizes}
+use Rattle.icu_decimal_symbols.specs.declared.grouping_sizes.GroupingSizes.{GroupingSizes}
 
 -- the affixes and separators, in UTF-8, and the numbering system
 pub record SymbolStrings : Type 0 where
@@ -13,7 +12,7 @@ pub record SymbolStrings : Type 0 where
   pub plus_sign_suffix : List ℕ
   pub decimal_separator : List ℕ
   pub grouping_separator : List ℕ
-  pub numsys : Text
+  pub numsys : List ℕ
 
 pub record Symbols : Type 0 where
   pub strings : SymbolStrings

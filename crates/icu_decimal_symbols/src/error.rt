@@ -1,7 +1,7 @@
 //! Why there is no table.
 
 ghost use Rattle.std.specs.Prelude.{◌≡◌};
-ghost use Rattle.icu_decimal_provider.specs.DataErrors.{number_of};
+ghost use Rattle.icu_decimal_symbols.specs.DataErrors.{number_of};
 
 use thiserror::Error;
 

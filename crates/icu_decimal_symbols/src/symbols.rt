@@ -2,12 +2,12 @@
 
 ghost use Rattle.std.specs.Prelude.{◌≡◌, IfOk, IsOk};
 ghost use Rattle.std.specs.Cmp.{decided, partial_equiv_from_equiv};
-ghost use Rattle.icu_decimal_provider.specs.Symbols.{HasNoText, english_symbols};
-ghost use Rattle.icu_decimal_provider.specs.SameSymbols.{same_symbols};
-ghost use Rattle.icu_decimal_provider.specs.SameSymbolsLaws.{same_symbols_decides};
+ghost use Rattle.icu_decimal_symbols.specs.Symbols.{HasNoText, english_symbols};
+ghost use Rattle.icu_decimal_symbols.specs.SameSymbols.{same_symbols};
+ghost use Rattle.icu_decimal_symbols.specs.SameSymbolsLaws.{same_symbols_decides};
 
-use crate::provider::grouping_sizes::GroupingSizes;
-use crate::provider::strings::{DecimalSymbolStrsBuilder, DecimalSymbolsStrs};
+use crate::grouping_sizes::GroupingSizes;
+use crate::strings::{DecimalSymbolStrsBuilder, DecimalSymbolsStrs};
 use std::alloc::{AllocError, Global};
 use std::marker::Model;
 use std::ops::Deref;
@@ -24,7 +24,7 @@ pub struct DecimalSymbols {
 }
 
 impl Model for DecimalSymbols {
-    ghost use Rattle.icu_decimal_provider.specs.Symbols.{Symbols};
+    ghost use Rattle.icu_decimal_symbols.specs.Symbols.{Symbols};
 
     ghost Value = { Symbols };
 

@@ -2,7 +2,7 @@
 -- Defined in docs/formatters.md, "Errors".
 -- Cited by `DataError::number`.
 use Rattle.std.specs.Prelude.{ℕ}
-use Rattle.icu_decimal_provider.specs.declared.error.DataError.{DataError}
+use Rattle.icu_decimal_symbols.specs.declared.error.DataError.{DataError}
 
 abbrev pub number_of : DataError → ℕ
 number_of DataError.IdentifierNotFound = 1

@@ -1,6 +1,6 @@
 use Rattle.std.proofs.Common.{sym, ◌∙◌}
-use Rattle.icu_decimal_provider.specs.SameSymbolsLaws.{same_strings_decides}
-use Rattle.icu_decimal_provider.proofs.laws.same_builders.Goals as goal
+use Rattle.icu_decimal_symbols.specs.SameSymbolsLaws.{same_strings_decides}
+use Rattle.icu_decimal_symbols.proofs.laws.same_builders.Goals as goal
 
 pub returns : goal.returns
 returns c =

@@ -5,9 +5,9 @@ use Rattle.std.proofs.Common.{◌≡◌, ap, Decides}
 use Rattle.std.specs.Cmp.{unsigned_Decides}
 use Rattle.std.specs.Cmp.Lexicographic.{bytes_decides}
 use Rattle.std.proofs.lemmas.Bool.Decides.{Decides-and, Decides-like}
-use Rattle.icu_decimal_provider.specs.declared.provider.grouping_sizes.GroupingSizes.{GroupingSizes}
-use Rattle.icu_decimal_provider.specs.Symbols.{SymbolStrings, Symbols}
-use Rattle.icu_decimal_provider.specs.SameSymbols.{same_strings, same_sizes, same_symbols}
+use Rattle.icu_decimal_symbols.specs.declared.grouping_sizes.GroupingSizes.{GroupingSizes}
+use Rattle.icu_decimal_symbols.specs.Symbols.{SymbolStrings, Symbols}
+use Rattle.icu_decimal_symbols.specs.SameSymbols.{same_strings, same_sizes, same_symbols}
 
 pub same_strings_decides : (a b : SymbolStrings) → Decides (same_strings a b) (a ≡ b)
 same_strings_decides a b = Decides-like (same_strings a b)

@@ -2,7 +2,7 @@
 
 ghost use Rattle.std.specs.Prelude.{◌≡◌};
 ghost use Rattle.std.specs.Cmp.{on_equiv, on_per};
-ghost use Rattle.icu_decimal_provider.specs.Cow.{held};
+ghost use Rattle.icu_decimal_symbols.specs.Cow.{held};
 
 use std::ops::Deref;
 

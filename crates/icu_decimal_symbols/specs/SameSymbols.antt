@@ -1,10 +1,14 @@
 -- When two tables of symbols are one: text by text, and size by size.
 -- Defined in docs/formatters.md, "Symbols".
 -- Cited by `==` of symbols and of their texts.
-use Rattle.std.specs.Prelude.{Bool, ◌&&◌, ◌==◌}
-use Rattle.icu_locale_core.specs.Subtags.{same_text}
-use Rattle.icu_decimal_provider.specs.declared.provider.grouping_sizes.GroupingSizes.{GroupingSizes}
-use Rattle.icu_decimal_provider.specs.Symbols.{SymbolStrings, Symbols}
+use Rattle.std.specs.Prelude.{ℕ, Bool, List, ◌&&◌, ◌==◌, nat_eq}
+use Rattle.std.specs.Cmp.Lexicographic.{pointwise}
+use Rattle.icu_decimal_symbols.specs.declared.grouping_sizes.GroupingSizes.{GroupingSizes}
+use Rattle.icu_decimal_symbols.specs.Symbols.{SymbolStrings, Symbols}
+
+-- byte by byte
+abbrev same_text : List ℕ → List ℕ → Bool
+same_text a b = pointwise nat_eq a b
 
 -- the affixes
 abbrev pub same_affixes : SymbolStrings → SymbolStrings → Bool
