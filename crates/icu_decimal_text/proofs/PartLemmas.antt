@@ -1,19 +1,21 @@
 -- Where the parts of a number stand.
 use Rattle.std.proofs.Common.{◌≡◌, ℕ, ◌+◌, List, [], ◌∷◌, ◌++◌, length, map, Option, None, Some, refl, sym, ap, subst, ◌∙◌, arith}
 use Rattle.std.specs.Prelude.{codes}
-use Rattle.writeable.specs.AnnotatedText.{Event, closing, intervals_from, opening}
+use Rattle.std.proofs.lemmas.List.{append-nil}
+use Rattle.writeable.specs.AnnotatedText.{Event, bytes, closing, intervals_from, opening, text_of}
 use Rattle.writeable.specs.Laws.{IsBalanced}
 use Rattle.writeable.specs.PartName.{PartName}
-use Rattle.writeable.proofs.BalancedLemmas.{balanced_append, balanced_none, balanced_part}
+use Rattle.writeable.proofs.AnnotatedTextLemmas.{text_of_bytes}
+use Rattle.writeable.proofs.BalancedLemmas.{balanced_append, balanced_none, balanced_part, balanced_text}
 use Rattle.fixed_decimal.specs.Number.{Number, fraction_digits, whole_digits}
 use Rattle.fixed_decimal.specs.SignedValue.{SignedValue}
 use Rattle.icu_decimal_text.specs.Affixes.{AffixTexts, affixes_of, as_part, decimal_part, prefix_events, suffix_events}
-use Rattle.icu_decimal_text.specs.PartIntervals.{decimal_parts, fraction_parts, groups_of, integer_parts, part_at, prefix_parts, suffix_parts, unsigned_parts}
-use Rattle.icu_decimal_text.specs.PartLaws.{DecimalHasParts, UnsignedHasParts}
-use Rattle.icu_decimal_text.specs.PlainText.{PlainNumber, Tables, chained, decimal_events, digit_text, formatted, fraction_events, integer_events, prefix_text, unsigned_events, unsigned_text, whole_events, whole_text}
+use Rattle.icu_decimal_text.specs.PartIntervals.{decimal_parts, fraction_parts, groups_of, integer_parts, part_at, prefix_parts, suffix_parts, unit_text, unsigned_parts}
+use Rattle.icu_decimal_text.specs.PartLaws.{DecimalHasParts, UnitHasParts, UnsignedHasParts}
+use Rattle.icu_decimal_text.specs.PlainText.{PlainNumber, Tables, chained, decimal_events, digit_text, formatted, fraction_events, integer_events, prefix_text, suffix_text, unsigned_events, unsigned_text, whole_events, whole_text}
 use Rattle.icu_decimal_text.proofs.PlainTextLemmas.{bytes_chained}
-use Rattle.icu_decimal_text.proofs.TextLemmas.{decimal_is_text, text_of_part, text_prefix, text_whole, text_inside, unsigned_is_text}
-use Rattle.icu_decimal_text.proofs.EventPartLemmas.{both_from, part_from, text_part_balanced, text_part_from}
+use Rattle.icu_decimal_text.proofs.TextLemmas.{decimal_is_text, text_in_unit, text_of_part, text_prefix, text_whole, text_inside, text_with_sign, unsigned_is_text}
+use Rattle.icu_decimal_text.proofs.EventPartLemmas.{both_from, no_parts, part_from, text_part_balanced, text_part_from}
 use Rattle.icu_decimal_text.proofs.SeparatorLemmas.{groups_balanced, groups_from, whole_is}
 
 whole_balanced : (t : Tables) (ds : List ℕ) → IsBalanced (whole_events t ds)
@@ -82,21 +84,56 @@ suffix_from n (Some affixes) = text_part_from n affixes.part affixes.suffix
 from_none : (n : ℕ) → 0 + n ≡ n
 from_none n = omega arith
 
+-- a value between the affixes of a sign
+with_sign_from : (affixes : Option AffixTexts) (es : List Event) (text : List ℕ) → IsBalanced es → text_of es ≡ text → intervals_from 0 (prefix_events affixes ++ (es ++ suffix_events affixes)) ≡ prefix_parts affixes ++ (intervals_from (length (prefix_text affixes)) es ++ suffix_parts (length (prefix_text affixes) + length text) affixes)
+with_sign_from affixes es text balanced same =
+    let begin : ℕ = length (prefix_text affixes) in
+    let inner : List Event = es ++ suffix_events affixes in
+    both_from 0 (prefix_events affixes) inner (prefix_text affixes) (prefix_balanced affixes) (text_prefix affixes)
+    ∙ ap (λ n. intervals_from 0 (prefix_events affixes) ++ intervals_from n inner) (from_none begin)
+    ∙ ap (λ first. first ++ intervals_from begin inner) (prefix_from affixes)
+    ∙ ap (λ others. prefix_parts affixes ++ others) (both_from begin es (suffix_events affixes) text balanced same
+    ∙ ap (λ last. intervals_from begin es ++ last) (suffix_from (begin + length text) affixes))
+
 decimal_from : (t : Tables) (d : SignedValue Number) → intervals_from 0 (decimal_events (formatted t d)) ≡ decimal_parts t d
 decimal_from t d =
     let affixes : Option AffixTexts = affixes_of t.symbols.strings d.sign in
     let number : PlainNumber = record { number = d.absolute; tables = t } in
     let begin : ℕ = length (prefix_text affixes) in
-    let inner : List Event = unsigned_events number ++ suffix_events affixes in
-    both_from 0 (prefix_events affixes) inner (prefix_text affixes) (prefix_balanced affixes) (text_prefix affixes)
-    ∙ ap (λ n. intervals_from 0 (prefix_events affixes) ++ intervals_from n inner) (from_none begin)
-    ∙ ap (λ first. first ++ intervals_from begin inner) (prefix_from affixes)
-    ∙ ap (λ others. prefix_parts affixes ++ others) (both_from begin (unsigned_events number) (suffix_events affixes) (unsigned_text t d.absolute) (unsigned_balanced number) (unsigned_is_text number)
-    ∙ ap (λ first. first ++ intervals_from (begin + length (unsigned_text t d.absolute)) (suffix_events affixes)) (unsigned_from begin number)
-    ∙ ap (λ last. unsigned_parts begin t d.absolute ++ last) (suffix_from (begin + length (unsigned_text t d.absolute)) affixes))
+    with_sign_from affixes (unsigned_events number) (unsigned_text t d.absolute) (unsigned_balanced number) (unsigned_is_text number)
+    ∙ ap (λ inner. prefix_parts affixes ++ (inner ++ suffix_parts (begin + length (unsigned_text t d.absolute)) affixes)) (unsigned_from begin number)
+
+-- a number between two texts
+unit_balanced : (before behind : List ℕ) (p : PlainNumber) → IsBalanced (bytes before ++ (unsigned_events p ++ bytes behind))
+unit_balanced before behind p =
+    balanced_append (bytes before) (unsigned_events p ++ bytes behind) (balanced_text before)
+    (balanced_append (unsigned_events p) (bytes behind) (unsigned_balanced p) (balanced_text behind))
+
+unit_from : (n : ℕ) (before behind : List ℕ) (p : PlainNumber) → intervals_from n (bytes before ++ (unsigned_events p ++ bytes behind)) ≡ unsigned_parts (n + length before) p.tables p.number
+unit_from n before behind p =
+    let begin : ℕ = n + length before in
+    let text : List ℕ = unsigned_text p.tables p.number in
+    both_from n (bytes before) (unsigned_events p ++ bytes behind) before (balanced_text before) (text_of_bytes before)
+    ∙ ap (λ first. first ++ intervals_from begin (unsigned_events p ++ bytes behind)) (no_parts n before)
+    ∙ both_from begin (unsigned_events p) (bytes behind) text (unsigned_balanced p) (unsigned_is_text p)
+    ∙ ap (λ last. intervals_from begin (unsigned_events p) ++ last) (no_parts (begin + length text) behind)
+    ∙ append-nil (intervals_from begin (unsigned_events p))
+    ∙ unsigned_from begin p
 
 pub unsigned_has_parts : UnsignedHasParts
 unsigned_has_parts p = let text = unsigned_is_text p in let parts = unsigned_from 0 p in λ i. record { text = text i; parts = parts i }
 
 pub decimal_has_parts : DecimalHasParts
 decimal_has_parts t d = let text = decimal_is_text t d in let parts = decimal_from t d in λ i. record { text = text i; parts = parts i }
+
+pub unit_has_parts : UnitHasParts
+unit_has_parts t before d behind =
+    let affixes : Option AffixTexts = affixes_of t.symbols.strings d.sign in
+    let number : PlainNumber = record { number = d.absolute; tables = t } in
+    let inner : List Event = bytes before ++ (unsigned_events number ++ bytes behind) in
+    let begin : ℕ = length (prefix_text affixes) in
+    let in_unit = text_in_unit before behind (unsigned_events number) (unsigned_text t d.absolute) (unsigned_is_text number) in
+    let text = text_with_sign affixes inner (unit_text t before d.absolute behind) in_unit in
+    let parts = with_sign_from affixes inner (unit_text t before d.absolute behind) (unit_balanced before behind number) in_unit
+    ∙ ap (λ own. prefix_parts affixes ++ (own ++ suffix_parts (begin + length (unit_text t before d.absolute behind)) affixes)) (unit_from begin before behind number) in
+    λ i. record { text = text i; parts = parts i }

@@ -115,16 +115,30 @@ text_suffix : (affixes : Option AffixTexts) → text_of (suffix_events affixes) 
 text_suffix None = refl
 text_suffix (Some affixes) = text_of_part affixes.part affixes.suffix
 
+-- a value between the affixes of a sign
+pub text_with_sign : (affixes : Option AffixTexts) (es : List Event) (text : List ℕ) → text_of es ≡ text → text_of (prefix_events affixes ++ (es ++ suffix_events affixes)) ≡ prefix_text affixes ++ (text ++ suffix_text affixes)
+text_with_sign affixes es text same =
+    let inner = es ++ suffix_events affixes in
+    text_joined (prefix_events affixes) inner
+    ∙ ap (λ written. written ++ text_of inner) (text_prefix affixes)
+    ∙ ap (λ written. prefix_text affixes ++ written) (text_joined es (suffix_events affixes)
+    ∙ ap (λ written. written ++ text_of (suffix_events affixes)) same
+    ∙ ap (λ written. text ++ written) (text_suffix affixes))
+
 pub decimal_is_text : (t : Tables) (d : SignedValue Number) → text_of (decimal_events (formatted t d)) ≡ decimal_text t d
 decimal_is_text t d =
-    let affixes = affixes_of t.symbols.strings d.sign in
     let number : PlainNumber = record { number = d.absolute; tables = t } in
-    let inner = unsigned_events number ++ suffix_events affixes in
-    text_joined (prefix_events affixes) inner
-    ∙ ap (λ text. text ++ text_of inner) (text_prefix affixes)
-    ∙ ap (λ text. prefix_text affixes ++ text) (text_joined (unsigned_events number) (suffix_events affixes)
-    ∙ ap (λ text. text ++ text_of (suffix_events affixes)) (unsigned_is_text number)
-    ∙ ap (λ text. unsigned_text t d.absolute ++ text) (text_suffix affixes))
+    text_with_sign (affixes_of t.symbols.strings d.sign) (unsigned_events number) (unsigned_text t d.absolute) (unsigned_is_text number)
+
+-- a value between two texts
+pub text_in_unit : (before behind : List ℕ) (es : List Event) (text : List ℕ) → text_of es ≡ text → text_of (bytes before ++ (es ++ bytes behind)) ≡ before ++ (text ++ behind)
+text_in_unit before behind es text same =
+    let inner = es ++ bytes behind in
+    text_joined (bytes before) inner
+    ∙ ap (λ written. written ++ text_of inner) (text_of_bytes before)
+    ∙ ap (λ written. before ++ written) (text_joined es (bytes behind)
+    ∙ ap (λ written. written ++ text_of (bytes behind)) same
+    ∙ ap (λ written. text ++ written) (text_of_bytes behind))
 
 -- Without parts.
 

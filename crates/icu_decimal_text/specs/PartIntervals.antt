@@ -9,7 +9,7 @@ use Rattle.fixed_decimal.specs.Number.{Number, whole_digits, fraction_digits}
 use Rattle.fixed_decimal.specs.SignedValue.{SignedValue}
 use Rattle.icu_decimal_text.specs.Affixes.{AffixTexts, affixes_of, decimal_part}
 use Rattle.icu_decimal_text.specs.Grouper.{groups, joined}
-use Rattle.icu_decimal_text.specs.PlainText.{Tables, chained, decimal_text, digit_text, prefix_text, unsigned_text, whole_text}
+use Rattle.icu_decimal_text.specs.PlainText.{Tables, chained, decimal_text, digit_text, prefix_text, suffix_text, unsigned_text, whole_text}
 
 -- a text that begins at byte n, as a part; an empty one is none
 abbrev pub part_at : ℕ → List ℕ → PartName → List Interval
@@ -73,6 +73,19 @@ decimal_parts t d =
     prefix_parts affixes
     ++ (unsigned_parts begin t d.absolute ++ suffix_parts (begin + length (unsigned_text t d.absolute)) affixes)
 
+-- ---- a number with a text before it and one behind it
+
+abbrev pub unit_text : Tables → List ℕ → Number → List ℕ → List ℕ
+unit_text t before v behind = before ++ (unsigned_text t v ++ behind)
+
+-- with its sign: the parts of the number begin behind the prefix and the text before it, and the suffix stands behind all else
+abbrev pub unit_parts : Tables → List ℕ → SignedValue Number → List ℕ → List Interval
+unit_parts t before d behind =
+    let affixes = affixes_of t.symbols.strings d.sign in
+    let begin = length (prefix_text affixes) in
+    prefix_parts affixes
+    ++ (unsigned_parts (begin + length before) t d.absolute ++ suffix_parts (begin + length (unit_text t before d.absolute behind)) affixes)
+
 -- ---- the text with them
 
 abbrev pub unsigned_annotated : Tables → Number → AnnotatedText
@@ -80,3 +93,11 @@ unsigned_annotated t v = record { text = unsigned_text t v; parts = unsigned_par
 
 abbrev pub decimal_annotated : Tables → SignedValue Number → AnnotatedText
 decimal_annotated t d = record { text = decimal_text t d; parts = decimal_parts t d }
+
+abbrev pub unit_annotated : Tables → List ℕ → SignedValue Number → List ℕ → AnnotatedText
+unit_annotated t before d behind =
+    let affixes = affixes_of t.symbols.strings d.sign in
+    record {
+      text = prefix_text affixes ++ (unit_text t before d.absolute behind ++ suffix_text affixes);
+      parts = unit_parts t before d behind;
+    }

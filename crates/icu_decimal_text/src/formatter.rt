@@ -10,7 +10,7 @@ ghost use Rattle.icu_decimal_text.specs.PlainText.{decimal_text, formatted};
 use crate::formatted_sign::FormattedSign;
 use crate::formatted_unsigned_decimal::FormattedUnsignedDecimal;
 use crate::piece_tables::{DigitTable, SymbolTable};
-use fixed_decimal::Decimal;
+use fixed_decimal::{Decimal, UnsignedDecimal};
 use icu_decimal_provider::preferences::DecimalFormatterPreferences;
 use icu_decimal_provider::provider::{
     DataProvider, DecimalDigitsV1, DecimalSymbolsV1, ParentProvider, load_digits, load_symbols,
@@ -57,15 +57,23 @@ impl<'b> DecimalFormatter<'b> {
         })
     }
 
+    /// The number without a sign as this formatter writes it: 1234.5 as `1,234.5` in English. It takes no memory.
+    ///
+    /// Source: UTS 35, part 3 (numbers), number symbols and patterns.
+    pub fn format_unsigned<'l>(&'l self, value: &'l UnsignedDecimal) -> FormattedUnsignedDecimal<'l>
+        ensures { result ≡ record { number = value.now; tables = tables_of self.now } }
+    {
+        FormattedUnsignedDecimal::new(value, self)
+    }
+
     /// The decimal as this formatter writes it: -1234.5 as `-1,234.5` in English. It takes no memory.
     ///
     /// Source: UTS 35, part 3 (numbers), number symbols and patterns.
     pub fn format<'l>(&'l self, value: &'l Decimal) -> FormattedDecimal<'l>
         ensures { result ≡ formatted (tables_of self.now) value.now }
     {
-        let symbols = self.symbols.symbols;
-        let number = FormattedUnsignedDecimal::new(&value.absolute, self);
-        FormattedSign::new(value.sign, symbols, number)
+        let number = self.format_unsigned(&value.absolute);
+        FormattedSign::new(value.sign, self.symbols.symbols, number)
     }
 
     /// The text of the decimal: -1234.5 gives `-1,234.5` in English.

@@ -2,7 +2,7 @@
 
 ghost use Rattle.icu_decimal_text.specs.GroupLaws.{GroupsAreCut, GroupsAreSeparated};
 ghost use Rattle.std.specs.Prelude.{◌≡◌, ◌↔◌, IsTrue};
-ghost use Rattle.icu_decimal_text.specs.PartLaws.{DecimalHasParts, SeparatorsStandBetween, UnsignedHasParts};
+ghost use Rattle.icu_decimal_text.specs.PartLaws.{DecimalHasParts, SeparatorsStandBetween, UnitHasParts, UnsignedHasParts};
 ghost use Rattle.icu_decimal_text.specs.TextLaws.{DecimalIsText, FindTheSameTables, UnsignedIsText};
 
 use icu_decimal_provider::laws::same_preferences;
@@ -25,10 +25,13 @@ pub fn text_law()
 
 /// A law: the intervals that are listed for a number are those of its parts, with a sign and without, and no others: of
 /// `-1,234.5` in English `minusSign` from byte 0 to 1, `integer` from 1 to 6, in it `group` from 2 to 3, `decimal` from 6 to 7
-/// and `fraction` from 7 to 8. A separator stands behind the groups before it and in front of those behind it.
+/// and `fraction` from 7 to 8. With a text before the number and one behind it, and the affixes of the sign round all three, they
+/// begin behind the first text: of `-€1,234.5` `integer` is from 4 to 9. A separator stands behind the groups before it and in
+/// front of those behind it.
 pub fn parts_law()
     ensures unsigned { UnsignedHasParts }
     ensures decimal { DecimalHasParts }
+    ensures unit { UnitHasParts }
     ensures separators { SeparatorsStandBetween }
 {}
 
