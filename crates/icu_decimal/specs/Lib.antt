@@ -4,6 +4,7 @@ pub use Rattle.icu_decimal_compact.specs.AbstractText
 pub use Rattle.icu_decimal_compact.specs.CompactTables
 pub use Rattle.icu_decimal_compact.specs.CompactText
 pub use Rattle.icu_decimal_compact.specs.ExactText
+pub use Rattle.icu_decimal_compact.specs.FormattedNumbers
 pub use Rattle.icu_decimal_compact.specs.FoundCompactTables
 pub use Rattle.icu_decimal_compact.specs.WriteFaults
 pub use Rattle.icu_decimal_patterns.specs.Elements

@@ -1,3 +1,3 @@
-//! What a formatter takes: a decimal, and when its sign is shown.
+//! What a formatter takes: a decimal, its sign, and when the sign is shown.
 
-pub use fixed_decimal::{Decimal, SignDisplay};
+pub use fixed_decimal::{Decimal, Sign, SignDisplay};

@@ -24,7 +24,7 @@ pub mod plurals;
 pub mod provider;
 
 pub use icu_decimal_compact::{
-    AbstractFormatter, CompactDecimalFormatter, FormattedUnsignedCompactDecimal,
+    AbstractFormatter, CompactDecimalFormatter, FormattedUnsigned, FormattedUnsignedCompactDecimal,
 };
 pub use icu_decimal_provider::preferences;
 pub use icu_decimal_provider::preferences::DecimalFormatterPreferences;

@@ -1,15 +1,13 @@
 -- The text of a number in a pattern, and of the affixes round it.
 use Rattle.std.proofs.Common.{◌≡◌, ℕ, List, ◌++◌, Option, None, Some, Result, Ok, Err, IfOk, refl, sym, ap, ◌∙◌}
-use Rattle.writeable.specs.AnnotatedText.{Event, bytes, closing, opening, text_of, without_parts}
-use Rattle.writeable.proofs.AnnotatedTextLemmas.{bytes_joined, text_of_bytes, text_of_closing, text_of_opening}
-use Rattle.writeable.specs.PartName.{PartName}
-use Rattle.std.proofs.lemmas.List.{append-nil}
+use Rattle.writeable.specs.AnnotatedText.{Event, bytes, text_of, without_parts}
+use Rattle.writeable.proofs.AnnotatedTextLemmas.{bytes_joined, text_of_bytes}
 use Rattle.fixed_decimal.specs.Number.{Number}
 use Rattle.fixed_decimal.specs.SignedValue.{SignedValue}
 use Rattle.icu_decimal_patterns.specs.Pattern.{PatternText, literal, around, optional_events}
-use Rattle.icu_decimal_text.specs.Affixes.{AffixTexts, affixes_of, as_part, prefix_events, suffix_events}
+use Rattle.icu_decimal_text.specs.Affixes.{AffixTexts, affixes_of, prefix_events, suffix_events}
 use Rattle.icu_decimal_text.specs.PlainText.{PlainNumber, prefix_text, suffix_text, unsigned_events, unsigned_text}
-use Rattle.icu_decimal_text.proofs.TextLemmas.{text_joined, unsigned_is_text}
+use Rattle.icu_decimal_text.proofs.TextLemmas.{text_in_unit, text_with_sign, unsigned_is_text}
 use Rattle.icu_decimal_compact.specs.CompactTables.{CompactTables}
 use Rattle.icu_decimal_compact.specs.CompactText.{compact_decimal_events, compact_decimal_text, compact_formatted, compact_of, compact_text, text_in}
 
@@ -28,31 +26,13 @@ bytes_in (Some (around before after)) text =
 pub text_in_pattern : (p : Option PatternText) (n : PlainNumber) → optional_events p (without_parts (unsigned_events n)) ≡ bytes (text_in p (unsigned_text n.tables n.number))
 text_in_pattern p n = ap (λ text. optional_events p (bytes text)) (unsigned_is_text n) ∙ bytes_in p (unsigned_text n.tables n.number)
 
-part_is : (part : PartName) (text : List ℕ) → text_of (as_part part text) ≡ text
-part_is part text =
-    text_joined (opening part) (bytes text ++ closing)
-    ∙ ap (λ x. x ++ text_of (bytes text ++ closing)) (text_of_opening part)
-    ∙ text_joined (bytes text) closing
-    ∙ ap (λ x. text_of (bytes text) ++ x) text_of_closing
-    ∙ append-nil (text_of (bytes text))
-    ∙ text_of_bytes text
-
-prefix_is : (affixes : Option AffixTexts) → text_of (prefix_events affixes) ≡ prefix_text affixes
-prefix_is None = refl
-prefix_is (Some affixes) = part_is affixes.part affixes.prefix
-
-suffix_is : (affixes : Option AffixTexts) → text_of (suffix_events affixes) ≡ suffix_text affixes
-suffix_is None = refl
-suffix_is (Some affixes) = part_is affixes.part affixes.suffix
-
 -- and the affixes stand round it
 pub compact_is_text : (t : CompactTables) (d : SignedValue Number) → text_of (compact_decimal_events (compact_formatted t d)) ≡ compact_decimal_text t d
 compact_is_text t d =
-    let affixes = affixes_of t.plain.symbols.strings d.sign in
     let text : List ℕ = compact_text (compact_of t d.absolute) in
-    let inner : List Event = bytes text ++ suffix_events affixes in
-    text_joined (prefix_events affixes) inner
-    ∙ ap (λ x. x ++ text_of inner) (prefix_is affixes)
-    ∙ ap (λ x. prefix_text affixes ++ x) (text_joined (bytes text) (suffix_events affixes)
-    ∙ ap (λ x. x ++ text_of (suffix_events affixes)) (text_of_bytes text)
-    ∙ ap (λ x. text ++ x) (suffix_is affixes))
+    text_with_sign (affixes_of t.plain.symbols.strings d.sign) (bytes text) text (text_of_bytes text)
+
+-- a text before it and one behind it, and the affixes round all three
+pub unit_is_text : (affixes : Option AffixTexts) (before behind : List ℕ) (es : List Event) (text : List ℕ) → text_of es ≡ text → text_of (prefix_events affixes ++ ((bytes before ++ (es ++ bytes behind)) ++ suffix_events affixes)) ≡ prefix_text affixes ++ ((before ++ (text ++ behind)) ++ suffix_text affixes)
+unit_is_text affixes before behind es text same =
+    text_with_sign affixes (bytes before ++ (es ++ bytes behind)) (before ++ (text ++ behind)) (text_in_unit before behind es text same)

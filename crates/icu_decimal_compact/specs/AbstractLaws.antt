@@ -1,12 +1,13 @@
--- The affixes of a sign round what is written for a number without it are the text of the number with its sign.
+-- The affixes of a sign round what is written for a number without it are the text of the number with its sign; they stand round a unit too.
 -- Defined in docs/formatters.md, "Abstract formatters".
--- Cited by `laws::sign_round_unsigned`.
-use Rattle.std.specs.Prelude.{◌≡◌, ℕ, List, Option}
-use Rattle.writeable.specs.AnnotatedText.{Event, text_of}
+-- Cited by `laws::sign_round_unsigned` and `laws::sign_round_unit`.
+use Rattle.std.specs.Prelude.{◌≡◌, ℕ, List, ◌++◌, Option}
+use Rattle.writeable.specs.AnnotatedText.{Event, bytes, text_of}
 use Rattle.fixed_decimal.specs.declared.Sign.{Sign}
 use Rattle.fixed_decimal.specs.Number.{Number}
 use Rattle.fixed_decimal.specs.SignedValue.{SignedValue}
 use Rattle.icu_decimal_text.specs.Affixes.{AffixTexts, WithSign, events_with_sign}
+use Rattle.icu_decimal_text.specs.PlainText.{prefix_text, suffix_text}
 
 -- a number and the affixes of its sign, by the affixes that a formatter has for signs
 abbrev pub between : (Sign → Option AffixTexts) → SignedValue Number → WithSign Number
@@ -19,3 +20,9 @@ WritesTogether {F} unsigned affixes whole = (f : F) (d : SignedValue Number) →
 -- and these texts
 abbrev pub WritesText : {F : Type 0} → (F → Number → List Event) → (F → Sign → Option AffixTexts) → (F → SignedValue Number → List ℕ) → Type 0
 WritesText {F} unsigned affixes text = (f : F) (d : SignedValue Number) → text_of (events_with_sign (unsigned f) (between (affixes f) d)) ≡ text f d
+
+-- with a text before the number and one behind it, these affixes round all three, and these texts for the number
+abbrev pub WritesUnit : {F : Type 0} → (F → Number → List Event) → (F → Sign → Option AffixTexts) → (F → Number → List ℕ) → Type 0
+WritesUnit {F} unsigned affixes text = (f : F) (before : List ℕ) (d : SignedValue Number) (behind : List ℕ)
+    → text_of (events_with_sign (λ number. bytes before ++ (unsigned f number ++ bytes behind)) (between (affixes f) d))
+    ≡ prefix_text (affixes f d.sign) ++ ((before ++ (text f d.absolute ++ behind)) ++ suffix_text (affixes f d.sign))

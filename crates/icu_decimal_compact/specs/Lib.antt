@@ -4,6 +4,7 @@ pub mod FoundCompactTables
 pub mod CompactText
 pub mod ExactText
 pub mod AbstractText
+pub mod FormattedNumbers
 pub mod WriteFaults
 -- what a contract sees of a type
 pub mod HeldCompact

@@ -11,14 +11,17 @@ ghost use Rattle.icu_decimal_shown.specs.Choice.{CanShow};
 ghost use Rattle.icu_decimal_text.specs.Affixes.{AffixTexts, affixes_of, events_with_sign};
 ghost use Rattle.icu_decimal_text.specs.HeldTables.{tables_of};
 ghost use Rattle.icu_decimal_compact.specs.AbstractText.{compact_unsigned_events, plain_operands, plain_unsigned_events, shown_operands};
+ghost use Rattle.icu_decimal_compact.specs.CompactText.{compact_of};
+ghost use Rattle.icu_decimal_compact.specs.FormattedNumbers.{formatted_unsigned_events};
 ghost use Rattle.icu_decimal_compact.specs.HeldCompact.{compact_tables_of};
+ghost use Rattle.icu_decimal_compact.specs.declared.formatted_unsigned.FormattedUnsigned.{FormattedUnsigned};
 
 use crate::compact_formatter::CompactDecimalFormatter;
 use crate::error::WriteFault;
+use crate::formatted_unsigned::FormattedUnsigned;
 use crate::lent::Lent;
-use fixed_decimal::{Decimal, Sign, UnsignedDecimal};
+use fixed_decimal::{Sign, UnsignedDecimal};
 use icu_decimal_plurals::PluralOperands;
-use icu_decimal_symbols::DecimalSymbols;
 use icu_decimal_text::{DecimalFormatter, FormattedSign};
 use std::alloc::AllocError;
 use writeable::{Error, Sink, Writeable};
@@ -29,14 +32,23 @@ mod private {
 
 /// A plain or a compact formatter, as formatters of currencies, percents, units and messages take either of them.
 ///
-/// A number is written without its sign, and then the affixes of the sign round all that is made of it: `write_unsigned` of 5 in
-/// English writes `5`, and `write_sign` of the text `5 %` and a minus sign writes `-5 %`. Round what `write_unsigned` wrote they are
-/// the text of `format`. The trait is sealed: there is no other implementation. After ICU4X's `AbstractFormatter`.
+/// A number is written without its sign, and then the affixes of the sign round all that is made of it: `format_unsigned` of 5 in
+/// English writes `5`, and `format_sign` of the text `5 %` and a minus sign writes `-5 %`. Round what `format_unsigned` answers they
+/// are the text of `format`. The trait is sealed: there is no other implementation. After ICU4X's `AbstractFormatter`.
 pub trait AbstractFormatter: private::Sealed {
     // the number can be written
     ghost can_write: { Self → Number → Type 0 };
 
-    // what a number without a sign is written as
+    // memory is taken for the number
+    ghost takes_memory: { Self → Number → Type 0 };
+
+    // only for one of more than eight digits
+    ghost takes_memory_if_long: { (f : Self) (number : Number) → takes_memory f number → IsLong number.count };
+
+    // a number without a sign, with what it is written with
+    ghost formatted: { Self → Number → FormattedUnsigned };
+
+    // what it is written as
     ghost unsigned_events: { Self → Number → List Event };
 
     // the affixes of a sign
@@ -48,16 +60,34 @@ pub trait AbstractFormatter: private::Sealed {
     /// Whether the number can be written: true by a plain formatter, and by a compact one where `can_show` is. In English both
     /// write 1650, and the compact one does not write 32,768 nines.
     ///
-    /// It is the condition of `write_unsigned` and `plural_operands`. It takes no memory.
+    /// It is the condition of `format_unsigned`, `write_unsigned` and `plural_operands`. It takes no memory.
     fn can_write(&self, value: &UnsignedDecimal) -> bool
         ensures { IsTrue result ↔ can_write self.now value.now };
+
+    /// The number without a sign as the formatter writes it: 1650 as `1,650` in English, and as `1.6K` by a compact formatter.
+    ///
+    /// The condition is `can_write`. A plain formatter borrows the number, and takes no memory. A compact one takes memory where the
+    /// number has more than eight digits, from the first to the last one that is not zero; it is refused (`AllocError`) only there.
+    fn format_unsigned<'l>(
+        &'l self,
+        value: &'l UnsignedDecimal,
+    ) -> Result<FormattedUnsigned<'l>, AllocError>
+        requires { can_write self.now value.now }
+        ensures value { IfOk result (λ number. number ≡ formatted self.now value.now) }
+        ensures events { IfOk result (λ number. formatted_unsigned_events number ≡ unsigned_events self.now value.now) }
+        ensures room { OnErr result (takes_memory self.now value.now) };
+
+    /// The value between the affixes of the sign: `5 %` and a minus sign as `-5 %` in English.
+    ///
+    /// Each affix is the part `MINUS_SIGN` or `PLUS_SIGN`, and `Sign::None` has none. It takes no memory.
+    fn format_sign<'l, T: Writeable>(&'l self, sign: Sign, value: T) -> FormattedSign<'l, T>
+        ensures { result ≡ record { value = value; affixes = affixes self.now sign } };
 
     /// Writes the number without a sign: 1650 as `1,650` in English, and as `1.6K` by a compact formatter.
     ///
     /// The condition is `can_write`, and that the sink has not refused yet. `Sink` exactly where the sink refused, which has then
-    /// taken a beginning. Memory is taken where the number has more than eight digits, from the first to the last one that is not
-    /// zero; `Memory` is answered only there, and nothing was written.
-    fn write_unsigned<S: Sink>(
+    /// taken a beginning. Memory is taken as by `format_unsigned`; `Memory` is answered only there, and nothing was written.
+    final fn write_unsigned<S: Sink>(
         &self,
         value: &UnsignedDecimal,
         sink: &mut S,
@@ -68,13 +98,17 @@ pub trait AbstractFormatter: private::Sealed {
         ensures ok { OnOk result (S.takes sink.old (unsigned_events self.now value.now) sink.new) }
         ensures begun { IsErrOf result WriteFault.Sink → HasBegun S.takes S.lacks_room sink.old (unsigned_events self.now value.now) sink.new }
         ensures same { IsErrOf result WriteFault.Memory → sink.new ≡ sink.old }
-        ensures room { IsErrOf result WriteFault.Memory → IsLong value.now.count };
+        ensures room { IsErrOf result WriteFault.Memory → takes_memory self.now value.now }
+    {
+        self.format_unsigned(value)?.write_to(sink)?;
+        Ok(())
+    }
 
     /// Writes the value between the affixes of the sign: `5 %` and a minus sign as `-5 %` in English.
     ///
     /// Each affix is the part `MINUS_SIGN` or `PLUS_SIGN`, and `Sign::None` has none. The sink has not refused yet. [`Error`] exactly
     /// where the sink refused, which has then taken a beginning. It takes no memory but the sink's.
-    fn write_sign<T: Writeable, S: Sink>(
+    final fn write_sign<T: Writeable, S: Sink>(
         &self,
         value: &T,
         sign: Sign,
@@ -83,38 +117,31 @@ pub trait AbstractFormatter: private::Sealed {
         requires { S.refused sink.old ≡ false }
         ensures ok { OnOk result (S.takes sink.old (events_with_sign T.events (record { value = value.now; affixes = affixes self.now sign })) sink.new) }
         ensures refused { S.refused sink.new ≡ is_err result }
-        ensures begun { OnErr result (HasBegun S.takes S.lacks_room sink.old (events_with_sign T.events (record { value = value.now; affixes = affixes self.now sign })) sink.new) };
+        ensures begun { OnErr result (HasBegun S.takes S.lacks_room sink.old (events_with_sign T.events (record { value = value.now; affixes = affixes self.now sign })) sink.new) }
+    {
+        self.format_sign(sign, Lent::new(value)).write_to(sink)
+    }
 
     /// The plural operands of what is shown for the number: of 999999 those of `999999`, and by a compact formatter in English those
     /// of 1 with the exponent 6.
     ///
-    /// The condition is `can_write`. Memory is taken as by `write_unsigned`; it is refused (`AllocError`) only where the number has
-    /// more than eight digits.
+    /// The condition is `can_write`. Memory is taken as by `format_unsigned`; it is refused (`AllocError`) only there.
     fn plural_operands(&self, value: &UnsignedDecimal) -> Result<PluralOperands, AllocError>
         requires { can_write self.now value.now }
         ensures value { IfOk result (λ operands. operands ≡ plural_operands self.now value.now) }
-        ensures room { OnErr result (IsLong value.now.count) };
-}
-
-// Writes a value between the affixes that these symbols have for a sign.
-fn write_between<T: Writeable, S: Sink>(
-    symbols: &DecimalSymbols,
-    value: &T,
-    sign: Sign,
-    sink: &mut S,
-) -> Result<(), Error>
-    requires { S.refused sink.old ≡ false }
-    ensures ok { OnOk result (S.takes sink.old (events_with_sign T.events (record { value = value.now; affixes = affixes_of symbols.now.strings sign })) sink.new) }
-    ensures refused { S.refused sink.new ≡ is_err result }
-    ensures begun { OnErr result (HasBegun S.takes S.lacks_room sink.old (events_with_sign T.events (record { value = value.now; affixes = affixes_of symbols.now.strings sign })) sink.new) }
-{
-    FormattedSign::new(sign, symbols, Lent::new(value)).write_to(sink)
+        ensures room { OnErr result (takes_memory self.now value.now) };
 }
 
 impl<'b> private::Sealed for DecimalFormatter<'b> {}
 
 impl<'b> AbstractFormatter for DecimalFormatter<'b> {
     ghost can_write = { λ f number. Unit {0} };
+
+    ghost takes_memory = { λ f number. ⊥ };
+
+    ghost takes_memory_if_long = { λ f number never. absurd never };
+
+    ghost formatted = { λ f number. FormattedUnsigned.Plain (record { number = number; tables = tables_of f }) };
 
     ghost unsigned_events = { λ f number. plain_unsigned_events (tables_of f) number };
 
@@ -126,29 +153,24 @@ impl<'b> AbstractFormatter for DecimalFormatter<'b> {
         true
     }
 
-    fn write_unsigned<S: Sink>(
-        &self,
-        value: &UnsignedDecimal,
-        sink: &mut S,
-    ) -> Result<(), WriteFault> {
-        let number = Decimal::new(Sign::None, value.try_clone()?);
-        self.format(&number).value().write_to(sink)?;
-        Ok(())
+    fn format_unsigned<'l>(
+        &'l self,
+        value: &'l UnsignedDecimal,
+    ) -> Result<FormattedUnsigned<'l>, AllocError>
+        ensures succeeds { IsOk result }
+        ensures value { IfOk result (λ number. number ≡ FormattedUnsigned.Plain (record { number = value.now; tables = tables_of self.now })) }
+    {
+        let number = DecimalFormatter::format_unsigned(self, value);
+        Ok(FormattedUnsigned::Plain(number))
     }
 
-    fn write_sign<T: Writeable, S: Sink>(
-        &self,
-        value: &T,
-        sign: Sign,
-        sink: &mut S,
-    ) -> Result<(), Error> {
-        write_between(self.symbols(), value, sign, sink)
+    fn format_sign<'l, T: Writeable>(&'l self, sign: Sign, value: T) -> FormattedSign<'l, T> {
+        FormattedSign::new(sign, self.symbols(), value)
     }
 
     fn plural_operands(&self, value: &UnsignedDecimal) -> Result<PluralOperands, AllocError>
         ensures succeeds { IsOk result }
         ensures value { IfOk result (λ operands. operands ≡ plain_operands value.now) }
-        ensures room { OnErr result (IsLong value.now.count) }
     {
         Ok(PluralOperands::from_significand_and_exponent(value, 0))
     }
@@ -158,6 +180,12 @@ impl<'b> private::Sealed for CompactDecimalFormatter<'b> {}
 
 impl<'b> AbstractFormatter for CompactDecimalFormatter<'b> {
     ghost can_write = { λ f number. CanShow (compact_tables_of f).patterns.entries number.count };
+
+    ghost takes_memory = { λ f number. IsLong number.count };
+
+    ghost takes_memory_if_long = { λ f number long. long };
+
+    ghost formatted = { λ f number. FormattedUnsigned.Compact (compact_of (compact_tables_of f) number) };
 
     ghost unsigned_events = { λ f number. compact_unsigned_events (compact_tables_of f) number };
 
@@ -169,22 +197,15 @@ impl<'b> AbstractFormatter for CompactDecimalFormatter<'b> {
         self.can_show(value)
     }
 
-    fn write_unsigned<S: Sink>(
-        &self,
-        value: &UnsignedDecimal,
-        sink: &mut S,
-    ) -> Result<(), WriteFault> {
-        self.shown(value)?.write_to(sink)?;
-        Ok(())
+    fn format_unsigned<'l>(
+        &'l self,
+        value: &'l UnsignedDecimal,
+    ) -> Result<FormattedUnsigned<'l>, AllocError> {
+        Ok(FormattedUnsigned::Compact(self.shown(value)?))
     }
 
-    fn write_sign<T: Writeable, S: Sink>(
-        &self,
-        value: &T,
-        sign: Sign,
-        sink: &mut S,
-    ) -> Result<(), Error> {
-        write_between(self.plain.symbols(), value, sign, sink)
+    fn format_sign<'l, T: Writeable>(&'l self, sign: Sign, value: T) -> FormattedSign<'l, T> {
+        FormattedSign::new(sign, self.plain.symbols(), value)
     }
 
     fn plural_operands(&self, value: &UnsignedDecimal) -> Result<PluralOperands, AllocError> {

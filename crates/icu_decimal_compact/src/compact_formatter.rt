@@ -140,11 +140,21 @@ impl<'b> CompactDecimalFormatter<'b> {
 
     /// Whether what the number is shown as is a decimal: false in English of 32,768 nines, as they are rounded to 10^32768.
     ///
-    /// It is the condition of `format`. It takes no memory.
+    /// A decimal with its sign is asked by `can_format`. It takes no memory.
     pub fn can_show(&self, value: &UnsignedDecimal) -> bool
         ensures { IsTrue result ↔ CanShow (compact_tables_of self.now).patterns.entries value.now.count }
     {
         can_show(value, self.patterns.entries())
+    }
+
+    /// Whether the decimal can be formatted, whatever its sign: true in English of -1172700, false of 32,768 nines, as what they are
+    /// rounded to, 10^32768, is no decimal.
+    ///
+    /// It is the condition of `format` and `format_to_string`. It takes no memory.
+    pub fn can_format(&self, value: &Decimal) -> bool
+        ensures { IsTrue result ↔ CanShow (compact_tables_of self.now).patterns.entries value.now.absolute.count }
+    {
+        self.can_show(&value.absolute)
     }
 
     // What a number without a sign is written as.
@@ -168,7 +178,7 @@ impl<'b> CompactDecimalFormatter<'b> {
 
     /// The decimal as this formatter writes it: -1172700 as `-1.2M` in English.
     ///
-    /// The condition is `can_show` of the number without its sign. Memory is taken where the number has more than eight digits, from
+    /// The condition is `can_format`. Memory is taken where the number has more than eight digits, from
     /// the first to the last one that is not zero; it is refused (`AllocError`) only there.
     pub fn format<'l>(
         &'l self,
@@ -184,7 +194,7 @@ impl<'b> CompactDecimalFormatter<'b> {
 
     /// The text of the decimal: -1172700 gives `-1.2M` in English.
     ///
-    /// The condition is `can_show` of the number without its sign. It takes memory; `AllocError` is answered where that is refused.
+    /// The condition is `can_format`. It takes memory; `AllocError` is answered where that is refused.
     pub fn format_to_string(&self, alloc: Global, value: &Decimal) -> Result<String, AllocError>
         requires { CanShow (compact_tables_of self.now).patterns.entries value.now.absolute.count }
         ensures { IfOk result (λ text. string_bytes text ≡ compact_decimal_text (compact_tables_of self.now) value.now) }

@@ -2,7 +2,6 @@
 ghost use Rattle.std.specs.Prelude.{◌≡◌, ◌↔◌, IfErr, IfOk, IsTrue, Some, is_err, is_none};
 ghost use Rattle.icu_decimal_shown.specs.ExactForms.{IsInRange, IsRefused};
 ghost use Rattle.icu_decimal_text.specs.Affixes.{affixes_of};
-ghost use Rattle.icu_decimal_text.specs.HeldTables.{tables_of};
 ghost use Rattle.icu_decimal_compact.specs.ExactText.{exact_formatted};
 ghost use Rattle.icu_decimal_compact.specs.HeldCompact.{compact_tables_of};
 ghost use Rattle.icu_decimal_compact.specs.PatternAt.{written_at};
@@ -11,21 +10,7 @@ use crate::compact_formatter::CompactDecimalFormatter;
 use fixed_decimal::{Decimal, Sign};
 use icu_decimal_patterns::pattern::Interpolated;
 use icu_decimal_shown::{CompactExponentError, exact_entry, exponent_in_range};
-use icu_decimal_text::{DecimalFormatter, FormattedSign, FormattedUnsignedDecimal};
-
-// A number as a plain formatter writes it, without its sign.
-fn plain_number<'l, 'b>(
-    plain: &'l DecimalFormatter<'b>,
-    value: &'l Decimal,
-) -> FormattedUnsignedDecimal<'l>
-    ensures { result ≡ record { number = value.now.absolute; tables = tables_of plain.now } }
-{
-    let formatted = plain.format(value);
-    match formatted.value().try_clone() {
-        Ok(number) => number,
-        Err(_) => unreachable!(),
-    }
-}
+use icu_decimal_text::{FormattedSign, FormattedUnsignedDecimal};
 
 // A value with the affixes that a formatter has for a sign.
 fn signed<'l, 'b, T>(
@@ -48,7 +33,7 @@ impl<'b> CompactDecimalFormatter<'b> {
         ensures { result ≡ written_at (compact_tables_of self.now) significand.now entry }
     {
         let pattern = self.pattern_at(entry, &significand.absolute);
-        let number = plain_number(&self.plain, significand);
+        let number = self.plain.format_unsigned(&significand.absolute);
         signed(self, significand.sign, Interpolated::new(pattern, number))
     }
 

@@ -1,12 +1,11 @@
 //! A number without a sign, as a compact formatter writes it.
 
 ghost use Rattle.std.specs.Prelude.{◌≡◌, option_map};
-ghost use Rattle.fixed_decimal.specs.declared.Sign.{Sign};
 ghost use Rattle.icu_decimal_plurals.specs.Operands.{operands_of};
 ghost use Rattle.icu_decimal_text.specs.HeldTables.{tables_of};
 
 use crate::text_alone::TextAlone;
-use fixed_decimal::{Decimal, Sign, UnsignedDecimal};
+use fixed_decimal::UnsignedDecimal;
 use icu_decimal_patterns::pattern::{Interpolated, Pattern};
 use icu_decimal_plurals::PluralOperands;
 use icu_decimal_text::{DecimalFormatter, FormattedUnsignedDecimal};
@@ -20,7 +19,7 @@ use writeable::{Error, LengthHint, Sink, Writeable, display};
 /// It has no parts.
 #[derive(Debug, Drop)]
 pub struct FormattedUnsignedCompactDecimal<'l> {
-    number: Decimal,
+    number: UnsignedDecimal,
     exponent: u8,
     pattern: Option<&'l Pattern>,
     plain: &'l DecimalFormatter<'l>,
@@ -34,7 +33,7 @@ impl<'l> Model for FormattedUnsignedCompactDecimal<'l> {
 
     ghost use Rattle.icu_decimal_text.specs.HeldTables.{tables_of};
 
-    ghost view = { λ s. record { plain = record { number = s.number.absolute; tables = tables_of s.plain.now }; exponent = s.exponent; pattern = option_map (λ p. p.now) s.pattern } };
+    ghost view = { λ s. record { plain = record { number = s.number; tables = tables_of s.plain.now }; exponent = s.exponent; pattern = option_map (λ p. p.now) s.pattern } };
 }
 
 impl<'l> FormattedUnsignedCompactDecimal<'l> {
@@ -48,7 +47,7 @@ impl<'l> FormattedUnsignedCompactDecimal<'l> {
         ensures { result ≡ record { plain = record { number = significand; tables = tables_of plain.now }; exponent = exponent; pattern = option_map (λ p. p.now) pattern.entry } }
     {
         FormattedUnsignedCompactDecimal {
-            number: Decimal::new(Sign::None, significand),
+            number: significand,
             exponent,
             pattern,
             plain,
@@ -59,7 +58,7 @@ impl<'l> FormattedUnsignedCompactDecimal<'l> {
     pub fn significand(&self) -> &UnsignedDecimal
         ensures { result.now ≡ self.now.plain.number }
     {
-        &self.number.absolute
+        &self.number
     }
 
     /// The power of ten that the pattern stands for: 3 of `1.6K`, and 0 without a pattern. It takes no memory.
@@ -98,16 +97,16 @@ impl<'l> Writeable for FormattedUnsignedCompactDecimal<'l> {
 
     #[tactic(auto, using(crate::proofs::CompactTextLemmas::text_in_pattern))]
     fn write_to<S: Sink>(&self, sink: &mut S) -> Result<(), Error> {
-        let number = self.plain.format(&self.number);
-        in_pattern(self.pattern, number.value()).write_to(sink)
+        let number = self.plain.format_unsigned(&self.number);
+        in_pattern(self.pattern, &number).write_to(sink)
     }
 
     #[tactic(auto, using(crate::proofs::CompactTextLemmas::text_in_pattern))]
     fn writeable_length_hint(&self) -> LengthHint
         ensures { IsWithinHint result (length (text_of (compact_events self.now))) }
     {
-        let number = self.plain.format(&self.number);
-        in_pattern(self.pattern, number.value()).writeable_length_hint()
+        let number = self.plain.format_unsigned(&self.number);
+        in_pattern(self.pattern, &number).writeable_length_hint()
     }
 }
 

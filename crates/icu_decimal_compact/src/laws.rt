@@ -3,10 +3,10 @@ ghost use Rattle.std.specs.Prelude.{◌≡◌, ◌<◌};
 ghost use Rattle.icu_decimal_patterns.specs.SmallEntries.{AreSmall, IsSmall};
 ghost use Rattle.icu_decimal_shown.specs.Entries.{Rises};
 ghost use Rattle.icu_decimal_text.specs.HeldTables.{tables_of};
-ghost use Rattle.icu_decimal_text.specs.PlainText.{decimal_events, decimal_text, formatted};
-ghost use Rattle.icu_decimal_compact.specs.AbstractLaws.{WritesText, WritesTogether};
+ghost use Rattle.icu_decimal_text.specs.PlainText.{decimal_events, decimal_text, formatted, unsigned_text};
+ghost use Rattle.icu_decimal_compact.specs.AbstractLaws.{WritesText, WritesTogether, WritesUnit};
 ghost use Rattle.icu_decimal_compact.specs.CompactLaws.{ShownFormAnswers, ShownFormIsInRange, ShownFormIsShownValue, ShownFormWritesSame, ShownIsCompact, SignificandIsNumber};
-ghost use Rattle.icu_decimal_compact.specs.CompactText.{compact_decimal_events, compact_decimal_text, compact_formatted};
+ghost use Rattle.icu_decimal_compact.specs.CompactText.{compact_decimal_events, compact_decimal_text, compact_formatted, compact_of, compact_text};
 ghost use Rattle.icu_decimal_compact.specs.HeldCompact.{compact_tables_of};
 
 use crate::abstract_formatter::AbstractFormatter;
@@ -22,6 +22,13 @@ pub fn sign_round_unsigned()
     ensures plain_text { WritesText ⟦<DecimalFormatter<'static> as AbstractFormatter>⟧.unsigned_events ⟦<DecimalFormatter<'static> as AbstractFormatter>⟧.affixes (λ f d. decimal_text (tables_of f) d) }
     ensures compact { WritesTogether ⟦<CompactDecimalFormatter<'static> as AbstractFormatter>⟧.unsigned_events ⟦<CompactDecimalFormatter<'static> as AbstractFormatter>⟧.affixes (λ f d. compact_decimal_events (compact_formatted (compact_tables_of f) d)) }
     ensures compact_text { WritesText ⟦<CompactDecimalFormatter<'static> as AbstractFormatter>⟧.unsigned_events ⟦<CompactDecimalFormatter<'static> as AbstractFormatter>⟧.affixes (λ f d. compact_decimal_text (compact_tables_of f) d) }
+{}
+
+/// With a text before what `format_unsigned` answers and one behind it, `format_sign` writes the affixes of the sign round all
+/// three: of `€`, -1234.5 and no text behind in English a plain formatter writes `-€1,234.5`, and a compact one `-€1.2K`.
+pub fn sign_round_unit()
+    ensures plain { WritesUnit ⟦<DecimalFormatter<'static> as AbstractFormatter>⟧.unsigned_events ⟦<DecimalFormatter<'static> as AbstractFormatter>⟧.affixes (λ f number. unsigned_text (tables_of f) number) }
+    ensures compact { WritesUnit ⟦<CompactDecimalFormatter<'static> as AbstractFormatter>⟧.unsigned_events ⟦<CompactDecimalFormatter<'static> as AbstractFormatter>⟧.affixes (λ f number. compact_text (compact_of (compact_tables_of f) number)) }
 {}
 
 /// What is shown for a number, sent back as an exact form of the same tables. Under rising types it is refused exactly where the entry of
