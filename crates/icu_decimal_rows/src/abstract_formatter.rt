@@ -1,16 +1,13 @@
 //! Answers of the calls of abstract formatters, by a plain one and by a compact one.
 
+use crate::compact::{out_of_range, parts_of};
 use crate::stop::Stop;
+use crate::with_unit::WithUnit;
 use fixed_decimal::{Decimal, Sign, UnsignedDecimal};
 use icu_decimal::AbstractFormatter;
 use icu_decimal::plurals::PluralRules;
 use std::alloc::Global;
-use writeable::TextSink;
-
-// A text that says that a number is out of range.
-fn out_of_range(alloc: Global) -> Result<String, Stop> {
-    Ok(String::from_str(alloc, "range")?)
-}
+use writeable::{TextSink, Writeable};
 
 // What was written, and a text behind it.
 fn with_behind(alloc: Global, is_written: bool, text: &str, behind: &str) -> Result<String, Stop> {
@@ -108,6 +105,51 @@ fn plural<F: AbstractFormatter>(
     word
 }
 
+// The text of a value, or its parts where the call asks for them.
+fn shown<W: Writeable>(alloc: Global, call: &str, value: &W) -> Result<String, Stop> {
+    match call {
+        "format_sign_parts" => parts_of(alloc, value),
+        _ => Ok(value.write_to_string(alloc)?),
+    }
+}
+
+// The number with a unit round it, between the affixes of its sign.
+fn formatted<F: AbstractFormatter>(
+    alloc: Global,
+    formatter: &F,
+    call: &str,
+    unit: [&str; 2],
+    number: &Decimal,
+) -> Result<String, Stop> {
+    if !formatter.can_write(&number.absolute) {
+        return out_of_range(alloc);
+    }
+    let value = formatter.format_unsigned(&number.absolute)?;
+    let value = WithUnit {
+        before: unit[0],
+        value,
+        behind: unit[1],
+    };
+    let signed = formatter.format_sign(number.sign, value);
+    let answer = shown(alloc, call, &signed);
+    drop(signed);
+    answer
+}
+
+// The same of the number of a text.
+fn between_unit<F: AbstractFormatter>(
+    alloc: Global,
+    formatter: &F,
+    call: &str,
+    unit: [&str; 2],
+    number: &str,
+) -> Result<String, Stop> {
+    let number = Decimal::try_from_str(alloc, number)?;
+    let answer = formatted(alloc, formatter, call, unit, &number);
+    drop(number);
+    answer
+}
+
 /// The answer of a call of any formatter.
 pub fn answer<F: AbstractFormatter>(
     alloc: Global,
@@ -119,6 +161,9 @@ pub fn answer<F: AbstractFormatter>(
     match passed {
         [number] if call == "plural_operands" => plural(alloc, formatter, rules, number),
         [unit, number] if call == "write_sign" => written(alloc, formatter, unit, number),
+        [before, behind, number] if call == "format_sign" || call == "format_sign_parts" => {
+            between_unit(alloc, formatter, call, [before, behind], number)
+        }
         _ => Err(Stop::Unknown),
     }
 }

@@ -6,8 +6,8 @@ use icu_decimal::{CompactDecimalFormatter, FormattedUnsignedCompactDecimal};
 use std::alloc::Global;
 use writeable::{PartsSink, Writeable};
 
-// A text that says that a number has none.
-fn out_of_range(alloc: Global) -> Result<String, Stop> {
+/// A text that says that a number has none.
+pub fn out_of_range(alloc: Global) -> Result<String, Stop> {
     Ok(String::from_str(alloc, "range")?)
 }
 
@@ -32,8 +32,8 @@ fn listing_of(alloc: Global, is_written: bool, sink: &PartsSink) -> Result<Strin
     }
 }
 
-// The parts of a value's text.
-fn parts_of<W: Writeable>(alloc: Global, value: &W) -> Result<String, Stop> {
+/// The parts of a value's text.
+pub fn parts_of<W: Writeable>(alloc: Global, value: &W) -> Result<String, Stop> {
     let mut sink = PartsSink::new(alloc);
     let is_written = value.write_to(&mut sink).is_ok();
     let listing = listing_of(alloc, is_written, &sink);
@@ -70,7 +70,7 @@ fn text_of(
     formatter: &CompactDecimalFormatter<'_>,
     number: &Decimal,
 ) -> Result<String, Stop> {
-    if !formatter.can_show(&number.absolute) {
+    if !formatter.can_format(number) {
         return out_of_range(alloc);
     }
     Ok(formatter.format_to_string(alloc, number)?)
@@ -82,7 +82,7 @@ fn text_parts_of(
     formatter: &CompactDecimalFormatter<'_>,
     number: &Decimal,
 ) -> Result<String, Stop> {
-    if !formatter.can_show(&number.absolute) {
+    if !formatter.can_format(number) {
         return out_of_range(alloc);
     }
     let shown = formatter.format(number)?;
@@ -135,7 +135,7 @@ fn significand_of(
     formatter: &CompactDecimalFormatter<'_>,
     number: &Decimal,
 ) -> Result<String, Stop> {
-    if !formatter.can_show(&number.absolute) {
+    if !formatter.can_format(number) {
         return out_of_range(alloc);
     }
     let shown = formatter.format(number)?;

@@ -12,6 +12,7 @@ mod rows;
 mod shown;
 mod stop;
 mod tables;
+mod with_unit;
 
 use std::io;
 
