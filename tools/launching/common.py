@@ -1,0 +1,77 @@
+"""Places, words to the user, and faults that end in one line."""
+import os
+
+TOP = os.path.dirname(os.path.dirname(os.path.dirname(os.path.realpath(__file__))))
+NAME = "locale_numbers_program"
+OUT = f"{TOP}/crates/{NAME}/out"
+PROGRAM = f"{OUT}/{NAME}"
+RT = os.environ.get("RT") or "rt"
+MINUTES = "25 to 50 minutes on four processors"
+
+USAGE, FAILED, CUT_SHORT = 2, 1, 7
+
+
+class Fault(Exception):
+    """Ends the launcher with one line and a status."""
+
+    def __init__(self, text, status=FAILED):
+        super().__init__(text)
+        self.status = status
+
+
+def say(text):
+    """Writes one line to standard error, where there is one."""
+    line = f"locale_numbers: {' '.join(str(text).split())}\n"
+    try:
+        os.write(2, line.encode(errors="backslashreplace"))
+    except OSError:
+        pass
+
+
+def fill_closed_ends():
+    """Gives a closed standard input, output or error the null device here. A program started by exec meets it closed again."""
+    for end in range(3):
+        try:
+            os.fstat(end)
+        except OSError:
+            os.open(os.devnull, os.O_RDWR)
+
+
+def of_top(path):
+    """The path as seen from the top of the repository."""
+    return os.path.relpath(path, TOP)
+
+
+def make_out():
+    """Makes the folder of what is built."""
+    try:
+        os.makedirs(OUT, exist_ok=True)
+    except OSError as error:
+        raise Fault(f"{of_top(OUT)} can't be written: {error.strerror}") from None
+
+
+def fault_of(error):
+    """The line of an error of the system."""
+    named = f"{error.filename}: " if error.filename else ""
+    return Fault(f"{named}{error.strerror or error}")
+
+
+def write_whole(path, text):
+    """Writes a file beside its place and renames it, so that there is never half of it."""
+    part = f"{path}.{os.getpid()}.part"
+    try:
+        with open(part, "w", encoding="utf-8") as file:
+            file.write(text)
+        os.replace(part, path)
+    finally:
+        if os.path.lexists(part):
+            os.remove(part)
+
+
+def read_text(path):
+    """The text of a file, or an empty one where there is none."""
+    try:
+        with open(path, encoding="utf-8") as file:
+            return file.read()
+    except (OSError, ValueError):
+        return ""

@@ -1,0 +1,54 @@
+"""A guard over what a build or a trial starts: it ends all of it, and removes the rooms, however the launcher ends."""
+import os
+import shutil
+import signal
+import subprocess
+import sys
+
+# Its input ends when the launcher does. It outlives the first signal, which lets rt tidy up.
+SCRIPT = """
+trap '' TERM INT HUP
+read -r _
+kill -TERM 0
+for _ in 1 2 3 4 5; do
+    sleep 0.1
+    rm -rf -- "$1"
+done
+kill -KILL 0
+"""
+JOIN = "import os, sys; os.setpgid(0, int(sys.argv[1])); os.execvp(sys.argv[2], sys.argv[2:])"
+SIGNALS = (signal.SIGTERM, signal.SIGINT, signal.SIGHUP)
+
+
+class Guard:
+    """A process group of its own for all that is started, and a folder that is removed in the end."""
+
+    def __init__(self, rooms):
+        self.rooms = rooms
+        ends, self.held = os.pipe()
+        how = {"stdin": ends, "stdout": subprocess.DEVNULL, "stderr": subprocess.DEVNULL}
+        self.process = subprocess.Popen(["sh", "-c", SCRIPT, "guard", rooms], preexec_fn=os.setpgrp, **how)
+        os.close(ends)
+        for number in SIGNALS:
+            signal.signal(number, self.interrupted)
+
+    def __enter__(self):
+        return self
+
+    def __exit__(self, *_):
+        os.killpg(self.process.pid, signal.SIGKILL)
+        self.process.wait()
+        os.close(self.held)
+        shutil.rmtree(self.rooms, ignore_errors=True)
+        for number in SIGNALS:
+            signal.signal(number, signal.SIG_DFL)
+
+    def interrupted(self, number, _frame):
+        """Has the guard end everything, waits for it, and ends as the signal asks."""
+        os.close(self.held)
+        self.process.wait()
+        os._exit(128 + number)
+
+    def words(self, *command):
+        """The words that start a command in the guarded group."""
+        return [sys.executable, "-ISc", JOIN, str(self.process.pid), *command]
