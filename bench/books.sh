@@ -17,8 +17,7 @@ for count in 0 "$@"; do
 done
 program=${LOCALE_NUMBERS:-}
 if [ -z "$program" ]; then
-    program=$top/crates/locale_numbers_program/out/locale_numbers_program
-    : | "$top/locale_numbers" >/dev/null
+    program=$("$top/locale_numbers" --built)
 fi
 
 python3 - "$program" "$made" "$@" <<'PYTHON'

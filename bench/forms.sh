@@ -7,13 +7,12 @@
 set -eu
 top=$(cd "$(dirname "$0")/.." && pwd)
 made=$top/bench/made
-built=$top/crates/locale_numbers_program/out/locale_numbers_program
 command -v python3 >/dev/null || {
     echo "bench: python3 is needed" >&2
     exit 1
 }
 mkdir -p "$made"
-: | "$top/locale_numbers" >/dev/null
+built=$("$top/locale_numbers" --built)
 
 python3 - "$built" "$made" "${1:-300000}" <<'PYTHON'
 import os, random, subprocess, sys

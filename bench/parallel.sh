@@ -5,7 +5,6 @@
 set -eu
 top=$(cd "$(dirname "$0")/.." && pwd)
 made=$top/bench/made
-built=$top/crates/locale_numbers_program/out/locale_numbers_program
 lines=${1:-10000000}
 command -v parallel >/dev/null || {
     echo "bench: GNU parallel is needed (Debian's package parallel)" >&2
@@ -21,7 +20,7 @@ if [ ! -f "$input" ]; then
     python3 "$top/bench/make_lines.py" "$lines" 1 12 >"$input.part"
     mv "$input.part" "$input"
 fi
-: | "$top/locale_numbers" >/dev/null
+built=$("$top/locale_numbers" --built)
 
 python3 - "$input" "$made" "$built" "$lines" <<'PYTHON'
 import filecmp, os, subprocess, sys, time

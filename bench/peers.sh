@@ -26,8 +26,7 @@ fi
 peer=$("$top/books/build-icu" icu_peer)
 program=${LOCALE_NUMBERS:-}
 if [ -z "$program" ]; then
-    program=$top/crates/locale_numbers_program/out/locale_numbers_program
-    : | "$top/locale_numbers" >/dev/null
+    program=$("$top/locale_numbers" --built)
 fi
 
 python3 - "$book" "$lines" "$made" "$program" "$peer" <<'PYTHON'

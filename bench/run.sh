@@ -5,7 +5,6 @@
 set -eu
 top=$(cd "$(dirname "$0")/.." && pwd)
 made=$top/bench/made
-built=$top/crates/locale_numbers_program/out/locale_numbers_program
 lines=${1:-1000000}
 longest=${2:-12}
 for needed in python3 rustc; do
@@ -21,7 +20,7 @@ if [ ! -f "$input" ]; then
     mv "$input.part" "$input"
 fi
 rustc -O --edition 2021 -o "$made/plain" "$top/bench/plain/main.rs"
-: | "$top/locale_numbers" >/dev/null
+built=$("$top/locale_numbers" --built)
 
 python3 - "$input" "$made" "$built" <<'PYTHON'
 import filecmp, os, subprocess, sys, time

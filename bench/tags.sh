@@ -5,7 +5,6 @@
 set -eu
 top=$(cd "$(dirname "$0")/.." && pwd)
 made=$top/bench/made
-built=$top/crates/locale_numbers_program/out/locale_numbers_program
 command -v python3 >/dev/null || {
     echo "bench: python3 is needed" >&2
     exit 1
@@ -19,7 +18,7 @@ for kind in variants attributes; do
         done
     done
 done
-: | "$top/locale_numbers" >/dev/null
+built=$("$top/locale_numbers" --built)
 
 python3 - "$built" "$made" "$@" <<'PYTHON'
 import os, subprocess, sys
