@@ -82,10 +82,9 @@ def key(crate, sums):
 def state(crate=NAME):
     """What tells that a source was touched, also where its text is as before: identity, size and times of each."""
     found = []
-    for name in [*below(crate), crate]:
-        for path in paths(name):
-            it = os.lstat(path)
-            found.append((path, it.st_ino, it.st_size, it.st_mtime_ns, it.st_ctime_ns))
+    for path in [f"{TOP}/crates.txt", *[path for name in [*below(crate), crate] for path in paths(name)]]:
+        it = os.lstat(path)
+        found.append((path, it.st_ino, it.st_size, it.st_mtime_ns, it.st_ctime_ns))
     return found
 
 

@@ -1,0 +1,72 @@
+#!/usr/bin/env python3
+"""Answers the same lines by one run and by an engine that spreads over machines, and compares the bytes.
+
+usage: bench/spread.py [LINES [BOOK]]
+
+The engine is Debian's package python3-distributed, with two workers of a cluster on this machine. The lines are cut behind
+line feeds into blocks of some 1 MB, and each block is a task of its own. PROGRAM names the program; without it it is the
+proved one of ./locale_numbers. It prints the two times and whether the bytes are the same; the status is 1 where they are not.
+"""
+import os
+import subprocess
+import sys
+import time
+
+TOP = os.path.dirname(os.path.dirname(os.path.realpath(__file__)))
+BLOCK = 1 << 20
+
+
+def program():
+    """The path of the program."""
+    if os.environ.get("PROGRAM"):
+        return os.path.abspath(os.environ["PROGRAM"])
+    asked = subprocess.run([f"{TOP}/locale_numbers", "--built"], stdin=subprocess.DEVNULL, stdout=subprocess.PIPE, check=False)
+    if asked.returncode:
+        sys.exit(1)
+    return os.fsdecode(asked.stdout.rstrip(b"\n"))
+
+
+def blocks(lines):
+    """The text in pieces that end behind a line feed."""
+    start = 0
+    while start < len(lines):
+        end = lines.find(b"\n", min(start + BLOCK, len(lines)) - 1) + 1 or len(lines)
+        yield lines[start:end]
+        start = end
+
+
+def answer(words, lines):
+    """What the program writes for these lines."""
+    return subprocess.run(words, input=lines, stdout=subprocess.PIPE, check=True).stdout
+
+
+def spread(words, lines):
+    """What two workers write for the blocks, put together in order, and the time without that of their start."""
+    from distributed import Client, LocalCluster
+
+    with LocalCluster(n_workers=2, threads_per_worker=1, dashboard_address=None) as cluster, Client(cluster) as client:
+        start = time.monotonic()
+        tasks = [client.submit(answer, words, block, pure=False) for block in blocks(lines)]
+        return b"".join(client.gather(tasks)), time.monotonic() - start, len(tasks)
+
+
+def main(count="1000000", book=""):
+    """Compares the two."""
+    try:
+        import distributed
+    except ImportError:
+        print("bench: the package distributed is needed (Debian's python3-distributed, with /usr/bin/python3)", file=sys.stderr)
+        return 1
+    words = [program(), *([os.path.abspath(book)] if book else [])]
+    lines = subprocess.run([sys.executable, f"{TOP}/bench/make_lines.py", count, "1", "12"], stdout=subprocess.PIPE, check=True).stdout
+    start = time.monotonic()
+    alone = answer(words, lines)
+    spent = time.monotonic() - start
+    together, taken, tasks = spread(words, lines)
+    same = alone == together
+    print(f"one run {spent:.2f} s, distributed {distributed.__version__} with two workers {taken:.2f} s for {tasks} tasks; bytes {'the same' if same else 'DIFFERENT'}")
+    return 0 if same else 1
+
+
+if __name__ == "__main__":
+    sys.exit(main(*sys.argv[1:]))
