@@ -1,11 +1,13 @@
 #!/bin/sh
 # Answers the same lines by one run, and by GNU parallel with 1, 2 and as many jobs as there are processors. It compares the
-# bytes with those of the one run, and prints lines a second over those of the one run.
-# usage: bench/parallel.sh [LINES]
+# bytes with those of the one run, and prints lines a second over those of the one run. Each block starts the program once,
+# and with a BOOK that is read once a block too, so blocks are of 16 MB.
+# usage: bench/parallel.sh [LINES [BOOK]]
 set -eu
 top=$(cd "$(dirname "$0")/.." && pwd)
 made=$top/bench/made
 lines=${1:-10000000}
+book=${2:+$(readlink -f -- "$2")}
 command -v parallel >/dev/null || {
     echo "bench: GNU parallel is needed (Debian's package parallel)" >&2
     exit 1
@@ -22,10 +24,10 @@ if [ ! -f "$input" ]; then
 fi
 built=$("$top/locale_numbers" --built)
 
-python3 - "$input" "$made" "$built" "$lines" <<'PYTHON'
+python3 - "$input" "$made" "$lines" "$built" ${book:+"$book"} <<'PYTHON'
 import filecmp, os, subprocess, sys, time
 
-source, made, program, lines = sys.argv[1:]
+source, made, lines, *program = sys.argv[1:]
 
 
 def wall(command, name):
@@ -40,12 +42,12 @@ def wall(command, name):
     return best
 
 
-alone = wall([program], "alone")
+alone = wall(program, "alone")
 print(f"{'jobs':>6}{'speed':>8}  bytes")
 print(f"{'none':>6}{1:>8.2f}")
 processors = len(os.sched_getaffinity(0))
 for jobs in sorted({1, 2, processors}):
-    command = ["parallel", "--pipe", "--keep-order", "--block", "16M", "--jobs", str(jobs), program]
+    command = ["parallel", "--pipe", "--keep-order", "--block", "16M", "--jobs", str(jobs), "--quote", *program]
     spent = wall(command, f"parallel-{jobs}")
     same = filecmp.cmp(f"{made}/alone.out", f"{made}/parallel-{jobs}.out", shallow=False)
     print(f"{jobs:>6}{alone / spent:>8.2f}  {'the same' if same else 'DIFFERENT'}")

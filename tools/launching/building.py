@@ -79,6 +79,11 @@ def link_or_copy(source, to):
         shutil.copy2(source, to)
 
 
+def link_what_stays(source, to):
+    """Gives a file of kept work a second name where rt replaces such files and changes none, as what was proved; else copies it."""
+    (link_or_copy if source.endswith(".oantt") else shutil.copy2)(source, to)
+
+
 def furnish(room, crate):
     """Puts into a room what the build of a crate reads, and what was built of it before: rt knows by its sources what still holds."""
     os.makedirs(f"{room}/crates")
@@ -93,7 +98,7 @@ def furnish(room, crate):
                 shutil.copytree(made, f"{room}/crates/{name}/out/rlib", copy_function=link_or_copy)
     kept = f"{TOP}/crates/{crate}/out/incremental"
     if os.path.isdir(kept):
-        shutil.copytree(kept, f"{room}/crates/{crate}/out/incremental")
+        shutil.copytree(kept, f"{room}/crates/{crate}/out/incremental", copy_function=link_what_stays)
 
 
 def bring(source, target, old):
