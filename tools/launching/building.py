@@ -16,15 +16,14 @@ import time
 from concurrent.futures import FIRST_COMPLETED, ThreadPoolExecutor, wait
 
 from . import sources
-from .common import NAME, OUT, PROGRAM, RT, TOP, Fault, make_out, of_top, read_text, say
+from .common import MINUTES, NAME, OUT, RT, TOP, Fault, make_out, read_text, say
 from .guard import Guard
 
 ROOMS = f"{OUT}/rooms"
 MEMORY_OF_A_JOB = 1_500_000_000
 JOBS_OF_THE_FIRST = 4
 JOBS_OF_ANOTHER = 2
-# What a whole build took, in minutes on four processors, and the share of each crate in thousandths.
-WHOLE_MINUTES = 40
+# The seconds that each took in a whole build on four processors, beside other work.
 SHARES = {}
 
 
@@ -242,7 +241,7 @@ def build_program():
             return
         make_out()
         start = time.monotonic()
-        say(f"proving and building the program; a whole build takes some {WHOLE_MINUTES} minutes on four processors")
+        say(f"proving and building the program; a whole build takes {MINUTES}")
         sources.record(build_crates(NAME, True))
         say(f"the program is proved and built, in {(time.monotonic() - start) / 60:.0f} minutes")
 
