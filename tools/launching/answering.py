@@ -1,17 +1,18 @@
 """Answers lines or numbers by a program: the proved one, or one of a trial build."""
 import os
+import re
 import signal
 import subprocess
 import sys
 import tempfile
 
 from . import sources, trial, world
-from .common import FAILED, say
+from .common import FAILED, TOP, say
 
 
 def find_program(said, seen):
     """The program that answers, or None where `rt try` itself has to."""
-    why = "a trial is asked for, which proves nothing"
+    why = "nothing of this is proved"
     if not said.has("try"):
         program, why = sources.proved_program(seen)
         if program:
@@ -72,6 +73,14 @@ def run(program, words, lines):
         return trial.answer_by_rt(words, file)
 
 
+def meaning(word):
+    """What a word of refusal means, as --help says it."""
+    with open(f"{TOP}/tools/help.txt", encoding="utf-8") as text:
+        answers = text.read().partition("\nANSWERS\n")[2]
+    found = re.search(rf"^    {re.escape(word)}  +(\S.*)$", answers, re.M)
+    return f": {found[1]}" if found else ""
+
+
 def answer_numbers(said, seen):
     """Prints the text of each number; a number that is refused gets a line on standard error with its word."""
     words = words_of_program(said)
@@ -86,6 +95,6 @@ def answer_numbers(said, seen):
         if kind == b"ok":
             write_all(text + b"\n")
         else:
-            say(f"{number}: {text.decode()}")
+            say(f"{number}: {text.decode()}{meaning(text.decode())}")
             status = FAILED
     return status
