@@ -94,6 +94,7 @@ fn of_data_locale(alloc: Global, call: Call<'_>, data_locale: DataLocale) -> Ans
         "strict_cmp" => debug(alloc, data_locale.strict_cmp(call.second.as_bytes())),
         "into_locale" => made(alloc, data_locale.into_locale(alloc)),
         "is_unknown" => debug(alloc, data_locale.is_unknown()),
+        "truncated" => shown_or_hyphen(alloc, data_locale.truncated().as_ref()),
         "{:?}" => debug(alloc, data_locale),
         "parts" => parts_of(alloc, data_locale),
         "same_data_locales" => is_same(alloc, &data_locale, call.second),

@@ -1,13 +1,20 @@
 -- A value is one book at most, and what its arrays say of it: `specs/Book.antt` and `specs/Room.antt`.
-use Rattle.std.proofs.Common.{◌≡◌, Bool, true, false, ◌&&◌, ◌||◌, Some, None, refl, sym, ◌∙◌}
-use Rattle.serde_json.specs.Data.{Data}
+use Rattle.std.proofs.Common.{◌≡◌, Bool, true, false, ◌||◌, Option, Some, None, [], unwrap_or, refl, sym, ◌∙◌}
+use Rattle.serde_json.specs.Data.{Data, Items, no_items}
+use Rattle.serde_json.specs.Find.{as_array}
 use Rattle.locale_numbers_book.specs.declared.error.BookError.{BookError}
+use Rattle.locale_numbers_book.specs.Arrays.{of_arrays}
 use Rattle.locale_numbers_book.specs.Book.{BookTables, IsBook}
-use Rattle.locale_numbers_book.specs.Faults.{book_fault, compact_faults, digits_faults, has_form, items_at, rules_faults, symbols_faults}
+use Rattle.locale_numbers_book.specs.Entries.{field_at}
+use Rattle.locale_numbers_book.specs.Faults.{compact_faults, digits_faults, rules_faults, symbols_faults}
+use Rattle.locale_numbers_book.specs.Form.{arrays_fault, book_fault, has_form}
+use Rattle.locale_numbers_book.specs.ParentEntries.{parents_faults}
 use Rattle.locale_numbers_book.specs.Refusal.{IsTold}
-use Rattle.locale_numbers_book.proofs.FaultLemmas.{told_at}
+use Rattle.locale_numbers_book.specs.Room.{arrays_may_grow, book_may_grow}
+use Rattle.locale_numbers_book.proofs.FaultLemmas.{told_at, told_first}
+use Rattle.locale_numbers_book.proofs.TableLemmas.{either}
 
-some_same : {A : Type 0} (x y : A) → Some x ≡ Some y → x ≡ y
+pub some_same : {A : Type 0} (x y : A) → Some x ≡ Some y → x ≡ y
 some_same x y h = cc
 
 pub one_book : (value : Data) (book other : BookTables) → IsBook value book → IsBook value other → book ≡ other
@@ -17,33 +24,54 @@ one_book value book other m n =
     let rules = some_same book.rules other.rules (sym m.rules ∙ n.rules) in
     let short = some_same book.short other.short (sym m.short ∙ n.short) in
     let long = some_same book.long other.long (sym m.long ∙ n.long) in
-    let parents : book.parents ≡ other.parents = m.parents ∙ sym n.parents in
+    let parents : book.parents ≡ other.parents = sym m.parents ∙ n.parents in
     λ i. record { symbols = symbols i; digits = digits i; rules = rules i; short = short i; long = long i; parents = parents i }
 
--- ---- the five arrays
+-- ---- the arrays
 
--- one of five arrays begins so
-pub or_second : (a b c d e : Bool) → b ≡ true → (a || b || c || d || e) ≡ true
-or_second true b c d e h = refl
-or_second false true c d e h = refl
-or_second false false c d e h = cc
+front_true : (a b : Bool) → a ≡ true → (a || b) ≡ true
+front_true a b h = rw h refl
 
-pub or_fourth : (a b c d e : Bool) → d ≡ true → (a || b || c || d || e) ≡ true
-or_fourth true b c d e h = refl
-or_fourth false true c d e h = refl
-or_fourth false false true d e h = refl
-or_fourth false false false true e h = refl
-or_fourth false false false false e h = cc
+-- one of the arrays begins so
+module _ (a b c d e f : Bool) where
+  pub or_second : b ≡ true → (a || b || c || d || e || f) ≡ true
+  or_second h = front_true _ f (front_true _ e (front_true _ d (front_true _ c (either a b h))))
 
-pub or_fifth : (a b c d e : Bool) → e ≡ true → (a || b || c || d || e) ≡ true
-or_fifth true b c d e h = refl
-or_fifth false true c d e h = refl
-or_fifth false false true d e h = refl
-or_fifth false false false true e h = refl
-or_fifth false false false false true h = refl
-or_fifth false false false false false h = cc
+  pub or_third : c ≡ true → (a || b || c || d || e || f) ≡ true
+  or_third h = front_true _ f (front_true _ e (front_true _ d (either _ c h)))
 
-pub told_long : (value : Data) (e : BookError) → has_form value ≡ true → symbols_faults (items_at 0 value) ≡ None → digits_faults (items_at 1 value) ≡ None
-    → rules_faults (items_at 2 value) ≡ None → compact_faults (items_at 3 value) ≡ None → IsTold (compact_faults (items_at 4 value)) e → IsTold (book_fault value) e
-told_long value e form symbols digits rules short told =
-    told_at (compact_faults (items_at 4 value)) (book_fault value) e (rw (form, symbols, digits, rules, short) refl) told
+  pub or_fourth : d ≡ true → (a || b || c || d || e || f) ≡ true
+  or_fourth h = front_true _ f (front_true _ e (either _ d h))
+
+  pub or_fifth : e ≡ true → (a || b || c || d || e || f) ≡ true
+  or_fifth h = front_true _ f (either _ e h)
+
+  pub or_sixth : f ≡ true → (a || b || c || d || e || f) ≡ true
+  or_sixth h = either _ f h
+
+-- the fault of the long patterns, and that of the parents
+module _ (s d r h l p : Items) (e : BookError) (symbols : symbols_faults s ≡ None) (digits : digits_faults d ≡ None) (rules : rules_faults r ≡ None) (short : compact_faults h ≡ None) where
+  pub told_long : IsTold (compact_faults l) e → IsTold (arrays_fault s d r h l p) e
+  told_long told = told_at _ (arrays_fault s d r h l p) e (rw (symbols, digits, rules, short) refl) (told_first (compact_faults l) (parents_faults [] p) e told)
+
+  pub told_parents : compact_faults l ≡ None → IsTold (parents_faults [] p) e → IsTold (arrays_fault s d r h l p) e
+  told_parents long told = told_at _ (arrays_fault s d r h l p) e (rw (symbols, digits, rules, short, long) refl) told
+
+-- ---- the value of arrays
+
+module _ (s d r h l : Items) where
+  pub form_of : (p : Option Items) → has_form (of_arrays s d r h l p) ≡ true
+  form_of None = refl
+  form_of (Some p) = refl
+
+  pub last_of : (p : Option Items) → field_at as_array 5 (of_arrays s d r h l p) ≡ p
+  last_of None = refl
+  last_of (Some p) = refl
+
+  pub fault_of : (p : Option Items) → book_fault (of_arrays s d r h l p) ≡ arrays_fault s d r h l (unwrap_or p no_items)
+  fault_of None = refl
+  fault_of (Some p) = refl
+
+  pub room_of : (p : Option Items) → book_may_grow (of_arrays s d r h l p) ≡ arrays_may_grow s d r h l (unwrap_or p no_items)
+  room_of None = refl
+  room_of (Some p) = refl

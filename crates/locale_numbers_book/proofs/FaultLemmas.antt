@@ -10,7 +10,8 @@ use Rattle.locale_numbers_book.specs.declared.error.BookError.TheVariants.{Json,
 use Rattle.locale_numbers_book.specs.BookError.{IsJsonOrMemory}
 use Rattle.locale_numbers_book.specs.CompactEntries.{rows_in, zero_in}
 use Rattle.locale_numbers_book.specs.Entries.{has_count, field_at, is_text_at}
-use Rattle.locale_numbers_book.specs.Faults.{book_fault, compact_fault, digits_fault, first_fault_behind, has_symbols_shape, rules_fault, symbols_fault}
+use Rattle.locale_numbers_book.specs.Faults.{compact_fault, digits_fault, first_fault_behind, has_symbols_shape, rules_fault, symbols_fault}
+use Rattle.locale_numbers_book.specs.Form.{book_fault}
 use Rattle.locale_numbers_book.specs.Json.{Reads, IsNoJson}
 use Rattle.locale_numbers_book.specs.Keys.{table_at}
 use Rattle.locale_numbers_book.specs.Refusal.{IsTold, IsRefused}

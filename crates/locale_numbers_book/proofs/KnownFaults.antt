@@ -6,7 +6,7 @@ use Rattle.serde_json.specs.Data.{Data, Items, null, number, unsigned, string, a
 use Rattle.icu_locale_core.specs.Stepping.{headed_after, whole_after}
 use Rattle.icu_locale_core.specs.TagStages.{with_piece, body_after}
 use Rattle.locale_numbers_book.specs.declared.error.BookError.TheVariants.{Shape, Tag, System, Text, Digits, Condition, Types, Exponents, Duplicate}
-use Rattle.locale_numbers_book.specs.Faults.{book_fault}
+use Rattle.locale_numbers_book.specs.Form.{book_fault}
 use Rattle.locale_numbers_book.specs.TagReading.{tag_of, data_locale_of}
 
 -- ---- small books

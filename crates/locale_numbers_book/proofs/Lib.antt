@@ -10,5 +10,6 @@ pub mod CompactLemmas
 pub mod CompactFaults
 pub mod SoundLemmas
 pub mod BookLemmas
+pub mod BookChains
 pub mod KnownValues
 pub mod KnownFaults

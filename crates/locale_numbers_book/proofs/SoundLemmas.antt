@@ -19,10 +19,12 @@ use Rattle.locale_numbers_book.specs.declared.error.BookError.{BookError}
 use Rattle.locale_numbers_book.specs.declared.error.BookError.TheVariants.{Shape, Tag, System, Text, Types, Exponents}
 use Rattle.locale_numbers_book.specs.CompactEntries.{Row, compact_entry, compact_of, has_plain_patterns, rise_from, row_in, row_with, rows_in, rows_of, table_made, zero_of}
 use Rattle.locale_numbers_book.specs.Entries.{all_of, entry_key, field_at, has_count}
-use Rattle.locale_numbers_book.specs.Faults.{compact_fault, compact_faults, digits_faults, first_broken, first_fault_behind, has_compact_shape, has_form, has_locale, items_at, rules_faults, symbols_faults}
+use Rattle.locale_numbers_book.specs.Faults.{compact_fault, compact_faults, digits_faults, first_broken, first_fault_behind, has_compact_shape, has_locale, rules_faults, symbols_faults}
+use Rattle.locale_numbers_book.specs.Form.{has_form, items_at}
 use Rattle.locale_numbers_book.specs.Fields.{size_in, system_or_none_in}
 use Rattle.locale_numbers_book.specs.Keys.{has_no_key_twice, same_key, without_key_twice}
 use Rattle.locale_numbers_book.specs.Laws.{AreSoundTables, BookTablesAreSound, IsSoundTable}
+use Rattle.locale_numbers_book.specs.ParentEntries.{parents_faults}
 use Rattle.locale_numbers_book.proofs.CompactLemmas.{table_meant, true_le}
 
 -- ---- numbers of rows
@@ -136,11 +138,11 @@ sound_entry entry table is none =
 
 -- ---- all tables
 
-first_none : (a b : Option BookError) → option_or a b ≡ None → a ≡ None
+pub first_none : (a b : Option BookError) → option_or a b ≡ None → a ≡ None
 first_none None b e = refl
 first_none (Some x) b e = absurd (cc)
 
-second_none : (a b : Option BookError) → option_or a b ≡ None → b ≡ None
+pub second_none : (a b : Option BookError) → option_or a b ≡ None → b ≡ None
 second_none None b e = e
 second_none (Some x) b e = absurd (cc)
 
@@ -173,19 +175,22 @@ read_whole (Some ps) pairs is = by (has_no_key_twice same_key ps) is
     by true same = same
     by false same = absurd (cc)
 
-record LastTwo (d e : Option BookError) : Type 0 where
-  fourth : d ≡ None
-  fifth : e ≡ None
+pub record LastFaults (d e p : Option BookError) : Type 0 where
+  pub fourth : d ≡ None
+  pub fifth : e ≡ None
+  pub sixth : p ≡ None
 
-last_two : (f : Bool) (a b c d e : Option BookError) → (if f then option_or a (option_or b (option_or c (option_or d e))) else Some Shape) ≡ None → LastTwo d e
-last_two true a b c d e none =
-    let rest = second_none c (option_or d e) (second_none b (option_or c (option_or d e)) (second_none a (option_or b (option_or c (option_or d e))) none)) in
-    record { fourth = first_none d e rest; fifth = second_none d e rest }
-last_two false a b c d e none = absurd (cc)
+pub no_fault_of : (f : Bool) (a b c d e p : Option BookError) → (if f then option_or a (option_or b (option_or c (option_or d (option_or e p)))) else Some Shape) ≡ None → LastFaults d e p
+no_fault_of true a b c d e p none =
+    let rest = second_none c _ (second_none b _ (second_none a _ none)) in
+    let last = second_none d _ rest in
+    record { fourth = first_none d _ rest; fifth = first_none e p last; sixth = second_none e p last }
+no_fault_of false a b c d e p none = absurd (cc)
 
 pub tables_sound : BookTablesAreSound
 tables_sound value book is =
-    let none = last_two (has_form value) (symbols_faults (items_at 0 value)) (digits_faults (items_at 1 value)) (rules_faults (items_at 2 value)) (compact_faults (items_at 3 value)) (compact_faults (items_at 4 value)) is.sound in
+    let none = no_fault_of (has_form value) (symbols_faults (items_at 0 value)) (digits_faults (items_at 1 value)) (rules_faults (items_at 2 value)) (compact_faults (items_at 3 value)) (compact_faults (items_at 4 value))
+    (parents_faults [] (items_at 5 value)) is.sound in
     (
       sound_items (items_at 3 value) [] book.short (read_whole (all_of compact_entry (items_at 3 value)) book.short is.short) none.fourth,
       sound_items (items_at 4 value) [] book.long (read_whole (all_of compact_entry (items_at 4 value)) book.long is.long) none.fifth,

@@ -1,6 +1,6 @@
--- What is wrong with a book: the first faulty entry decides, and in an entry the first rule that is broken.
+-- What is wrong with an array of a book: the first faulty entry decides, and in an entry the first rule that is broken.
 -- Defined in docs/books.md, "Faults".
--- Cited by `Book::from_json`, through Book.antt and Refusal.antt.
+-- Cited by `Book::from_json`, through Form.antt.
 use Rattle.std.specs.Prelude.{ℕ, Bool, false, ◌&&◌, List, [], ◌∷◌, ◌++◌, Option, None, Some, is_some, not, option_and_then, option_to_list, unwrap_or, if◌then◌else◌}
 use Rattle.std.specs.List.{list_any}
 use Rattle.std.specs.Option.{option_or}
@@ -111,25 +111,3 @@ rules_faults entries = first_fault_behind same_data_locale rules_key rules_fault
 
 abbrev pub compact_faults : Items → Option BookError
 compact_faults entries = first_fault_behind same_key entry_key compact_fault [] entries
-
--- ---- a book
-
-abbrev pub is_array_at : ℕ → Data → Bool
-is_array_at place value = is_some (option_and_then as_array (at place value))
-
--- five arrays
-abbrev pub has_form : Data → Bool
-has_form value =
-    has_count 5 value && is_array_at 0 value && is_array_at 1 value && is_array_at 2 value && is_array_at 3 value && is_array_at 4 value
-
-abbrev pub items_at : ℕ → Data → Items
-items_at place value = unwrap_or (option_and_then as_array (at place value)) no_items
-
-abbrev pub book_fault : Data → Option BookError
-book_fault value =
-    if has_form value
-    then option_or (symbols_faults (items_at 0 value))
-    (option_or (digits_faults (items_at 1 value))
-    (option_or (rules_faults (items_at 2 value))
-    (option_or (compact_faults (items_at 3 value)) (compact_faults (items_at 4 value)))))
-    else Some Shape

@@ -1,6 +1,6 @@
--- Laws of the definitions: which tags and data locales are read, when two keys are one, which tables of patterns are made, and when a
--- value is a book.
--- Defined in docs/books.md, "Tags", "The form" and "Faults".
+-- Laws of the definitions: which tags and data locales are read, when two keys are one, which tables of patterns are made, when a value
+-- is a book, and that its chains of parents end.
+-- Defined in docs/books.md, "Tags", "The form", "Parents" and "Faults".
 -- Cited by the functions of `laws.rt`.
 use Rattle.std.specs.Prelude.{◌≡◌, ◌↔◌, List, Option, Some}
 use Rattle.std.specs.List.{AllByRecursion}
@@ -10,6 +10,7 @@ use Rattle.icu_locale_core.specs.Subtags.{Text}
 use Rattle.icu_locale_core.specs.Meaning.{TagMeaning, MeansTag}
 use Rattle.icu_locale_core.specs.TagPreferences.{DataLocaleMeaning}
 use Rattle.icu_locale_core.specs.DataTags.{MeansDataLocale}
+use Rattle.icu_decimal_chains.specs.Chains.{Follows, walk}
 use Rattle.icu_decimal.specs.Entries.{Rises}
 use Rattle.icu_decimal.specs.Identifiers.{Identifier}
 use Rattle.icu_decimal.specs.KeptEntries.{CompactTable, IsTable, Patterns, TypePatterns}
@@ -17,6 +18,7 @@ use Rattle.icu_decimal.specs.SmallEntries.{AreSmall}
 use Rattle.locale_numbers_book.specs.Book.{BookTables, IsBook}
 use Rattle.locale_numbers_book.specs.CompactEntries.{table_made}
 use Rattle.locale_numbers_book.specs.Keys.{same_key}
+use Rattle.locale_numbers_book.specs.Tables.{parent_under, steps_in}
 use Rattle.locale_numbers_book.specs.TagReading.{tag_of, data_locale_of}
 
 -- a list of pieces is read as a tag exactly where it means one, and as that one
@@ -51,3 +53,8 @@ AreSoundTables tables = AllByRecursion (λ pair. IsSoundTable pair.1) tables
 -- all tables of patterns of a book are sound
 abbrev pub BookTablesAreSound : Type 0
 BookTablesAreSound = (value : Data) (book : BookTables) → IsBook value book → AreSoundTables book.short × AreSoundTables book.long
+
+-- the bound on steps cuts no chain of a book: where that many steps lead, no locale comes next
+abbrev pub BookChainsEnd : Type 0
+BookChainsEnd = (value : Data) (book : BookTables) → IsBook value book → (locale : DataLocaleMeaning)
+    → Follows (parent_under book) locale (walk (parent_under book) (steps_in book.parents) locale)

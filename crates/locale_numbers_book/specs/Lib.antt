@@ -8,11 +8,12 @@ pub mod RulesEntries
 pub mod CompactEntries
 pub mod Faults
 pub mod ParentEntries
+pub mod Form
 pub mod CompactSteps
 pub mod Book
 pub mod Refusal
-pub mod Laws
 pub mod Room
 pub mod Tables
+pub mod Laws
 pub mod Adding
 pub mod Arrays

@@ -5,7 +5,7 @@ use Rattle.std.specs.Prelude.{◌≡◌, ℕ, List, Option, Some}
 use Rattle.serde_json.specs.Data.{Data}
 use Rattle.locale_numbers_book.specs.declared.error.BookError.{BookError}
 use Rattle.locale_numbers_book.specs.declared.error.BookError.TheVariants.{Json, Memory}
-use Rattle.locale_numbers_book.specs.Faults.{book_fault}
+use Rattle.locale_numbers_book.specs.Form.{book_fault}
 use Rattle.locale_numbers_book.specs.Json.{Reads, IsNoJson}
 
 -- the error tells the fault that is found, or is out of memory

@@ -1,14 +1,17 @@
 -- Where the reading of a book may run out of memory: never at a fault that is found before memory is asked for.
 -- Defined in docs/books.md, "Faults".
 -- Cited by the steps of `Book::from_json`.
-use Rattle.std.specs.Prelude.{ℕ, Bool, false, not, ◌&&◌, ◌||◌, is_some}
+use Rattle.std.specs.Prelude.{ℕ, Bool, false, not, ◌&&◌, ◌||◌, List, [], is_some}
 use Rattle.std.specs.Option.{option_map_or}
 use Rattle.serde_json.specs.Data.{Data, Items, no_items, item}
 use Rattle.serde_json.specs.Find.{as_str}
 use Rattle.icu_locale_core.specs.Pieces.{pieces}
 use Rattle.icu_locale_core.specs.TagRoom.{tag_may_grow}
+use Rattle.locale_numbers_parents.specs.Parents.{Entry}
 use Rattle.locale_numbers_book.specs.Entries.{has_count, field_at, is_text_at}
-use Rattle.locale_numbers_book.specs.Faults.{has_symbols_shape, symbols_fault, digits_fault, has_form, items_at}
+use Rattle.locale_numbers_book.specs.Faults.{has_symbols_shape, symbols_fault, digits_fault}
+use Rattle.locale_numbers_book.specs.Form.{has_form, items_at}
+use Rattle.locale_numbers_book.specs.ParentEntries.{has_parent_shape, parent_fault}
 
 -- a locale: where the field is a text that is so
 abbrev pub locale_may_grow : ℕ → Data → Bool
@@ -30,14 +33,22 @@ rules_may_grow entry = has_count 2 entry && is_text_at 0 entry
 abbrev pub compact_may_grow : Data → Bool
 compact_may_grow entry = has_count 4 entry && is_text_at 0 entry && is_text_at 1 entry
 
+-- parents, behind these: an entry of two texts, of which a locale may take memory, or one that has no fault
+abbrev pub parent_may_grow : List Entry → Data → Bool
+parent_may_grow before entry = has_parent_shape entry && (locale_may_grow 0 entry || locale_may_grow 1 entry) || not (is_some (parent_fault before entry))
+
 -- an array: one that begins with such an entry
 abbrev pub begins_with : (Data → Bool) → Items → Bool
 begins_with may_grow no_items = false
 begins_with may_grow (item first rest) = may_grow first
 
--- a book: five arrays, where one of them begins so
+-- arrays: where one of them begins so
+abbrev pub arrays_may_grow : Items → Items → Items → Items → Items → Items → Bool
+arrays_may_grow symbols digits rules short long parents =
+    begins_with symbols_may_grow symbols || begins_with digits_may_grow digits || begins_with rules_may_grow rules
+    || begins_with compact_may_grow short || begins_with compact_may_grow long || begins_with (parent_may_grow []) parents
+
+-- a book: arrays that are so
 abbrev pub book_may_grow : Data → Bool
 book_may_grow value =
-    has_form value
-    && (begins_with symbols_may_grow (items_at 0 value) || begins_with digits_may_grow (items_at 1 value) || begins_with rules_may_grow (items_at 2 value)
-    || begins_with compact_may_grow (items_at 3 value) || begins_with compact_may_grow (items_at 4 value))
+    has_form value && arrays_may_grow (items_at 0 value) (items_at 1 value) (items_at 2 value) (items_at 3 value) (items_at 4 value) (items_at 5 value)

@@ -1,22 +1,22 @@
 //! A book of tables.
-ghost use Rattle.std.specs.Prelude.{◌≡◌, true, IfOk, IsErrOf, IfErr};
+ghost use Rattle.std.specs.Prelude.{◌≡◌, true, IfOk, IsErrOf, IfErr, option_map, unwrap_or};
 ghost use Rattle.std.specs.Option.{option_copied};
 ghost use Rattle.std.specs.Result.{result_map_both};
 ghost use Rattle.icu_decimal.specs.Choice.{answered};
+ghost use Rattle.serde_json.specs.Data.{Data, no_items};
 ghost use Rattle.serde_json.specs.View.{items_view, view};
 ghost use Rattle.locale_numbers_book.specs.Arrays.{of_arrays};
-ghost use Rattle.serde_json.specs.Data.{Data};
 ghost use Rattle.locale_numbers_book.specs.Book.{IsBook};
-ghost use Rattle.locale_numbers_book.specs.Faults.{book_fault};
+ghost use Rattle.locale_numbers_book.specs.Form.{arrays_fault, book_fault};
 ghost use Rattle.locale_numbers_book.specs.Json.{Reads};
 ghost use Rattle.locale_numbers_book.specs.Refusal.{IsRefused, IsTold};
-ghost use Rattle.locale_numbers_book.specs.Room.{book_may_grow};
+ghost use Rattle.locale_numbers_book.specs.Room.{arrays_may_grow, book_may_grow};
 ghost use Rattle.locale_numbers_book.specs.Tables.{parent_under, steps_in};
 ghost use Rattle.icu_decimal_chains.specs.Chains.{Follows, walk};
 ghost use Rattle.icu_locale_core.specs.TagPreferences.{DataLocaleMeaning};
 
 use crate::BookError;
-use crate::json::{Arrays, arrays_of, table_of, value_of};
+use crate::json::{Arrays, arrays_of, parents_in, table_of, value_of};
 use icu_decimal::plurals::PluralRules;
 use icu_decimal::provider::{
     CompactPatterns, DataError, DataIdentifier, DataProvider, DecimalCompactLongV1,
@@ -58,12 +58,12 @@ fn found<T>(there: Option<&T>) -> Result<&T, DataError>
     there.ok_or(DataError::IdentifierNotFound)
 }
 
-/// The book of five arrays.
+/// The book of these arrays.
 #[tactic(auto, using(crate::proofs::BookLemmas::or_second, crate::proofs::BookLemmas::or_fourth, crate::proofs::BookLemmas::or_fifth))]
 fn tables_of(alloc: Global, arrays: Arrays) -> Result<Book, BookError>
-    ensures value { IfOk result (IsBook (of_arrays (items_view arrays.symbols.items) (items_view arrays.digits.items) (items_view arrays.rules.items) (items_view arrays.short.items) (items_view arrays.long.items))) }
-    ensures fault { IfErr result (λ fault. IsTold (book_fault (of_arrays (items_view arrays.symbols.items) (items_view arrays.digits.items) (items_view arrays.rules.items) (items_view arrays.short.items) (items_view arrays.long.items))) fault) }
-    ensures room { IsErrOf result BookError.Memory → book_may_grow (of_arrays (items_view arrays.symbols.items) (items_view arrays.digits.items) (items_view arrays.rules.items) (items_view arrays.short.items) (items_view arrays.long.items)) ≡ true }
+    ensures value { IfOk result (IsBook (of_arrays (items_view arrays.symbols.items) (items_view arrays.digits.items) (items_view arrays.rules.items) (items_view arrays.short.items) (items_view arrays.long.items) (option_map (λ entries. items_view entries.items) arrays.parents))) }
+    ensures fault { IfErr result (λ fault. IsTold (arrays_fault (items_view arrays.symbols.items) (items_view arrays.digits.items) (items_view arrays.rules.items) (items_view arrays.short.items) (items_view arrays.long.items) (unwrap_or (option_map (λ entries. items_view entries.items) arrays.parents) no_items)) fault) }
+    ensures room { IsErrOf result BookError.Memory → arrays_may_grow (items_view arrays.symbols.items) (items_view arrays.digits.items) (items_view arrays.rules.items) (items_view arrays.short.items) (items_view arrays.long.items) (unwrap_or (option_map (λ entries. items_view entries.items) arrays.parents) no_items) ≡ true }
 {
     let Arrays {
         symbols,
@@ -71,19 +71,21 @@ fn tables_of(alloc: Global, arrays: Arrays) -> Result<Book, BookError>
         rules,
         short,
         long,
+        parents,
     } = arrays;
     let symbols = table_of(alloc, symbols)?;
     let digits = table_of(alloc, digits)?;
     let rules = table_of(alloc, rules)?;
     let short = table_of(alloc, short)?;
-    match table_of(alloc, long) {
-        Ok(long) => Ok(Book {
+    let long = table_of(alloc, long)?;
+    match parents_in(alloc, parents) {
+        Ok(parents) => Ok(Book {
             symbols,
             digits,
             rules,
             short,
             long,
-            parents: None,
+            parents,
         }),
         Err(fault) => Err(fault),
     }

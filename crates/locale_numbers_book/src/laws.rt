@@ -1,5 +1,5 @@
 //! Laws of the definitions, each the contract of a function that does nothing.
-ghost use Rattle.locale_numbers_book.specs.Laws.{TagsAreRead, DataLocalesAreRead, KeysAreOneWhereEqual, TablesAreMade, IsOneBook, BookTablesAreSound};
+ghost use Rattle.locale_numbers_book.specs.Laws.{TagsAreRead, DataLocalesAreRead, KeysAreOneWhereEqual, TablesAreMade, IsOneBook, BookTablesAreSound, BookChainsEnd};
 
 /// The function by which a line is answered reads as a tag exactly what means one in the grammar, and as that meaning:
 /// `EN-u-NU-Wxyz` as the language `en` with the system `wxyz`, and `en-` as none.
@@ -25,7 +25,7 @@ pub fn tables_are_made()
     ensures { TablesAreMade }
 {}
 
-/// A JSON value is one book at most: `[[],[],[],[],[]]` is the book without tables alone.
+/// A JSON value is one book at most: `[[],[],[],[],[]]` is only the book without tables and without parents.
 pub fn is_one_book()
     ensures { IsOneBook }
 {}
@@ -34,4 +34,10 @@ pub fn is_one_book()
 /// the types 3 and 6 of `en`.
 pub fn tables_are_sound()
     ensures { BookTablesAreSound }
+{}
+
+/// The bound on the steps from a locale to its parents cuts no chain of a book: `en-AU`, `en-001`, `en` under
+/// `[[],[],[],[],[],[["en-AU","en-001"]]]`.
+pub fn chains_end()
+    ensures { BookChainsEnd }
 {}

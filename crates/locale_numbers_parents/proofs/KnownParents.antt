@@ -22,10 +22,11 @@ en_001 = region_of (codes "en") (Some (codes "001"))
 abbrev xx : DataLocaleMeaning
 xx = region_of (codes "xx") None
 
--- no entry: cut alone
-cut_alone : parents_chain [] en_US ≡ en_US ∷ en ∷ []
-cut_alone = refl
+-- no entry: only truncation
+only_cut : parents_chain [] en_US ≡ en_US ∷ en ∷ []
+only_cut = refl
 
+-- a bare language ends the chain: `und` does not follow
 bare_ends : parents_chain [] xx ≡ xx ∷ []
 bare_ends = refl
 
@@ -42,3 +43,15 @@ own_parent = (0, refl)
 -- [["en","en-US"]]
 by_cutting : ClosesCycle [] (en, en_US)
 by_cutting = (1, refl)
+
+-- [["en-AU","en-001"],["en-001","en-AU"]]
+two_of_each_other : ClosesCycle ((en_AU, en_001) ∷ []) (en_001, en_AU)
+two_of_each_other = (1, refl)
+
+-- a bare language that is listed leads on, to another language or to `und`
+to_undetermined : parents_chain ((xx, region_of (codes "und") None) ∷ []) xx ≡ xx ∷ region_of (codes "und") None ∷ []
+to_undetermined = refl
+
+-- five for each entry, and four
+steps_of_two : most_steps ((en_AU, en_001) ∷ (en_001, en) ∷ []) ≡ 14
+steps_of_two = refl

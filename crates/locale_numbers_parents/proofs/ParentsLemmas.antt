@@ -13,7 +13,7 @@ use Rattle.locale_numbers_parents.proofs.PairsLemmas.{Ends, there, elsewhere, mo
 abbrev AllEnd : List Entry → Type 0
 AllEnd entries = Ends same_data_locale same_data_locales truncated entries
 
-append_none : {E : Type 0} (xs : List E) → xs ++ [] ≡ xs
+pub append_none : {E : Type 0} (xs : List E) → xs ++ [] ≡ xs
 append_none [] = refl
 append_none (x ∷ xs) = ap (λ ys. x ∷ ys) (append_none xs)
 

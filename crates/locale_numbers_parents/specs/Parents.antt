@@ -1,6 +1,6 @@
 -- The parents of locales, and the chains that they make: after each locale its listed parent, or else the locale cut by one part.
 -- Defined in docs/books.md, "Parents".
--- Cited by the parents of a book, and by the choice of tables.
+-- Cited by `Parents`, by the parents of a book, and by the choice of tables.
 use Rattle.std.specs.Prelude.{◌≡◌, ◌↔◌, Bool, true, ℕ, ◌+◌, ◌*◌, List, [], ◌∷◌, ◌++◌, length, Option, None}
 use Rattle.std.specs.List.{list_any}
 use Rattle.std.specs.Option.{option_or}
@@ -20,14 +20,14 @@ listed_parent entries locale = table_at same_data_locale locale entries
 abbrev pub parent_step : List Entry → DataLocaleMeaning → Option DataLocaleMeaning
 parent_step entries locale = option_or (listed_parent entries locale) (truncated locale)
 
--- no chain that ends has more steps
+-- the bound on steps: no chain that ends has more
 abbrev pub most_steps : List Entry → ℕ
 most_steps entries = 5 * length entries + 4
 
 abbrev pub parents_chain : List Entry → DataLocaleMeaning → List DataLocaleMeaning
 parents_chain entries locale = chain (parent_step entries) (most_steps entries) locale
 
--- the chain of a start meets the goal
+-- the chain of the start meets the goal
 abbrev pub leads_to : List Entry → DataLocaleMeaning → DataLocaleMeaning → Bool
 leads_to entries start goal = list_any (λ x. same_data_locale x goal) (parents_chain entries start)
 

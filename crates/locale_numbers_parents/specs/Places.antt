@@ -1,6 +1,6 @@
 -- When two locales are one, and what stands with a locale in a list of pairs.
 -- Defined in docs/books.md, "The form".
--- Cited by the parents of locales.
+-- Cited by `Parents`, and by the look-ups of a book.
 use Rattle.std.specs.Prelude.{Bool, ◌&&◌, List, [], ◌∷◌, Option, Some, None, if◌then◌else◌}
 use Rattle.std.specs.Option.{option_eq}
 use Rattle.std.specs.Str.{bytes_eq}

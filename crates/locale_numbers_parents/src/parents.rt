@@ -12,18 +12,18 @@ use indexmap::IndexMap;
 use std::alloc::Global;
 use std::marker::Model;
 
-/// Why a parent is refused.
+/// Why a parent is refused: `Duplicate` of a second one for `en-AU`.
 #[derive(Clone, Copy, Debug, Drop, PartialEq, Eq)]
 pub enum ParentFault {
-    /// The locale has a parent already.
+    /// The locale has a parent already: `en-AU`, of which `en-001` was added.
     Duplicate,
-    /// The parents of the locale would lead back to it.
+    /// The parents of the locale would lead back to it: `en-US` for `en`, since `en` stands behind `en-US`.
     Cycle,
-    /// Memory was refused.
+    /// Memory was refused to the list.
     Memory,
 }
 
-/// The parents of locales, of which none leads back to itself.
+/// Locales and their parents, of which no locale stands twice and none leads back to itself: `en-001` for `en-AU`, `en` for `en-001`.
 #[derive(Drop)]
 pub struct Parents {
     pairs: IndexMap<DataLocale, DataLocale>,
@@ -41,7 +41,7 @@ impl Model for Parents {
 }
 
 impl Parents {
-    /// No parents. It takes no memory.
+    /// No parents, so that only truncation gives one: `en` for `en-US`. It takes no memory.
     pub fn new(alloc: Global) -> Self
         ensures { result ≡ [] }
     {
@@ -57,7 +57,8 @@ impl Parents {
         self.pairs.get(locale)
     }
 
-    /// The next locale to ask for: the parent that is listed, or else the locale without its last part. It takes no memory.
+    /// The next locale to ask for: the parent that is listed, or else the locale without its last part. With `en-001` for `en-AU`
+    /// it is `en-001` after `en-AU`, `en` after `en-US`, and none after `en`. It takes no memory.
     pub fn parent(&self, locale: &DataLocale) -> Option<DataLocale>
         ensures { result ≡ parent_step self.now locale.now }
     {
@@ -67,7 +68,7 @@ impl Parents {
         }
     }
 
-    /// How many steps are taken at most: as many as no chain exceeds. It takes no memory.
+    /// The bound on the steps of a chain, which no chain exceeds: five for each parent that is listed, and four. It takes no memory.
     pub fn chain_limit(&self) -> u128
         ensures value { result ≡ most_steps self.now }
         ensures cuts_none { (l : DataLocaleMeaning) → Follows (parent_step self.now) l (walk (parent_step self.now) result l) }
@@ -93,18 +94,27 @@ impl Parents {
         current == goal
     }
 
-    /// Gives the locale this parent. `Duplicate`: it has one already. `Cycle`: its parents would lead back to it. `Memory`: memory was
-    /// refused. After a fault the parents are as before.
+    /// Gives the locale this parent: `en-001` for `en-AU`. After a fault the parents are as before. It takes memory.
+    ///
+    /// - Duplicate: the locale has a parent already, as a second one for `en-AU`.
+    /// - Cycle: else, its parents would lead back to it, as `en` or `en-US` for `en`.
+    /// - Memory: else, memory was refused.
     pub fn add(&mut self, locale: DataLocale, parent: DataLocale) -> Result<(), ParentFault>
-        ensures added { OnOk result (self.new ≡ self.old ++ (locale, parent) ∷ []) }
-        ensures fresh { OnOk result (listed_parent self.old locale ≡ None) }
-        ensures open_ended { OnOk result (¬ (ClosesCycle self.old (locale, parent))) }
         ensures duplicate { IsErrOf result ParentFault.Duplicate → IsSome (listed_parent self.old locale) }
         ensures cycle { IsErrOf result ParentFault.Cycle → ClosesCycle self.old (locale, parent) }
+        ensures cycle_is_new { IsErrOf result ParentFault.Cycle → listed_parent self.old locale ≡ None }
+        ensures value { OnOk result (self.new ≡ self.old ++ (locale, parent) ∷ []) }
+        ensures fresh { OnOk result (listed_parent self.old locale ≡ None) }
+        ensures open_ended { OnOk result (¬ (ClosesCycle self.old (locale, parent))) }
+        ensures same { OnErr result (self.new ≡ self.old) }
+
+        // The test by which a cycle is found: `laws::cycles_are_met` says that it is right.
         ensures met { IsErrOf result ParentFault.Cycle → leads_to self.old parent locale ≡ true }
         ensures not_met { OnOk result (leads_to self.old parent locale ≡ false) }
-        ensures cycle_is_new { IsErrOf result ParentFault.Cycle → listed_parent self.old locale ≡ None }
-        ensures same { OnErr result (self.new ≡ self.old) }
+
+        // A locale that is listed and a parent that leads back are never told as out of memory.
+        ensures room_duplicate { IsErrOf result ParentFault.Memory → listed_parent self.old locale ≡ None }
+        ensures room_cycle { IsErrOf result ParentFault.Memory → leads_to self.old parent locale ≡ false }
     {
         if self.listed(&locale).is_some() {
             return Err(ParentFault::Duplicate);

@@ -6,8 +6,22 @@ use crate::row_error::RowError;
 use locale_numbers::{Book, BookError, answer};
 use std::alloc::Global;
 
-/// The bytes of the book that a field names, or says.
+// The bytes of the book with this name, with an array of parents behind its five.
+fn with_parents(alloc: Global, name: &str, parents: &str) -> Result<Vec<u8>, RowError> {
+    let Some(text) = book_named(name) else {
+        return Err(RowError::NotUnderstood);
+    };
+    let Some(arrays) = text.strip_suffix(']') else {
+        return Err(RowError::NotUnderstood);
+    };
+    Ok(format!(in alloc; "{arrays},{parents}]")?.into_bytes())
+}
+
+/// The bytes of the book that a field names, with parents or without, or says.
 pub fn book_bytes(alloc: Global, field: &str) -> Result<Vec<u8>, RowError> {
+    if let Some((name, parents)) = field.split_once(" + ") {
+        return with_parents(alloc, name, parents);
+    }
     match book_named(field) {
         Some(text) => Ok(Vec::from_slice(alloc, text.as_bytes())?),
         None => unescaped(alloc, field),

@@ -75,6 +75,12 @@ const NO_RULES: &str =
     r#"[[["en","","latn","-","","+","",".",",",3,3,1]],[["latn","0123456789"]],[],
  [["en","",[[3,3,[["other",["","K"]]]]],null]],[]]"#;
 
+// Symbols of `en` under `thai`, and of `en-US` under no system.
+const THAI_BEHIND: &str = r#"[[["en","","latn","-","","+","",".",",",3,3,1],
+  ["en","thai","thai","-","","+","",",",".",3,3,1],
+  ["en-US","","latn","-","","+","",".","'",3,3,1]],
+ [["latn","0123456789"],["thai","๐๑๒๓๔๕๖๗๘๙"]],[],[],[]]"#;
+
 /// The text of the book with this name.
 pub fn book_named(name: &str) -> Option<&'static str> {
     match name {
@@ -92,6 +98,7 @@ pub fn book_named(name: &str) -> Option<&'static str> {
         "late-million" => Some(LATE_MILLION),
         "long-thousands" => Some(LONG_THOUSANDS),
         "no-rules" => Some(NO_RULES),
+        "thai-behind" => Some(THAI_BEHIND),
         _ => None,
     }
 }

@@ -1,18 +1,19 @@
 //! The outer form of a book.
-ghost use Rattle.std.specs.Prelude.{◌≡◌, true, false, IfSome, None, option_map, drop};
+ghost use Rattle.std.specs.Prelude.{◌≡◌, ◌||◌, ◌&&◌, true, false, IfSome, None, option_map, drop};
 ghost use Rattle.std.specs.Vec.Iter.{into_iter_items};
 ghost use Rattle.serde_json.specs.Data.{array};
 ghost use Rattle.serde_json.specs.Find.{as_array};
 ghost use Rattle.serde_json.specs.View.{view, items_view};
-ghost use Rattle.locale_numbers_book.specs.Faults.{has_form, is_array_at, items_at};
 ghost use Rattle.locale_numbers_book.specs.Arrays.{of_arrays};
+ghost use Rattle.locale_numbers_book.specs.Entries.{field_at, has_count};
+ghost use Rattle.locale_numbers_book.specs.Form.{has_form, is_array_at, items_at};
 
 use super::entries::has_count;
 use serde_json::Value;
 use std::alloc::Global;
 use std::vec::IntoIter;
 
-/// The entries of the five arrays of a book.
+/// The entries of the arrays of a book, of which the last may be missing.
 #[derive(Drop)]
 pub struct Arrays {
     pub symbols: Vec<Value>,
@@ -20,6 +21,7 @@ pub struct Arrays {
     pub rules: Vec<Value>,
     pub short: Vec<Value>,
     pub long: Vec<Value>,
+    pub parents: Option<Vec<Value>>,
 }
 
 fn is_array_at(value: &Value, place: usize) -> bool
@@ -31,11 +33,18 @@ fn is_array_at(value: &Value, place: usize) -> bool
     }
 }
 
-/// Whether a value is an array of five arrays.
+/// Whether a value has five items, or six of which the last is an array.
+fn has_length(value: &Value) -> bool
+    ensures { result ≡ (has_count 5 (view value.now) || (has_count 6 (view value.now) && is_array_at 5 (view value.now))) }
+{
+    has_count(value, 5) || (has_count(value, 6) && is_array_at(value, 5))
+}
+
+/// Whether a value is an array of five arrays or six.
 fn has_form(value: &Value) -> bool
     ensures { result ≡ has_form (view value.now) }
 {
-    has_count(value, 5)
+    has_length(value)
         && is_array_at(value, 0)
         && is_array_at(value, 1)
         && is_array_at(value, 2)
@@ -53,25 +62,33 @@ fn items_of(value: Value) -> Option<Vec<Value>>
     }
 }
 
+/// The items of the next value, where it is an array.
+fn next_array(values: &mut IntoIter<Value>) -> Option<Vec<Value>>
+    ensures first { option_map (λ items. items_view items.items) result ≡ field_at as_array 0 (array (items_view (into_iter_items values.old))) }
+    ensures rest { into_iter_items values.new ≡ drop 1 (into_iter_items values.old) }
+{
+    match values.next() {
+        Some(value) => items_of(value),
+        None => None,
+    }
+}
+
 /// The items of the array that comes next; none where no array does.
 fn next_items(alloc: Global, values: &mut IntoIter<Value>) -> Vec<Value>
     ensures first { items_view result.items ≡ items_at 0 (array (items_view (into_iter_items values.old))) }
     ensures rest { into_iter_items values.new ≡ drop 1 (into_iter_items values.old) }
 {
-    match values.next() {
-        Some(value) => match items_of(value) {
-            Some(items) => items,
-            None => Vec::new(alloc),
-        },
+    match next_array(values) {
+        Some(items) => items,
         None => Vec::new(alloc),
     }
 }
 
-/// The arrays that five values are.
+/// The arrays that values are.
 fn arrays_in(alloc: Global, values: Vec<Value>) -> Arrays
     requires { has_form (array (items_view values.items)) ≡ true }
     ensures { array (items_view values.items) ≡ of_arrays (items_view result.symbols.items) (items_view result.digits.items) (items_view result.rules.items)
-        (items_view result.short.items) (items_view result.long.items) }
+        (items_view result.short.items) (items_view result.long.items) (option_map (λ entries. items_view entries.items) result.parents) }
 {
     let mut values = values.into_iter();
     let symbols = next_items(alloc, &mut values);
@@ -79,19 +96,21 @@ fn arrays_in(alloc: Global, values: Vec<Value>) -> Arrays
     let rules = next_items(alloc, &mut values);
     let short = next_items(alloc, &mut values);
     let long = next_items(alloc, &mut values);
+    let parents = next_array(&mut values);
     Arrays {
         symbols,
         digits,
         rules,
         short,
         long,
+        parents,
     }
 }
 
-/// The five arrays that a value is, taken out of it, or none where it is of another form.
+/// The five arrays or six that a value is, taken out of it, or none where it is of another form.
 pub fn arrays_of(alloc: Global, value: Value) -> Option<Arrays>
     ensures some { IfSome result (λ arrays. view value ≡ of_arrays (items_view arrays.symbols.items) (items_view arrays.digits.items) (items_view arrays.rules.items)
-        (items_view arrays.short.items) (items_view arrays.long.items)) }
+        (items_view arrays.short.items) (items_view arrays.long.items) (option_map (λ entries. items_view entries.items) arrays.parents)) }
     ensures none { result ≡ None → has_form (view value) ≡ false }
 {
     if !has_form(&value) {

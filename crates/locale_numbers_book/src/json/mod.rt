@@ -2,14 +2,15 @@
 mod compact;
 mod entries;
 mod entry;
-mod parents;
 mod fields;
 mod form;
+mod parents;
 mod rules;
 mod tables;
 mod texts;
 mod value;
 
 pub use form::{Arrays, arrays_of};
+pub use parents::parents_in;
 pub use tables::table_of;
 pub use value::value_of;

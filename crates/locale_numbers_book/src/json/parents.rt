@@ -1,12 +1,13 @@
 //! The sixth array of a book: locales and their parents.
-ghost use Rattle.std.specs.Prelude.{◌≡◌, true, [], ◌∷◌, IfOk, IfErr, OnOk, Some, None};
+ghost use Rattle.std.specs.Prelude.{◌≡◌, ◌&&◌, ◌||◌, true, [], ◌∷◌, IfOk, IfErr, IsErrOf, OnOk, Some, None, is_some, option_and_then, option_map, unwrap_or};
+ghost use Rattle.serde_json.specs.Data.{no_items};
 ghost use Rattle.serde_json.specs.View.{items_view, view};
 ghost use Rattle.locale_numbers_book.specs.declared.error.BookError.TheVariants.{Shape, Tag};
 ghost use Rattle.locale_numbers_book.specs.Entries.{all_of};
 ghost use Rattle.locale_numbers_book.specs.Faults.{first_broken};
-ghost use Rattle.std.specs.Prelude.{is_some};
 ghost use Rattle.locale_numbers_book.specs.ParentEntries.{AddsParent, has_parent_shape, parent_entry, parent_fault, parents_faults};
 ghost use Rattle.locale_numbers_book.specs.Refusal.{IsTold};
+ghost use Rattle.locale_numbers_book.specs.Room.{begins_with, locale_may_grow, parent_may_grow};
 
 use super::entries::has_count;
 use super::fields::{is_text_at, locale};
@@ -28,6 +29,7 @@ fn parent_entry(alloc: Global, entry: &Value) -> Result<(DataLocale, DataLocale)
     ensures value { IfOk result (λ pair. parent_entry (view entry.now) ≡ Some pair) }
     ensures shape { OnOk result (has_parent_shape (view entry.now) ≡ true) }
     ensures fault { IfErr result (λ fault. IsTold (first_broken ((Shape, has_parent_shape (view entry.now)) ∷ (Tag, is_some (parent_entry (view entry.now))) ∷ [])) fault) }
+    ensures room { IsErrOf result BookError.Memory → (has_parent_shape (view entry.now) && (locale_may_grow 0 (view entry.now) || locale_may_grow 1 (view entry.now))) ≡ true }
 {
     if !has_parent_shape(entry) {
         return Err(BookError::Shape);
@@ -51,6 +53,8 @@ fn parent_entry(alloc: Global, entry: &Value) -> Result<(DataLocale, DataLocale)
 fn add_parent(alloc: Global, parents: &mut Parents, entry: Value) -> Result<(), BookError>
     ensures added { OnOk result (AddsParent (view entry) parents.old parents.new) }
     ensures fault { IfErr result (λ fault. IsTold (parent_fault parents.old (view entry)) fault) }
+    ensures grows { OnOk result (parent_may_grow parents.old (view entry) ≡ true) }
+    ensures room { IsErrOf result BookError.Memory → parent_may_grow parents.old (view entry) ≡ true }
 {
     let read = parent_entry(alloc, &entry);
     drop(entry);
@@ -69,10 +73,13 @@ fn add_parent(alloc: Global, parents: &mut Parents, entry: Value) -> Result<(), 
 }
 
 /// The parents that the entries of an array make; each entry is let go once it is read.
-pub fn parents_of(alloc: Global, entries: Vec<Value>) -> Result<Parents, BookError>
+fn parents_of(alloc: Global, entries: Vec<Value>) -> Result<Parents, BookError>
     ensures value { IfOk result (λ parents. all_of parent_entry (items_view entries.items) ≡ Some parents) }
     ensures sound { OnOk result (parents_faults [] (items_view entries.items) ≡ None) }
     ensures fault { IfErr result (λ fault. IsTold (parents_faults [] (items_view entries.items)) fault) }
+
+    // A fault of the first entry that is found before memory is asked for is never told as out of memory.
+    ensures room { IsErrOf result BookError.Memory → begins_with (parent_may_grow []) (items_view entries.items) ≡ true }
 {
     let mut parents = Parents::new(alloc);
     for entry in entries {
@@ -82,4 +89,20 @@ pub fn parents_of(alloc: Global, entries: Vec<Value>) -> Result<Parents, BookErr
         }
     }
     Ok(parents)
+}
+
+/// The parents of an array that may be missing: without it there are none.
+pub fn parents_in(alloc: Global, entries: Option<Vec<Value>>) -> Result<Option<Parents>, BookError>
+    ensures value { IfOk result (λ parents. option_and_then (all_of parent_entry) (option_map (λ list. items_view list.items) entries) ≡ parents) }
+    ensures sound { OnOk result (parents_faults [] (unwrap_or (option_map (λ list. items_view list.items) entries) no_items) ≡ None) }
+    ensures fault { IfErr result (λ fault. IsTold (parents_faults [] (unwrap_or (option_map (λ list. items_view list.items) entries) no_items)) fault) }
+    ensures room { IsErrOf result BookError.Memory → begins_with (parent_may_grow []) (unwrap_or (option_map (λ list. items_view list.items) entries) no_items) ≡ true }
+{
+    let Some(entries) = entries else {
+        return Ok(None);
+    };
+    match parents_of(alloc, entries) {
+        Ok(parents) => Ok(Some(parents)),
+        Err(fault) => Err(fault),
+    }
 }

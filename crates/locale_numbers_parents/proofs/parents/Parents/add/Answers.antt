@@ -20,8 +20,8 @@ invariant_of-self-2 c =
         (one_more c.self.inside.pairs.entries (c.args.locale, c.args.parent) c.self.invariant inside
             (subst (λ (entries : List Entry). ¬ (ClosesCycle entries (c.args.locale, c.args.parent))) (sym c.self.view_is) away))
 
-pub returns-clause-added : goal.returns-clause-added
-returns-clause-added c =
+pub returns-clause-value : goal.returns-clause-value
+returns-clause-value c =
     let absent : listed_parent c.args.self.now c.args.locale ≡ None = sym (rw (none_from _ (sym c.is_some.ensures ∙ c.if-is_some.false)) at c.listed.ensures) in
     let inside : listed_parent c.self.inside.pairs.entries c.args.locale ≡ None = rw c.self.view_is absent in
     c.in-Ok.ensures.entries

@@ -1,0 +1,40 @@
+-- The outer form of a book, which is five arrays or six, and the first fault of one.
+-- Defined in docs/books.md, "The form" and "Faults".
+-- Cited by the steps of `Book::from_json`, and by itself through Book.antt and Refusal.antt.
+use Rattle.std.specs.Prelude.{ℕ, Bool, ◌&&◌, ◌||◌, List, [], Option, Some, is_some, unwrap_or, if◌then◌else◌}
+use Rattle.std.specs.Option.{option_or}
+use Rattle.serde_json.specs.Data.{Data, Items, no_items}
+use Rattle.serde_json.specs.Find.{as_array}
+use Rattle.locale_numbers_book.specs.declared.error.BookError.{BookError}
+use Rattle.locale_numbers_book.specs.declared.error.BookError.TheVariants.{Shape}
+use Rattle.locale_numbers_book.specs.Entries.{has_count, field_at}
+use Rattle.locale_numbers_book.specs.Faults.{symbols_faults, digits_faults, rules_faults, compact_faults}
+use Rattle.locale_numbers_book.specs.ParentEntries.{parents_faults}
+
+abbrev pub is_array_at : ℕ → Data → Bool
+is_array_at place value = is_some (field_at as_array place value)
+
+-- the items of the array at a place, none where no array stands there
+abbrev pub items_at : ℕ → Data → Items
+items_at place value = unwrap_or (field_at as_array place value) no_items
+
+-- five arrays, or six
+abbrev pub has_form : Data → Bool
+has_form value =
+    (has_count 5 value || (has_count 6 value && is_array_at 5 value))
+    && is_array_at 0 value && is_array_at 1 value && is_array_at 2 value && is_array_at 3 value && is_array_at 4 value
+
+-- the fault of the first faulty entry, in the order of the arrays
+abbrev pub arrays_fault : Items → Items → Items → Items → Items → Items → Option BookError
+arrays_fault symbols digits rules short long parents =
+    option_or (symbols_faults symbols)
+    (option_or (digits_faults digits)
+    (option_or (rules_faults rules)
+    (option_or (compact_faults short)
+    (option_or (compact_faults long) (parents_faults [] parents)))))
+
+abbrev pub book_fault : Data → Option BookError
+book_fault value =
+    if has_form value
+    then arrays_fault (items_at 0 value) (items_at 1 value) (items_at 2 value) (items_at 3 value) (items_at 4 value) (items_at 5 value)
+    else Some Shape
