@@ -1,4 +1,4 @@
--- Chains under two steps that differ only at one value: `specs/Chains.antt`.
+-- Chains under a step that differs at one value alone: `specs/Chains.antt`.
 use Rattle.std.proofs.Common.{◌≡◌, ℕ, zero, suc, Bool, true, false, ◌||◌, List, [], ◌∷◌, Option, None, Some, refl, sym, ap, ◌∙◌, subst, true≢false, inl, inr, Decides}
 use Rattle.std.specs.List.{list_any}
 use Rattle.std.proofs.lemmas.Bool.{cases_Bool}

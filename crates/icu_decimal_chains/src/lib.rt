@@ -1,6 +1,4 @@
-//! Chains: what follows a start by a step taken again and again, up to where no step is left.
-//!
-//! A start has at most one chain, and a walk of at least as many steps as the chain has is the chain.
+//! Chains of steps: one chain at most, and the walk of as many steps is it.
 #![tactic(auto)]
 
 pub mod laws;

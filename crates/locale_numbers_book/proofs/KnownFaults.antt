@@ -5,7 +5,7 @@ use Rattle.std.specs.Str.{chars}
 use Rattle.serde_json.specs.Data.{Data, Items, null, number, unsigned, string, array, no_items, item}
 use Rattle.icu_locale_core.specs.Stepping.{headed_after, whole_after}
 use Rattle.icu_locale_core.specs.TagStages.{with_piece, body_after}
-use Rattle.locale_numbers_book.specs.declared.error.BookError.TheVariants.{Shape, Tag, System, Text, Digits, Condition, Types, Exponents, Duplicate}
+use Rattle.locale_numbers_book.specs.declared.error.BookError.TheVariants.{Shape, Tag, System, Text, Digits, Condition, Types, Exponents, Duplicate, Cycle}
 use Rattle.locale_numbers_book.specs.Form.{book_fault}
 use Rattle.locale_numbers_book.specs.TagReading.{tag_of, data_locale_of}
 
@@ -50,6 +50,13 @@ type log10_type exponent before after =
 abbrev patterns : List ℕ → List Data → Data
 patterns locale types = list (text locale ∷ text [] ∷ list types ∷ null ∷ [])
 
+-- five arrays without entries, and one of parents
+abbrev with_parents : List Data → Data
+with_parents parents = list (list [] ∷ list [] ∷ list [] ∷ list [] ∷ list [] ∷ list parents ∷ [])
+
+abbrev parent : List ℕ → List ℕ → Data
+parent locale behind = list (text locale ∷ text behind ∷ [])
+
 -- ---- a row for each word
 
 no_fault : book_fault (book [] [] [] [] []) ≡ None
@@ -57,6 +64,18 @@ no_fault = refl
 
 no_arrays : book_fault (list []) ≡ Some Shape
 no_arrays = refl
+
+six_arrays : book_fault (with_parents []) ≡ None
+six_arrays = refl
+
+seven_arrays : book_fault (list (list [] ∷ list [] ∷ list [] ∷ list [] ∷ list [] ∷ list [] ∷ list [] ∷ [])) ≡ Some Shape
+seven_arrays = refl
+
+sixth_is_no_array : book_fault (list (list [] ∷ list [] ∷ list [] ∷ list [] ∷ list [] ∷ null ∷ [])) ≡ Some Shape
+sixth_is_no_array = refl
+
+one_locale : book_fault (with_parents (list (text (codes "en") ∷ []) ∷ [])) ≡ Some Shape
+one_locale = refl
 
 short_tag : book_fault (book [] [] (rules (codes "e") [] ∷ []) [] []) ≡ Some Tag
 unfolding data_locale_of tag_of whole_after headed_after body_after with_piece
@@ -91,6 +110,19 @@ key_twice : book_fault (book [] [] (rules (codes "en") [] ∷ rules (codes "EN")
 unfolding data_locale_of tag_of whole_after headed_after body_after with_piece
 key_twice = refl
 
+locale_twice : book_fault (with_parents (parent (codes "en") (codes "xx") ∷ parent (codes "EN") (codes "yy") ∷ [])) ≡ Some Duplicate
+unfolding data_locale_of tag_of whole_after headed_after body_after with_piece
+locale_twice = refl
+
+own_parent : book_fault (with_parents (parent (codes "en") (codes "en") ∷ [])) ≡ Some Cycle
+unfolding data_locale_of tag_of whole_after headed_after body_after with_piece
+own_parent = refl
+
+-- through a truncation
+cut_parent : book_fault (with_parents (parent (codes "en") (codes "en-US") ∷ [])) ≡ Some Cycle
+unfolding data_locale_of tag_of whole_after headed_after body_after with_piece
+cut_parent = refl
+
 -- ---- which fault is told
 
 -- of an entry the least number
@@ -110,3 +142,8 @@ first_entry = refl
 twice_before_shape : book_fault (book [] (digits (codes "latn") (codes "0123456789") ∷ digits (codes "latn") (codes "0123456789") ∷ null ∷ []) [] [] []) ≡ Some Duplicate
 unfolding chars
 twice_before_shape = refl
+
+-- of the entries of parents too, whatever a later one would say
+first_of_parents : book_fault (with_parents (parent (codes "a") (codes "en") ∷ parent (codes "en") (codes "en") ∷ [])) ≡ Some Tag
+unfolding data_locale_of tag_of whole_after headed_after body_after with_piece
+first_of_parents = refl

@@ -12,7 +12,7 @@ use Rattle.icu_decimal.specs.declared.error.DataError.{DataError}
 use Rattle.icu_decimal.specs.Identifiers.{of_both, of_system}
 use Rattle.locale_numbers_book.specs.Book.{BookTables}
 use Rattle.locale_numbers_book.specs.Entries.{has_count}
-use Rattle.locale_numbers_book.specs.Tables.{digits_under}
+use Rattle.locale_numbers_book.specs.Tables.{chain_in, digits_under}
 use Rattle.std.specs.Str.{chars}
 
 -- ---- what a tag asks for
@@ -137,3 +137,16 @@ unknown_system = refl
 -- digits stand under no locale
 digits_of_a_locale : digits_under latin_alone (of_both (codes "latn") english) ≡ Err DataError.IdentifierNotFound
 digits_of_a_locale = refl
+
+-- ---- parents
+
+abbrev american : DataLocaleMeaning
+american = record { language = codes "en"; script = None; region = Some (codes "US"); variant = None; subdivision = None }
+
+-- without a sixth array nothing comes after a locale
+whole_locale : chain_in latin_alone american ≡ american ∷ []
+whole_locale = refl
+
+-- an empty one lets it be cut
+cut_locale : chain_in (record latin_alone { parents = Some [] }) american ≡ american ∷ english ∷ []
+cut_locale = refl

@@ -31,8 +31,8 @@ use std::alloc::Global;
 use std::marker::Model;
 use tinystr::TinyAsciiStr;
 
-/// Tables of symbols, of digits, of plural rules and of short and long patterns, as a JSON text names them. `SAMPLE_BOOK` names
-/// the symbols of `en`, whose separators are `.` and `,`.
+/// Tables of symbols, of digits, of plural rules and of short and long patterns, and the parents of locales, as a JSON text names
+/// them. `SAMPLE_BOOK` names the symbols of `en`, whose separators are `.` and `,`, and no parents.
 #[derive(Drop)]
 pub struct Book {
     symbols: IndexMap<DataIdentifier, DecimalSymbols>,
@@ -109,13 +109,13 @@ impl Book {
     /// The book that a JSON text is.
     ///
     /// An array of five arrays: of symbols, each under a data locale and a system or none, of digits, of plural rules, and of short
-    /// and long patterns. `SAMPLE_BOOK` is one, `[[],[],[],[],[]]` the shortest. Takes memory. The form and the faults are defined in
-    /// docs/books.md.
+    /// and long patterns; and of a sixth or none, of locales and their parents. `SAMPLE_BOOK` is one, `[[],[],[],[],[]]` the
+    /// shortest. Takes memory. The form and the faults are defined in docs/books.md.
     ///
     /// - Json: the bytes have no reading as JSON, as `[1`.
-    /// - Shape: the value is not an array of five arrays, as `[]`. Else the first faulty entry decides, and in an entry the first of
-    ///   Shape to Duplicate that applies.
-    /// - Memory: memory is refused. Cycle does not come.
+    /// - Shape: the value is not an array of five arrays or six, as `[]`. Else the first faulty entry decides, and in an entry the
+    ///   first of Shape to Cycle that applies: Cycle of `[[],[],[],[],[],[["en","en"]]]`.
+    /// - Memory: memory is refused.
     pub fn from_json(alloc: Global, bytes: &[u8]) -> Result<Book, BookError>
         ensures value { IfOk result (λ book. (value : Data) × Reads bytes.now value × IsBook value book) }
         ensures refused { IfErr result (λ fault. IsRefused bytes.now fault) }
@@ -214,10 +214,11 @@ impl DataProvider<DecimalCompactLongV1> for Book {
     }
 }
 
-/// The parents of a book: after a locale the one that is listed, or else the locale without its last part. A book without parents has
-/// none after any.
+/// The parents of a book: after a locale the one that its sixth array lists, or else the locale without its last part. Without a sixth
+/// array no locale has a parent.
 ///
-/// In `SAMPLE_BOOK` no locale has a parent. It takes no memory.
+/// With `[["en-AU","en-001"]]` `en-001` comes after `en-AU`, `en` after `en-US`, and none after `en`; in `SAMPLE_BOOK` none after any.
+/// The limit is five for each entry and four, or 0 without a sixth array; it cuts no chain. It takes no memory.
 impl ParentProvider for Book {
     ghost use Rattle.locale_numbers_book.specs.Tables.{parent_under, steps_in};
 

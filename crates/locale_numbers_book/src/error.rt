@@ -12,10 +12,10 @@ pub enum BookError {
     /// The bytes have no reading as JSON, as `[1`, for another cause than memory.
     #[error("json")]
     Json,
-    /// The JSON value is not five arrays, as `[]`, or an entry has not its form.
+    /// The JSON value is not five arrays or six, as `[]`, or an entry has not its form.
     #[error("shape")]
     Shape,
-    /// A locale is refused, as `e` or `en-u-nu-thai`.
+    /// A locale, or the parent of one, is refused, as `e` or `en-u-nu-thai`.
     #[error("tag")]
     Tag,
     /// A name of a numbering system is not 3 to 8 lower-case letters and digits, nor empty where it may be: `Thai`, `th`.
@@ -39,7 +39,7 @@ pub enum BookError {
     /// An earlier entry of the same array has the same key, as `EN` behind `en`.
     #[error("duplicate")]
     Duplicate,
-    /// The parents of a locale lead back to it. No book has parents yet, so that this does not come.
+    /// The parents of a locale lead back to it, under the entries up to its own: `en` for `en`, or `en-US` for `en`.
     #[error("cycle")]
     Cycle,
     /// Memory was refused, as for the tables of `SAMPLE_BOOK`.
