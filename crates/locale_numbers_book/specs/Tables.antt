@@ -45,7 +45,7 @@ long_under book id = answered (table_at same_key id book.long)
 
 -- ---- parents
 
--- without parents a chain is one locale alone
+-- without parents no locale comes next
 abbrev pub step_in : Option (List Entry) → DataLocaleMeaning → Option DataLocaleMeaning
 step_in None locale = None
 step_in (Some entries) locale = parent_step entries locale

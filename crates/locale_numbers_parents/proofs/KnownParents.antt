@@ -1,8 +1,8 @@
 -- Chains of parents at known values.
-use Rattle.std.proofs.Common.{◌≡◌, List, [], ◌∷◌, Option, None, Some, codes, refl}
+use Rattle.std.proofs.Common.{◌≡◌, [], ◌∷◌, Option, None, Some, codes, refl}
 use Rattle.icu_locale_core.specs.Subtags.{Text}
 use Rattle.icu_locale_core.specs.TagPreferences.{DataLocaleMeaning}
-use Rattle.locale_numbers_parents.specs.Parents.{Entry, parent_step, most_steps, parents_chain, ClosesCycle}
+use Rattle.locale_numbers_parents.specs.Parents.{most_steps, parents_chain, ClosesCycle}
 
 abbrev region_of : Text → Option Text → DataLocaleMeaning
 region_of language region = record { language = language; script = None; region = region; variant = None; subdivision = None }

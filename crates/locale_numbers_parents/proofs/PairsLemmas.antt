@@ -1,5 +1,5 @@
 -- Chains by pairs, with a step that shortens where no pair says otherwise: whatever the values are.
-use Rattle.std.proofs.Common.{◌≡◌, ◌⊎◌, ℕ, zero, suc, ◌+◌, ◌-◌, ◌*◌, ◌≤◌, Bool, true, false, List, [], ◌∷◌, ◌++◌, length, Option, None, Some, if◌then◌else◌, refl, sym, ap, ◌∙◌, subst, true≢false, inl, inr, arith, Decides}
+use Rattle.std.proofs.Common.{◌≡◌, ◌⊎◌, ℕ, zero, suc, ◌+◌, ◌-◌, ◌*◌, ◌≤◌, Bool, true, false, List, [], ◌∷◌, ◌++◌, length, Option, None, Some, if◌then◌else◌, refl, sym, true≢false, inl, inr, arith, Decides}
 use Rattle.std.specs.List.{list_any}
 use Rattle.std.specs.Option.{option_or, is_some}
 use Rattle.std.proofs.lemmas.Bool.{cases_Bool}
@@ -24,9 +24,9 @@ at_end : {K V : Type 0} (same : K → K → Bool) (pairs : List (K × V)) (x k :
     → table_at same x (pairs ++ (k, p) ∷ []) ≡ option_or (table_at same x pairs) (if same x k then Some p else None)
 at_end same [] x k p = refl
 at_end same (pair ∷ pairs) x k p = elim (cases_Bool (same x pair.0)) [
-    | inl is ↦ rw is refl
-    | inr is ↦ rw is (at_end same pairs x k p)
-  ]
+  | inl is ↦ rw is refl
+  | inr is ↦ rw is (at_end same pairs x k p)
+]
 
 module _ {A : Type 0} (same : A → A → Bool) (exact : (a b : A) → Decides (same a b) (a ≡ b)) (short : A → Option A) where
   abbrev pub step : List (A × A) → A → Option A
@@ -64,13 +64,13 @@ module _ {A : Type 0} (same : A → A → Bool) (exact : (a b : A) → Decides (
       let rest = counted_more pair pairs xs in
       elim (cases_Bool (same x pair.0)) [
         | inl is ↦ elim (cases_Bool (listed pairs x)) [
-            | inl h ↦ rw (is, h) (omega (arith, rest))
-            | inr h ↦ rw (is, h) (omega (arith, rest))
-          ]
+          | inl h ↦ rw (is, h) (omega (arith, rest))
+          | inr h ↦ rw (is, h) (omega (arith, rest))
+        ]
         | inr is ↦ elim (cases_Bool (listed pairs x)) [
-            | inl h ↦ rw (is, h) (omega (arith, rest))
-            | inr h ↦ rw (is, h) (omega (arith, rest))
-          ]
+          | inl h ↦ rw (is, h) (omega (arith, rest))
+          | inr h ↦ rw (is, h) (omega (arith, rest))
+        ]
       ]
 
   -- a chain that ends holds no more of the listed than there are
@@ -98,15 +98,15 @@ module _ {A : Type 0} (same : A → A → Bool) (exact : (a b : A) → Decides (
     -- without pairs each chain ends
     short_ends : (n : ℕ) (x : A) → size x ≤ n → (xs : List A) × Follows (step []) x xs
     short_ends zero x le = elim (cases_Option (short x)) [
-        | inl is ↦ ([], is)
-        | inr some ↦ absurd (omega (arith, falls x some.0 some.1, le))
-      ]
+      | inl is ↦ ([], is)
+      | inr some ↦ absurd (omega (arith, falls x some.0 some.1, le))
+    ]
     short_ends (suc n) x le = elim (cases_Option (short x)) [
-        | inl is ↦ ([], is)
-        | inr some ↦
-            let rest = short_ends n some.0 (omega (arith, falls x some.0 some.1, le)) in
-            (some.0 ∷ rest.0, (some.1, rest.1))
-      ]
+      | inl is ↦ ([], is)
+      | inr some ↦
+          let rest = short_ends n some.0 (omega (arith, falls x some.0 some.1, le)) in
+          (some.0 ∷ rest.0, (some.1, rest.1))
+    ]
 
     pub none_ends : Ends []
     none_ends x = short_ends 4 x (small x)

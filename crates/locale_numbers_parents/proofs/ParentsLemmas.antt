@@ -1,5 +1,5 @@
 -- Parents make chains that end: `specs/Parents.antt`.
-use Rattle.std.proofs.Common.{◌≡◌, ℕ, ◌≤◌, Bool, true, false, List, [], ◌∷◌, ◌++◌, length, None, refl, sym, ap, ◌∙◌, subst, inl, inr, append_assoc}
+use Rattle.std.proofs.Common.{◌≡◌, ◌≤◌, true, false, List, [], ◌∷◌, ◌++◌, length, None, refl, sym, ap, subst, inl, inr, append_assoc}
 use Rattle.std.proofs.lemmas.Bool.{cases_Bool}
 use Rattle.icu_locale_core.specs.TagPreferences.{DataLocaleMeaning}
 use Rattle.icu_locale_core.specs.DataLocales.{truncated}
@@ -43,13 +43,13 @@ no_parents = record { once = λ before e behind h. absurd (apart before e behind
 pub one_more : (entries : List Entry) (e : Entry) → IsParents entries → listed_parent entries e.0 ≡ None → ¬ (ClosesCycle entries e) → IsParents (entries ++ e ∷ [])
 one_more entries e is absent away = record {
   once = λ before x behind h. elim (last_split entries e before x behind h) as (λ _. listed_parent before x.0 ≡ None) [
-      | inl same ↦ rw (same.0, same.1) absent
-      | inr rest ↦ is.once before x rest.0 rest.1
-    ];
+    | inl same ↦ rw (same.0, same.1) absent
+    | inr rest ↦ is.once before x rest.0 rest.1
+  ];
   open_ended = λ before x behind h. elim (last_split entries e before x behind h) as (λ _. ¬ (ClosesCycle before x)) [
-      | inl same ↦ subst (λ (b : List Entry). ¬ (ClosesCycle b x)) (sym same.0) (subst (λ (y : Entry). ¬ (ClosesCycle entries y)) (sym same.1) away)
-      | inr rest ↦ is.open_ended before x rest.0 rest.1
-    ];
+    | inl same ↦ subst (λ (b : List Entry). ¬ (ClosesCycle b x)) (sym same.0) (subst (λ (y : Entry). ¬ (ClosesCycle entries y)) (sym same.1) away)
+    | inr rest ↦ is.open_ended before x rest.0 rest.1
+  ];
 }
 
 -- the test of an entry is right, both ways
@@ -65,9 +65,10 @@ module _ (entries : List Entry) (k p : DataLocaleMeaning) (absent : listed_paren
       (walk (parent_step entries) (most_steps entries) p) f h
 
 pub are_met : CyclesAreMet
-are_met entries is e absent =
-    (closes entries e.0 e.1 absent (cuts_none entries is e.1),
-    λ back. elim (cases_Bool (leads_to entries e.1 e.0)) [
-      | inl met ↦ met
-      | inr away ↦ absurd (stays_open entries e.0 e.1 absent (cuts_none entries is e.1) away back)
-    ])
+are_met entries is e absent = (
+  closes entries e.0 e.1 absent (cuts_none entries is e.1),
+  λ back. elim (cases_Bool (leads_to entries e.1 e.0)) [
+    | inl met ↦ met
+    | inr away ↦ absurd (stays_open entries e.0 e.1 absent (cuts_none entries is e.1) away back)
+  ],
+)

@@ -17,8 +17,8 @@ invariant_of-self-2 c =
     let inside : listed_parent c.self.inside.pairs.entries c.args.locale ≡ None = rw c.self.view_is absent in
     let away = stays_open c.args.self.now c.args.locale c.args.parent absent c.leads_to.ensures.follows (sym c.leads_to.ensures.value ∙ c.if-leads_to.false) in
     rw (c.in-Ok.ensures.entries ∙ insert_entry-new same_data_locale c.self.inside.pairs c.args.locale c.args.parent inside)
-        (one_more c.self.inside.pairs.entries (c.args.locale, c.args.parent) c.self.invariant inside
-            (subst (λ (entries : List Entry). ¬ (ClosesCycle entries (c.args.locale, c.args.parent))) (sym c.self.view_is) away))
+    (one_more c.self.inside.pairs.entries (c.args.locale, c.args.parent) c.self.invariant inside
+    (subst (λ (entries : List Entry). ¬ (ClosesCycle entries (c.args.locale, c.args.parent))) (sym c.self.view_is) away))
 
 pub returns-clause-value : goal.returns-clause-value
 returns-clause-value c =
