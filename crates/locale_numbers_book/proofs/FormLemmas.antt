@@ -41,12 +41,12 @@ first_apart false a b c d e h = cc
 -- no value has five items or six where it has more
 too_many : (n : ℕ) (last : Bool) → 7 ≤ n → (n == 5 || (n == 6 && last)) ≡ true → ⊥
 too_many n last many h = elim (cases_Bool (n == 5)) [
-    | inl five ↦ let is = eqb-true n 5 five in absurd (omega (arith, is, many))
-    | inr other ↦
-        let six : (n == 6 && last) ≡ true = rw other at h in
-        let is = eqb-true n 6 (and_parts (n == 6) last six).0 in
-        absurd (omega (arith, is, many))
-  ]
+  | inl five ↦ let is = eqb-true n 5 five in absurd (omega (arith, is, many))
+  | inr other ↦
+      let six : (n == 6 && last) ≡ true = rw other at h in
+      let is = eqb-true n 6 (and_parts (n == 6) last six).0 in
+      absurd (omega (arith, is, many))
+]
 
 module _ (a b c d e : Data) (all : (is_some (as_array a) && is_some (as_array b) && is_some (as_array c) && is_some (as_array d) && is_some (as_array e)) ≡ true) where
   front_are : (rest last : Items) → rest ≡ last

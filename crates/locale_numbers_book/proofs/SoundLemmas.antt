@@ -190,8 +190,7 @@ no_fault_of false a b c d e p none = absurd (cc)
 pub tables_sound : BookTablesAreSound
 tables_sound value book is =
     let none = no_fault_of (has_form value) (symbols_faults (items_at 0 value)) (digits_faults (items_at 1 value)) (rules_faults (items_at 2 value)) (compact_faults (items_at 3 value)) (compact_faults (items_at 4 value))
-    (parents_faults [] (items_at 5 value)) is.sound in
-    (
+    (parents_faults [] (items_at 5 value)) is.sound in (
       sound_items (items_at 3 value) [] book.short (read_whole (all_of compact_entry (items_at 3 value)) book.short is.short) none.fourth,
       sound_items (items_at 4 value) [] book.long (read_whole (all_of compact_entry (items_at 4 value)) book.long is.long) none.fifth,
     )
