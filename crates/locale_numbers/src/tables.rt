@@ -6,11 +6,12 @@ use icu_decimal::provider::{
 };
 use locale_numbers_book::Book;
 
-/// Tables of all five kinds, as those of a [`Book`]: of the sample book the symbols of `en`, the digits of `thai`, and so on.
+/// Tables of all five kinds and parents of locales, as those of a [`Book`]: of the sample book the symbols of `en`, the digits of
+/// `thai`, and so on.
 ///
 /// Under each identifier a type of your own answers what stands there in one book, at each call the same, and where nothing
-/// does it answers `IdentifierNotFound`: one that forwards to a book and counts what is loaded, say. That it does so is its
-/// proof's to say.
+/// does it answers `IdentifierNotFound`: one that forwards to a book and counts what is loaded, say. Its parents and its chains
+/// of them are those of that book. That it does so is its proof's to say.
 pub trait Tables: DataProvider<DecimalSymbolsV1>
     + DataProvider<DecimalDigitsV1>
     + DataProvider<PluralsCardinalV1>
@@ -38,7 +39,7 @@ pub trait Tables: DataProvider<DecimalSymbolsV1>
 
     ghost long: { (s : Self) (id : Identifier) → Self.DataProvider-5.table s id ≡ long_under (book s) id };
 
-    // the next locale is that of the book, and the limit cuts no more of a chain than the book's
+    // the next locale is that of the book, and so is the chain: the limit cuts none of it
     ghost parents: { (s : Self) (l : DataLocaleMeaning) → Self.next s l ≡ parent_under (book s) l };
 
     ghost chains: { (s : Self) (l : DataLocaleMeaning) → chain (Self.next s) (Self.limit s) l ≡ chain_in (book s) l };

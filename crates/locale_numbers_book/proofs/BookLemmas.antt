@@ -1,18 +1,22 @@
 -- A value is one book at most, and what its arrays say of it: `specs/Book.antt` and `specs/Room.antt`.
-use Rattle.std.proofs.Common.{◌≡◌, Bool, true, false, ◌||◌, Option, Some, None, [], unwrap_or, refl, sym, ◌∙◌}
+use Rattle.std.proofs.Common.{◌≡◌, Bool, true, ◌||◌, Option, Some, None, [], option_and_then, unwrap_or, refl, sym, ap, ◌∙◌}
+use Rattle.std.specs.Str.{bytes_eq}
 use Rattle.serde_json.specs.Data.{Data, Items, no_items}
 use Rattle.serde_json.specs.Find.{as_array}
 use Rattle.locale_numbers_book.specs.declared.error.BookError.{BookError}
 use Rattle.locale_numbers_book.specs.Arrays.{of_arrays}
 use Rattle.locale_numbers_book.specs.Book.{BookTables, IsBook}
-use Rattle.locale_numbers_book.specs.Entries.{field_at}
+use Rattle.locale_numbers_book.specs.CompactEntries.{compact_entry}
+use Rattle.locale_numbers_book.specs.Entries.{all_of, digits_entry, field_at, symbols_entry}
 use Rattle.locale_numbers_book.specs.Faults.{compact_faults, digits_faults, rules_faults, symbols_faults}
-use Rattle.locale_numbers_book.specs.Form.{arrays_fault, book_fault, has_form}
-use Rattle.locale_numbers_book.specs.ParentEntries.{parents_faults}
+use Rattle.locale_numbers_book.specs.Form.{arrays_fault, book_fault}
+use Rattle.locale_numbers_book.specs.Keys.{same_data_locale, same_key, table_in}
+use Rattle.locale_numbers_book.specs.ParentEntries.{parent_entry, parents_faults}
 use Rattle.locale_numbers_book.specs.Refusal.{IsTold}
 use Rattle.locale_numbers_book.specs.Room.{arrays_may_grow, book_may_grow}
+use Rattle.locale_numbers_book.specs.RulesEntries.{rules_entry}
 use Rattle.locale_numbers_book.proofs.FaultLemmas.{told_at, told_first}
-use Rattle.locale_numbers_book.proofs.TableLemmas.{either}
+use Rattle.locale_numbers_book.proofs.TableLemmas.{either, front_true}
 
 pub some_same : {A : Type 0} (x y : A) → Some x ≡ Some y → x ≡ y
 some_same x y h = cc
@@ -28,9 +32,6 @@ one_book value book other m n =
     λ i. record { symbols = symbols i; digits = digits i; rules = rules i; short = short i; long = long i; parents = parents i }
 
 -- ---- the arrays
-
-front_true : (a b : Bool) → a ≡ true → (a || b) ≡ true
-front_true a b h = rw h refl
 
 -- one of the arrays begins so
 module _ (a b c d e f : Bool) where
@@ -60,18 +61,35 @@ module _ (s d r h l p : Items) (e : BookError) (symbols : symbols_faults s ≡ N
 -- ---- the value of arrays
 
 module _ (s d r h l : Items) where
-  pub form_of : (p : Option Items) → has_form (of_arrays s d r h l p) ≡ true
-  form_of None = refl
-  form_of (Some p) = refl
-
-  pub last_of : (p : Option Items) → field_at as_array 5 (of_arrays s d r h l p) ≡ p
+  last_of : (p : Option Items) → field_at as_array 5 (of_arrays s d r h l p) ≡ p
   last_of None = refl
   last_of (Some p) = refl
 
-  pub fault_of : (p : Option Items) → book_fault (of_arrays s d r h l p) ≡ arrays_fault s d r h l (unwrap_or p no_items)
+  fault_of : (p : Option Items) → book_fault (of_arrays s d r h l p) ≡ arrays_fault s d r h l (unwrap_or p no_items)
   fault_of None = refl
   fault_of (Some p) = refl
 
-  pub room_of : (p : Option Items) → book_may_grow (of_arrays s d r h l p) ≡ arrays_may_grow s d r h l (unwrap_or p no_items)
+  room_of : (p : Option Items) → book_may_grow (of_arrays s d r h l p) ≡ arrays_may_grow s d r h l (unwrap_or p no_items)
   room_of None = refl
   room_of (Some p) = refl
+
+  pub told_value : (p : Option Items) (value : Data) (e : BookError) → value ≡ of_arrays s d r h l p → IsTold (arrays_fault s d r h l (unwrap_or p no_items)) e → IsTold (book_fault value) e
+  told_value p value e is told = told_at _ _ e (sym (ap book_fault is ∙ fault_of p)) told
+
+  pub room_value : (p : Option Items) (value : Data) → value ≡ of_arrays s d r h l p → arrays_may_grow s d r h l (unwrap_or p no_items) ≡ true → book_may_grow value ≡ true
+  room_value p value is grows = ap book_may_grow is ∙ room_of p ∙ grows
+
+  -- the book of arrays without a fault
+  pub made : (p : Option Items) (book : BookTables) → symbols_faults s ≡ None → digits_faults d ≡ None → rules_faults r ≡ None → compact_faults h ≡ None → compact_faults l ≡ None → parents_faults [] (unwrap_or p no_items) ≡ None
+      → table_in same_key symbols_entry s ≡ Some book.symbols → table_in bytes_eq digits_entry d ≡ Some book.digits → table_in same_data_locale rules_entry r ≡ Some book.rules
+      → table_in same_key compact_entry h ≡ Some book.short → table_in same_key compact_entry l ≡ Some book.long → option_and_then (all_of parent_entry) p ≡ book.parents
+      → IsBook (of_arrays s d r h l p) book
+  made p book symbols digits rules short long parents a b c e f g = record {
+    sound = fault_of p ∙ rw (symbols, digits, rules, short, long) parents;
+    symbols = a;
+    digits = b;
+    rules = c;
+    short = e;
+    long = f;
+    parents = ap (option_and_then (all_of parent_entry)) (last_of p) ∙ g;
+  }

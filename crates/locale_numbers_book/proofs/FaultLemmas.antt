@@ -5,6 +5,7 @@ use Rattle.std.specs.Option.{option_or}
 use Rattle.serde_json.specs.Data.{Data}
 use Rattle.serde_json.specs.View.{items_view, view}
 use Rattle.serde_json.specs.declared.value.Value.{Value}
+use Rattle.locale_numbers_parents.specs.Parents.{Entry, leads_to, listed_parent}
 use Rattle.locale_numbers_book.specs.declared.error.BookError.{BookError}
 use Rattle.locale_numbers_book.specs.declared.error.BookError.TheVariants.{Json, Shape, Tag, System, Text, Digits, Condition, Types, Exponents, Duplicate, Cycle, Memory}
 use Rattle.locale_numbers_book.specs.BookError.{IsJsonOrMemory}
@@ -14,10 +15,11 @@ use Rattle.locale_numbers_book.specs.Faults.{compact_fault, digits_fault, first_
 use Rattle.locale_numbers_book.specs.Form.{book_fault}
 use Rattle.locale_numbers_book.specs.Json.{Reads, IsNoJson}
 use Rattle.locale_numbers_book.specs.Keys.{table_at}
+use Rattle.locale_numbers_book.specs.ParentEntries.{has_parent_shape, parent_entry, parent_fault}
 use Rattle.locale_numbers_book.specs.Refusal.{IsTold, IsRefused}
-use Rattle.locale_numbers_book.specs.Room.{compact_may_grow, digits_may_grow, locale_may_grow, rules_may_grow, symbols_may_grow}
+use Rattle.locale_numbers_book.specs.Room.{compact_may_grow, digits_may_grow, locale_may_grow, parent_may_grow, rules_may_grow, symbols_may_grow}
 use Rattle.locale_numbers_book.specs.RulesEntries.{conditions_in}
-use Rattle.locale_numbers_book.proofs.TableLemmas.{either, next_item}
+use Rattle.locale_numbers_book.proofs.TableLemmas.{either, front_true, next_item}
 
 -- ---- what is told
 
@@ -121,3 +123,21 @@ compact_sound entry sound =
     by true true false d e o is = cc
     by true false c d e o is = cc
     by false b c d e o is = cc
+
+-- one of parents has two texts, and asks for memory for a locale of them
+pub first_grows : (shape first second : Bool) → shape ≡ true → first ≡ true → (shape && (first || second)) ≡ true
+first_grows shape first second is grows = rw (is, grows) refl
+
+pub second_grows : (shape first second : Bool) → shape ≡ true → second ≡ true → (shape && (first || second)) ≡ true
+second_grows shape first second is grows = rw is (either first second grows)
+
+-- or it has no fault
+module _ (before : List Entry) (entry : Data) where
+  pub parent_asks : (has_parent_shape entry && (locale_may_grow 0 entry || locale_may_grow 1 entry)) ≡ true → parent_may_grow before entry ≡ true
+  parent_asks grows = front_true (has_parent_shape entry && (locale_may_grow 0 entry || locale_may_grow 1 entry)) (not (is_some (parent_fault before entry))) grows
+
+  pub parent_sound : parent_fault before entry ≡ None → parent_may_grow before entry ≡ true
+  parent_sound sound = either (has_parent_shape entry && (locale_may_grow 0 entry || locale_may_grow 1 entry)) (not (is_some (parent_fault before entry))) (ap (λ o. not (is_some o)) sound)
+
+  pub parent_new : (pair : Entry) → has_parent_shape entry ≡ true → parent_entry entry ≡ Some pair → listed_parent before pair.0 ≡ None → leads_to before pair.1 pair.0 ≡ false → parent_may_grow before entry ≡ true
+  parent_new pair shape says absent away = parent_sound (rw (shape, says, absent, away) refl)

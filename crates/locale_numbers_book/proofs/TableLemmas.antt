@@ -105,6 +105,9 @@ pub either : (a b : Bool) → b ≡ true → (a || b) ≡ true
 either true b h = refl
 either false b h = h
 
+pub front_true : (a b : Bool) → a ≡ true → (a || b) ≡ true
+front_true a b h = rw h refl
+
 -- an array that has such an entry at its first index begins with one
 pub begins : (may_grow : Data → Bool) (values : List Value) (i : ℕ) (value : Value) → i < length values → value ≡ get_or values i value → may_grow (view value) ≡ true
     → (i == 0 || begins_with may_grow (items_view values)) ≡ true → begins_with may_grow (items_view values) ≡ true

@@ -59,7 +59,7 @@ fn found<T>(there: Option<&T>) -> Result<&T, DataError>
 }
 
 /// The book of these arrays.
-#[tactic(auto, using(crate::proofs::BookLemmas::or_second, crate::proofs::BookLemmas::or_fourth, crate::proofs::BookLemmas::or_fifth))]
+#[tactic(auto, using(crate::proofs::BookLemmas::or_second, crate::proofs::BookLemmas::or_third, crate::proofs::BookLemmas::or_fourth, crate::proofs::BookLemmas::or_fifth, crate::proofs::BookLemmas::or_sixth, crate::proofs::BookLemmas::told_long))]
 fn tables_of(alloc: Global, arrays: Arrays) -> Result<Book, BookError>
     ensures value { IfOk result (IsBook (of_arrays (items_view arrays.symbols.items) (items_view arrays.digits.items) (items_view arrays.rules.items) (items_view arrays.short.items) (items_view arrays.long.items) (option_map (λ entries. items_view entries.items) arrays.parents))) }
     ensures fault { IfErr result (λ fault. IsTold (arrays_fault (items_view arrays.symbols.items) (items_view arrays.digits.items) (items_view arrays.rules.items) (items_view arrays.short.items) (items_view arrays.long.items) (unwrap_or (option_map (λ entries. items_view entries.items) arrays.parents) no_items)) fault) }
@@ -92,6 +92,7 @@ fn tables_of(alloc: Global, arrays: Arrays) -> Result<Book, BookError>
 }
 
 /// The book that a JSON value is.
+#[tactic(auto, using(crate::proofs::BookLemmas::told_value, crate::proofs::BookLemmas::room_value))]
 fn book_of(alloc: Global, value: Value) -> Result<Book, BookError>
     ensures value { IfOk result (IsBook (view value)) }
     ensures fault { IfErr result (λ fault. IsTold (book_fault (view value)) fault) }
@@ -100,7 +101,10 @@ fn book_of(alloc: Global, value: Value) -> Result<Book, BookError>
     ensures room { IsErrOf result BookError.Memory → book_may_grow (view value) ≡ true }
 {
     match arrays_of(alloc, value) {
-        Some(arrays) => tables_of(alloc, arrays),
+        Some(arrays) => match tables_of(alloc, arrays) {
+            Ok(book) => Ok(book),
+            Err(fault) => Err(fault),
+        },
         None => Err(BookError::Shape),
     }
 }

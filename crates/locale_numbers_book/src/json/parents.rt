@@ -25,6 +25,7 @@ fn has_parent_shape(entry: &Value) -> bool
 }
 
 /// The locale and the parent of an entry.
+#[tactic(auto, using(crate::proofs::FaultLemmas::first_grows, crate::proofs::FaultLemmas::second_grows))]
 fn parent_entry(alloc: Global, entry: &Value) -> Result<(DataLocale, DataLocale), BookError>
     ensures value { IfOk result (λ pair. parent_entry (view entry.now) ≡ Some pair) }
     ensures shape { OnOk result (has_parent_shape (view entry.now) ≡ true) }
@@ -50,6 +51,7 @@ fn parent_entry(alloc: Global, entry: &Value) -> Result<(DataLocale, DataLocale)
 }
 
 /// Adds what an entry says, and lets the entry go.
+#[tactic(auto, using(crate::proofs::FaultLemmas::parent_asks, crate::proofs::FaultLemmas::parent_sound, crate::proofs::FaultLemmas::parent_new))]
 fn add_parent(alloc: Global, parents: &mut Parents, entry: Value) -> Result<(), BookError>
     ensures added { OnOk result (AddsParent (view entry) parents.old parents.new) }
     ensures fault { IfErr result (λ fault. IsTold (parent_fault parents.old (view entry)) fault) }

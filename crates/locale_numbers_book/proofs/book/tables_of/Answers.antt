@@ -1,11 +1,18 @@
-use Rattle.std.proofs.Common.{refl}
+use Rattle.std.proofs.Common.{option_map, unwrap_or}
+use Rattle.serde_json.specs.Data.{no_items}
 use Rattle.serde_json.specs.View.{items_view}
-use Rattle.locale_numbers_book.specs.Arrays.{of_arrays}
-use Rattle.locale_numbers_book.proofs.BookLemmas.{told_long}
+use Rattle.locale_numbers_book.proofs.BookLemmas.{made, told_parents}
 use Rattle.locale_numbers_book.proofs.book.tables_of.Goals as goal
+
+pub returns-in-Ok-clause-value : goal.returns-in-Ok-clause-value
+returns-in-Ok-clause-value c =
+    let a = c.args.arrays in
+    made (items_view a.symbols.items) (items_view a.digits.items) (items_view a.rules.items) (items_view a.short.items) (items_view a.long.items) (option_map (λ entries. items_view entries.items) a.parents) _
+    c.in_ok-symbols.ensures.sound c.in_ok-digits.ensures.sound c.in_ok-rules.ensures.sound c.in_ok-short.ensures.sound c.in_ok-long.ensures.sound c.in-Ok.ensures.sound
+    c.in_ok-symbols.ensures.value c.in_ok-digits.ensures.value c.in_ok-rules.ensures.value c.in_ok-short.ensures.value c.in_ok-long.ensures.value c.in-Ok.ensures.value
 
 pub returns-in-Err-clause-fault : goal.returns-in-Err-clause-fault
 returns-in-Err-clause-fault c =
     let a = c.args.arrays in
-    told_long (of_arrays (items_view a.symbols.items) (items_view a.digits.items) (items_view a.rules.items) (items_view a.short.items) (items_view a.long.items)) c.in-Err.fault refl
-    c.in_ok-symbols.ensures.sound c.in_ok-digits.ensures.sound c.in_ok-rules.ensures.sound c.in_ok-short.ensures.sound c.in-Err.ensures.fault
+    told_parents (items_view a.symbols.items) (items_view a.digits.items) (items_view a.rules.items) (items_view a.short.items) (items_view a.long.items) (unwrap_or (option_map (λ entries. items_view entries.items) a.parents) no_items) c.in-Err.fault
+    c.in_ok-symbols.ensures.sound c.in_ok-digits.ensures.sound c.in_ok-rules.ensures.sound c.in_ok-short.ensures.sound c.in_ok-long.ensures.sound c.in-Err.ensures.fault
