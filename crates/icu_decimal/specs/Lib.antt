@@ -57,12 +57,12 @@ pub use Rattle.icu_decimal_text.specs.SamePlain
 -- Statements of laws.
 pub use Rattle.icu_decimal_compact.specs.AbstractLaws
 pub use Rattle.icu_decimal_compact.specs.CompactLaws
+pub use Rattle.icu_decimal_patterns.specs.SmallEntries
 pub use Rattle.icu_decimal_patterns.specs.TableLaws
 pub use Rattle.icu_decimal_reading.specs.ReadingLaws
 pub use Rattle.icu_decimal_shown.specs.ExactLaws
 pub use Rattle.icu_decimal_shown.specs.ShownLaws
-pub use Rattle.icu_decimal_shown.specs.TableLaws as ShownTableLaws
-pub use Rattle.icu_decimal_patterns.specs.SmallEntries
+pub use Rattle.icu_decimal_shown.specs.UnderTableLaws
 pub use Rattle.icu_decimal_provider.specs.Laws
 pub use Rattle.icu_decimal_symbols.specs.SameSymbolsLaws
 pub use Rattle.icu_decimal_text.specs.GroupLaws

@@ -1,7 +1,7 @@
-//! Laws, beside the clauses of the calls: those of the tables, of the text, of the patterns of compact text, of the values that
-//! it shows, and of what abstract formatters write.
+//! Laws, beside the clauses of the calls: those of the tables, of plain text, of texts read back, of the patterns of compact text,
+//! of the values that it shows, and of compact text itself, with what abstract formatters write.
 
-pub use icu_decimal_compact::laws as abstract_formatter;
+pub use icu_decimal_compact::laws as compact;
 pub use icu_decimal_patterns::laws as patterns;
 pub use icu_decimal_provider::laws as tables;
 pub use icu_decimal_reading::laws as reading;

@@ -10,3 +10,4 @@ pub use icu_decimal_symbols::{
     DataError, DataMarker, DecimalSymbolStrsBuilder, DecimalSymbols, DecimalSymbolsStrs,
     GroupingSizes,
 };
+pub use icu_decimal_shown::CompactEntry;

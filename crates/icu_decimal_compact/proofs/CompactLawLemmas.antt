@@ -1,4 +1,4 @@
--- What is shown for a number, sent back: its text, and that it is a compact number.
+-- What is shown for a number, sent back: its text, and that it is a compact number: `specs/CompactLaws.antt`.
 use Rattle.std.proofs.Common.{◌≡◌, ℕ, ◌*◌, zero, suc, ◌+◌, ◌-◌, ◌/◌, ◌%◌, ◌^◌, ◌<◌, ◌≤◌, ◌==◌, max, Bool, true, false, cond, nat_le, nat_lt, List, [], ◌∷◌, Option, None, Some, option_map, refl, sym, ap, ◌∙◌, subst, arith}
 use Rattle.std.specs.Option.{option_or}
 use Rattle.std.proofs.Math.Nat.{div-le_self, mod_self}
@@ -18,10 +18,9 @@ use Rattle.icu_decimal_shown.specs.Significand.{plain_one}
 use Rattle.icu_decimal_shown.proofs.ExactLemmas.{choice_value, exact_answers, writes_same}
 use Rattle.icu_decimal_shown.proofs.MagnitudeLemmas.{magnitude_some, tens_positive}
 use Rattle.icu_decimal_shown.proofs.ShowLemmas.{cancel_same, carried_exponent, carried_value, tens_sum}
-use Rattle.icu_decimal_shown.proofs.TableLawLemmas.{exact_in_range, value_in_range}
-use Rattle.icu_decimal_compact.specs.CompactLaws.{shown_for}
+use Rattle.icu_decimal_shown.proofs.UnderTableLemmas.{exact_form_is_in_range, value_in_range}
 use Rattle.icu_decimal_compact.specs.CompactTables.{CompactTables}
-use Rattle.icu_decimal_compact.specs.CompactText.{compact_decimal_text, lowest_place, padded, significand_of}
+use Rattle.icu_decimal_compact.specs.CompactText.{compact_decimal_text, lowest_place, padded, significand_of, value_shown}
 use Rattle.icu_decimal_compact.specs.ExactText.{exact_text, written_text}
 use Rattle.icu_decimal_compact.proofs.ShownLemmas.{below_top}
 
@@ -55,38 +54,38 @@ significand_count entries number rises =
 -- ---- the text
 
 module _ (t : CompactTables) (d : SignedValue Number) (rises : Rises 0 t.patterns.entries) where
-  text_by : exact_text t (shown_for t d).significand (shown_for t d).exponent
-      ≡ option_map (written_text t (shown_for t d).significand) (exact_entry 32768 t.patterns.entries (chosen 32768 t.patterns.entries d.absolute.count).count (chosen 32768 t.patterns.entries d.absolute.count).exponent)
-  text_by = ap (λ s. option_map (written_text t (shown_for t d).significand) (exact_entry 32768 t.patterns.entries s (chosen 32768 t.patterns.entries d.absolute.count).exponent))
+  text_by : exact_text t (value_shown t d).significand (value_shown t d).exponent
+      ≡ option_map (written_text t (value_shown t d).significand) (exact_entry 32768 t.patterns.entries (chosen 32768 t.patterns.entries d.absolute.count).count (chosen 32768 t.patterns.entries d.absolute.count).exponent)
+  text_by = ap (λ s. option_map (written_text t (value_shown t d).significand) (exact_entry 32768 t.patterns.entries s (chosen 32768 t.patterns.entries d.absolute.count).exponent))
       (significand_count t.patterns.entries d.absolute rises)
 
-  pub form_answers : let entry = entry_at 32768 t.patterns.entries (magnitude 32768 (shown_under 32768 t.patterns.entries d.absolute.count)) in
-      exact_text t (shown_for t d).significand (shown_for t d).exponent
-      ≡ cond (exponent_of entry == (shown_for t d).exponent) (Some (written_text t (shown_for t d).significand entry)) None
-  form_answers =
+  pub shown_form_answers : let entry = entry_at 32768 t.patterns.entries (magnitude 32768 (shown_under 32768 t.patterns.entries d.absolute.count)) in
+      exact_text t (value_shown t d).significand (value_shown t d).exponent
+      ≡ cond (exponent_of entry == (value_shown t d).exponent) (Some (written_text t (value_shown t d).significand entry)) None
+  shown_form_answers =
       text_by
-      ∙ ap (option_map (written_text t (shown_for t d).significand)) (exact_answers 32768 t.patterns.entries d.absolute.count (omega arith) rises)
-      ∙ mapped (exponent_of (entry_at 32768 t.patterns.entries (magnitude 32768 (shown_under 32768 t.patterns.entries d.absolute.count))) == (shown_for t d).exponent)
-      (entry_at 32768 t.patterns.entries (magnitude 32768 (shown_under 32768 t.patterns.entries d.absolute.count)))
+      ∙ ap (option_map (written_text t (value_shown t d).significand)) (exact_answers 32768 t.patterns.entries d.absolute.count (omega arith) rises)
+      ∙ mapped (exponent_of (entry_at 32768 t.patterns.entries (magnitude 32768 (shown_under 32768 t.patterns.entries d.absolute.count))) == (value_shown t d).exponent)
+        (entry_at 32768 t.patterns.entries (magnitude 32768 (shown_under 32768 t.patterns.entries d.absolute.count)))
     where
-      mapped : (b : Bool) (entry : Option CompactEntry) → option_map (written_text t (shown_for t d).significand) (cond b (Some entry) None) ≡ cond b (Some (written_text t (shown_for t d).significand entry)) None
+      mapped : (b : Bool) (entry : Option CompactEntry) → option_map (written_text t (value_shown t d).significand) (cond b (Some entry) None) ≡ cond b (Some (written_text t (value_shown t d).significand entry)) None
       mapped true entry = refl
       mapped false entry = refl
 
-  pub form_writes_same : UsesShownEntry 32768 t.patterns.entries d.absolute.count → exact_text t (shown_for t d).significand (shown_for t d).exponent ≡ Some (compact_decimal_text t d)
-  form_writes_same uses =
+  pub shown_form_writes_same : UsesShownEntry 32768 t.patterns.entries d.absolute.count → exact_text t (value_shown t d).significand (value_shown t d).exponent ≡ Some (compact_decimal_text t d)
+  shown_form_writes_same uses =
       text_by
-      ∙ ap (option_map (written_text t (shown_for t d).significand)) (writes_same 32768 t.patterns.entries d.absolute.count (omega arith) rises uses)
+      ∙ ap (option_map (written_text t (value_shown t d).significand)) (writes_same 32768 t.patterns.entries d.absolute.count (omega arith) rises uses)
 
-  pub form_value : (shown_for t d).significand.absolute.count * 10 ^ (shown_for t d).exponent ≡ shown_under 32768 t.patterns.entries d.absolute.count
-  form_value =
+  pub shown_form_is_shown_value : (value_shown t d).significand.absolute.count * 10 ^ (value_shown t d).exponent ≡ shown_under 32768 t.patterns.entries d.absolute.count
+  shown_form_is_shown_value =
       ap (λ s. s * 10 ^ (chosen 32768 t.patterns.entries d.absolute.count).exponent) (significand_count t.patterns.entries d.absolute rises)
       ∙ choice_value 32768 t.patterns.entries d.absolute.count (omega arith) rises
 
-  pub form_in_range : CanShow t.patterns.entries d.absolute.count → IsInRange (shown_for t d).significand.absolute.count (shown_for t d).exponent
-  form_in_range can =
+  pub shown_form_is_in_range : CanShow t.patterns.entries d.absolute.count → IsInRange (value_shown t d).significand.absolute.count (value_shown t d).exponent
+  shown_form_is_in_range can =
       subst (λ s. IsInRange s (chosen 32768 t.patterns.entries d.absolute.count).exponent) (sym (significand_count t.patterns.entries d.absolute rises))
-      (exact_in_range t.patterns.entries d.absolute.count rises can)
+      (exact_form_is_in_range t.patterns.entries d.absolute.count rises can)
 
 -- ---- the significand is a number
 
@@ -168,7 +167,7 @@ exponent_small ones entries n small = go (is_carried ones entries n)
     go true = next_small ones entries (magnitude ones n) small
     go false = entry_small ones entries (magnitude ones n) small
 
-pub shown_is_compact : (t : CompactTables) (d : SignedValue Number) → AreSmall t.patterns.entries → IsNumber d.absolute → CanShow t.patterns.entries d.absolute.count → IsCompact (shown_for t d)
+pub shown_is_compact : (t : CompactTables) (d : SignedValue Number) → AreSmall t.patterns.entries → IsNumber d.absolute → CanShow t.patterns.entries d.absolute.count → IsCompact (value_shown t d)
 shown_is_compact t d small is can = record {
   significand = significand_is_number t.patterns.entries d.absolute is can;
   exponent = exponent_small 32768 t.patterns.entries d.absolute.count small;

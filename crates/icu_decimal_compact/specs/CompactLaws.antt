@@ -2,7 +2,7 @@
 -- Defined in docs/compact-text.md, "Laws".
 -- Cited by the functions of the module `laws`.
 use Rattle.std.specs.Prelude.{◌≡◌, ◌*◌, ◌^◌, ◌==◌, cond, List, None, Some}
-use Rattle.fixed_decimal.specs.CompactText.{CompactValue, IsCompact}
+use Rattle.fixed_decimal.specs.CompactText.{IsCompact}
 use Rattle.fixed_decimal.specs.Number.{IsNumber, Number}
 use Rattle.fixed_decimal.specs.SignedValue.{SignedValue}
 use Rattle.icu_decimal_patterns.specs.SmallEntries.{AreSmall}
@@ -13,32 +13,30 @@ use Rattle.icu_decimal_shown.specs.ExactForms.{IsInRange}
 use Rattle.icu_decimal_shown.specs.ExactLaws.{UsesShownEntry}
 use Rattle.icu_decimal_shown.specs.ShownValue.{magnitude}
 use Rattle.icu_decimal_compact.specs.CompactTables.{CompactTables}
-use Rattle.icu_decimal_compact.specs.CompactText.{compact_decimal_text, compact_of, significand_of}
+use Rattle.icu_decimal_compact.specs.CompactText.{compact_decimal_text, significand_of, value_shown}
 use Rattle.icu_decimal_compact.specs.ExactText.{exact_text, written_text}
 
--- what is shown for a decimal: the significand with its sign, and the exponent
-abbrev pub shown_for : CompactTables → SignedValue Number → CompactValue
-shown_for t d = record {
-  significand = record { sign = d.sign; absolute = significand_of t.patterns.entries d.absolute };
-  exponent = (compact_of t d.absolute).exponent;
-}
-
--- sent back it is refused exactly where the entry of the shown value's magnitude has another exponent, and else it is written under that entry
+-- it is refused exactly where the entry of the shown value's magnitude has another exponent, and else it is written under that entry
 abbrev pub ShownFormAnswers : Type 0
 ShownFormAnswers = (t : CompactTables) (d : SignedValue Number) → Rises 0 t.patterns.entries
     → let entry = entry_at 32768 t.patterns.entries (magnitude 32768 (shown_under 32768 t.patterns.entries d.absolute.count)) in
-    let shown = shown_for t d in
+    let shown = value_shown t d in
     exact_text t shown.significand shown.exponent ≡ cond (exponent_of entry == shown.exponent) (Some (written_text t shown.significand entry)) None
 
 -- it has the same text where that entry is the one shown
 abbrev pub ShownFormWritesSame : Type 0
 ShownFormWritesSame = (t : CompactTables) (d : SignedValue Number) → Rises 0 t.patterns.entries → UsesShownEntry 32768 t.patterns.entries d.absolute.count
-    → let shown = shown_for t d in exact_text t shown.significand shown.exponent ≡ Some (compact_decimal_text t d)
+    → let shown = value_shown t d in exact_text t shown.significand shown.exponent ≡ Some (compact_decimal_text t d)
 
 -- it is in range where the number can be shown
 abbrev pub ShownFormIsInRange : Type 0
 ShownFormIsInRange = (t : CompactTables) (d : SignedValue Number) → Rises 0 t.patterns.entries → CanShow t.patterns.entries d.absolute.count
-    → let shown = shown_for t d in IsInRange shown.significand.absolute.count shown.exponent
+    → let shown = value_shown t d in IsInRange shown.significand.absolute.count shown.exponent
+
+-- its significand times ten to its exponent is the shown value
+abbrev pub ShownFormIsShownValue : Type 0
+ShownFormIsShownValue = (t : CompactTables) (d : SignedValue Number) → Rises 0 t.patterns.entries
+    → let shown = value_shown t d in shown.significand.absolute.count * 10 ^ shown.exponent ≡ shown_under 32768 t.patterns.entries d.absolute.count
 
 -- its significand is a number where the number can be shown
 abbrev pub SignificandIsNumber : Type 0
@@ -47,9 +45,4 @@ SignificandIsNumber = (entries : List CompactEntry) (number : Number) → IsNumb
 -- and it is a compact number where the entries fit into bytes
 abbrev pub ShownIsCompact : Type 0
 ShownIsCompact = (t : CompactTables) (d : SignedValue Number) → AreSmall t.patterns.entries → IsNumber d.absolute → CanShow t.patterns.entries d.absolute.count
-    → IsCompact (shown_for t d)
-
--- its significand times ten to its exponent is the shown value
-abbrev pub ShownFormIsShownValue : Type 0
-ShownFormIsShownValue = (t : CompactTables) (d : SignedValue Number) → Rises 0 t.patterns.entries
-    → let shown = shown_for t d in shown.significand.absolute.count * 10 ^ shown.exponent ≡ shown_under 32768 t.patterns.entries d.absolute.count
+    → IsCompact (value_shown t d)

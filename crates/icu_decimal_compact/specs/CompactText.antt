@@ -4,6 +4,7 @@
 use Rattle.std.specs.Prelude.{ℕ, zero, suc, ◌-◌, ◌%◌, ◌^◌, ◌==◌, cond, max, List, [], ◌∷◌, ◌++◌, Option, None, Some, option_map}
 use Rattle.std.specs.Option.{option_and_then}
 use Rattle.writeable.specs.AnnotatedText.{Event, bytes}
+use Rattle.fixed_decimal.specs.CompactText.{CompactValue}
 use Rattle.fixed_decimal.specs.Number.{Number}
 use Rattle.fixed_decimal.specs.SignedValue.{SignedValue}
 use Rattle.icu_decimal_patterns.specs.Elements.{slot_of}
@@ -69,6 +70,12 @@ compact_of t number =
       exponent = c.exponent;
       pattern = pattern_of t c.entry (operands_of significand 0);
     }
+
+-- the value shown for a decimal: the significand with its sign, and the exponent
+abbrev pub value_shown : CompactTables → SignedValue Number → CompactValue
+value_shown t d =
+    let shown = compact_of t d.absolute in
+    record { significand = record { sign = d.sign; absolute = shown.plain.number }; exponent = shown.exponent }
 
 -- a text in a pattern; without a pattern it stands alone
 abbrev pub text_in : Option PatternText → List ℕ → List ℕ

@@ -1,4 +1,5 @@
-//! Laws of what abstract formatters write. No call is made: each clause is the law.
+//! Laws of compact text: what abstract formatters write, and what is shown for a number, sent back as an exact form. Where no
+//! formatter is passed, no call is made: each clause is the law.
 ghost use Rattle.std.specs.Prelude.{◌≡◌, ◌<◌};
 ghost use Rattle.icu_decimal_patterns.specs.SmallEntries.{AreSmall, IsSmall};
 ghost use Rattle.icu_decimal_shown.specs.Entries.{Rises};
@@ -31,9 +32,13 @@ pub fn sign_round_unit()
     ensures compact { WritesUnit ⟦<CompactDecimalFormatter<'static> as AbstractFormatter>⟧.unsigned_events ⟦<CompactDecimalFormatter<'static> as AbstractFormatter>⟧.affixes (λ f number. compact_text (compact_of (compact_tables_of f) number)) }
 {}
 
-/// What is shown for a number, sent back as an exact form of the same tables. Under rising types it is refused exactly where the entry of
-/// the shown value's magnitude has another exponent, and else written under that entry (`answer`); it has the same text where that
-/// entry is the one shown (`same`), and it is in range where the number can be shown (`in_range`).
+/// What is shown for a number, sent back as an exact form of the same tables: whether it is written, and as which text.
+///
+/// Under rising types it is refused exactly where the entry of the shown value's magnitude has another exponent, and else it is
+/// written under that entry (`answer`). It has the same text, with its affixes, plural and grouping, where that entry is the one
+/// shown (`same`). It is in range where the number can be shown (`in_range`). Its significand times ten to its exponent is the
+/// shown value (`value`). In English 1650 is `1.6K`, and so is 1.6 with the exponent 3. With `K` of type 3 and `k` of type 5, both
+/// of exponent 3, 99999 is `100K`, and 100 with the exponent 3 is `100k`.
 pub fn shown_forms_are_answered()
     ensures answer { ShownFormAnswers }
     ensures same { ShownFormWritesSame }
@@ -41,7 +46,8 @@ pub fn shown_forms_are_answered()
     ensures value { ShownFormIsShownValue }
 {}
 
-/// What is shown for a number is a compact number, where the number can be shown and the entries fit into bytes.
+/// What is shown for a number is a compact number, where the number can be shown and the entries fit into bytes: of 1650 it is 1.6
+/// with the exponent 3.
 pub fn shown_values_are_compact()
     ensures significand { SignificandIsNumber }
     ensures compact { ShownIsCompact }
@@ -72,7 +78,8 @@ fn entries_are_small(entries: &[CompactEntry])
     }
 }
 
-/// The types of a formatter's table rise, and its numbers fit into bytes: of English in short form 3 and 6. It takes no memory.
+/// The types of a formatter's table rise, and its numbers fit into bytes: in English those are the types 3 and 6 of the short form.
+/// It takes no memory.
 pub fn held_entries_are_sound(formatter: &CompactDecimalFormatter<'_>)
     ensures rises { Rises 0 (compact_tables_of formatter.now).patterns.entries }
     ensures small { AreSmall (compact_tables_of formatter.now).patterns.entries }

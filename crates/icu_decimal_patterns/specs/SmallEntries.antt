@@ -1,6 +1,6 @@
 -- Entries whose numbers a byte holds.
 -- Defined in docs/compact-text.md, "Entries".
--- Cited by the private steps of `to_json`.
+-- Cited by the private steps of `to_json`, and by the laws of what is shown, sent back.
 use Rattle.std.specs.Prelude.{◌<◌, List, [], ◌∷◌}
 use Rattle.icu_decimal_shown.specs.declared.entry.CompactEntry.{CompactEntry}
 

@@ -170,8 +170,8 @@ module _ (ones : ℕ) (entries : List CompactEntry) (n : ℕ) where
     plain_zero true e z m = let p = tens_positive (suc (magnitude ones n)) in let c = carried_power e in absurd (omega arith)
     plain_zero false e z m = ⊎_elim (λ h. h) (λ h. omega arith) (entry_fits ones 0 entries (magnitude ones n) r)
 
-    pub exact_at : magnitude ones (chosen ones entries n).count + (chosen ones entries n).exponent ≡ magnitude ones (shown_under ones entries n)
-    exact_at = ⊎_elim
+    pub exact_form_has_shown_magnitude : magnitude ones (chosen ones entries n).count + (chosen ones entries n).exponent ≡ magnitude ones (shown_under ones entries n)
+    exact_form_has_shown_magnitude = ⊎_elim
         (λ z.
         let m : magnitude ones n ≡ ones = ⊎_elim (λ b. ap (magnitude ones) b.0) (λ b. let p = tens_positive (magnitude ones n) in let low = b.0 in absurd (omega arith)) (shown_between ones (exponent_place ones entries) n) in
         let x : (chosen ones entries n).exponent ≡ 0 = plain_zero (is_carried ones entries n) refl z m in
@@ -193,7 +193,7 @@ module _ (ones : ℕ) (entries : List CompactEntry) (n : ℕ) where
         some_factor c x p = ⊎_elim (λ z. let m : c * 10 ^ x ≡ 0 = ap (λ y. y * 10 ^ x) z ∙ zero-mul (10 ^ x) in absurd (omega arith)) (λ h. h) (eq-zero-or-pos c)
 
     pub exact_answers : exact_entry ones entries (chosen ones entries n).count (chosen ones entries n).exponent ≡ cond (exponent_of (entry_at ones entries (magnitude ones (shown_under ones entries n))) == (chosen ones entries n).exponent) (Some (entry_at ones entries (magnitude ones (shown_under ones entries n)))) None
-    exact_answers = ap (λ k. cond (exponent_of (entry_at ones entries k) == (chosen ones entries n).exponent) (Some (entry_at ones entries k)) None) exact_at
+    exact_answers = ap (λ k. cond (exponent_of (entry_at ones entries k) == (chosen ones entries n).exponent) (Some (entry_at ones entries k)) None) exact_form_has_shown_magnitude
 
     pub writes_same : UsesShownEntry ones entries n → WritesSame ones entries n
     writes_same u =

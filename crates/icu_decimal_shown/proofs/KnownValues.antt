@@ -1,7 +1,10 @@
 -- Rows of docs/compact-text.md, so that a wrong definition does not pass. The ones stand at place 2, so 123 is 1.23, where no other place is said.
-use Rattle.std.proofs.Common.{◌≡◌, ℕ, List, [], ◌∷◌, map, Option, None, Some, refl}
+use Rattle.std.proofs.Common.{◌≡◌, ℕ, List, [], ◌∷◌, map, Option, None, Some, refl, ap, arith, lit≤}
+use Rattle.fixed_decimal.specs.Rounding.{count_limit}
 use Rattle.icu_decimal_shown.specs.declared.entry.CompactEntry.{CompactEntry}
-use Rattle.icu_decimal_shown.specs.Choice.{Choice, chosen, exact_entry}
+use Rattle.icu_decimal_shown.specs.Choice.{CanShow, Choice, chosen, exact_entry, shown_under}
+use Rattle.icu_decimal_shown.specs.Entries.{Rises}
+use Rattle.icu_decimal_shown.specs.ExactLaws.{IsFlat, UsesShownEntry, WritesSame}
 use Rattle.icu_decimal_shown.specs.ShownValue.{magnitude}
 
 -- thousands and millions
@@ -114,3 +117,56 @@ exact_refused = refl
 
 exact_alone : exact_entry 2 short 84300 0 ≡ Some None
 exact_alone = refl
+
+-- ---- what the laws ask for
+
+short_rises : Rises 0 short
+short_rises = (omega arith, record { within = omega arith; zeros = omega arith }, (omega arith, record { within = omega arith; zeros = omega arith }, tt))
+
+zero_can_be_shown : CanShow short 0
+unfolding count_limit
+zero_can_be_shown = record { below = lit≤ tt }
+
+-- an exponent above its type: 1000 has no part of 10^6, so significand and exponent do not make the shown value
+not_rising : chosen 2 (record { log10_type = 3; exponent = 6 } ∷ []) 100000 ≡ made 0 6 (Some (record { log10_type = 3; exponent = 6 }))
+not_rising = refl
+
+-- each type is its exponent: 999500 is 1M, of another magnitude
+short_is_flat : IsFlat short
+short_is_flat = (refl, (refl, tt))
+
+flat_uses : UsesShownEntry 2 short 99950000
+flat_uses = refl
+
+-- types 3 and 5, both of exponent 3: 1650 and its 1600 have one magnitude
+close_keeps : magnitude 2 (shown_under 2 close 165000) ≡ magnitude 2 165000
+close_keeps = refl
+
+-- 9995 is 10K, of another magnitude, and that has the same entry
+close_uses : UsesShownEntry 2 close 999500
+close_uses = refl
+
+-- 99999 is 100K, and nothing of this holds: the exact form is 100k
+close_is_not_flat : IsFlat close → ⊥
+close_is_not_flat flat = let bad : 3 ≡ 5 = flat.1.0 in absurd (omega (arith, bad))
+
+close_moves : magnitude 2 (shown_under 2 close 9999900) ≡ magnitude 2 9999900 → ⊥
+close_moves same = let bad : 7 ≡ 6 = same in absurd (omega (arith, bad))
+
+abbrev type_in : Option CompactEntry → ℕ
+type_in None = 0
+type_in (Some entry) = entry.log10_type
+
+close_uses_another : UsesShownEntry 2 close 9999900 → ⊥
+close_uses_another same = let bad : 5 ≡ 3 = ap type_in same in absurd (omega (arith, bad))
+
+abbrev entry_written : Option (Option CompactEntry) → ℕ
+entry_written None = 0
+entry_written (Some entry) = type_in entry
+
+close_writes_another : WritesSame 2 close 9999900 → ⊥
+close_writes_another same = let bad : 5 ≡ 3 = ap entry_written same in absurd (omega (arith, bad))
+
+-- types 3 and 7 with exponents 3 and 6: 999500 is 1M, whose exact form is refused
+apart_uses_another : UsesShownEntry 2 apart 99950000 → ⊥
+apart_uses_another same = let bad : 3 ≡ 7 = ap type_in same in absurd (omega (arith, bad))

@@ -8,6 +8,6 @@ pub mod RoundingLemmas
 pub mod ShowableLemmas
 pub mod ShowLemmas
 pub mod ShownLemmas
-pub mod TableLawLemmas
 pub mod TableLemmas
+pub mod UnderTableLemmas
 pub mod UnitLemmas

@@ -1,11 +1,12 @@
 -- Laws of exact forms: what is shown for a number, sent back in the exact form of the same table.
 -- Defined in docs/compact-text.md, "Laws".
 -- Cited by the functions of the module `laws`.
-use Rattle.std.specs.Prelude.{◌≡◌, ℕ, ◌*◌, ◌^◌, ◌≤◌, ◌==◌, cond, List, None, Some}
+use Rattle.std.specs.Prelude.{◌≡◌, ℕ, ◌+◌, ◌*◌, ◌^◌, ◌≤◌, ◌==◌, cond, List, None, Some}
 use Rattle.std.specs.List.{AllByRecursion}
 use Rattle.icu_decimal_shown.specs.declared.entry.CompactEntry.{CompactEntry}
-use Rattle.icu_decimal_shown.specs.Choice.{chosen, entry_at, exact_entry, exponent_of, shown_under}
+use Rattle.icu_decimal_shown.specs.Choice.{CanShow, chosen, entry_at, exact_entry, exponent_of, shown_under}
 use Rattle.icu_decimal_shown.specs.Entries.{Rises}
+use Rattle.icu_decimal_shown.specs.ExactForms.{IsInRange}
 use Rattle.icu_decimal_shown.specs.ShownValue.{magnitude}
 
 -- the entry of the magnitude of the shown value is the one that the number is shown under
@@ -41,3 +42,13 @@ KeptMagnitudeUsesShownEntry = (ones : ℕ) (entries : List CompactEntry) (n : �
 -- and in every table whose types are its exponents
 abbrev pub FlatTableUsesShownEntry : Type 0
 FlatTableUsesShownEntry = (ones : ℕ) (entries : List CompactEntry) (n : ℕ) → Rises 0 entries → IsFlat entries → UsesShownEntry ones entries n
+
+-- the exact form has the magnitude of the shown value
+abbrev pub ExactFormHasShownMagnitude : Type 0
+ExactFormHasShownMagnitude = (ones : ℕ) (entries : List CompactEntry) (n : ℕ) → 1 ≤ ones → Rises 0 entries
+    → let c = chosen ones entries n in magnitude ones c.count + c.exponent ≡ magnitude ones (shown_under ones entries n)
+
+-- so it is in range where the number can be shown
+abbrev pub ExactFormIsInRange : Type 0
+ExactFormIsInRange = (entries : List CompactEntry) (n : ℕ) → Rises 0 entries → CanShow entries n
+    → let c = chosen 32768 entries n in IsInRange c.count c.exponent

@@ -6,4 +6,4 @@ pub mod Significand
 pub mod ShownLaws
 pub mod ShownValue
 pub mod Steps
-pub mod TableLaws
+pub mod UnderTableLaws

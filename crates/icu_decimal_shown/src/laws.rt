@@ -1,7 +1,7 @@
 //! Laws of what compact text shows. No call is made: each clause is the law.
-ghost use Rattle.icu_decimal_shown.specs.ExactLaws.{ChoiceIsShownValue, ExactFormAnswers, ExactFormWritesSame, FlatTableUsesShownEntry, KeptMagnitudeUsesShownEntry};
+ghost use Rattle.icu_decimal_shown.specs.ExactLaws.{ChoiceIsShownValue, ExactFormAnswers, ExactFormHasShownMagnitude, ExactFormIsInRange, ExactFormWritesSame, FlatTableUsesShownEntry, KeptMagnitudeUsesShownEntry};
 ghost use Rattle.icu_decimal_shown.specs.ShownLaws.{CarriedAtNines, OneIsShown, RoundedIsShown, RuleShowsNearest, ShowableShowsItself, ShownIsNear, ShownKeepsOrder, ZeroShowsZero};
-ghost use Rattle.icu_decimal_shown.specs.TableLaws.{ExactFormHasShownMagnitude, ExactFormIsInRange, ShownValueCanBeShown, ShownValueShowsItself, TableKeepsOrder, TableShowsNear, TableShowsZero};
+ghost use Rattle.icu_decimal_shown.specs.UnderTableLaws.{ShownValueCanBeShown, ShownValueShowsItself, TableKeepsOrder, TableShowsNear, TableShowsZero};
 
 /// Each number shows one value: the number rounded half to even to its unit. In English, with `K` and `M`, 1650 shows 1600, and
 /// 1750 shows 1800.
@@ -49,19 +49,21 @@ pub fn exact_forms_of_shown_values()
     ensures flat { FlatTableUsesShownEntry }
 {}
 
+/// What is shown for a number, sent back as an exact form, has the magnitude of the shown value (`magnitude`), and it is in range
+/// where the number can be shown (`in_range`). In English, with `K` and `M`, 999500 is shown as 1 with the exponent 6, whose
+/// magnitude is that of 1000000.
+pub fn exact_forms_are_in_range()
+    ensures magnitude { ExactFormHasShownMagnitude }
+    ensures in_range { ExactFormIsInRange }
+{}
+
 /// The value shown under a table: the smaller of two numbers never shows a larger one (`order`), it is off by at most a twentieth
-/// (`near`), zero is shown for zero alone (`zero_value`), and a shown value shows itself (`itself`) and can be shown (`can`).
+/// (`near`), zero is shown only for zero (`zero_value`), and a number equal to a shown value shows itself (`itself`) and can be
+/// shown (`can`). In English, with `K` and `M`, 1650 shows 1600, and 1600 shows 1600.
 pub fn tables_show_values()
     ensures order { TableKeepsOrder }
     ensures near { TableShowsNear }
     ensures zero_value { TableShowsZero }
     ensures itself { ShownValueShowsItself }
     ensures can { ShownValueCanBeShown }
-{}
-
-/// What is shown for a number, sent back as an exact form, has the magnitude of the shown value (`magnitude`), and it is in range
-/// where the number can be shown (`in_range`).
-pub fn exact_forms_are_in_range()
-    ensures magnitude { ExactFormHasShownMagnitude }
-    ensures in_range { ExactFormIsInRange }
 {}

@@ -11,7 +11,7 @@ use Rattle.fixed_decimal.specs.Rounding.{count_limit}
 use Rattle.fixed_decimal.specs.SignedValue.{SignedValue}
 use Rattle.icu_decimal.specs.Affixes.{AffixTexts, WithSign, affixes_of, as_part, events_with_sign, prefix_events, suffix_events}
 use Rattle.icu_decimal.specs.CompactTables.{CompactTables}
-use Rattle.icu_decimal.specs.CompactText.{CompactNumber, compact_decimal_events, compact_decimal_text, compact_events, compact_formatted, compact_of, compact_text, pattern_of, text_in}
+use Rattle.icu_decimal.specs.CompactText.{CompactNumber, compact_decimal_events, compact_decimal_text, compact_events, compact_formatted, compact_of, compact_text, pattern_of, text_in, value_shown}
 use Rattle.icu_decimal.specs.ExactForms.{IsInRange, exact_place}
 use Rattle.icu_decimal.specs.ExactText.{exact_events, exact_formatted, exact_text, written_text, written_under}
 use Rattle.icu_decimal.specs.Operands.{operands_of}
@@ -20,9 +20,10 @@ use Rattle.icu_decimal.specs.PlainText.{PlainNumber, prefix_text, suffix_text, u
 use Rattle.icu_decimal.specs.ShownChoice.{CanShow, exact_entry, shown_under}
 use Rattle.icu_decimal.proofs.TextLemmas.{text_joined, unsigned_is_text}
 use Rattle.locale_numbers.specs.AnswerLine.{refused, written}
-use Rattle.locale_numbers.specs.CompactAnswer.{can_be_shown, compact_answer, exact_answer, exact_written, is_in_range, text_and_value, value_shown}
+use Rattle.locale_numbers.specs.CompactAnswer.{can_be_shown, compact_answer, exact_answer, exact_written, is_in_range, text_and_value}
 use Rattle.locale_numbers.specs.Request.{tab}
 use Rattle.locale_numbers.specs.declared.refusal.Refusal.TheVariants as refusal
+use Rattle.locale_numbers.proofs.CompactReadingLemmas.{below_test}
 
 -- ---- affixes
 
@@ -99,9 +100,6 @@ pub exact_none : (t : CompactTables) (d : SignedValue Number) (x : ℕ) → is_n
 exact_none t d x is = none_as (written_under t d) (written_text t d) (exact_entry 32768 t.patterns.entries d.absolute.count x) is
 
 -- ---- the answers
-
-below_test : (a b : ℕ) → a < b → nat_lt a b ≡ true
-below_test a b h = grind (arith, nat_tests)
 
 pub can_test : (t : CompactTables) (d : SignedValue Number) → CanShow t.patterns.entries d.absolute.count → can_be_shown t d ≡ true
 can_test t d can = below_test (shown_under 32768 t.patterns.entries d.absolute.count) count_limit can.below

@@ -112,7 +112,7 @@ spells_of text (mark ∷ tail) digits rest found = at (mark == compact_mark) (is
 
 -- ---- the function answers what the relations say
 
-below_test : (a b : ℕ) → a < b → nat_lt a b ≡ true
+pub below_test : (a b : ℕ) → a < b → nat_lt a b ≡ true
 below_test a b h = grind (arith, nat_tests)
 
 above_test : (a b : ℕ) → b ≤ a → nat_lt a b ≡ false
@@ -157,7 +157,7 @@ compact_value text (Err cause) read = tt
 
 -- ---- each text has one reading
 
-below_shown : (a b : ℕ) → nat_lt a b ≡ true → a < b
+pub below_shown : (a b : ℕ) → nat_lt a b ≡ true → a < b
 below_shown a b h = grind (arith, nat_tests)
 
 above_shown : (a b : ℕ) → nat_lt a b ≡ false → b ≤ a

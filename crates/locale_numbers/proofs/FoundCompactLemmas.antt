@@ -1,5 +1,6 @@
--- Which compact tables preferences find: those of two preferences that ask for the same, and those of tables that answer as a book does.
-use Rattle.std.proofs.Common.{◌≡◌, ℕ, List, [], ◌∷◌, ◌++◌, Some, None, Result, ap, ap₂, ◌∙◌}
+-- Which compact tables preferences find: those of two preferences that ask for the same, those of tables that answer as a book does, and
+-- the patterns in them.
+use Rattle.std.proofs.Common.{◌≡◌, ℕ, List, [], ◌∷◌, ◌++◌, Some, None, Result, Ok, Err, ap, ap₂, ◌∙◌}
 use Rattle.std.specs.Prelude.{option_to_list}
 use Rattle.icu_locale_core.specs.TagPreferences.{DataLocaleMeaning, Preferences, language_priority}
 use Rattle.icu_decimal.specs.declared.error.DataError.{DataError}
@@ -11,6 +12,7 @@ use Rattle.icu_decimal.specs.FoundCompactTables.{found_compact_tables, patterns_
 use Rattle.icu_decimal.specs.FoundTables.{found_tables}
 use Rattle.icu_decimal.specs.Identifiers.{Identifier, identifiers_along, symbols_identifiers}
 use Rattle.icu_decimal.specs.KeptEntries.{CompactTable}
+use Rattle.icu_decimal.specs.PlainText.{Tables}
 use Rattle.icu_decimal.specs.Rules.{Rules}
 use Rattle.icu_decimal.specs.Symbols.{Symbols}
 use Rattle.locale_numbers_book.specs.Book.{BookTables}
@@ -51,3 +53,22 @@ module _ (chain : DataLocaleMeaning → List DataLocaleMeaning) (symbols : Ident
       ∙ ap (λ d. found_compact_tables (chain_in book) (symbols_under book) d rules patterns p (Some grouping)) digits_are
       ∙ ap (λ r. found_compact_tables (chain_in book) (symbols_under book) (digits_under book) r patterns p (Some grouping)) rules_are
       ∙ ap (λ t. found_compact_tables (chain_in book) (symbols_under book) (digits_under book) (rules_under book) t p (Some grouping)) patterns_are
+
+-- ---- the patterns in what is found
+
+patterns_in : (plain : Result Tables DataError) (rules : Result Rules DataError) (patterns : Result CompactTable DataError) (tables : CompactTables) → with_plain plain rules patterns ≡ Ok tables → patterns ≡ Ok tables.patterns
+patterns_in (Ok plain) (Ok rules) (Ok patterns) tables is =
+    let one : ◌≡◌ {A = CompactTables} (record { plain = plain; rules = rules; patterns = patterns }) tables = cc in
+    ap (λ (t : CompactTables). Ok t.patterns) one
+patterns_in (Ok plain) (Ok rules) (Err e) tables is = absurd (cc)
+patterns_in (Ok plain) (Err e) patterns tables is = absurd (cc)
+patterns_in (Err e) rules patterns tables is = absurd (cc)
+
+-- the patterns that preferences find in a book
+abbrev pub found_patterns : PatternLength → BookTables → Preferences → Result CompactTable DataError
+found_patterns length book p = first_found (patterns_under length book) (patterns_identifiers (chain_in book) p)
+
+pub patterns_of_found : (length : PatternLength) (book : BookTables) (p : Preferences) (grouping : GroupingStrategy) (tables : CompactTables)
+    → found_compact length book p grouping ≡ Ok tables → found_patterns length book p ≡ Ok tables.patterns
+patterns_of_found length book p grouping tables found =
+    patterns_in (found_tables (chain_in book) (symbols_under book) (digits_under book) p (Some grouping)) (first_found (rules_under book) (rules_identifiers (chain_in book) p)) (found_patterns length book p) tables found

@@ -31,14 +31,14 @@ module _ (chain : DataLocaleMeaning → List DataLocaleMeaning) (symbols : Ident
 
 -- ---- what is found, by the formatter that was made
 
-abbrev made_or : Tables → Result Tables DataError → Tables
+abbrev made_or : {T : Type 0} → T → Result T DataError → T
 made_or other (Ok tables) = tables
 made_or other (Err error) = other
 
 -- the tables of a formatter are those found
-pub found_are : (found : Result Tables DataError) (made tables : Tables) → found ≡ Ok made → found ≡ Ok tables → AreTables made → AreTables tables
-found_are found made tables one other held = subst AreTables (ap (made_or made) (sym one ∙ other)) held
+pub found_are : {T : Type 0} (P : T → Type 0) (found : Result T DataError) (made tables : T) → found ≡ Ok made → found ≡ Ok tables → P made → P tables
+found_are P found made tables one other held = subst P (ap (made_or made) (sym one ∙ other)) held
 
 -- where none was made, none are found
-pub none_found : (found : Result Tables DataError) (error : DataError) (tables : Tables) → found ≡ Err error → found ≡ Ok tables → AreTables tables
-none_found found error tables one other = absurd (cc)
+pub none_found : {T : Type 0} (P : T → Type 0) (found : Result T DataError) (error : DataError) (tables : T) → found ≡ Err error → found ≡ Ok tables → P tables
+none_found P found error tables one other = absurd (cc)

@@ -67,18 +67,18 @@ no_front = refl
 
 -- ---- answers
 
-abbrev of_type : ℕ → List ℕ → TypePatterns
+abbrev pub of_type : ℕ → List ℕ → TypePatterns
 of_type place suffix = record { log10_type = place; exponent = place; patterns = only_other (around [] suffix) }
 
 -- `K` from thousands on, `M` from millions on
-abbrev english : CompactTables
+abbrev pub english : CompactTables
 english = record {
   plain = record { symbols = english_symbols; digits = codes "0123456789"; strategy = Auto };
   rules = record { zero = None; one = None; two = None; few = None; many = None };
   patterns = table_of (of_type 3 (codes "K") ∷ of_type 6 (codes "M") ∷ []);
 }
 
-abbrev zero_of : SignedValue Number
+abbrev pub zero_of : SignedValue Number
 zero_of = record { sign = Negative; absolute = record { count = 0; low = 32768; high = 32768 } }
 
 -- the value has the sign of the text

@@ -2,7 +2,6 @@ pub mod AlikeTags
 pub mod AnsweringLemmas
 pub mod CompactAnswerLemmas
 pub mod CompactReadingLemmas
-pub mod CompactTrips
 pub mod DigitsLemmas
 pub mod FoundCompactLemmas
 pub mod FoundLemmas
@@ -10,12 +9,15 @@ pub mod FoundSound
 pub mod FrontLemmas
 pub mod KeptLemmas
 pub mod KnownCompactAnswers
-pub mod KnownTrips
+pub mod KnownPrinted
 pub mod KnownValues
+pub mod LastTabLemmas
 pub mod LawsLemmas
 pub mod NumberBounds
 pub mod NumberReadingLemmas
 pub mod PartsLemmas
+pub mod PrintedLemmas
+pub mod PrintedSizes
 pub mod ReadingLemmas
 pub mod ReadingTrips
 pub mod RequestLemmas

@@ -47,11 +47,11 @@ use Rattle.locale_numbers.proofs.NumberReadingLemmas.{signed_number}
 -- ---- answers apart
 
 -- a refusal is no text
-refused_no : (cause : Refusal) (text : List ℕ) → refused cause ≡ written text → ⊥
+pub refused_no : (cause : Refusal) (text : List ℕ) → refused cause ≡ written text → ⊥
 refused_no cause text same = let bad : 101 ≡ 111 = ap (λ (t : List ℕ). get_or t 0 0) same in absurd (omega (arith, bad))
 
 -- answers that hold texts hold one text
-one_text : (a b : List ℕ) → written a ≡ written b → a ≡ b
+pub one_text : (a b : List ℕ) → written a ≡ written b → a ≡ b
 one_text a b same = let rest : a ≡ b = ap (λ t. drop 3 t) same in rest
 
 -- ---- groupings

@@ -9,7 +9,7 @@ use Rattle.fixed_decimal.specs.SignedValue.{SignedValue}
 use Rattle.icu_decimal.specs.declared.error.DataError.{DataError}
 use Rattle.icu_decimal.specs.declared.options.GroupingStrategy.{GroupingStrategy}
 use Rattle.icu_decimal.specs.CompactTables.{CompactTables}
-use Rattle.icu_decimal.specs.CompactText.{compact_decimal_text, compact_of}
+use Rattle.icu_decimal.specs.CompactText.{compact_decimal_text, value_shown}
 use Rattle.icu_decimal.specs.ExactForms.{exact_place}
 use Rattle.icu_decimal.specs.ExactText.{exact_text}
 use Rattle.icu_decimal.specs.FoundCompactTables.{found_compact_tables}
@@ -42,12 +42,6 @@ found_compact length book preferences grouping =
 -- whether the value that a number is shown as is one of a decimal
 abbrev pub can_be_shown : CompactTables → SignedValue Number → Bool
 can_be_shown tables value = nat_lt (shown_under 32768 tables.patterns.entries value.absolute.count) count_limit
-
--- that value, with the sign of the number
-abbrev pub value_shown : CompactTables → SignedValue Number → CompactValue
-value_shown tables value =
-    let shown = compact_of tables value.absolute in
-    record { significand = record { sign = value.sign; absolute = shown.plain.number }; exponent = shown.exponent }
 
 -- the compact text, and the value shown behind a tab
 abbrev pub text_and_value : CompactTables → SignedValue Number → List ℕ

@@ -4,7 +4,6 @@ pub mod AnswerSink
 pub mod AnswerSinkLaws
 pub mod Changing
 pub mod CompactAnswer
-pub mod CompactLaws
 pub mod CompactReading
 pub mod Cutting
 pub mod Fault
@@ -12,6 +11,8 @@ pub mod FormatterKeys
 pub mod Front
 pub mod Laws
 pub mod NumberReading
+pub mod Printed
+pub mod PrintedLaws
 pub mod Program
 pub mod ReadAnswer
 pub mod Refusal

@@ -2,20 +2,22 @@
 //! answers nothing.
 ghost use Rattle.locale_numbers.specs.Answer.{found_in};
 ghost use Rattle.locale_numbers.specs.CompactAnswer.{found_compact};
-ghost use Rattle.locale_numbers.specs.declared.request.PatternLength.TheVariants.{Short, Long};
-ghost use Rattle.locale_numbers.specs.CompactLaws.{FoundTablesAreSound, IsSoundWhereFound, PrintedIsAnswered, PrintedIsNear, PrintedIsWrittenAgain, PrintedKeepsOrder, PrintedPrintsItself, ZeroIsPrintedForZero};
 ghost use Rattle.locale_numbers.specs.FormatterKeys.{same_keys};
 ghost use Rattle.locale_numbers.specs.Laws.{HasOneReading, HasOneCompactReading, HasOneRounding, AlikeTagsAreAnsweredAlike, NormalTextIsAnsweredAlike, AutoIsAnsweredAsAlways, AreTexts, ReadIsWrittenAgain, RoundedIsWrittenAgain, TellsKeys, WrittenReadsBack};
+ghost use Rattle.locale_numbers.specs.PrintedLaws.{FoundTablesAreSound, IsSoundWhereFound, PrintedIsAnswered, PrintedIsNear, PrintedIsWrittenAgain, PrintedKeepsOrder, PrintedPrintsItself, ZeroIsPrintedForZero};
+ghost use Rattle.locale_numbers.specs.declared.request.PatternLength.TheVariants.{Short, Long};
 
 use crate::formatter_key::{FormatterKey, Kind};
 use crate::kept_formatter::{compact_formatter, plain_formatter};
 use crate::request::PatternLength;
 use crate::tables::Tables;
-use icu_decimal::laws::abstract_formatter::{held_entries_are_sound, shown_forms_are_answered, shown_values_are_compact};
-use icu_decimal::laws::shown::{exact_forms_of_shown_values, tables_show_values};
+use icu_decimal::laws::compact::{
+    held_entries_are_sound, shown_forms_are_answered, shown_values_are_compact,
+};
 use icu_decimal::laws::reading::{
     both_trips, plain_reading_is_the_reading, texts_have_one_decimal,
 };
+use icu_decimal::laws::shown::{exact_forms_of_shown_values, tables_show_values};
 use icu_decimal::options::GroupingStrategy;
 use icu_decimal::{DecimalFormatterPreferences, is_readable};
 use locale_numbers_book::laws::tables_are_sound;
@@ -114,8 +116,9 @@ pub fn keys_are_told_apart()
     equal_keys_are_one::<FormatterKey>();
 }
 
-/// The value that a compact answer prints, sent back in the exact form with the same tag and grouping, `keep` and no rounding, is refused
-/// by `exponent` exactly where the entry of its magnitude has another exponent, and by no other word.
+/// The value that a compact answer prints, sent back in the exact form with the same tag and grouping, `keep` and no rounding, is
+/// refused by `exponent` exactly where the entry of its magnitude has another exponent, and by no other word. With types 3 and 7
+/// and exponents 3 and 6, `999500` is answered by `1M` and `1c6`, and this by `exponent`.
 pub fn printed_value_is_answered()
     ensures { PrintedIsAnswered }
 {
@@ -123,8 +126,9 @@ pub fn printed_value_is_answered()
     shown_forms_are_answered();
 }
 
-/// It is answered by the same compact text, where the entry of its magnitude is the one that was used: with `en`, `1650` is answered by
-/// `1.6K` and `1.6c3`, and this by `1.6K`.
+/// It is answered by the same compact text, where the entry of its magnitude is the one that was used; so where each type is its
+/// exponent, and where the value shown has the magnitude of the number. With `en`, `1650` is answered by `1.6K` and `1.6c3`, and
+/// this by `1.6K`.
 pub fn printed_value_is_written_again()
     ensures { PrintedIsWrittenAgain }
 {
@@ -133,7 +137,8 @@ pub fn printed_value_is_written_again()
     exact_forms_of_shown_values();
 }
 
-/// Of two numbers the smaller never prints a larger value.
+/// Of two numbers that are shown in one form under one tag, and not rounded, the smaller never prints a larger value. With `en`,
+/// `999499` prints `999c3`, and `999500` prints `1c6`.
 pub fn printed_values_keep_order()
     ensures { PrintedKeepsOrder }
 {
@@ -142,7 +147,9 @@ pub fn printed_values_keep_order()
     tables_show_values();
 }
 
-/// A printed value is off by at most a twentieth; zero is printed for zero alone; a number that was printed prints itself.
+/// A printed value is off by at most a twentieth of the number after its rounding (`near`), and zero is printed only for zero
+/// (`zero_value`). A number of the size of a printed value prints this size (`itself`). With `en`, `1650` prints `1.6c3`, and
+/// `1600` prints it too.
 pub fn printed_values_are_near()
     ensures near { PrintedIsNear }
     ensures zero_value { ZeroIsPrintedForZero }
@@ -153,15 +160,35 @@ pub fn printed_values_are_near()
     tables_show_values();
 }
 
-/// What requests find in a book is sound, as the laws of printed values ask for: of `SAMPLE_BOOK` with `en` the types 3 and 6.
+/// What requests find in a book is sound, as the laws of printed values ask for: types that rise, exponents that fit them, and
+/// both in bytes. In `SAMPLE_BOOK` with `en` these are the types 3 and 6.
 pub fn found_compact_tables_are_sound()
     ensures { FoundTablesAreSound }
 {
     tables_are_sound();
 }
 
-/// What is found in tables is sound, for the short form: in the sample book with `en` the types 3 and 6. It makes a formatter to tell,
-/// and takes no memory.
+// What a compact form finds in tables is sound.
+fn found_tables_are_sound<T: Tables>(
+    tables: &T,
+    length: PatternLength,
+    preferences: DecimalFormatterPreferences,
+    grouping: GroupingStrategy,
+)
+    ensures { IsSoundWhereFound (found_compact length (T.book tables.now) preferences grouping) }
+{
+    let key = FormatterKey {
+        preferences,
+        kind: Kind::Compact(length),
+        grouping,
+    };
+    if let Ok(formatter) = compact_formatter(tables, length, key) {
+        held_entries_are_sound(&formatter);
+    }
+}
+
+/// What the short form finds in tables of one's own is sound: in the sample book with `en` the types 3 and 6. It makes a formatter
+/// to tell, and takes no memory.
 pub fn found_short_tables_are_sound<T: Tables>(
     tables: &T,
     preferences: DecimalFormatterPreferences,
@@ -169,18 +196,11 @@ pub fn found_short_tables_are_sound<T: Tables>(
 )
     ensures { IsSoundWhereFound (found_compact Short (T.book tables.now) preferences grouping) }
 {
-    let key = FormatterKey {
-        preferences,
-        kind: Kind::Compact(PatternLength::Short),
-        grouping,
-    };
-    if let Ok(formatter) = compact_formatter(tables, PatternLength::Short, key) {
-        held_entries_are_sound(&formatter);
-    }
+    found_tables_are_sound(tables, PatternLength::Short, preferences, grouping);
 }
 
-/// What is found in tables is sound, for the long form: in the sample book with `en` the types 3 and 6. It makes a formatter to tell,
-/// and takes no memory.
+/// What the long form finds in tables of one's own is sound: in the sample book with `en` the types 3 and 6. It makes a formatter
+/// to tell, and takes no memory.
 pub fn found_long_tables_are_sound<T: Tables>(
     tables: &T,
     preferences: DecimalFormatterPreferences,
@@ -188,12 +208,5 @@ pub fn found_long_tables_are_sound<T: Tables>(
 )
     ensures { IsSoundWhereFound (found_compact Long (T.book tables.now) preferences grouping) }
 {
-    let key = FormatterKey {
-        preferences,
-        kind: Kind::Compact(PatternLength::Long),
-        grouping,
-    };
-    if let Ok(formatter) = compact_formatter(tables, PatternLength::Long, key) {
-        held_entries_are_sound(&formatter);
-    }
+    found_tables_are_sound(tables, PatternLength::Long, preferences, grouping);
 }

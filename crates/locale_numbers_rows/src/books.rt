@@ -64,6 +64,12 @@ const LATE_MILLION: &str =
  [["en",[["other",""]]]],
  [["en","",[[3,3,[["other",["","K"]]]],[7,6,[["other",["","M"]]]]],null]],[]]"#;
 
+// The sample book, with two short patterns of one exponent.
+const ONE_EXPONENT: &str =
+    r#"[[["en","","latn","-","","+","",".",",",3,3,1]],[["latn","0123456789"]],
+ [["en",[["one","i = 1 and v = 0 @integer 1"],["other"," @integer 0, 2"]]]],
+ [["en","",[[3,3,[["other",["","K"]]]],[5,3,[["other",["","k"]]]]],null]],[]]"#;
+
 // The sample book, with long patterns of thousands alone.
 const LONG_THOUSANDS: &str =
     r#"[[["en","","latn","-","","+","",".",",",3,3,1]],[["latn","0123456789"]],
@@ -96,6 +102,7 @@ pub fn book_named(name: &str) -> Option<&'static str> {
         "trillions" => Some(TRILLIONS),
         "one-pattern" => Some(ONE_PATTERN),
         "late-million" => Some(LATE_MILLION),
+        "one-exponent" => Some(ONE_EXPONENT),
         "long-thousands" => Some(LONG_THOUSANDS),
         "no-rules" => Some(NO_RULES),
         "thai-behind" => Some(THAI_BEHIND),

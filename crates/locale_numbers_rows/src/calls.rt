@@ -1,6 +1,6 @@
 //! Which call a line asks for.
 use crate::row_error::RowError;
-use crate::{answers, faults, loads, plain, repeated, runs, starts, tracked};
+use crate::{answers, faults, loads, plain, repeated, runs, sent_back, starts, tracked};
 use std::alloc::Global;
 use std::rt::Files;
 
@@ -49,6 +49,7 @@ fn result_of_fields<F: Files>(rt: &F, alloc: Global, fields: &[&str]) -> Result<
         "read_words" => starts::words_row(alloc, arguments),
         "answer_sized" => plain::sized_row(alloc, arguments),
         "check" => plain::check_row(alloc, arguments),
+        "sent_back" => sent_back::sent_back_row(alloc, arguments),
         other => run_result(rt, alloc, other, arguments),
     }
 }

@@ -18,6 +18,7 @@ mod plain;
 mod repeated;
 mod row_error;
 mod runs;
+mod sent_back;
 mod shelf;
 mod shouter;
 mod starts;

@@ -1,13 +1,10 @@
--- Laws of the value shown under a table: order is kept, nothing is far off, a shown value shows itself; what is sent has its magnitude.
+-- Laws of the value shown under a table: order is kept, nothing is far off, and a shown value shows itself.
 -- Defined in docs/compact-text.md, "Laws".
 -- Cited by the functions of the module `laws`.
-use Rattle.std.specs.Prelude.{◌≡◌, ℕ, ◌+◌, ◌*◌, ◌≤◌, ◌↔◌, List}
+use Rattle.std.specs.Prelude.{◌≡◌, ℕ, ◌*◌, ◌≤◌, ◌↔◌, List}
 use Rattle.fixed_decimal.specs.Rounding.{distance}
 use Rattle.icu_decimal_shown.specs.declared.entry.CompactEntry.{CompactEntry}
-use Rattle.icu_decimal_shown.specs.Choice.{CanShow, chosen, shown_under}
-use Rattle.icu_decimal_shown.specs.Entries.{Rises}
-use Rattle.icu_decimal_shown.specs.ExactForms.{IsInRange}
-use Rattle.icu_decimal_shown.specs.ShownValue.{magnitude}
+use Rattle.icu_decimal_shown.specs.Choice.{CanShow, shown_under}
 
 -- of two numbers the smaller never shows a larger value
 abbrev pub TableKeepsOrder : Type 0
@@ -17,7 +14,7 @@ TableKeepsOrder = (ones : ℕ) (entries : List CompactEntry) (n m : ℕ) → n �
 abbrev pub TableShowsNear : Type 0
 TableShowsNear = (ones : ℕ) (entries : List CompactEntry) (n : ℕ) → 20 * distance n (shown_under ones entries n) ≤ n
 
--- zero is shown for zero, and for zero alone
+-- zero is shown for zero, and for nothing else
 abbrev pub TableShowsZero : Type 0
 TableShowsZero = (ones : ℕ) (entries : List CompactEntry) (n : ℕ) → shown_under ones entries n ≡ 0 ↔ n ≡ 0
 
@@ -25,16 +22,6 @@ TableShowsZero = (ones : ℕ) (entries : List CompactEntry) (n : ℕ) → shown_
 abbrev pub ShownValueShowsItself : Type 0
 ShownValueShowsItself = (ones : ℕ) (entries : List CompactEntry) (n m : ℕ) → m ≡ shown_under ones entries n → shown_under ones entries m ≡ m
 
--- a number of which the shown value is one can be shown
+-- and it can be shown
 abbrev pub ShownValueCanBeShown : Type 0
 ShownValueCanBeShown = (entries : List CompactEntry) (n m : ℕ) → CanShow entries n → m ≡ shown_under 32768 entries n → CanShow entries m
-
--- what is sent back has the magnitude of the shown value
-abbrev pub ExactFormHasShownMagnitude : Type 0
-ExactFormHasShownMagnitude = (ones : ℕ) (entries : List CompactEntry) (n : ℕ) → 1 ≤ ones → Rises 0 entries
-    → let c = chosen ones entries n in magnitude ones c.count + c.exponent ≡ magnitude ones (shown_under ones entries n)
-
--- so it is in range where the number can be shown
-abbrev pub ExactFormIsInRange : Type 0
-ExactFormIsInRange = (entries : List CompactEntry) (n : ℕ) → Rises 0 entries → CanShow entries n
-    → let c = chosen 32768 entries n in IsInRange c.count c.exponent
