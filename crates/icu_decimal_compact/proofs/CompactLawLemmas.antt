@@ -66,7 +66,7 @@ module _ (t : CompactTables) (d : SignedValue Number) (rises : Rises 0 t.pattern
       text_by
       ∙ ap (option_map (written_text t (value_shown t d).significand)) (exact_answers 32768 t.patterns.entries d.absolute.count (omega arith) rises)
       ∙ mapped (exponent_of (entry_at 32768 t.patterns.entries (magnitude 32768 (shown_under 32768 t.patterns.entries d.absolute.count))) == (value_shown t d).exponent)
-        (entry_at 32768 t.patterns.entries (magnitude 32768 (shown_under 32768 t.patterns.entries d.absolute.count)))
+      (entry_at 32768 t.patterns.entries (magnitude 32768 (shown_under 32768 t.patterns.entries d.absolute.count)))
     where
       mapped : (b : Bool) (entry : Option CompactEntry) → option_map (written_text t (value_shown t d).significand) (cond b (Some entry) None) ≡ cond b (Some (written_text t (value_shown t d).significand entry)) None
       mapped true entry = refl

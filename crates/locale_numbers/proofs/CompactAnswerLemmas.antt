@@ -1,6 +1,5 @@
 -- The text of what a compact formatter writes.
-use Rattle.std.proofs.Common.{◌≡◌, ◌<◌, nat_lt, Bool, false, cond, List, ◌∷◌, ◌++◌, arith, ℕ, Option, None, Some, is_none, option_map, true, refl, sym, ap, ◌∙◌}
-use Rattle.std.proofs.lemmas.Bool.Decides.{nat_tests}
+use Rattle.std.proofs.Common.{◌≡◌, Bool, false, cond, List, ◌∷◌, ◌++◌, ℕ, Option, None, Some, is_none, option_map, true, refl, sym, ap, ◌∙◌}
 use Rattle.std.proofs.lemmas.List.{append-nil}
 use Rattle.writeable.specs.AnnotatedText.{Event, bytes, closing, opening, text_of}
 use Rattle.writeable.specs.PartName.{PartName}

@@ -1,13 +1,10 @@
 -- Which tables preferences find: two that ask for the same find the same.
-use Rattle.std.proofs.Common.{◌≡◌, ℕ, List, [], ◌∷◌, ◌++◌, Some, Result, Ok, Err, refl, ap, ap₂, ◌∙◌, subst, sym}
-use Rattle.std.specs.Prelude.{option_to_list}
+use Rattle.std.proofs.Common.{◌≡◌, ℕ, List, Some, Result, Ok, Err, refl, ap, ap₂, ◌∙◌, subst, sym}
 use Rattle.icu_locale_core.specs.TagPreferences.{DataLocaleMeaning, Preferences, language_priority}
 use Rattle.icu_decimal.specs.declared.error.DataError.{DataError}
 use Rattle.icu_decimal.specs.declared.options.GroupingStrategy.{GroupingStrategy}
 use Rattle.icu_decimal.specs.Choice.{first_found}
 use Rattle.icu_decimal.specs.FoundTables.{found_tables, with_digits, with_symbols}
-use Rattle.icu_decimal.specs.PlainText.{Tables}
-use Rattle.icu_decimal.specs.ReadingLaws.{AreTables}
 use Rattle.icu_decimal.specs.Identifiers.{Identifier, digits_identifiers, identifiers_along, symbols_identifiers}
 use Rattle.icu_decimal.specs.Symbols.{Symbols}
 

@@ -1,5 +1,5 @@
 -- The premises of the laws of printed values are met: `-0` as `short` and as `exact-short` under a small book.
-use Rattle.std.proofs.Common.{◌≡◌, List, [], ◌∷◌, codes, Some, None, refl, arith, inl, inr}
+use Rattle.std.proofs.Common.{◌≡◌, [], ◌∷◌, codes, Some, None, refl, arith, inl, inr}
 use Rattle.fixed_decimal.specs.Rounding.{count_limit}
 use Rattle.icu_decimal.specs.CompactText.{lowest_place}
 use Rattle.icu_decimal.specs.Identifiers.{of_locale}

@@ -1,5 +1,5 @@
 -- What a compact answer prints, read back, and sent back in the exact form: `specs/PrintedLaws.antt`.
-use Rattle.std.proofs.Common.{◌≡◌, ℕ, ◌==◌, Bool, true, false, cond, List, ◌∷◌, ◌++◌, Option, None, Some, Result, Ok, refl, sym, ap, ◌∙◌, subst, arith, ⊎_elim}
+use Rattle.std.proofs.Common.{◌≡◌, ℕ, ◌==◌, Bool, true, false, cond, List, ◌∷◌, ◌++◌, None, Some, Ok, refl, sym, ap, ◌∙◌, subst, ⊎_elim}
 use Rattle.fixed_decimal.specs.CompactText.{CompactValue, ReadsCompact, compact_text_of}
 use Rattle.fixed_decimal.specs.Number.{Number}
 use Rattle.fixed_decimal.specs.Rounding.{count_limit}

@@ -41,7 +41,7 @@ TablesAreMade = (zero : Option Patterns) (given : List TypePatterns) (table : Co
 abbrev pub IsOneBook : Type 0
 IsOneBook = (value : Data) (book other : BookTables) → IsBook value book → IsBook value other → book ≡ other
 
--- the types of a table rise, each exponent fits its type, and both fit into bytes
+-- the types of a table rise, and its numbers fit into bytes
 pub record IsSoundTable (table : CompactTable) : Type 0 where
   pub rises : Rises 0 table.entries
   pub small : AreSmall table.entries
