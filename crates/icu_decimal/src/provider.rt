@@ -6,8 +6,8 @@ pub use icu_decimal_provider::provider::{
     DataIdentifier, DataProvider, DecimalDigitsV1, DecimalSymbolsV1, ParentProvider, load_by_chain,
     load_digits, load_symbols, load_with_fallback,
 };
+pub use icu_decimal_shown::CompactEntry;
 pub use icu_decimal_symbols::{
     DataError, DataMarker, DecimalSymbolStrsBuilder, DecimalSymbols, DecimalSymbolsStrs,
     GroupingSizes,
 };
-pub use icu_decimal_shown::CompactEntry;
