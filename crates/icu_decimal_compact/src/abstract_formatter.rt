@@ -159,6 +159,8 @@ impl<'b> AbstractFormatter for DecimalFormatter<'b> {
     ) -> Result<FormattedUnsigned<'l>, AllocError>
         ensures succeeds { IsOk result }
         ensures value { IfOk result (λ number. number ≡ FormattedUnsigned.Plain (record { number = value.now; tables = tables_of self.now })) }
+        ensures events { IfOk result (λ number. formatted_unsigned_events number ≡ plain_unsigned_events (tables_of self.now) value.now) }
+        ensures room { OnErr result ⊥ }
     {
         let number = DecimalFormatter::format_unsigned(self, value);
         Ok(FormattedUnsigned::Plain(number))
@@ -171,6 +173,7 @@ impl<'b> AbstractFormatter for DecimalFormatter<'b> {
     fn plural_operands(&self, value: &UnsignedDecimal) -> Result<PluralOperands, AllocError>
         ensures succeeds { IsOk result }
         ensures value { IfOk result (λ operands. operands ≡ plain_operands value.now) }
+        ensures room { OnErr result ⊥ }
     {
         Ok(PluralOperands::from_significand_and_exponent(value, 0))
     }
