@@ -29,8 +29,9 @@ class Guard:
         how = {"stdin": ends, "stdout": subprocess.DEVNULL, "stderr": subprocess.DEVNULL}
         self.process = subprocess.Popen(["sh", "-c", SCRIPT, "guard", rooms], preexec_fn=os.setpgrp, **how)
         os.close(ends)
-        for number in SIGNALS:
-            signal.signal(number, self.interrupted)
+        # what is ignored stays so, as under nohup
+        heard = [it for it in SIGNALS if signal.getsignal(it) != signal.SIG_IGN]
+        self.before = {number: signal.signal(number, self.interrupted) for number in heard}
 
     def __enter__(self):
         return self
@@ -40,8 +41,8 @@ class Guard:
         self.process.wait()
         os.close(self.held)
         shutil.rmtree(self.rooms, ignore_errors=True)
-        for number in SIGNALS:
-            signal.signal(number, signal.SIG_DFL)
+        for number, handler in self.before.items():
+            signal.signal(number, handler)
 
     def interrupted(self, number, _frame):
         """Has the guard end everything, waits for it, and ends as the signal asks."""
