@@ -1,5 +1,6 @@
 -- A value is one book at most, and what its arrays say of it: `specs/Book.antt` and `specs/Room.antt`.
 use Rattle.std.proofs.Common.{◌≡◌, Bool, true, ◌||◌, Option, Some, None, [], option_and_then, unwrap_or, refl, sym, ap, ◌∙◌}
+use Rattle.std.specs.Option.{option_or}
 use Rattle.std.specs.Str.{bytes_eq}
 use Rattle.serde_json.specs.Data.{Data, Items, no_items}
 use Rattle.serde_json.specs.Find.{as_array}
@@ -50,13 +51,16 @@ module _ (a b c d e f : Bool) where
   pub or_sixth : f ≡ true → (a || b || c || d || e || f) ≡ true
   or_sixth h = either _ f h
 
--- the fault of the long patterns, and that of the parents
-module _ (s d r h l p : Items) (e : BookError) (symbols : symbols_faults s ≡ None) (digits : digits_faults d ≡ None) (rules : rules_faults r ≡ None) (short : compact_faults h ≡ None) where
-  pub told_long : IsTold (compact_faults l) e → IsTold (arrays_fault s d r h l p) e
-  told_long told = told_at _ (arrays_fault s d r h l p) e (rw (symbols, digits, rules, short) refl) (told_first (compact_faults l) (parents_faults [] p) e told)
+-- the fault of the short patterns, that of the long ones, and that of the parents
+module _ (s d r h l p : Items) (e : BookError) (symbols : symbols_faults s ≡ None) (digits : digits_faults d ≡ None) (rules : rules_faults r ≡ None) where
+  pub told_short : IsTold (compact_faults h) e → IsTold (arrays_fault s d r h l p) e
+  told_short told = told_at _ (arrays_fault s d r h l p) e (rw (symbols, digits, rules) refl) (told_first (compact_faults h) (option_or (compact_faults l) (parents_faults [] p)) e told)
 
-  pub told_parents : compact_faults l ≡ None → IsTold (parents_faults [] p) e → IsTold (arrays_fault s d r h l p) e
-  told_parents long told = told_at _ (arrays_fault s d r h l p) e (rw (symbols, digits, rules, short, long) refl) told
+  pub told_long : compact_faults h ≡ None → IsTold (compact_faults l) e → IsTold (arrays_fault s d r h l p) e
+  told_long short told = told_at _ (arrays_fault s d r h l p) e (rw (symbols, digits, rules, short) refl) (told_first (compact_faults l) (parents_faults [] p) e told)
+
+  pub told_parents : compact_faults h ≡ None → compact_faults l ≡ None → IsTold (parents_faults [] p) e → IsTold (arrays_fault s d r h l p) e
+  told_parents short long told = told_at _ (arrays_fault s d r h l p) e (rw (symbols, digits, rules, short, long) refl) told
 
 -- ---- the value of arrays
 

@@ -96,3 +96,11 @@ arrays_taken given values s t u v w a b c d e f start es et eu ev ew ea eb ec ed
     let items : Option Items → Items = λ found. unwrap_or found no_items in
     ap (λ vs. array (items_view vs)) (sym start)
     ∙ rw (ea, eb ∙ ap items (first 0), ec ∙ ap items (second 0 ∙ first 1), ed ∙ ap items (third 0 ∙ second 1 ∙ first 2), ee ∙ ap items (fourth 0 ∙ third 1 ∙ second 2 ∙ first 3), ef ∙ fifth 0 ∙ fourth 1 ∙ third 2 ∙ second 3 ∙ first 4) (arrays_are (items_view values) formed)
+
+pub formed : (d : Data) (is : Items) → has_form d ≡ true → Some is ≡ as_array d → has_form (array is) ≡ true
+formed null is form items = absurd (cc)
+formed (boolean b) is form items = absurd (cc)
+formed (number n) is form items = absurd (cc)
+formed (string s) is form items = absurd (cc)
+formed (array js) is form items = let same : is ≡ js = cc in ap (λ x. has_form (array x)) same ∙ form
+formed (object ms) is form items = absurd (cc)

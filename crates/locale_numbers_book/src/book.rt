@@ -59,7 +59,7 @@ fn found<T>(there: Option<&T>) -> Result<&T, DataError>
 }
 
 /// The book of these arrays.
-#[tactic(auto, using(crate::proofs::BookLemmas::or_second, crate::proofs::BookLemmas::or_third, crate::proofs::BookLemmas::or_fourth, crate::proofs::BookLemmas::or_fifth, crate::proofs::BookLemmas::or_sixth, crate::proofs::BookLemmas::told_long))]
+#[tactic(auto, using(crate::proofs::BookLemmas::or_second, crate::proofs::BookLemmas::or_third, crate::proofs::BookLemmas::or_fourth, crate::proofs::BookLemmas::or_fifth, crate::proofs::BookLemmas::or_sixth))]
 fn tables_of(alloc: Global, arrays: Arrays) -> Result<Book, BookError>
     ensures value { IfOk result (IsBook (of_arrays (items_view arrays.symbols.items) (items_view arrays.digits.items) (items_view arrays.rules.items) (items_view arrays.short.items) (items_view arrays.long.items) (option_map (λ entries. items_view entries.items) arrays.parents))) }
     ensures fault { IfErr result (λ fault. IsTold (arrays_fault (items_view arrays.symbols.items) (items_view arrays.digits.items) (items_view arrays.rules.items) (items_view arrays.short.items) (items_view arrays.long.items) (unwrap_or (option_map (λ entries. items_view entries.items) arrays.parents) no_items)) fault) }
