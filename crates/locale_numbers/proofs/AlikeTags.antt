@@ -32,11 +32,11 @@ use Rattle.locale_numbers.specs.declared.request.Form.TheVariants.{Plain, Compac
 use Rattle.locale_numbers.specs.declared.request.PatternLength.{PatternLength}
 use Rattle.locale_numbers.specs.CompactAnswer.{compact_with, found_compact, patterns_under}
 use Rattle.locale_numbers.specs.CompactReading.{compact_reading_of}
-use Rattle.locale_numbers.specs.Wanted.{wanted_of}
+use Rattle.locale_numbers_book.specs.Wanted.{wanted_of}
 use Rattle.locale_numbers.specs.Answer.{found_in, answer_with, answer_to, exact_to, answer_tagged, answer_asked}
 use Rattle.locale_numbers.proofs.FoundCompactLemmas.{compact_alike}
 use Rattle.locale_numbers.proofs.FoundLemmas.{found_alike}
-use Rattle.locale_numbers.proofs.WantedLemmas.{asks_of}
+use Rattle.locale_numbers_book.proofs.WantedLemmas.{asks_of}
 use Rattle.locale_numbers.specs.Laws.{AreAlike, AlikeTagsAreAnsweredAlike, NormalTextIsAnsweredAlike}
 
 -- ---- the bytes of a tag

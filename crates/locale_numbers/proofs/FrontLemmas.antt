@@ -16,7 +16,7 @@ use Rattle.locale_numbers.specs.Answer.{answer_asked, answer_in, answer_of, answ
 use Rattle.locale_numbers.specs.FormatterKeys.{key_asked, key_of, key_tagged, key_with, kind_of}
 use Rattle.locale_numbers.specs.Front.{FitsForm, answer_behind, answer_keyed, asked_behind, front_asked, front_of, key_behind, key_keyed, with_text}
 use Rattle.locale_numbers.specs.Request.{Asked, fields, request_by, request_in, request_of, tab, takes}
-use Rattle.locale_numbers.specs.Wanted.{wanted_of}
+use Rattle.locale_numbers_book.specs.Wanted.{wanted_of}
 use Rattle.locale_numbers.specs.declared.formatter_key.FormatterKey.{FormatterKey}
 use Rattle.locale_numbers.specs.declared.front.Front.{Front}
 use Rattle.locale_numbers.specs.declared.sign_field.SignAsked.{SignAsked}

@@ -27,7 +27,7 @@ use Rattle.icu_locale_core.specs.TagStages.{with_piece, body_after}
 use Rattle.icu_locale_core.specs.Subtags.{Text}
 use Rattle.icu_locale_core.specs.TagPreferences.{DataLocaleMeaning, Preferences, language_priority}
 use Rattle.locale_numbers_book.specs.TagReading.{tag_of}
-use Rattle.locale_numbers.specs.Wanted.{wanted_of}
+use Rattle.locale_numbers_book.specs.Wanted.{wanted_of}
 use Rattle.locale_numbers.specs.Words.{words_said, capacity_named}
 
 -- ---- request lines

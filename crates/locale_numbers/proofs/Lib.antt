@@ -22,4 +22,3 @@ pub mod ReadingLemmas
 pub mod ReadingTrips
 pub mod RequestLemmas
 pub mod RoundedLemmas
-pub mod WantedLemmas

@@ -15,7 +15,7 @@ use Rattle.locale_numbers.specs.Changing.{changed}
 use Rattle.locale_numbers.specs.Printed.{FindsCompact, PrintsSize, number_shown}
 use Rattle.locale_numbers.specs.PrintedLaws.{PrintedIsNear, PrintedKeepsOrder, PrintedPrintsItself, ZeroIsPrintedForZero}
 use Rattle.locale_numbers.specs.Request.{Asked}
-use Rattle.locale_numbers.specs.Wanted.{wanted_of}
+use Rattle.locale_numbers_book.specs.Wanted.{wanted_of}
 use Rattle.locale_numbers.specs.declared.request.PatternLength.{PatternLength}
 use Rattle.locale_numbers.specs.declared.rounding_field.RoundingAsked.{RoundingAsked}
 use Rattle.locale_numbers.specs.declared.rounding_field.RoundingAsked.TheVariants.{Unrounded}

@@ -31,7 +31,7 @@ use Rattle.locale_numbers.specs.Laws.{AutoIsAnsweredAsAlways, FindsTables, ReadI
 use Rattle.locale_numbers.specs.NumberReading.{Reading, beyond, nothing, number, reading_of}
 use Rattle.locale_numbers.specs.ReadAnswer.{read_answer, read_with}
 use Rattle.locale_numbers.specs.Request.{Asked}
-use Rattle.locale_numbers.specs.Wanted.{wanted_of}
+use Rattle.locale_numbers_book.specs.Wanted.{wanted_of}
 use Rattle.locale_numbers.specs.declared.refusal.Refusal.{Refusal}
 use Rattle.locale_numbers.specs.declared.refusal.Refusal.TheVariants as refusal
 use Rattle.locale_numbers.specs.declared.request.Form.{Form}

@@ -7,11 +7,10 @@ use Rattle.fixed_decimal.specs.SignedValue.{SignedValue}
 use Rattle.icu_decimal.specs.declared.error.DataError.{DataError}
 use Rattle.icu_decimal.specs.declared.options.GroupingStrategy.{GroupingStrategy}
 use Rattle.icu_decimal.specs.CompactTables.{CompactTables}
-use Rattle.icu_decimal.specs.FoundTables.{found_tables}
 use Rattle.icu_decimal.specs.PlainText.{Tables, decimal_text}
 use Rattle.icu_locale_core.specs.TagPreferences.{Preferences}
 use Rattle.locale_numbers_book.specs.Book.{BookTables}
-use Rattle.locale_numbers_book.specs.Tables.{symbols_under, digits_under, chain_in}
+use Rattle.locale_numbers_book.specs.TagFormatters.{found_plain}
 use Rattle.locale_numbers.specs.Changing.{changed, signed_as}
 use Rattle.locale_numbers.specs.CompactAnswer.{compact_with, exact_with, found_compact}
 use Rattle.locale_numbers.specs.CompactReading.{CompactReading, compact_beyond, compact_nothing, compact_number, compact_reading_of}
@@ -19,7 +18,7 @@ pub use Rattle.locale_numbers.specs.AnswerLine.{refused, written}
 use Rattle.locale_numbers.specs.NumberReading.{Reading, number, beyond, nothing, reading_of}
 use Rattle.locale_numbers.specs.ReadAnswer.{read_with}
 use Rattle.locale_numbers.specs.Request.{Asked, request_of}
-use Rattle.locale_numbers.specs.Wanted.{wanted_of}
+use Rattle.locale_numbers_book.specs.Wanted.{wanted_of}
 use Rattle.locale_numbers.specs.declared.sign_field.SignAsked.{SignAsked}
 use Rattle.locale_numbers.specs.declared.rounding_field.RoundingAsked.{RoundingAsked}
 use Rattle.locale_numbers.specs.declared.request.Form.{Form}
@@ -28,7 +27,7 @@ use Rattle.locale_numbers.specs.declared.refusal.Refusal.TheVariants as refusal
 
 -- the tables of a book that preferences find, with a grouping
 abbrev pub found_in : BookTables → Preferences → GroupingStrategy → Result Tables DataError
-found_in book preferences grouping = found_tables (chain_in book) (symbols_under book) (digits_under book) preferences (Some grouping)
+found_in book preferences grouping = found_plain book preferences (Some grouping)
 
 -- a number written with some tables, where they are found
 abbrev pub answer_with : Result Tables DataError → SignedValue Number → List ℕ

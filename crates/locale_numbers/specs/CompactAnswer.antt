@@ -12,13 +12,13 @@ use Rattle.icu_decimal.specs.CompactTables.{CompactTables}
 use Rattle.icu_decimal.specs.CompactText.{compact_decimal_text, value_shown}
 use Rattle.icu_decimal.specs.ExactForms.{exact_place}
 use Rattle.icu_decimal.specs.ExactText.{exact_text}
-use Rattle.icu_decimal.specs.FoundCompactTables.{found_compact_tables}
 use Rattle.icu_decimal.specs.Identifiers.{Identifier}
 use Rattle.icu_decimal.specs.KeptEntries.{CompactTable}
 use Rattle.icu_decimal.specs.ShownChoice.{shown_under}
 use Rattle.icu_locale_core.specs.TagPreferences.{Preferences}
 use Rattle.locale_numbers_book.specs.Book.{BookTables}
-use Rattle.locale_numbers_book.specs.Tables.{symbols_under, digits_under, rules_under, short_under, long_under, chain_in}
+use Rattle.locale_numbers_book.specs.TagFormatters.{found_beside}
+use Rattle.locale_numbers_book.specs.Tables.{short_under, long_under}
 use Rattle.locale_numbers.specs.AnswerLine.{refused, written}
 use Rattle.locale_numbers.specs.Request.{tab}
 use Rattle.locale_numbers.specs.declared.refusal.Refusal.TheVariants as refusal
@@ -35,7 +35,7 @@ patterns_under Long book = long_under book
 -- the tables of a book that preferences find, with a grouping and the patterns of a length
 abbrev pub found_compact : PatternLength → BookTables → Preferences → GroupingStrategy → Result CompactTables DataError
 found_compact length book preferences grouping =
-    found_compact_tables (chain_in book) (symbols_under book) (digits_under book) (rules_under book) (patterns_under length book) preferences (Some grouping)
+    found_beside (patterns_under length book) book preferences (Some grouping)
 
 -- ---- what a number is shown as
 

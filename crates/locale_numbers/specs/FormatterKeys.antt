@@ -19,7 +19,7 @@ use Rattle.locale_numbers.specs.CompactAnswer.{compact_answer, compact_with, fou
 use Rattle.locale_numbers.specs.CompactReading.{CompactReading, compact_beyond, compact_nothing, compact_number, compact_reading_of}
 use Rattle.locale_numbers.specs.NumberReading.{Reading, number, beyond, nothing, reading_of}
 use Rattle.locale_numbers.specs.Request.{Asked, request_of}
-use Rattle.locale_numbers.specs.Wanted.{wanted_of}
+use Rattle.locale_numbers_book.specs.Wanted.{wanted_of}
 use Rattle.locale_numbers.specs.declared.request.Form.{Form}
 use Rattle.locale_numbers.specs.declared.request.Form.TheVariants as form
 use Rattle.locale_numbers.specs.declared.formatter_key.FormatterKey.{FormatterKey}

@@ -6,7 +6,7 @@ use Rattle.locale_numbers_book.specs.Book.{BookTables}
 use Rattle.locale_numbers.specs.Answer.{answer_in, refused}
 use Rattle.locale_numbers.specs.FormatterKeys.{key_in, key_with, kind_of}
 use Rattle.locale_numbers.specs.Request.{Asked, request_of}
-use Rattle.locale_numbers.specs.Wanted.{wanted_of}
+use Rattle.locale_numbers_book.specs.Wanted.{wanted_of}
 use Rattle.locale_numbers.specs.declared.formatter_key.FormatterKey.{FormatterKey}
 use Rattle.locale_numbers.specs.declared.front.Front.{Front}
 use Rattle.locale_numbers.specs.declared.refusal.Refusal.TheVariants as refusal

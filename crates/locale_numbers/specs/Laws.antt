@@ -26,7 +26,7 @@ use Rattle.locale_numbers.specs.CompactReading.{CompactReading, compact_beyond, 
 use Rattle.locale_numbers.specs.NumberReading.{Reading, number, beyond, nothing, reading_of}
 use Rattle.locale_numbers.specs.Request.{tab, Asked}
 use Rattle.locale_numbers.specs.Rounded.{rounded}
-use Rattle.locale_numbers.specs.Wanted.{wanted_of}
+use Rattle.locale_numbers_book.specs.Wanted.{wanted_of}
 use Rattle.locale_numbers.specs.Answer.{written, found_in, answer_asked, answer_of}
 use Rattle.locale_numbers.specs.declared.formatter_key.FormatterKey.{FormatterKey}
 use Rattle.locale_numbers.specs.declared.request.Form.TheVariants.{Plain, Read}

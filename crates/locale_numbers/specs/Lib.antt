@@ -20,7 +20,6 @@ pub mod Request
 pub mod Rounded
 pub mod RoundingField
 pub mod SameKeys
-pub mod Wanted
 pub mod Words
 pub use Rattle.locale_numbers_book.specs.Book
 pub use Rattle.locale_numbers_book.specs.BookError
@@ -30,6 +29,8 @@ pub use Rattle.locale_numbers_book.specs.Keys as BookKeys
 pub use Rattle.locale_numbers_book.specs.Laws as BookLaws
 pub use Rattle.locale_numbers_book.specs.Refusal as BookRefusal
 pub use Rattle.locale_numbers_book.specs.Tables
+pub use Rattle.locale_numbers_book.specs.TagFormatters
+pub use Rattle.locale_numbers_book.specs.Wanted
 pub use Rattle.locale_numbers_cache.specs.Cached
 pub use Rattle.locale_numbers_cache.specs.Laws as CacheLaws
 pub use Rattle.locale_numbers_cache.specs.Recent

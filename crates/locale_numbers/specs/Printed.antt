@@ -21,7 +21,7 @@ use Rattle.locale_numbers.specs.CompactReading.{compact_number, compact_reading_
 use Rattle.locale_numbers.specs.Laws.{IsAtMagnitude}
 use Rattle.locale_numbers.specs.NumberReading.{number, reading_of}
 use Rattle.locale_numbers.specs.Request.{Asked, tab}
-use Rattle.locale_numbers.specs.Wanted.{wanted_of}
+use Rattle.locale_numbers_book.specs.Wanted.{wanted_of}
 use Rattle.locale_numbers.specs.declared.request.Form.TheVariants.{Compact, Exact}
 use Rattle.locale_numbers.specs.declared.request.PatternLength.{PatternLength}
 use Rattle.locale_numbers.specs.declared.rounding_field.RoundingAsked.TheVariants.{Unrounded}

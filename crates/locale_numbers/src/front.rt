@@ -7,9 +7,9 @@ use crate::formatter_key::{FormatterKey, kind_by};
 use crate::request::{Form, read_request};
 use crate::rounding_field::RoundingAsked;
 use crate::sign_field::SignAsked;
-use crate::tag_reader::read_preferences;
 use icu_decimal::DecimalFormatterPreferences;
 use icu_decimal::options::GroupingStrategy;
+use locale_numbers_book::read_preferences;
 use locale_numbers_cache::{Hashed, KeyReader};
 use std::alloc::{AllocError, Global};
 

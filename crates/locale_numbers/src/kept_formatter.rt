@@ -12,11 +12,9 @@ use crate::formatters::Formatters;
 use crate::request::PatternLength;
 use crate::tables::Tables;
 use icu_decimal::options::{CompactDecimalFormatterOptions, DecimalFormatterOptions};
-use icu_decimal::preferences::CompactDecimalFormatterPreferences;
 use icu_decimal::provider::DataError;
-use icu_decimal::{
-    CompactDecimalFormatter, DecimalFormatter, DecimalFormatterPreferences, is_readable,
-};
+use icu_decimal::{CompactDecimalFormatter, DecimalFormatter, is_readable};
+use locale_numbers_book::compact_preferences;
 use locale_numbers_cache::{Hashed, Maker};
 use std::alloc::AllocError;
 
@@ -68,16 +66,6 @@ fn asked(formatter: DecimalFormatter<'_>, asks: bool) -> PlainFormatter<'_>
     PlainFormatter {
         formatter,
         is_readable: readable,
-    }
-}
-
-// The same preferences, for compact numbers.
-fn compact_preferences(plain: DecimalFormatterPreferences) -> CompactDecimalFormatterPreferences
-    ensures { result ≡ plain }
-{
-    CompactDecimalFormatterPreferences {
-        locale_preferences: plain.locale_preferences,
-        numbering_system: plain.numbering_system,
     }
 }
 

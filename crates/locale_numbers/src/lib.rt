@@ -39,12 +39,11 @@ mod running;
 mod sign_field;
 mod starting;
 mod tables;
-mod tag_reader;
 mod words;
 
 pub use answering::answer;
 pub use fault::ProgramFault;
-pub use locale_numbers_book::{Book, BookError, SAMPLE_BOOK};
+pub use locale_numbers_book::{Book, BookError, FormatterError, SAMPLE_BOOK};
 pub use locale_numbers_engine::{
     ByteReadFault, ByteReader, ByteWriteFault, ByteWriter, Report, RunError, Tracked,
 };

@@ -13,3 +13,4 @@ pub mod BookLemmas
 pub mod BookChains
 pub mod KnownValues
 pub mod KnownFaults
+pub mod WantedLemmas

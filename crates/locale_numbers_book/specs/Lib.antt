@@ -1,4 +1,6 @@
 pub mod TagReading
+pub mod Wanted
+pub mod TagFormatters
 pub mod BookError
 pub mod Json
 pub mod Fields

@@ -1,7 +1,7 @@
 use Rattle.std.proofs.Common.{sym, ap, ◌∙◌, Some}
 use Rattle.icu_locale_core.proofs.FaultyPieceLemmas.{stops_unaccepted}
-use Rattle.locale_numbers.proofs.WantedLemmas.{asks_in, single_system}
-use Rattle.locale_numbers.proofs.tag_reader.read_preferences.Goals as goal
+use Rattle.locale_numbers_book.proofs.WantedLemmas.{asks_in, single_system}
+use Rattle.locale_numbers_book.proofs.tag_reader.read_preferences.Goals as goal
 
 pub preferences_in-requires : goal.preferences_in-requires
 preferences_in-requires c = single_system _ _ c.in-Ok.ensures
@@ -9,5 +9,5 @@ preferences_in-requires c = single_system _ _ c.in-Ok.ensures
 pub returns-in-Ok-clause-value : goal.returns-in-Ok-clause-value
 returns-in-Ok-clause-value c = ap Some c.preferences_in.ensures ∙ sym (asks_in c.args.tag.now _ c.in-Ok.ensures)
 
-pub returns-in-Err-clause-room : goal.returns-in-Err-clause-room
-returns-in-Err-clause-room c = λ m means. absurd (stops_unaccepted _ _ _ m c.in-Err.ensures.stops means)
+pub returns-in-Err-clause-single : goal.returns-in-Err-clause-single
+returns-in-Err-clause-single c = λ m means. absurd (stops_unaccepted _ _ _ m c.in-Err.ensures.stops means)

@@ -1,11 +1,12 @@
 //! What a tag prefers.
-ghost use Rattle.std.specs.Prelude.{◌≡◌, false, IfOk, IfSome, IsOk};
+ghost use Rattle.std.specs.Prelude.{◌≡◌, false, true, IfOk, IfSome, IsOk, OnErr};
 ghost use Rattle.icu_locale_core.specs.Pieces.{pieces};
 ghost use Rattle.icu_locale_core.specs.SingleModes.{single};
 ghost use Rattle.icu_locale_core.specs.SingleVariant.{SingleMeaning, MeansSingle, single_tag};
 ghost use Rattle.icu_locale_core.specs.Subtags.{is_true};
 ghost use Rattle.icu_locale_core.specs.TagPreferences.{preferences_of};
-ghost use Rattle.locale_numbers.specs.Wanted.{wanted_of};
+ghost use Rattle.icu_locale_core.specs.TagRoom.{tag_may_grow};
+ghost use Rattle.locale_numbers_book.specs.Wanted.{wanted_of};
 
 use icu_decimal::DecimalFormatterPreferences;
 use icu_locale_core::parser::SingleParts;
@@ -41,7 +42,8 @@ fn preferences_in(parts: SingleParts) -> DecimalFormatterPreferences
 
 // What a tag of any form prefers.
 fn read_any(alloc: Global, tag: &[u8]) -> Result<Option<DecimalFormatterPreferences>, AllocError>
-    ensures { IfOk result (λ preferences. preferences ≡ wanted_of tag.now) }
+    ensures value { IfOk result (λ preferences. preferences ≡ wanted_of tag.now) }
+    ensures room { OnErr result (tag_may_grow (pieces tag.now) ≡ true) }
 {
     match Locale::try_from_utf8(alloc, tag) {
         Ok(locale) => Ok(Some(DecimalFormatterPreferences::from(&locale))),
@@ -52,15 +54,18 @@ fn read_any(alloc: Global, tag: &[u8]) -> Result<Option<DecimalFormatterPreferen
     }
 }
 
-/// What a tag prefers, or `None` where the bytes are no tag.
+/// What a tag prefers, or `None` where the bytes are no tag: `en-u-nu-thai` prefers the locale `en` and the system `thai`, and `e`
+/// is no tag.
 ///
-/// A tag of one variant and one keyword at most takes no memory. Any other takes memory, and fails only where that is refused.
-pub(crate) fn read_preferences(
+/// `AllocError`: memory is refused. A tag of one variant and one keyword at most takes none, nor does one without a variant and an
+/// extension.
+pub fn read_preferences(
     alloc: Global,
     tag: &[u8],
 ) -> Result<Option<DecimalFormatterPreferences>, AllocError>
     ensures value { IfOk result (λ preferences. preferences ≡ wanted_of tag.now) }
-    ensures room { (m : SingleMeaning) → MeansSingle (pieces tag.now) m → IsOk result }
+    ensures room { OnErr result (tag_may_grow (pieces tag.now) ≡ true) }
+    ensures single { (m : SingleMeaning) → MeansSingle (pieces tag.now) m → IsOk result }
 {
     match Locale::try_from_utf8_with_single_variant_single_keyword_unicode_extension(tag) {
         Ok(parts) => Ok(Some(preferences_in(parts))),

@@ -1,0 +1,119 @@
+//! The formatters of a book for a tag.
+ghost use Rattle.std.specs.Prelude.{◌≡◌, ◌⊎◌, Ok, Err, Some, None, false, IfOk, IfErr};
+ghost use Rattle.std.specs.Result.{IsErrOf};
+ghost use Rattle.icu_decimal.specs.HeldCompact.{compact_tables_of};
+ghost use Rattle.icu_decimal.specs.HeldTables.{tables_of};
+ghost use Rattle.icu_locale_core.specs.Pieces.{pieces};
+ghost use Rattle.icu_locale_core.specs.SingleVariant.{SingleMeaning, MeansSingle};
+ghost use Rattle.icu_locale_core.specs.TagRoom.{tag_may_grow};
+ghost use Rattle.locale_numbers_book.specs.TagFormatters.{plain_for, short_for, long_for};
+ghost use Rattle.locale_numbers_book.specs.Wanted.{wanted_of};
+ghost use Rattle.locale_numbers_book.specs.declared.formatter_error.FormatterError.{FormatterError};
+
+use crate::book::Book;
+use crate::formatter_error::FormatterError;
+use crate::tag_reader::read_preferences;
+use icu_decimal::options::{CompactDecimalFormatterOptions, DecimalFormatterOptions};
+use icu_decimal::preferences::CompactDecimalFormatterPreferences;
+use icu_decimal::{CompactDecimalFormatter, DecimalFormatter, DecimalFormatterPreferences};
+use std::alloc::Global;
+
+/// The same preferences, for compact numbers: of `ar-EG-u-nu-thai` the locale `ar-EG` and the system `thai`. It takes no memory.
+pub fn compact_preferences(plain: DecimalFormatterPreferences) -> CompactDecimalFormatterPreferences
+    ensures { result ≡ plain }
+{
+    CompactDecimalFormatterPreferences {
+        locale_preferences: plain.locale_preferences,
+        numbering_system: plain.numbering_system,
+    }
+}
+
+// What a tag prefers.
+fn preferences_of_tag(
+    alloc: Global,
+    tag: &str,
+) -> Result<DecimalFormatterPreferences, FormatterError>
+    ensures value { IfOk result (λ preferences. wanted_of tag.now ≡ Some preferences) }
+    ensures fault { IfErr result (λ fault. (fault ≡ FormatterError.Memory) ⊎ ((fault ≡ FormatterError.Tag) × (wanted_of tag.now ≡ None))) }
+    ensures room { tag_may_grow (pieces tag.now) ≡ false → ¬ (IsErrOf result FormatterError.Memory) }
+    ensures single { (m : SingleMeaning) → MeansSingle (pieces tag.now) m → ¬ (IsErrOf result FormatterError.Memory) }
+{
+    match read_preferences(alloc, tag.as_bytes()) {
+        Ok(Some(preferences)) => Ok(preferences),
+        Ok(None) => Err(FormatterError::Tag),
+        Err(refused) => Err(FormatterError::from(refused)),
+    }
+}
+
+impl Book {
+    /// The formatter of plain numbers for a tag, with default options: of `SAMPLE_BOOK` that of `en` writes -1234.5 as `-1,234.5`.
+    ///
+    /// Its tables are those that `answer` finds for the tag with the grouping `auto`, and are borrowed from the book.
+    ///
+    /// - Tag: the text is no locale tag, as `e`.
+    /// - Table: the book has no symbols or no digits for it, as `SAMPLE_BOOK` for `fr`.
+    /// - Memory: memory is refused. A tag of one variant and one keyword at most takes none, nor does one without a variant and an
+    ///   extension.
+    pub fn formatter(
+        &self,
+        alloc: Global,
+        tag: &str,
+    ) -> Result<DecimalFormatter<'_>, FormatterError>
+        ensures value { IfOk result (λ formatter. plain_for self.now tag.now ≡ Ok (tables_of formatter)) }
+        ensures fault { IfErr result (λ fault. (fault ≡ FormatterError.Memory) ⊎ (plain_for self.now tag.now ≡ Err fault)) }
+        ensures room { tag_may_grow (pieces tag.now) ≡ false → ¬ (IsErrOf result FormatterError.Memory) }
+        ensures single { (m : SingleMeaning) → MeansSingle (pieces tag.now) m → ¬ (IsErrOf result FormatterError.Memory) }
+    {
+        let preferences = preferences_of_tag(alloc, tag)?;
+        let options = DecimalFormatterOptions::default();
+        match DecimalFormatter::try_new_unstable(self, preferences, options) {
+            Ok(formatter) => Ok(formatter),
+            Err(_) => Err(FormatterError::Table),
+        }
+    }
+
+    /// The formatter of compact numbers in short form for a tag, with default options: of `SAMPLE_BOOK` that of `en` writes 1650 as
+    /// `1.6K`.
+    ///
+    /// It borrows its tables from the book. Errors as [`Book::formatter`], `Table` also where the book has no plural rules or no
+    /// short patterns for the tag.
+    pub fn short_formatter(
+        &self,
+        alloc: Global,
+        tag: &str,
+    ) -> Result<CompactDecimalFormatter<'_>, FormatterError>
+        ensures value { IfOk result (λ formatter. short_for self.now tag.now ≡ Ok (compact_tables_of formatter)) }
+        ensures fault { IfErr result (λ fault. (fault ≡ FormatterError.Memory) ⊎ (short_for self.now tag.now ≡ Err fault)) }
+        ensures room { tag_may_grow (pieces tag.now) ≡ false → ¬ (IsErrOf result FormatterError.Memory) }
+        ensures single { (m : SingleMeaning) → MeansSingle (pieces tag.now) m → ¬ (IsErrOf result FormatterError.Memory) }
+    {
+        let preferences = compact_preferences(preferences_of_tag(alloc, tag)?);
+        let options = CompactDecimalFormatterOptions::default();
+        match CompactDecimalFormatter::try_new_short_unstable(self, preferences, options) {
+            Ok(formatter) => Ok(formatter),
+            Err(_) => Err(FormatterError::Table),
+        }
+    }
+
+    /// The formatter of compact numbers in long form for a tag, with default options: of `SAMPLE_BOOK` that of `en` writes 1650 as
+    /// `1.6-thousands`.
+    ///
+    /// It borrows its tables from the book. Errors as [`Book::short_formatter`], of long patterns.
+    pub fn long_formatter(
+        &self,
+        alloc: Global,
+        tag: &str,
+    ) -> Result<CompactDecimalFormatter<'_>, FormatterError>
+        ensures value { IfOk result (λ formatter. long_for self.now tag.now ≡ Ok (compact_tables_of formatter)) }
+        ensures fault { IfErr result (λ fault. (fault ≡ FormatterError.Memory) ⊎ (long_for self.now tag.now ≡ Err fault)) }
+        ensures room { tag_may_grow (pieces tag.now) ≡ false → ¬ (IsErrOf result FormatterError.Memory) }
+        ensures single { (m : SingleMeaning) → MeansSingle (pieces tag.now) m → ¬ (IsErrOf result FormatterError.Memory) }
+    {
+        let preferences = compact_preferences(preferences_of_tag(alloc, tag)?);
+        let options = CompactDecimalFormatterOptions::default();
+        match CompactDecimalFormatter::try_new_long_unstable(self, preferences, options) {
+            Ok(formatter) => Ok(formatter),
+            Err(_) => Err(FormatterError::Table),
+        }
+    }
+}
