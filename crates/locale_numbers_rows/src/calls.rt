@@ -1,6 +1,6 @@
 //! Which call a line asks for.
 use crate::row_error::RowError;
-use crate::{answers, faults, loads, plain, repeated, runs, sent_back, starts, tracked};
+use crate::{answers, faults, formatters, loads, plain, repeated, runs, sent_back, starts, tracked};
 use std::alloc::Global;
 use std::rt::Files;
 
@@ -41,6 +41,9 @@ fn result_of_fields<F: Files>(rt: &F, alloc: Global, fields: &[&str]) -> Result<
     match *call {
         "answer" => answers::answer_row(alloc, arguments),
         "from_json" => answers::book_row(alloc, arguments),
+        "formatter" | "short_formatter" | "long_formatter" => {
+            formatters::formatter_row(alloc, call, arguments)
+        }
         "BookError" => faults::book_row(alloc, arguments),
         "RunError" => faults::run_row(alloc, arguments),
         "ProgramFault" => faults::program_row(alloc, arguments),

@@ -9,6 +9,7 @@ mod case;
 mod counting;
 mod escapes;
 mod faults;
+mod formatters;
 mod giving;
 mod loads;
 mod narrow;
