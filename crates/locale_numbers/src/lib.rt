@@ -30,6 +30,7 @@ mod kept_formatter;
 pub mod laws;
 mod line_answerer;
 mod number_answer;
+pub mod prelude;
 mod program_run;
 mod read_answer;
 mod refusal;

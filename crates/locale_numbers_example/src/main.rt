@@ -1,22 +1,50 @@
-//! Writes a number as the readers of a locale write it.
+//! Writes a number for English readers, whole, in its parts and short, and reads what they type.
 
 #![tactic(auto)]
 
-use locale_numbers::{Book, SAMPLE_BOOK, answer};
-use std::alloc::Global;
+use anyhow::Result;
+use locale_numbers::prelude::{
+    Book, Decimal, DecimalFormatter, PartsSink, ReadError, SAMPLE_BOOK, Writeable, read_plain,
+};
 
-/// Prints the answer to a line.
-fn print_answer(rt: &impl Print, alloc: Global, book: &Book, line: &str) -> anyhow::Result<()> {
-    let text = answer(alloc, book, line.as_bytes())?;
-    println!(rt; "{}", str::from_utf8(&text)?)?;
+/// A report: the number's text, and where each part of it stands.
+fn print_parts(rt: &HostRuntime, plain: &DecimalFormatter<'_>, number: &Decimal) -> Result<()> {
+    println!(rt; "{}", plain.format_to_string(rt.alloc(), number)?)?;
+    let mut sink = PartsSink::new(rt.alloc());
+    plain.format(number).write_to(&mut sink)?;
+    for (start, end, part) in sink.parts() {
+        println!(rt; "  {} {start} to {end}", part.value)?;
+    }
     Ok(())
 }
 
-fn main(rt: HostRuntime) -> anyhow::Result<()> {
-    let alloc = rt.alloc();
-    let book = Book::from_json(alloc, SAMPLE_BOOK.as_bytes())?;
+/// A form field: the number that was typed, or that it is none.
+fn print_field(rt: &HostRuntime, plain: &DecimalFormatter<'_>, typed: &str) -> Result<()> {
+    match read_plain(rt.alloc(), plain, typed) {
+        Ok(number) => println!(rt; "{typed} is {number}")?,
+        Err(ReadError::NotWritten) => println!(rt; "{typed} is no number")?,
+        Err(error) => return Err(error.into()),
+    }
+    Ok(())
+}
 
-    // Six fields between tabs: tag, form, grouping, sign, rounding, number.
-    let line = "ar-EG-u-nu-thai\tplain\tauto\tkeep\t-\t1234.5";
-    print_answer(&rt, alloc, &book, line)
+/// Both, and a label of a chart: the number in short form, where that can show it.
+fn print_all(rt: &HostRuntime, book: &Book) -> Result<()> {
+    let number = Decimal::try_from_str(rt.alloc(), "-987654.321")?;
+    let plain = book.formatter(rt.alloc(), "en")?;
+    print_parts(rt, &plain, &number)?;
+    print_field(rt, &plain, "1,234.50")?;
+    print_field(rt, &plain, "98,7654")?;
+    let short = book.short_formatter(rt.alloc(), "en")?;
+    if short.can_show(&number.absolute) {
+        println!(rt; "{}", short.format_to_string(rt.alloc(), &number)?)?;
+    }
+    Ok(())
+}
+
+fn main(rt: HostRuntime) -> Result<()> {
+    let book = Book::from_json(rt.alloc(), SAMPLE_BOOK.as_bytes())?;
+    let printed = print_all(&rt, &book);
+    drop(book);
+    printed
 }

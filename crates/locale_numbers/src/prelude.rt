@@ -1,0 +1,8 @@
+//! What a program needs: a book, the formatters of a tag, numbers, and what is written and read: `use locale_numbers::prelude::..`.
+
+pub use fixed_decimal::{Decimal, Sign};
+pub use icu_decimal::error::{ReadError, WriteFault};
+pub use icu_decimal::{AbstractFormatter, CompactDecimalFormatter, DecimalFormatter, read_plain};
+pub use icu_locale_core::Locale;
+pub use locale_numbers_book::{Book, BookError, FormatterError, SAMPLE_BOOK};
+pub use writeable::{PartsSink, Sink, TextSink, Writeable};
