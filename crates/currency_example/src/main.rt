@@ -3,7 +3,7 @@
 #![tactic(auto)]
 
 use anyhow::Result;
-use locale_numbers::prelude::{AbstractFormatter, Book, Decimal, SAMPLE_BOOK, Sink, TextSink};
+use locale_numbers::prelude::{AbstractFormatter, Affixed, Book, Decimal, SAMPLE_BOOK, Writeable};
 
 /// The number between a unit's two texts, and its sign round all: `-€1,234.50`, `12.5 %`.
 fn with_unit<F: AbstractFormatter>(
@@ -15,13 +15,16 @@ fn with_unit<F: AbstractFormatter>(
 ) -> Result<String>
     requires { F.can_write formatter.now number.now.absolute }
 {
-    let mut unsigned = TextSink::new(rt.alloc());
-    unsigned.write_str(before)?;
-    formatter.write_unsigned(&number.absolute, &mut unsigned)?;
-    unsigned.write_str(behind)?;
-    let mut signed = TextSink::new(rt.alloc());
-    formatter.write_sign(&unsigned.text(), number.sign, &mut signed)?;
-    Ok(signed.into_string())
+    let value = formatter.format_unsigned(&number.absolute)?;
+    let amount = Affixed {
+        before,
+        value,
+        behind,
+    };
+    let text = formatter
+        .format_sign(number.sign, amount)
+        .write_to_string(rt.alloc())?;
+    Ok(text)
 }
 
 /// Prints the number with its unit, where the formatter can write it.

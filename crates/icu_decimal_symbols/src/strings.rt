@@ -219,8 +219,8 @@ impl DecimalSymbolsStrs {
         texts.numsys.as_str()
     }
 
-    // The numbering system as a text that is held in place.
-    pub(crate) fn system(&self) -> TinyAsciiStr<8>
+    /// The numbering system as a small text, which is copied: `latn` in English. It takes no memory.
+    pub fn system(&self) -> TinyAsciiStr<8>
         ensures { result ≡ self.now.numsys }
     {
         let texts = &self.texts;

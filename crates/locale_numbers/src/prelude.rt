@@ -5,4 +5,4 @@ pub use icu_decimal::error::{ReadError, WriteFault};
 pub use icu_decimal::{AbstractFormatter, CompactDecimalFormatter, DecimalFormatter, read_plain};
 pub use icu_locale_core::Locale;
 pub use locale_numbers_book::{Book, BookError, FormatterError, SAMPLE_BOOK};
-pub use writeable::{PartsSink, Sink, TextSink, Writeable};
+pub use writeable::{Affixed, Part, PartsSink, Sink, TextSink, Writeable};

@@ -7,13 +7,13 @@ use locale_numbers::prelude::{
     Book, Decimal, DecimalFormatter, PartsSink, ReadError, SAMPLE_BOOK, Writeable, read_plain,
 };
 
-/// A report: the number's text, and where each part of it stands.
+/// A report: the number's text, and each part of it.
 fn print_parts(rt: &HostRuntime, plain: &DecimalFormatter<'_>, number: &Decimal) -> Result<()> {
     println!(rt; "{}", plain.format_to_string(rt.alloc(), number)?)?;
     let mut sink = PartsSink::new(rt.alloc());
     plain.format(number).write_to(&mut sink)?;
-    for (start, end, part) in sink.parts() {
-        println!(rt; "  {} {start} to {end}", part.value)?;
+    for (part, text) in sink.part_texts() {
+        println!(rt; "  {} {text}", part.value)?;
     }
     Ok(())
 }
@@ -36,7 +36,7 @@ fn print_all(rt: &HostRuntime, book: &Book) -> Result<()> {
     print_field(rt, &plain, "1,234.50")?;
     print_field(rt, &plain, "98,7654")?;
     let short = book.short_formatter(rt.alloc(), "en")?;
-    if short.can_show(&number.absolute) {
+    if short.can_format(&number) {
         println!(rt; "{}", short.format_to_string(rt.alloc(), &number)?)?;
     }
     Ok(())

@@ -3,7 +3,7 @@
 ghost use Rattle.std.specs.Prelude.{◌≡◌};
 
 use crate::provider::identifier::DataIdentifier;
-use icu_decimal_symbols::DataError;
+use icu_decimal_symbols::{DataError, DataMarker};
 
 /// A provider of the tables of one kind. What it answers is a function of the identifier: under `en` the sample book always lends
 /// the symbols of English.
