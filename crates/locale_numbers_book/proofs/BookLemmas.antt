@@ -1,5 +1,6 @@
 -- A value is one book at most, and what its arrays say of it: `specs/Book.antt` and `specs/Room.antt`.
-use Rattle.std.proofs.Common.{◌≡◌, Bool, true, ◌||◌, Option, Some, None, [], option_and_then, unwrap_or, refl, sym, ap, ◌∙◌}
+use Rattle.std.proofs.Common.{◌≡◌, Bool, true, ◌||◌, Option, Some, None, [], option_and_then, unwrap_or, refl, sym, ap, ◌∙◌, subst}
+use Rattle.std.specs.Prelude.{Result, Ok, Err, IfErr, IsErrAnd}
 use Rattle.std.specs.Option.{option_or}
 use Rattle.std.specs.Str.{bytes_eq}
 use Rattle.serde_json.specs.Data.{Data, Items, no_items}
@@ -61,6 +62,11 @@ module _ (s d r h l p : Items) (e : BookError) (symbols : symbols_faults s ≡ N
 
   pub told_parents : compact_faults h ≡ None → compact_faults l ≡ None → IsTold (parents_faults [] p) e → IsTold (arrays_fault s d r h l p) e
   told_parents short long told = told_at _ (arrays_fault s d r h l p) e (rw (symbols, digits, rules, short, long) refl) told
+
+-- an error that is passed on
+pub passed_on : {T : Type 0} (r : Result T BookError) (e : BookError) (P : BookError → Type 0) → IsErrAnd r (λ f. f ≡ e) → P e → IfErr r P
+passed_on (Ok x) e P same told = tt
+passed_on (Err f) e P same told = subst P (sym same) told
 
 -- ---- the value of arrays
 

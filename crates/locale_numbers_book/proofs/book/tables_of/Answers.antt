@@ -1,7 +1,7 @@
-use Rattle.std.proofs.Common.{option_map, rules, unwrap_or}
+use Rattle.std.proofs.Common.{option_map, unwrap_or}
 use Rattle.serde_json.specs.Data.{no_items}
 use Rattle.serde_json.specs.View.{items_view}
-use Rattle.locale_numbers_book.proofs.BookLemmas.{made, told_long, told_parents, told_short}
+use Rattle.locale_numbers_book.proofs.BookLemmas.{made, passed_on, told_long, told_parents, told_short}
 use Rattle.locale_numbers_book.proofs.book.tables_of.Goals as goal
 
 pub returns-in-Ok-clause-value : goal.returns-in-Ok-clause-value
@@ -22,11 +22,11 @@ returns-in_err-short-clause-fault c =
     let a = c.args.arrays in
     let told = told_short (items_view a.symbols.items) (items_view a.digits.items) (items_view a.rules.items) (items_view a.short.items) (items_view a.long.items) (unwrap_or (option_map (λ entries. items_view entries.items) a.parents) no_items) _
     c.in_ok-symbols.ensures.sound c.in_ok-digits.ensures.sound c.in_ok-rules.ensures.sound c.in_err-short.ensures.fault in
-    search (rules, told)
+    passed_on c.from_residual-in_err-short.result _ _ c.from_residual-in_err-short.ensures.1 told
 
 pub returns-in_err-long-clause-fault : goal.returns-in_err-long-clause-fault
 returns-in_err-long-clause-fault c =
     let a = c.args.arrays in
     let told = told_long (items_view a.symbols.items) (items_view a.digits.items) (items_view a.rules.items) (items_view a.short.items) (items_view a.long.items) (unwrap_or (option_map (λ entries. items_view entries.items) a.parents) no_items) _
     c.in_ok-symbols.ensures.sound c.in_ok-digits.ensures.sound c.in_ok-rules.ensures.sound c.in_ok-short.ensures.sound c.in_err-long.ensures.fault in
-    search (rules, told)
+    passed_on c.from_residual-in_err-long.result _ _ c.from_residual-in_err-long.ensures.1 told
