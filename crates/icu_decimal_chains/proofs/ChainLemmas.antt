@@ -60,33 +60,33 @@ module _ {A : Type 0} (same : A → A → Bool) (exact : (a b : A) → Decides (
       → (ys : List A) × (Follows next k ys × (suc (length ys) ≤ length xs))
   rest_of start [] k f h = absurd (true≢false (sym h))
   rest_of start (x ∷ xs) k f h = elim (cases_Bool (same x k)) [
-      | inl is ↦ (xs, (subst (λ (z : A). Follows next z xs) ((exact x k).0 is) f.1, omega arith))
-      | inr is ↦
-          let there : list_any (λ y. same y k) xs ≡ true = rw is at h in
-          let rest = rest_of x xs k f.1 there in
-          (rest.0, (rest.1.0, omega (arith, rest.1.1)))
-    ]
+    | inl is ↦ (xs, (subst (λ (z : A). Follows next z xs) ((exact x k).0 is) f.1, omega arith))
+    | inr is ↦
+        let there : list_any (λ y. same y k) xs ≡ true = rw is at h in
+        let rest = rest_of x xs k f.1 there in
+        (rest.0, (rest.1.0, omega (arith, rest.1.1)))
+  ]
 
   -- a chain that ends does not come back
   pub never_again : (start : A) (xs : List A) → Follows next start xs → list_any (λ y. same y start) xs ≡ false
   never_again start xs f = elim (cases_Bool (list_any (λ y. same y start) xs)) [
-      | inl h ↦
-          let rest = rest_of start xs start f h in
-          let alike : length rest.0 ≡ length xs = ap length (only_chain next start rest.0 xs rest.1.0 f) in
-          absurd (omega (arith, rest.1.1, alike))
-      | inr h ↦ h
-    ]
+    | inl h ↦
+        let rest = rest_of start xs start f h in
+        let alike : length rest.0 ≡ length xs = ap length (only_chain next start rest.0 xs rest.1.0 f) in
+        absurd (omega (arith, rest.1.1, alike))
+    | inr h ↦ h
+  ]
 
   -- so it holds each value once at most
   pub once_at_most : (start : A) (xs : List A) (k : A) → Follows next start xs → counted (λ y. same y k) (start ∷ xs) ≤ 1
   once_at_most start [] k f = elim (cases_Bool (same start k)) [
-      | inl is ↦ rw is (omega arith)
-      | inr is ↦ rw is (omega arith)
-    ]
+    | inl is ↦ rw is (omega arith)
+    | inr is ↦ rw is (omega arith)
+  ]
   once_at_most start (x ∷ xs) k f = elim (cases_Bool (same start k)) [
-      | inl is ↦
-          let k_is : start ≡ k = (exact start k).0 is in
-          let none : counted (λ y. same y k) (x ∷ xs) ≡ 0 = none_counted (λ y. same y k) (x ∷ xs) (subst (λ (z : A). list_any (λ y. same y z) (x ∷ xs) ≡ false) k_is (never_again start (x ∷ xs) f)) in
-          rw (is, none) (omega arith)
-      | inr is ↦ rw is (once_at_most x xs k f.1)
-    ]
+    | inl is ↦
+        let k_is : start ≡ k = (exact start k).0 is in
+        let none : counted (λ y. same y k) (x ∷ xs) ≡ 0 = none_counted (λ y. same y k) (x ∷ xs) (subst (λ (z : A). list_any (λ y. same y z) (x ∷ xs) ≡ false) k_is (never_again start (x ∷ xs) f)) in
+        rw (is, none) (omega arith)
+    | inr is ↦ rw is (once_at_most x xs k f.1)
+  ]

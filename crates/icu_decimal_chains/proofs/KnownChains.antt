@@ -2,7 +2,6 @@
 use Rattle.std.proofs.Common.{◌≡◌, ℕ, zero, suc, List, [], ◌∷◌, Option, None, Some, refl}
 use Rattle.icu_decimal_chains.specs.Chains.{Follows, walk, chain, after, ComesBack}
 
-
 abbrev below : ℕ → Option ℕ
 below zero = None
 below (suc n) = Some n

@@ -1,4 +1,4 @@
--- Chains under a step that differs at one value alone: `specs/Chains.antt`.
+-- Chains under two steps that differ only at one value: `specs/Chains.antt`.
 use Rattle.std.proofs.Common.{◌≡◌, ℕ, zero, suc, Bool, true, false, ◌||◌, List, [], ◌∷◌, Option, None, Some, refl, sym, ap, ◌∙◌, subst, true≢false, inl, inr, Decides}
 use Rattle.std.specs.List.{list_any}
 use Rattle.std.proofs.lemmas.Bool.{cases_Bool}
@@ -16,29 +16,29 @@ module _ {A : Type 0} (same : A → A → Bool) (exact : (a b : A) → Decides (
   -- one with it goes on as the chain of what is next there
   pub diverted : (ps : List A) → Follows new p ps → (x : A) (xs : List A) → Follows old x xs → (ds : List A) × Follows new x ds
   diverted ps g x [] f = elim (cases_Bool (same x k)) [
-      | inl is ↦ (p ∷ ps, (ap new ((exact x k).0 is) ∙ there, g))
-      | inr is ↦ ([], elsewhere x is ∙ f)
-    ]
+    | inl is ↦ (p ∷ ps, (ap new ((exact x k).0 is) ∙ there, g))
+    | inr is ↦ ([], elsewhere x is ∙ f)
+  ]
   diverted ps g x (y ∷ ys) f = elim (cases_Bool (same x k)) [
-      | inl is ↦ (p ∷ ps, (ap new ((exact x k).0 is) ∙ there, g))
-      | inr is ↦
-          let rest = diverted ps g y ys f.1 in
-          (y ∷ rest.0, (elsewhere x is ∙ f.0, rest.1))
-    ]
+    | inl is ↦ (p ∷ ps, (ap new ((exact x k).0 is) ∙ there, g))
+    | inr is ↦
+        let rest = diverted ps g y ys f.1 in
+        (y ∷ rest.0, (elsewhere x is ∙ f.0, rest.1))
+  ]
 
   -- the value is reached in a chain that holds it
   pub reached : (x : A) (xs : List A) → Follows old x xs → list_any (λ y. same y k) (x ∷ xs) ≡ true → (n : ℕ) × (after new n x ≡ Some k)
   reached x [] f h = elim (cases_Bool (same x k)) [
-      | inl is ↦ (0, ap Some ((exact x k).0 is))
-      | inr is ↦ absurd (true≢false (sym h ∙ rw is refl))
-    ]
+    | inl is ↦ (0, ap Some ((exact x k).0 is))
+    | inr is ↦ absurd (true≢false (sym h ∙ rw is refl))
+  ]
   reached x (y ∷ ys) f h = elim (cases_Bool (same x k)) [
-      | inl is ↦ (0, ap Some ((exact x k).0 is))
-      | inr is ↦
-          let rest = reached y ys f.1 (rw is at h) in
-          let step : new x ≡ Some y = elsewhere x is ∙ f.0 in
-          (suc rest.0, rw step rest.1)
-    ]
+    | inl is ↦ (0, ap Some ((exact x k).0 is))
+    | inr is ↦
+        let rest = reached y ys f.1 (rw is at h) in
+        let step : new x ≡ Some y = elsewhere x is ∙ f.0 in
+        (suc rest.0, rw step rest.1)
+  ]
 
   -- the test by the walk from what is next there is right, both ways
   pub comes_back : (ps : List A) → Follows old p ps → list_any (λ y. same y k) (p ∷ ps) ≡ true → ComesBack new k

@@ -1,6 +1,6 @@
 -- Chains: what stands after a start, one step each, up to where no step is left.
--- Defined in docs/formatters.md, "Choosing tables".
--- Cited by all that asks for tables along the parents of a locale, and by the test whether a book's parents come back.
+-- Defined in docs/formatters.md, "Chains".
+-- Cited by `load_by_chain`, by the parents of a book, and by the fault of parents that come back.
 use Rattle.std.specs.Prelude.{◌≡◌, ℕ, zero, suc, List, [], ◌∷◌, Option, None, Some}
 use Rattle.std.specs.Option.{option_and_then, option_map_or}
 
@@ -10,16 +10,16 @@ module _ {A : Type 0} (next : A → Option A) where
   Follows start [] = next start ≡ None
   Follows start (x ∷ xs) = (next start ≡ Some x) × Follows x xs
 
-  -- what stands after the start, so many steps at most
+  -- what stands after the start, at most this many steps of it
   abbrev pub walk : ℕ → A → List A
   walk zero start = []
   walk (suc n) start = option_map_or (λ x. x ∷ walk n x) (next start) []
 
-  -- the start, and so many steps behind it at most
+  -- the start, and at most this many steps behind it
   abbrev pub chain : ℕ → A → List A
   chain n start = start ∷ walk n start
 
-  -- where so many steps lead
+  -- where this many steps lead
   abbrev pub after : ℕ → A → Option A
   after zero start = Some start
   after (suc n) start = option_and_then (λ x. after n x) (next start)

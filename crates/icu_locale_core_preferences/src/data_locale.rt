@@ -77,16 +77,28 @@ impl DataLocale {
         ensures { result ≡ truncated self.now }
     {
         if self.subdivision.is_some() {
-            return Some(DataLocale { subdivision: None, ..*self });
+            return Some(DataLocale {
+                subdivision: None,
+                ..*self
+            });
         }
         if self.variant.is_some() {
-            return Some(DataLocale { variant: None, ..*self });
+            return Some(DataLocale {
+                variant: None,
+                ..*self
+            });
         }
         if self.region.is_some() {
-            return Some(DataLocale { region: None, ..*self });
+            return Some(DataLocale {
+                region: None,
+                ..*self
+            });
         }
         if self.script.is_some() {
-            return Some(DataLocale { script: None, ..*self });
+            return Some(DataLocale {
+                script: None,
+                ..*self
+            });
         }
         None
     }
