@@ -8,7 +8,7 @@ from .common import TOP, Fault, of_top, read_text, write_whole
 
 BOOK = f"{TOP}/books/made/world.json"
 DEBIAN = "/usr/share/unicode/cldr/common"
-SCRIPTS = ("make-cldr", "cldr.py", "entries.py")
+SCRIPTS = ("make-cldr", "cldr.py", "entries.py", "look_up.py", "names.py", "smaller.py")
 PARTS = ("main", "supplemental")
 # Formatters that are kept: over many locales in turn half the time of the program's own 16.
 CAPACITY = "512"
