@@ -13,7 +13,7 @@ returns-in-Ok-clause-text g c =
 pub returns-in-Ok-write_to_string-clause-text : goal.returns-in-Ok-write_to_string-clause-text
 returns-in-Ok-write_to_string-clause-text g c =
     let tied = tied_are_same c.is_eq.result c.strict_cmp.result (text_of (g.T.Writeable.events c.args.value.now)) c.args.input.now c.strict_cmp.ensures c.is_eq.ensures in
-    let built = c.in-Ok-write_to_string.ensures in (
+    let built = c.in-Ok-write_to_string.ensures.ok in (
       built,
       λ e. elim c.if-is_eq.branch [
         | then-is_eq+in_default w ↦ w.in_default.ensures.cases.0 (subst IsUtf8 (built ∙ sym e) (IsUtf8-string_bytes c.in-Ok-write_to_string.text))

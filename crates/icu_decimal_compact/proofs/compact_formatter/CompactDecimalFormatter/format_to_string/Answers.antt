@@ -9,4 +9,4 @@ pub returns : goal.returns
 returns c =
     if_ok_by c.write_to_string-2.result
     (λ text same. same ∙ ap (λ s. text_of (compact_decimal_events s)) c.in_ok-format.ensures.value ∙ compact_is_text (compact_tables_of c.args.self.now) c.args.value.now)
-    c.write_to_string-2.ensures
+    c.write_to_string-2.ensures.ok
