@@ -14,3 +14,4 @@ pub mod BookChains
 pub mod KnownValues
 pub mod KnownFaults
 pub mod WantedLemmas
+pub mod FormatterLemmas

@@ -6,4 +6,4 @@ use Rattle.locale_numbers_book.proofs.tag_formatters.preferences_of_tag.Goals as
 
 pub returns-in-Err-clause-single : goal.returns-in-Err-clause-single
 returns-in-Err-clause-single c = λ m means _.
-  false≢true (c.in-Err.ensures.single m (subst (λ text. MeansSingle (pieces text) m) (sym c.as_bytes.ensures.value) means))
+    false≢true (c.in-Err.ensures.single m (subst (λ text. MeansSingle (pieces text) m) (sym c.as_bytes.ensures.value) means))
