@@ -44,7 +44,7 @@ printed_by tables value text printed last same = go (can_be_shown tables value) 
     go : (b : Bool) → can_be_shown tables value ≡ b → cond b (written (text_and_value tables value)) (refused refusal.Range) ≡ written (text ++ tab ∷ printed) → IsPrinted tables value text printed
     go true can is =
         let s = split_last (compact_decimal_text tables value) (compact_text_of (value_shown tables value)) text printed (printed_has_no_tab (value_shown tables value)) last
-            (one_text (text_and_value tables value) (text ++ tab ∷ printed) is) in
+        (one_text (text_and_value tables value) (text ++ tab ∷ printed) is) in
         record {
           can = record { below = below_shown (shown_under 32768 tables.patterns.entries value.absolute.count) count_limit can };
           front = s.front;
@@ -90,7 +90,7 @@ module _ (book : BookTables) (asked : Asked) (length : PatternLength) (tables : 
         ∙ ap (λ found. exact_to found Keep (compact_reading_of printed)) finds.found
         ∙ ap (exact_to (Ok tables) Keep) (read_back compact)
         ∙ ap (λ b. cond b (exact_written (exact_text tables shown.significand shown.exponent)) (refused refusal.Range))
-          (below_test (exact_place shown.significand.absolute.count shown.exponent) 65536 (in_range tables (number_shown asked read) finds.sound.rises is_printed.can))
+        (below_test (exact_place shown.significand.absolute.count shown.exponent) 65536 (in_range tables (number_shown asked read) finds.sound.rises is_printed.can))
 
   pub size_is : ShownIsCompact → ShownFormIsShownValue → (v : ℕ) → PrintsSize book asked v → v ≡ shown_under 32768 tables.patterns.entries (number_shown asked read).absolute.count
   size_is compact value v p =

@@ -1,6 +1,8 @@
 //! Which call a line asks for.
 use crate::row_error::RowError;
-use crate::{answers, faults, formatters, loads, plain, repeated, runs, sent_back, starts, tracked};
+use crate::{
+    answers, faults, formatters, loads, plain, repeated, runs, sent_back, starts, tracked,
+};
 use std::alloc::Global;
 use std::rt::Files;
 
