@@ -35,15 +35,16 @@ pub use Rattle.icu_decimal_shown.specs.Entries
 pub use Rattle.icu_decimal_shown.specs.ExactForms
 pub use Rattle.icu_decimal_shown.specs.Significand
 pub use Rattle.icu_decimal_shown.specs.ShownValue
-pub use Rattle.icu_decimal_text.specs.Affixes
+pub use Rattle.icu_decimal_plain.specs.Affixes
 pub use Rattle.icu_decimal_text.specs.FoundTables
-pub use Rattle.icu_decimal_text.specs.Grouper
-pub use Rattle.icu_decimal_text.specs.PartIntervals
-pub use Rattle.icu_decimal_text.specs.PlainText
+pub use Rattle.icu_decimal_plain.specs.Grouper
+pub use Rattle.icu_decimal_plain.specs.PartIntervals
+pub use Rattle.icu_decimal_plain.specs.PlainText
 -- What a formatter, a pattern and a value with a sign hold.
 pub use Rattle.icu_decimal_compact.specs.HeldCompact
 pub use Rattle.icu_decimal_patterns.specs.HeldPattern
-pub use Rattle.icu_decimal_text.specs.HeldAffixes
+pub use Rattle.icu_decimal_plain.specs.BorrowedTables
+pub use Rattle.icu_decimal_plain.specs.HeldAffixes
 pub use Rattle.icu_decimal_text.specs.HeldTables
 -- Equality of symbols, of patterns and of formatted numbers.
 pub use Rattle.icu_decimal_patterns.specs.SameElements
@@ -52,8 +53,8 @@ pub use Rattle.icu_decimal_patterns.specs.SameTable
 -- How a table keeps its entries, for the crates above.
 pub use Rattle.icu_decimal_patterns.specs.KeptSteps
 pub use Rattle.icu_decimal_symbols.specs.SameSymbols
-pub use Rattle.icu_decimal_text.specs.SameAffixes
-pub use Rattle.icu_decimal_text.specs.SamePlain
+pub use Rattle.icu_decimal_plain.specs.SameAffixes
+pub use Rattle.icu_decimal_plain.specs.SamePlain
 -- Statements of laws.
 pub use Rattle.icu_decimal_compact.specs.AbstractLaws
 pub use Rattle.icu_decimal_compact.specs.CompactLaws
@@ -65,6 +66,7 @@ pub use Rattle.icu_decimal_shown.specs.ShownLaws
 pub use Rattle.icu_decimal_shown.specs.UnderTableLaws
 pub use Rattle.icu_decimal_provider.specs.Laws
 pub use Rattle.icu_decimal_symbols.specs.SameSymbolsLaws
-pub use Rattle.icu_decimal_text.specs.GroupLaws
-pub use Rattle.icu_decimal_text.specs.PartLaws
-pub use Rattle.icu_decimal_text.specs.TextLaws
+pub use Rattle.icu_decimal_plain.specs.GroupLaws
+pub use Rattle.icu_decimal_plain.specs.PartLaws
+pub use Rattle.icu_decimal_plain.specs.TextLaws
+pub use Rattle.icu_decimal_text.specs.FoundLaws

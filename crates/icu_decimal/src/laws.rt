@@ -6,4 +6,9 @@ pub use icu_decimal_patterns::laws as patterns;
 pub use icu_decimal_provider::laws as tables;
 pub use icu_decimal_reading::laws as reading;
 pub use icu_decimal_shown::laws as shown;
-pub use icu_decimal_text::laws as text;
+
+/// Laws of plain text: groups, texts and parts, and the tables that equal preferences find.
+pub mod text {
+    pub use icu_decimal_plain::laws::{groups_law, parts_law, text_law};
+    pub use icu_decimal_text::laws::same_tables;
+}

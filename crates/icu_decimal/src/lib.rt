@@ -26,10 +26,8 @@ pub mod provider;
 pub use icu_decimal_compact::{
     AbstractFormatter, CompactDecimalFormatter, FormattedUnsigned, FormattedUnsignedCompactDecimal,
 };
+pub use icu_decimal_plain::{FormattedDecimal, FormattedSign, FormattedUnsignedDecimal, grouper};
 pub use icu_decimal_provider::preferences;
 pub use icu_decimal_provider::preferences::DecimalFormatterPreferences;
-pub use icu_decimal_reading::{is_readable, read_plain, read_readable};
 pub use icu_decimal_symbols::{Cow, options, parts};
-pub use icu_decimal_text::{
-    DecimalFormatter, FormattedDecimal, FormattedSign, FormattedUnsignedDecimal, grouper,
-};
+pub use icu_decimal_text::{DecimalFormatter, is_readable, read_plain, read_readable};

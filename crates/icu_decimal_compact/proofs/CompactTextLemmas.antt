@@ -5,9 +5,9 @@ use Rattle.writeable.proofs.AnnotatedTextLemmas.{bytes_joined, text_of_bytes}
 use Rattle.fixed_decimal.specs.Number.{Number}
 use Rattle.fixed_decimal.specs.SignedValue.{SignedValue}
 use Rattle.icu_decimal_patterns.specs.Pattern.{PatternText, literal, around, optional_events}
-use Rattle.icu_decimal_text.specs.Affixes.{AffixTexts, affixes_of, prefix_events, suffix_events}
-use Rattle.icu_decimal_text.specs.PlainText.{PlainNumber, prefix_text, suffix_text, unsigned_events, unsigned_text}
-use Rattle.icu_decimal_text.proofs.TextLemmas.{text_in_unit, text_with_sign, unsigned_is_text}
+use Rattle.icu_decimal_plain.specs.Affixes.{AffixTexts, affixes_of, prefix_events, suffix_events}
+use Rattle.icu_decimal_plain.specs.PlainText.{PlainNumber, prefix_text, suffix_text, unsigned_events, unsigned_text}
+use Rattle.icu_decimal_plain.proofs.TextLemmas.{text_in_unit, text_with_sign, unsigned_is_text}
 use Rattle.icu_decimal_compact.specs.CompactTables.{CompactTables}
 use Rattle.icu_decimal_compact.specs.CompactText.{compact_decimal_events, compact_decimal_text, compact_formatted, compact_of, compact_text, text_in}
 

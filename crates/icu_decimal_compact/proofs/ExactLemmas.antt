@@ -5,7 +5,7 @@ use Rattle.fixed_decimal.specs.SignedValue.{SignedValue}
 use Rattle.icu_decimal_plurals.specs.Operands.{operands_of}
 use Rattle.icu_decimal_shown.specs.Choice.{entry_of, exact_entry}
 use Rattle.icu_decimal_shown.specs.Entries.{Rises}
-use Rattle.icu_decimal_text.specs.Affixes.{affixes_of}
+use Rattle.icu_decimal_plain.specs.Affixes.{affixes_of}
 use Rattle.icu_decimal_compact.specs.CompactTables.{CompactTables}
 use Rattle.icu_decimal_compact.specs.ExactText.{exact_formatted, written_under}
 use Rattle.icu_decimal_compact.specs.PatternAt.{written_at}

@@ -14,8 +14,8 @@ use Rattle.icu_decimal_plurals.specs.Operands.{operands_of}
 use Rattle.icu_decimal_plurals.specs.Rules.{Rules, category_of}
 use Rattle.icu_decimal_shown.specs.Choice.{chosen}
 use Rattle.icu_decimal_symbols.specs.Symbols.{english_symbols}
-use Rattle.icu_decimal_text.specs.Affixes.{WithSign, affixes_of, decimal_part}
-use Rattle.icu_decimal_text.specs.PlainText.{PlainNumber}
+use Rattle.icu_decimal_plain.specs.Affixes.{WithSign, affixes_of, decimal_part}
+use Rattle.icu_decimal_plain.specs.PlainText.{PlainNumber}
 use Rattle.icu_decimal_compact.specs.AbstractText.{plain_operands, shown_operands}
 use Rattle.icu_decimal_compact.specs.CompactText.{CompactNumber, compact_decimal_events, compact_formatted, lowest_place, value_shown}
 use Rattle.icu_decimal_compact.specs.ExactText.{exact_events, exact_formatted, exact_text}

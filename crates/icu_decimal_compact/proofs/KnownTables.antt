@@ -12,7 +12,7 @@ use Rattle.icu_decimal_symbols.specs.declared.options.GroupingStrategy.{Grouping
 use Rattle.icu_decimal_symbols.specs.declared.options.GroupingStrategy.TheVariants.{Auto, Never}
 use Rattle.icu_decimal_symbols.specs.Symbols.{english_symbols}
 use Rattle.icu_decimal_shown.specs.declared.entry.CompactEntry.{CompactEntry}
-use Rattle.icu_decimal_text.specs.PlainText.{Tables}
+use Rattle.icu_decimal_plain.specs.PlainText.{Tables}
 use Rattle.icu_decimal_compact.specs.CompactTables.{CompactTables}
 
 -- what is written with in English

@@ -6,8 +6,8 @@ use Rattle.writeable.specs.AnnotatedText.{Event, bytes, text_of}
 use Rattle.fixed_decimal.specs.declared.Sign.{Sign}
 use Rattle.fixed_decimal.specs.Number.{Number}
 use Rattle.fixed_decimal.specs.SignedValue.{SignedValue}
-use Rattle.icu_decimal_text.specs.Affixes.{AffixTexts, WithSign, events_with_sign}
-use Rattle.icu_decimal_text.specs.PlainText.{prefix_text, suffix_text}
+use Rattle.icu_decimal_plain.specs.Affixes.{AffixTexts, WithSign, events_with_sign}
+use Rattle.icu_decimal_plain.specs.PlainText.{prefix_text, suffix_text}
 
 -- a number and the affixes of its sign, by the affixes that a formatter has for signs
 abbrev pub between : (Sign → Option AffixTexts) → SignedValue Number → WithSign Number

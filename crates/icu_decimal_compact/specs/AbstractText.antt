@@ -5,7 +5,7 @@ use Rattle.std.specs.Prelude.{List}
 use Rattle.writeable.specs.AnnotatedText.{Event}
 use Rattle.fixed_decimal.specs.Number.{Number}
 use Rattle.icu_decimal_plurals.specs.Operands.{Operands, operands_of}
-use Rattle.icu_decimal_text.specs.PlainText.{Tables, unsigned_events}
+use Rattle.icu_decimal_plain.specs.PlainText.{Tables, unsigned_events}
 use Rattle.icu_decimal_compact.specs.CompactTables.{CompactTables}
 use Rattle.icu_decimal_compact.specs.CompactText.{compact_events, compact_of}
 

@@ -3,7 +3,7 @@
 -- Cited by the calls of `CompactDecimalFormatter`.
 use Rattle.icu_decimal_patterns.specs.KeptEntries.{CompactTable}
 use Rattle.icu_decimal_plurals.specs.Rules.{Rules}
-use Rattle.icu_decimal_text.specs.PlainText.{Tables}
+use Rattle.icu_decimal_plain.specs.PlainText.{Tables}
 
 pub record CompactTables : Type 0 where
   pub plain : Tables

@@ -15,8 +15,8 @@ use Rattle.icu_decimal_shown.specs.declared.entry.CompactEntry.{CompactEntry}
 use Rattle.icu_decimal_shown.specs.Choice.{chosen, is_carried}
 use Rattle.icu_decimal_shown.specs.ShownValue.{top}
 use Rattle.icu_decimal_shown.specs.Significand.{plain_one}
-use Rattle.icu_decimal_text.specs.Affixes.{WithSign, affixes_of, events_with_sign}
-use Rattle.icu_decimal_text.specs.PlainText.{PlainNumber, prefix_text, suffix_text, unsigned_text}
+use Rattle.icu_decimal_plain.specs.Affixes.{WithSign, affixes_of, events_with_sign}
+use Rattle.icu_decimal_plain.specs.PlainText.{PlainNumber, prefix_text, suffix_text, unsigned_text}
 use Rattle.icu_decimal_compact.specs.CompactTables.{CompactTables}
 
 -- ---- the digits shown

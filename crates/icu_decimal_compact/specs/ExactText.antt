@@ -9,8 +9,8 @@ use Rattle.icu_decimal_patterns.specs.Pattern.{InPattern, interpolated_events}
 use Rattle.icu_decimal_plurals.specs.Operands.{operands_of}
 use Rattle.icu_decimal_shown.specs.declared.entry.CompactEntry.{CompactEntry}
 use Rattle.icu_decimal_shown.specs.Choice.{exact_entry}
-use Rattle.icu_decimal_text.specs.Affixes.{WithSign, affixes_of, events_with_sign}
-use Rattle.icu_decimal_text.specs.PlainText.{PlainNumber, prefix_text, suffix_text, unsigned_events, unsigned_text}
+use Rattle.icu_decimal_plain.specs.Affixes.{WithSign, affixes_of, events_with_sign}
+use Rattle.icu_decimal_plain.specs.PlainText.{PlainNumber, prefix_text, suffix_text, unsigned_events, unsigned_text}
 use Rattle.icu_decimal_compact.specs.CompactTables.{CompactTables}
 use Rattle.icu_decimal_compact.specs.CompactText.{pattern_of, text_in}
 

@@ -3,7 +3,7 @@
 -- Cited by `FormattedUnsigned` and by `format_unsigned` of `AbstractFormatter`.
 use Rattle.std.specs.Prelude.{List}
 use Rattle.writeable.specs.AnnotatedText.{Event}
-use Rattle.icu_decimal_text.specs.PlainText.{unsigned_events}
+use Rattle.icu_decimal_plain.specs.PlainText.{unsigned_events}
 use Rattle.icu_decimal_compact.specs.CompactText.{compact_events}
 use Rattle.icu_decimal_compact.specs.declared.formatted_unsigned.FormattedUnsigned.{FormattedUnsigned}
 

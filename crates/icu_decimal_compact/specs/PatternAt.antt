@@ -10,8 +10,8 @@ use Rattle.icu_decimal_patterns.specs.Elements.{slot_of}
 use Rattle.icu_decimal_patterns.specs.KeptEntries.{CompactTable, Patterns}
 use Rattle.icu_decimal_patterns.specs.Pattern.{InPattern, PatternText}
 use Rattle.icu_decimal_plurals.specs.Operands.{Operands, operands_of}
-use Rattle.icu_decimal_text.specs.Affixes.{WithSign, affixes_of}
-use Rattle.icu_decimal_text.specs.PlainText.{PlainNumber}
+use Rattle.icu_decimal_plain.specs.Affixes.{WithSign, affixes_of}
+use Rattle.icu_decimal_plain.specs.PlainText.{PlainNumber}
 use Rattle.icu_decimal_compact.specs.CompactTables.{CompactTables}
 
 -- those at an index where an entry stands

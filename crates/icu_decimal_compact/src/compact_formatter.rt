@@ -21,6 +21,7 @@ use icu_decimal_patterns::pattern::Pattern;
 use icu_decimal_patterns::{
     CompactPatterns, DecimalCompactLongV1, DecimalCompactShortV1, PluralElements,
 };
+use icu_decimal_plain::FormattedSign;
 use icu_decimal_plurals::{PluralOperands, PluralRules, PluralsCardinalV1};
 use icu_decimal_provider::preferences::CompactDecimalFormatterPreferences;
 use icu_decimal_provider::provider::{
@@ -29,7 +30,7 @@ use icu_decimal_provider::provider::{
 use icu_decimal_shown::{can_show, exponent_for_magnitude, show};
 use icu_decimal_symbols::DataError;
 use icu_decimal_symbols::options::CompactDecimalFormatterOptions;
-use icu_decimal_text::{DecimalFormatter, FormattedSign};
+use icu_decimal_text::DecimalFormatter;
 use std::alloc::{AllocError, Global};
 use writeable::Writeable;
 

@@ -1,7 +1,7 @@
 //! A number without its sign, as a formatter of either kind writes it.
 
 use crate::formatted_compact::FormattedUnsignedCompactDecimal;
-use icu_decimal_text::FormattedUnsignedDecimal;
+use icu_decimal_plain::FormattedUnsignedDecimal;
 use std::fmt;
 use writeable::{Error, LengthHint, Sink, Writeable, display};
 

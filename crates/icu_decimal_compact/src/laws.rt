@@ -4,7 +4,7 @@ ghost use Rattle.std.specs.Prelude.{◌≡◌, ◌<◌};
 ghost use Rattle.icu_decimal_patterns.specs.SmallEntries.{AreSmall, IsSmall};
 ghost use Rattle.icu_decimal_shown.specs.Entries.{Rises};
 ghost use Rattle.icu_decimal_text.specs.HeldTables.{tables_of};
-ghost use Rattle.icu_decimal_text.specs.PlainText.{decimal_events, decimal_text, formatted, unsigned_text};
+ghost use Rattle.icu_decimal_plain.specs.PlainText.{decimal_events, decimal_text, formatted, unsigned_text};
 ghost use Rattle.icu_decimal_compact.specs.AbstractLaws.{WritesText, WritesTogether, WritesUnit};
 ghost use Rattle.icu_decimal_compact.specs.CompactLaws.{ShownFormAnswers, ShownFormIsInRange, ShownFormIsShownValue, ShownFormWritesSame, ShownIsCompact, SignificandIsNumber};
 ghost use Rattle.icu_decimal_compact.specs.CompactText.{compact_decimal_events, compact_decimal_text, compact_formatted, compact_of, compact_text};

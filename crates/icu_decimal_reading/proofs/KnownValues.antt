@@ -4,7 +4,7 @@ use Rattle.std.specs.Prelude.{codes}
 use Rattle.std.specs.Str.{chars}
 use Rattle.icu_decimal_symbols.specs.declared.options.GroupingStrategy.TheVariants.{Auto}
 use Rattle.icu_decimal_symbols.specs.Symbols.{SymbolStrings, english_strings}
-use Rattle.icu_decimal_text.specs.PlainText.{Tables}
+use Rattle.icu_decimal_plain.specs.PlainText.{Tables}
 use Rattle.icu_decimal_reading.specs.PlainReading.{fraction_in, whole_in}
 use Rattle.icu_decimal_reading.specs.Readable.{is_readable_by}
 

@@ -13,7 +13,7 @@ use Rattle.fixed_decimal.specs.TextLaws.{IsDecimal}
 use Rattle.fixed_decimal.specs.declared.Sign.{Sign}
 use Rattle.fixed_decimal.specs.declared.Sign.TheVariants.{None as NoSign, Negative, Positive}
 use Rattle.fixed_decimal.proofs.SignedReadOnceLemmas.{same_signed, signed_reads_once}
-use Rattle.icu_decimal_text.specs.PlainText.{Tables, decimal_text}
+use Rattle.icu_decimal_plain.specs.PlainText.{Tables, decimal_text}
 use Rattle.icu_decimal_reading.specs.PlainReading.{HasNoNumber, IsAnswered, IsPlainText, PlainReading, decimal, fraction_in, is_text_of, is_within, not_written, number_with, plain_reading, signed_reading, unreadable, whole_in, with_sign}
 use Rattle.icu_decimal_reading.specs.declared.error.ReadError.{ReadError}
 use Rattle.icu_decimal_reading.specs.declared.error.ReadError.TheVariants.{Unreadable, NotWritten, Memory}

@@ -15,11 +15,11 @@ use Rattle.fixed_decimal.specs.SignedValue.{SignedValue}
 use Rattle.fixed_decimal.specs.declared.Sign.{Sign}
 use Rattle.fixed_decimal.specs.declared.Sign.TheVariants.{None as NoSign, Negative, Positive}
 use Rattle.icu_decimal_symbols.specs.Symbols.{SymbolStrings}
-use Rattle.icu_decimal_text.specs.Affixes.{affixes_of}
-use Rattle.icu_decimal_text.specs.Grouper.{ends_at, group_sizes, marked}
-use Rattle.icu_decimal_text.specs.PlainText.{Tables, chained, decimal_text, digit_text, fraction_text, prefix_text, suffix_text, unsigned_text, whole_text}
-use Rattle.icu_decimal_text.proofs.GrouperLemmas.{AllAbove, are_sizes, joined_is_separated}
-use Rattle.icu_decimal_text.proofs.PlainTextLemmas.{tens_down}
+use Rattle.icu_decimal_plain.specs.Affixes.{affixes_of}
+use Rattle.icu_decimal_plain.specs.Grouper.{ends_at, group_sizes, marked}
+use Rattle.icu_decimal_plain.specs.PlainText.{Tables, chained, decimal_text, digit_text, fraction_text, prefix_text, suffix_text, unsigned_text, whole_text}
+use Rattle.icu_decimal_plain.proofs.GrouperLemmas.{AllAbove, are_sizes, joined_is_separated}
+use Rattle.icu_decimal_plain.proofs.PlainTextLemmas.{tens_down}
 use Rattle.icu_decimal_reading.specs.PlainReading.{fraction_in, whole_in}
 use Rattle.icu_decimal_reading.specs.Readable.{all_differ, are_clear, digit_of, do_separators_differ, do_signs_differ, has_no_digit, is_readable_by}
 use Rattle.icu_decimal_reading.specs.ReadingLaws.{AreTables}

@@ -9,7 +9,7 @@ use Rattle.std.specs.declared.cmp.Ordering.{Ordering}
 use Rattle.writeable.specs.Order.{byte_order}
 use Rattle.fixed_decimal.specs.Number.{Number}
 use Rattle.fixed_decimal.specs.declared.Sign.TheVariants.{None as NoSign, Negative, Positive}
-use Rattle.icu_decimal_text.specs.PlainText.{Tables}
+use Rattle.icu_decimal_plain.specs.PlainText.{Tables}
 use Rattle.icu_decimal_reading.specs.PlainReading.{PlainReading, decimal, fraction_in, is_text_of, is_within, not_written, number_with, plain_reading, signed_reading, unreadable, whole_in, with_sign, written_reading}
 use Rattle.icu_decimal_reading.specs.Readable.{all_differ, is_readable_by}
 

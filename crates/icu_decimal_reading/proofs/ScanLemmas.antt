@@ -8,7 +8,7 @@ use Rattle.std.proofs.lemmas.List.Sums.{fails_before_first, position_or_len_is}
 use Rattle.fixed_decimal.specs.NumberText.{character}
 use Rattle.icu_decimal_reading.specs.PlainReading.{begins_fraction, digits_of_text, whole_then, whole_in, fraction_then, fraction_in}
 use Rattle.icu_decimal_reading.specs.Readable.{digit_of, all_differ}
-use Rattle.icu_decimal_text.specs.Grouper.{marked}
+use Rattle.icu_decimal_plain.specs.Grouper.{marked}
 
 -- none of these characters is a digit
 abbrev pub no_digits : List ℕ → List ℕ → Bool

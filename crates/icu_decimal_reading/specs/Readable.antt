@@ -5,7 +5,7 @@ use Rattle.std.specs.Prelude.{ℕ, ◌==◌, Bool, true, not, ◌&&◌, List, []
 use Rattle.std.specs.Str.{bytes_eq, chars}
 use Rattle.std.specs.List.{list_all}
 use Rattle.icu_decimal_symbols.specs.Symbols.{SymbolStrings}
-use Rattle.icu_decimal_text.specs.PlainText.{Tables}
+use Rattle.icu_decimal_plain.specs.PlainText.{Tables}
 
 -- which digit a character is: its place in a table of digits, from zero up
 abbrev pub digit_of : List ℕ → ℕ → Option ℕ

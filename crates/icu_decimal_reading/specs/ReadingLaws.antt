@@ -7,7 +7,7 @@ use Rattle.fixed_decimal.specs.Number.{Number}
 use Rattle.fixed_decimal.specs.SignedValue.{SignedValue}
 use Rattle.fixed_decimal.specs.TextLaws.{IsDecimal}
 use Rattle.icu_decimal_symbols.specs.declared.options.GroupingStrategy.TheVariants.{Auto, Always}
-use Rattle.icu_decimal_text.specs.PlainText.{Tables, decimal_text}
+use Rattle.icu_decimal_plain.specs.PlainText.{Tables, decimal_text}
 use Rattle.icu_decimal_reading.specs.Readable.{is_readable_by}
 use Rattle.icu_decimal_reading.specs.PlainReading.{HasNoNumber, IsPlainText, PlainReading, decimal, not_written, unreadable, plain_reading}
 

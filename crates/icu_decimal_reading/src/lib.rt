@@ -1,4 +1,4 @@
-//! Plain texts read back: the decimal whose text a formatter writes so.
+//! Plain texts read back: the decimal that is written so.
 //!
 //! In English `-1,234.50` is read as -1234.50, shown down to magnitude -2, and `98,7654` as nothing, since no decimal is written
 //! so. The rules are in docs/reading.md.
@@ -6,8 +6,8 @@
 //! ```rust
 //! use icu_decimal_reading::{is_readable, read_plain};
 //!
-//! if is_readable(&formatter) {
-//!     let number = read_plain(alloc, &formatter, "-1,234.50")?;       // -1234.50
+//! if is_readable(&tables) {
+//!     let number = read_plain(alloc, &tables, "-1,234.50")?;          // -1234.50
 //! }
 //! ```
 #![tactic(auto)]

@@ -1,14 +1,14 @@
 // The number that a text most likely is: a guess, of which nothing is claimed.
 
 ghost use Rattle.std.specs.Prelude.{◌≡◌, true};
-ghost use Rattle.icu_decimal_text.specs.HeldTables.{tables_of};
+ghost use Rattle.icu_decimal_plain.specs.BorrowedTables.{borrowed_tables};
 ghost use Rattle.icu_decimal_reading.specs.Readable.{all_differ, is_readable_by};
 
 use crate::digits::digit_in;
 use arrayvec::ArrayVec;
 use fixed_decimal::{Decimal, Sign};
+use icu_decimal_plain::DecimalTables;
 use icu_decimal_symbols::DecimalSymbols;
-use icu_decimal_text::DecimalFormatter;
 use std::alloc::Global;
 
 // How many digits and points are gathered at most.
@@ -73,14 +73,14 @@ fn likely_sign(symbols: &DecimalSymbols, text: &str) -> Sign {
 #[tactic(auto, using(crate::proofs::ReadingLemmas::digits_differ))]
 pub(crate) fn likely_number(
     alloc: Global,
-    formatter: &DecimalFormatter<'_>,
+    tables: &DecimalTables<'_>,
     text: &str,
 ) -> Option<Decimal>
-    requires { is_readable_by (tables_of formatter.now) ≡ true }
+    requires { is_readable_by (borrowed_tables tables.now) ≡ true }
 {
-    let symbols = formatter.symbols();
+    let symbols = tables.symbols();
     let point = symbols.decimal_separator().chars().next()?;
-    let gathered = spelled(formatter.digits(), point, text)?;
+    let gathered = spelled(tables.digits(), point, text)?;
     match Decimal::try_from_utf8(alloc, gathered.as_slice()) {
         Ok(number) => Some(number.with_sign(likely_sign(symbols, text))),
         Err(_) => None,

@@ -2,13 +2,13 @@
 
 ghost use Rattle.std.specs.Prelude.{◌≡◌, [], length, not};
 ghost use Rattle.std.specs.Str.{bytes_eq};
-ghost use Rattle.icu_decimal_text.specs.HeldTables.{tables_of};
+ghost use Rattle.icu_decimal_plain.specs.BorrowedTables.{borrowed_tables};
 ghost use Rattle.icu_decimal_reading.specs.ReadingLaws.{AreTables};
 ghost use Rattle.icu_decimal_reading.specs.Readable.{are_clear, do_separators_differ, do_signs_differ, is_readable_by, is_same_pair};
 
 use crate::digits::{do_all_differ, has_none};
+use icu_decimal_plain::DecimalTables;
 use icu_decimal_symbols::DecimalSymbols;
-use icu_decimal_text::DecimalFormatter;
 
 // Whether two texts are one.
 fn is_same_text(one: &str, other: &str) -> bool
@@ -65,12 +65,12 @@ fn ten_digits(table: &[char; 10]) -> &[char]
     table
 }
 
-// That the tables of a formatter are ten digits and six texts.
-pub(crate) fn are_tables(formatter: &DecimalFormatter<'_>)
-    ensures { AreTables (tables_of formatter.now) }
+// That tables are ten digits and six texts.
+pub(crate) fn are_tables(tables: &DecimalTables<'_>)
+    ensures { AreTables (borrowed_tables tables.now) }
 {
-    let _digits = ten_digits(formatter.digits());
-    let symbols = formatter.symbols();
+    let _digits = ten_digits(tables.digits());
+    let symbols = tables.symbols();
     let _minus_prefix = symbols.minus_sign_prefix();
     let _minus_suffix = symbols.minus_sign_suffix();
     let _plus_prefix = symbols.plus_sign_prefix();
@@ -79,18 +79,18 @@ pub(crate) fn are_tables(formatter: &DecimalFormatter<'_>)
     let _grouping = symbols.grouping_separator();
 }
 
-/// Whether texts can be read back under the formatter's symbols: in English they can.
+/// Whether texts can be read back under the symbols of these tables: in English they can.
 ///
 /// They can where the ten digits differ and stand in no affix and no separator, the decimal separator is neither empty nor the
 /// grouping separator, and the affixes of a minus sign, of a plus sign and of no sign differ as pairs. Then no two decimals have
 /// one text. It takes no memory.
-pub fn is_readable(formatter: &DecimalFormatter<'_>) -> bool
-    ensures value { result ≡ is_readable_by (tables_of formatter.now) }
-    ensures tables { AreTables (tables_of formatter.now) }
+pub fn is_readable(tables: &DecimalTables<'_>) -> bool
+    ensures value { result ≡ is_readable_by (borrowed_tables tables.now) }
+    ensures tables { AreTables (borrowed_tables tables.now) }
 {
-    are_tables(formatter);
-    let table = formatter.digits();
-    let symbols = formatter.symbols();
+    are_tables(tables);
+    let table = tables.digits();
+    let symbols = tables.symbols();
     do_all_differ(table)
         && (are_texts_clear(table, symbols)
             && (is_decimal_apart(symbols) && do_affixes_differ(symbols)))

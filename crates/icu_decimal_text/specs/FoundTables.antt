@@ -9,7 +9,7 @@ use Rattle.icu_decimal_provider.specs.Choice.{first_found}
 use Rattle.icu_decimal_provider.specs.Identifiers.{Identifier, symbols_identifiers, digits_identifiers}
 use Rattle.icu_decimal_symbols.specs.Options.{strategy_in}
 use Rattle.icu_decimal_symbols.specs.Symbols.{Symbols}
-use Rattle.icu_decimal_text.specs.PlainText.{Tables}
+use Rattle.icu_decimal_plain.specs.PlainText.{Tables}
 
 -- these symbols and the digits that are answered, or the error
 abbrev pub with_digits : GroupingStrategy → Symbols → Result (List ℕ) DataError → Result Tables DataError

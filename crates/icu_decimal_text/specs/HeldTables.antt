@@ -1,8 +1,9 @@
 -- The tables that a formatter borrows.
 -- Defined in docs/formatters.md, "Choosing tables".
--- Cited by the calls of `DecimalFormatter` and by the view of `FormattedUnsignedDecimal`.
+-- Cited by the calls of `DecimalFormatter`.
+use Rattle.icu_decimal_plain.specs.BorrowedTables.{borrowed_tables}
+use Rattle.icu_decimal_plain.specs.PlainText.{Tables}
 use Rattle.icu_decimal_text.specs.declared.formatter.DecimalFormatter.{DecimalFormatter}
-use Rattle.icu_decimal_text.specs.PlainText.{Tables}
 
 abbrev pub tables_of : DecimalFormatter → Tables
-tables_of f = record { symbols = f.symbols.symbols.now; digits = f.digits.chars.now; strategy = f.strategy }
+tables_of f = borrowed_tables f.tables

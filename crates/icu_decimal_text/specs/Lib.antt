@@ -1,15 +1,3 @@
-pub mod Affixes
+pub mod FoundLaws
 pub mod FoundTables
-pub mod Grouper
-pub mod GroupLaws
-pub mod HeldAffixes
-pub mod HeldSizes
 pub mod HeldTables
-pub mod LaterGroups
-pub mod PartIntervals
-pub mod PartLaws
-pub mod Pieces
-pub mod PlainText
-pub mod SameAffixes
-pub mod SamePlain
-pub mod TextLaws

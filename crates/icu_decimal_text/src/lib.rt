@@ -1,29 +1,19 @@
-//! How a number is written: formatters, the text of a number with its parts, where grouping separators stand.
+//! Formatters of decimals: the tables of a locale, found by what it prefers, and what is written with them and read back.
 //!
-//! With the sizes 3, 2, 1 the number 100000 is written `1,00,000`: a separator follows the digits at the magnitudes 5 and 3. With
-//! a minus sign it is `-1,00,000`. The rules are in docs/plain-text.md.
+//! Preferences of `en` give a formatter that writes -1234.5 as `-1,234.5`. The rules are in docs/formatters.md.
 //!
 //! ```rust
-//! use icu_decimal_text::FormattedSign;
-//! use icu_decimal_text::grouper::check;
+//! use icu_decimal_text::{DecimalFormatter, read_plain};
 //!
-//! let follows = check(5, 3, GroupingStrategy::Auto, sizes);               // true
-//! let negative = FormattedSign::new(Sign::Negative, &symbols, "5");       // -5
+//! let formatter = DecimalFormatter::try_new_unstable(&provider, preferences, options)?;
+//! formatter.format(&number).write_to(&mut sink)?;                         // -1,234.5
+//! let number = read_plain(alloc, &formatter, "-1,234.50")?;               // -1234.50
 //! ```
 #![tactic(auto)]
 
-mod formatted_sign;
-mod formatted_unsigned_decimal;
 mod formatter;
-pub mod grouper;
 pub mod laws;
-mod piece_tables;
-mod short_text;
-mod tables;
-mod text_pieces;
-mod text_writing;
-mod writing;
+mod reading;
 
-pub use formatted_sign::FormattedSign;
-pub use formatted_unsigned_decimal::FormattedUnsignedDecimal;
-pub use formatter::{DecimalFormatter, FormattedDecimal};
+pub use formatter::DecimalFormatter;
+pub use reading::{is_readable, read_plain, read_readable};

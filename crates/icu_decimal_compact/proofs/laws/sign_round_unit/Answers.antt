@@ -1,9 +1,9 @@
 use Rattle.std.specs.Prelude.{List, ℕ}
 use Rattle.writeable.proofs.AnnotatedTextLemmas.{text_of_bytes}
-use Rattle.icu_decimal_text.specs.Affixes.{affixes_of}
+use Rattle.icu_decimal_plain.specs.Affixes.{affixes_of}
 use Rattle.icu_decimal_text.specs.HeldTables.{tables_of}
-use Rattle.icu_decimal_text.specs.PlainText.{PlainNumber, unsigned_events, unsigned_text}
-use Rattle.icu_decimal_text.proofs.TextLemmas.{unsigned_is_text}
+use Rattle.icu_decimal_plain.specs.PlainText.{PlainNumber, unsigned_events, unsigned_text}
+use Rattle.icu_decimal_plain.proofs.TextLemmas.{unsigned_is_text}
 use Rattle.writeable.specs.AnnotatedText.{bytes}
 use Rattle.icu_decimal_compact.specs.CompactText.{compact_of, compact_text}
 use Rattle.icu_decimal_compact.specs.HeldCompact.{compact_tables_of}

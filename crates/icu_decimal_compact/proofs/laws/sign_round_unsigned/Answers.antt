@@ -1,5 +1,5 @@
 use Rattle.icu_decimal_text.specs.HeldTables.{tables_of}
-use Rattle.icu_decimal_text.proofs.TextLemmas.{decimal_is_text}
+use Rattle.icu_decimal_plain.proofs.TextLemmas.{decimal_is_text}
 use Rattle.icu_decimal_compact.specs.HeldCompact.{compact_tables_of}
 use Rattle.icu_decimal_compact.proofs.CompactTextLemmas.{compact_is_text}
 use Rattle.icu_decimal_compact.proofs.laws.sign_round_unsigned.Goals as goal

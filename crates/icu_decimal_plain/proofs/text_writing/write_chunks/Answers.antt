@@ -1,0 +1,64 @@
+use Rattle.std.proofs.lemmas.Str.{IsUtf8-had}
+use Rattle.std.proofs.Common.{◌∙◌, IsUtf8, ap, arith, length, length-drop, subst, sym, take}
+use Rattle.std.specs.Int.Digits.{AllBelowBase}
+use Rattle.writeable.specs.AnnotatedText.{bytes}
+use Rattle.writeable.specs.Taking.{on_err}
+use Rattle.writeable.proofs.WritingLemmas.{writing_goes_on, writing_stops}
+use Rattle.icu_decimal_plain.specs.LaterGroups.{groups_ahead}
+use Rattle.icu_decimal_plain.specs.PlainText.{digit_text}
+use Rattle.icu_decimal_plain.proofs.PieceLemmas.{chunk_bytes, chunk_past, tens_taken, utf8_groups}
+use Rattle.icu_decimal_plain.proofs.PlainTextLemmas.{tens_dropped}
+use Rattle.icu_decimal_plain.proofs.text_writing.write_chunks.Goals as goal
+
+pub put_groups-len-requires-clause-tens : goal.put_groups-len-requires-clause-tens
+put_groups-len-requires-clause-tens g c =
+    subst (AllBelowBase 10) (sym c.next_digits-chunk.ensures.chunk) (tens_taken 48 c.loop-digits.digits c.loop-digits.invariant.tens)
+
+pub write_waiting-requires-clause-utf8 : goal.write_waiting-requires-clause-utf8
+write_waiting-requires-clause-utf8 g c =
+    let piece = c.new-piece.result in
+    let taken = c.in-Some.groups in
+    let tens = subst (AllBelowBase 10) (sym c.next_digits-chunk.ensures.chunk) (tens_taken 48 c.loop-digits.digits c.loop-digits.invariant.tens) in
+    subst IsUtf8 (sym c.put_groups-len.ensures.text)
+    (utf8_groups (take piece.len piece.bytes) c.args.table.now.chars.now taken c.next_digits-chunk.result
+    (subst IsUtf8 (sym c.new-piece.ensures.is) (IsUtf8-had _ c.new-piece.ensures.utf8)) (λ d below. IsUtf8-had _ (c.args.table.now.held d below).utf8) tens)
+
+pub loop-digits-smaller : goal.loop-digits-smaller
+loop-digits-smaller g c =
+    let left = ap length c.next_digits-chunk.ensures.digits ∙ length-drop 48 c.loop-digits.digits in
+    let enough = c.loop-digits-test.true in
+    let len = c.len.ensures in
+    omega (arith, left, enough, len)
+
+pub loop-digits-preserved : goal.loop-digits-preserved
+loop-digits-preserved g c =
+    let table = c.args.table.now.chars.now in
+    let separator = c.args.separator.now in
+    let taken = c.in-Some.groups in
+    let was = c.loop-digits.digits in
+    let after = c.next_digits-chunk.new.digits in
+    let chunk = c.next_digits-chunk.result in
+    let text = take c.put_groups-len.result c.put_groups-len.new.waiting in
+    let put = c.put_groups-len.ensures.text ∙ ap (λ sep. groups_ahead sep (digit_text table) taken chunk) c.new-piece.ensures.is in
+    let parts = chunk_bytes separator table c.loop-digits.sizes taken c.next_chunk.new.self was after chunk text c.in-Some.ensures.taken c.in-Some.ensures.whole c.next_digits-chunk.ensures.chunk c.next_digits-chunk.ensures.digits put in
+    record {
+      tens = subst (AllBelowBase 10) (sym c.next_digits-chunk.ensures.digits) (tens_dropped 48 was c.loop-digits.invariant.tens);
+      digits = chunk_past c.loop-digits.sizes taken c.next_chunk.new.self was after c.in-Some.ensures.taken c.in-Some.ensures.whole c.next_digits-chunk.ensures.digits ∙ c.loop-digits.invariant.digits;
+      writing = writing_goes_on g.S.Sink.takes g.S.Sink.refused g.met.S.Sink.joins _ _ _ _ (bytes text) (bytes (groups_ahead separator (digit_text table) c.next_chunk.new.self after))
+          (rw parts at c.loop-digits.invariant.writing) c.in_ok-write_waiting.ensures.ok c.in_ok-write_waiting.ensures.refused;
+    }
+
+pub returns-in_err-write_waiting-clause-begun : goal.returns-in_err-write_waiting-clause-begun
+returns-in_err-write_waiting-clause-begun g c =
+    let table = c.args.table.now.chars.now in
+    let separator = c.args.separator.now in
+    let taken = c.in-Some.groups in
+    let was = c.loop-digits.digits in
+    let after = c.next_digits-chunk.new.digits in
+    let chunk = c.next_digits-chunk.result in
+    let text = take c.put_groups-len.result c.put_groups-len.new.waiting in
+    let put = c.put_groups-len.ensures.text ∙ ap (λ sep. groups_ahead sep (digit_text table) taken chunk) c.new-piece.ensures.is in
+    let parts = chunk_bytes separator table c.loop-digits.sizes taken c.next_chunk.new.self was after chunk text c.in-Some.ensures.taken c.in-Some.ensures.whole c.next_digits-chunk.ensures.chunk c.next_digits-chunk.ensures.digits put in
+    on_err c.from_residual.result
+    (writing_stops g.S.Sink.takes g.S.Sink.refused g.met.S.Sink.joins g.S.Sink.lacks_room g.met.S.Sink.lacks_more _ _ _ _ (bytes text) (bytes (groups_ahead separator (digit_text table) c.next_chunk.new.self after))
+    (rw parts at c.loop-digits.invariant.writing) c.in_err-write_waiting.ensures.begun)

@@ -1,0 +1,14 @@
+use Rattle.std.proofs.Common.{◌≡◌, drop, sum}
+use Rattle.std.specs.Int.Digits.{AllBelowBase}
+use Rattle.writeable.specs.AnnotatedText.{bytes}
+use Rattle.writeable.specs.Taking.{IsWriting}
+use Rattle.icu_decimal_plain.specs.LaterGroups.{groups_ahead}
+use Rattle.icu_decimal_plain.specs.PlainText.{digit_text}
+use Rattle.icu_decimal_plain.proofs.text_writing.write_few.Given as goal
+
+abbrev pub invariant-loop-size : goal.invariant-loop-size
+invariant-loop-size g l = record {
+  tens : AllBelowBase 10 l.digits;
+  digits : drop (sum l.sizes) l.digits ≡ drop (sum l.initial.sizes) l.initial.digits;
+  writing : IsWriting g.S.Sink.takes g.S.Sink.refused l.initial.sink (bytes (groups_ahead l.separator (digit_text l.table.chars.now) l.initial.sizes l.initial.digits)) l.sink (bytes (groups_ahead l.separator (digit_text l.table.chars.now) l.sizes l.digits));
+}

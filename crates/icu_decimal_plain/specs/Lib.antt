@@ -1,0 +1,14 @@
+pub mod Affixes
+pub mod BorrowedTables
+pub mod Grouper
+pub mod GroupLaws
+pub mod HeldAffixes
+pub mod HeldSizes
+pub mod LaterGroups
+pub mod PartIntervals
+pub mod PartLaws
+pub mod Pieces
+pub mod PlainText
+pub mod SameAffixes
+pub mod SamePlain
+pub mod TextLaws

@@ -1,0 +1,30 @@
+//! How a number is written: its text with its parts, where grouping separators stand, the affixes of its sign.
+//!
+//! With the sizes 3, 2, 1 the number 100000 is written `1,00,000`: a separator follows the digits at the magnitudes 5 and 3. With
+//! a minus sign it is `-1,00,000`. The rules are in docs/plain-text.md.
+//!
+//! ```rust
+//! use icu_decimal_plain::grouper::check;
+//! use icu_decimal_plain::{DecimalTables, FormattedSign};
+//!
+//! let tables = DecimalTables::new(&symbols, &digits, GroupingStrategy::Auto);
+//! tables.format(&number).write_to(&mut sink)?;                            // -1,234.5
+//! let follows = check(5, 3, GroupingStrategy::Auto, sizes);               // true
+//! let negative = FormattedSign::new(Sign::Negative, &symbols, "5");       // -5
+//! ```
+#![tactic(auto)]
+
+mod formatted_sign;
+mod formatted_unsigned_decimal;
+pub mod grouper;
+pub mod laws;
+mod piece_tables;
+mod short_text;
+mod tables;
+mod text_pieces;
+mod text_writing;
+mod writing;
+
+pub use formatted_sign::FormattedSign;
+pub use formatted_unsigned_decimal::FormattedUnsignedDecimal;
+pub use tables::{DecimalTables, FormattedDecimal};

@@ -1,0 +1,240 @@
+//! Writing the text of a number alone: many digits by one call of the sink.
+
+ghost use Rattle.std.specs.Prelude.{◌≡◌, ℕ, ◌+◌, ◌-◌, ◌<◌, ◌≤◌, ◌++◌, drop, false, is_err, length, map, sum, IsUtf8, OnOk, OnErr, take};
+ghost use Rattle.std.specs.Int.Digits.{AllBelowBase};
+ghost use Rattle.writeable.specs.AnnotatedText.{bytes};
+ghost use Rattle.writeable.specs.Taking.{HasBegun, IsWriting};
+ghost use Rattle.fixed_decimal.specs.Number.{whole_digits, fraction_digits};
+ghost use Rattle.icu_decimal_plain.specs.BorrowedTables.{borrowed_tables};
+ghost use Rattle.icu_decimal_plain.specs.PlainText.{chained, digit_text, fraction_text, unsigned_text, whole_text};
+ghost use Rattle.icu_decimal_plain.specs.LaterGroups.{groups_ahead};
+
+use crate::grouper::GroupSizes;
+use crate::piece_tables::DigitTable;
+use crate::short_text::ShortText;
+use crate::tables::DecimalTables;
+use crate::text_pieces::{CHUNK, CHUNK_BYTES, Piece, put_groups};
+use crate::writing::{fraction_len, highest, write_digits, write_fraction_digits};
+use fixed_decimal::{ShownDigits, UnsignedDecimal};
+use std::iter::ExactSizeIterator;
+use writeable::{Error, Sink};
+
+// Puts the next sixteen digits into a chunk, from a place on.
+fn put_block(digits: &mut ShownDigits<'_>, chunk: &mut [u8; CHUNK], at: usize)
+    requires within { at + 16 ≤ 48 }
+    requires enough { 16 ≤ length digits.old }
+    ensures chunk { take (at + 16) chunk.new ≡ take at chunk.old ++ take 16 digits.old }
+    ensures digits { digits.new ≡ drop 16 digits.old }
+{
+    let mut block = [0; 16];
+    digits.next_block(&mut block);
+    chunk[at..at + 16].copy_from_slice(&block);
+}
+
+// Takes the digits of a chunk.
+fn next_digits(digits: &mut ShownDigits<'_>) -> [u8; CHUNK]
+    requires { 48 ≤ length digits.old }
+    ensures chunk { result ≡ take 48 digits.old }
+    ensures digits { digits.new ≡ drop 48 digits.old }
+{
+    let mut chunk = [0; CHUNK];
+    put_block(digits, &mut chunk, 0);
+    put_block(digits, &mut chunk, 16);
+    put_block(digits, &mut chunk, 32);
+    chunk
+}
+
+// Writes the first bytes of `waiting`, so many.
+fn write_waiting<S: Sink>(
+    waiting: &[u8; CHUNK_BYTES],
+    len: usize,
+    sink: &mut S,
+) -> Result<(), Error>
+    requires fine { S.refused sink.old ≡ false }
+    requires within { len ≤ 384 }
+    requires utf8 { IsUtf8 (take len waiting.now) }
+    ensures ok { OnOk result (S.takes sink.old (bytes (take len waiting.now)) sink.new) }
+    ensures refused { S.refused sink.new ≡ is_err result }
+    ensures begun { OnErr result (HasBegun S.takes S.lacks_room sink.old (bytes (take len waiting.now)) sink.new) }
+{
+    sink.write_str(unsafe { str::from_utf8_unchecked(&waiting[..len]) })
+}
+
+// Writes groups by chunks, each group with the separator before it, as long as they fill one.
+fn write_chunks<S: Sink>(
+    separator: &str,
+    digits: &mut ShownDigits<'_>,
+    sizes: &mut GroupSizes,
+    table: &DigitTable<'_>,
+    sink: &mut S,
+) -> Result<(), Error>
+    requires fine { S.refused sink.old ≡ false }
+    requires short { length separator.now ≤ 4 }
+    requires tens { AllBelowBase 10 digits.old }
+    ensures tens { OnOk result (AllBelowBase 10 digits.new) }
+    ensures digits { OnOk result (drop (sum sizes.new) digits.new ≡ drop (sum sizes.old) digits.old) }
+    ensures ok { OnOk result (IsWriting S.takes S.refused sink.old (bytes (groups_ahead separator.now (digit_text table.now.chars.now) sizes.old digits.old)) sink.new (bytes (groups_ahead separator.now (digit_text table.now.chars.now) sizes.new digits.new))) }
+    ensures refused { S.refused sink.new ≡ is_err result }
+    ensures begun { OnErr result (HasBegun S.takes S.lacks_room sink.old (bytes (groups_ahead separator.now (digit_text table.now.chars.now) sizes.old digits.old)) sink.new) }
+{
+    let piece = Piece::new(separator);
+    let mut waiting = [0; CHUNK_BYTES];
+    while digits.len() >= CHUNK {
+        let Some(mut groups) = sizes.next_chunk() else {
+            return Ok(());
+        };
+        let chunk = next_digits(digits);
+        let len = put_groups(&mut waiting, 0, piece, &chunk, &mut groups, table);
+        write_waiting(&waiting, len, sink)?;
+    }
+    Ok(())
+}
+
+// Writes a group with the separator before it.
+#[tactic(auto, using(crate::proofs::PlainTextLemmas::bytes_chained))]
+fn write_group<S: Sink>(
+    separator: &str,
+    digits: &mut ShownDigits<'_>,
+    size: usize,
+    table: &DigitTable<'_>,
+    sink: &mut S,
+) -> Result<(), Error>
+    requires fine { S.refused sink.old ≡ false }
+    requires tens { AllBelowBase 10 digits.old }
+    ensures digits { OnOk result (digits.new ≡ drop size digits.old) }
+    ensures ok { OnOk result (S.takes sink.old (bytes separator.now ++ bytes (chained (map (digit_text table.now.chars.now) (take size digits.old)))) sink.new) }
+    ensures refused { S.refused sink.new ≡ is_err result }
+    ensures begun { OnErr result (HasBegun S.takes S.lacks_room sink.old (bytes separator.now ++ bytes (chained (map (digit_text table.now.chars.now) (take size digits.old)))) sink.new) }
+{
+    sink.write_str(separator)?;
+    write_digits(digits, size, table, sink)
+}
+
+// Writes groups one by one, each with the separator before it.
+fn write_few<S: Sink>(
+    separator: &str,
+    digits: &mut ShownDigits<'_>,
+    sizes: &mut GroupSizes,
+    table: &DigitTable<'_>,
+    sink: &mut S,
+) -> Result<(), Error>
+    requires fine { S.refused sink.old ≡ false }
+    requires tens { AllBelowBase 10 digits.old }
+    ensures digits { OnOk result (digits.new ≡ drop (sum sizes.old) digits.old) }
+    ensures ok { OnOk result (S.takes sink.old (bytes (groups_ahead separator.now (digit_text table.now.chars.now) sizes.old digits.old)) sink.new) }
+    ensures refused { S.refused sink.new ≡ is_err result }
+    ensures begun { OnErr result (HasBegun S.takes S.lacks_room sink.old (bytes (groups_ahead separator.now (digit_text table.now.chars.now) sizes.old digits.old)) sink.new) }
+{
+    while let Some(size) = sizes.next() {
+        write_group(separator, digits, size, table, sink)?;
+    }
+    Ok(())
+}
+
+// Writes groups, each with the separator before it.
+fn write_groups<S: Sink>(
+    separator: &str,
+    digits: &mut ShownDigits<'_>,
+    sizes: &mut GroupSizes,
+    table: &DigitTable<'_>,
+    sink: &mut S,
+) -> Result<(), Error>
+    requires fine { S.refused sink.old ≡ false }
+    requires tens { AllBelowBase 10 digits.old }
+    ensures digits { OnOk result (digits.new ≡ drop (sum sizes.old) digits.old) }
+    ensures ok { OnOk result (S.takes sink.old (bytes (groups_ahead separator.now (digit_text table.now.chars.now) sizes.old digits.old)) sink.new) }
+    ensures refused { S.refused sink.new ≡ is_err result }
+    ensures begun { OnErr result (HasBegun S.takes S.lacks_room sink.old (bytes (groups_ahead separator.now (digit_text table.now.chars.now) sizes.old digits.old)) sink.new) }
+{
+    if separator.len() <= 4 && digits.len() >= CHUNK {
+        write_chunks(separator, digits, sizes, table, sink)?;
+    }
+    write_few(separator, digits, sizes, table, sink)
+}
+
+// Writes digits without groups.
+#[tactic(auto, using(crate::proofs::PlainTextLemmas::bytes_chained))]
+pub(crate) fn write_run<S: Sink>(
+    digits: &mut ShownDigits<'_>,
+    count: usize,
+    table: &DigitTable<'_>,
+    sink: &mut S,
+) -> Result<(), Error>
+    requires fine { S.refused sink.old ≡ false }
+    requires tens { AllBelowBase 10 digits.old }
+    ensures digits { OnOk result (digits.new ≡ drop count digits.old) }
+    ensures ok { OnOk result (S.takes sink.old (bytes (chained (map (digit_text table.now.chars.now) (take count digits.old)))) sink.new) }
+    ensures refused { S.refused sink.new ≡ is_err result }
+    ensures begun { OnErr result (HasBegun S.takes S.lacks_room sink.old (bytes (chained (map (digit_text table.now.chars.now) (take count digits.old)))) sink.new) }
+{
+    if count < CHUNK || count > u16::MAX as usize {
+        return write_digits(digits, count, table, sink);
+    }
+    let mut chunks = GroupSizes::chunks(count as u16);
+    write_groups("", digits, &mut chunks, table, sink)
+}
+
+// Writes the text of the integer digits.
+fn write_whole_text<S: Sink>(
+    tables: &DecimalTables<'_>,
+    number: &UnsignedDecimal,
+    sink: &mut S,
+) -> Result<(), Error>
+    requires { S.refused sink.old ≡ false }
+    ensures ok { OnOk result (S.takes sink.old (bytes (whole_text (borrowed_tables tables.now) (whole_digits number.now))) sink.new) }
+    ensures refused { S.refused sink.new ≡ is_err result }
+    ensures begun { OnErr result (HasBegun S.takes S.lacks_room sink.old (bytes (whole_text (borrowed_tables tables.now) (whole_digits number.now))) sink.new) }
+{
+    let symbols = tables.symbols.symbols;
+    let table = &tables.digits;
+    let mut sizes = GroupSizes::of(highest(number) + 1, tables.strategy, symbols.grouping_sizes);
+    let mut digits = number.whole_digits();
+    let first = sizes.next().unwrap_or(0);
+    write_run(&mut digits, first, table, sink)?;
+    write_groups(
+        symbols.grouping_separator(),
+        &mut digits,
+        &mut sizes,
+        table,
+        sink,
+    )
+}
+
+// Writes the decimal separator and the fraction digits, where there are any.
+#[tactic(auto, using(crate::proofs::PlainTextLemmas::text_none))]
+fn write_fraction_text<S: Sink>(
+    tables: &DecimalTables<'_>,
+    number: &UnsignedDecimal,
+    sink: &mut S,
+) -> Result<(), Error>
+    requires { S.refused sink.old ≡ false }
+    ensures ok { OnOk result (S.takes sink.old (bytes (fraction_text (borrowed_tables tables.now) (fraction_digits number.now))) sink.new) }
+    ensures refused { S.refused sink.new ≡ is_err result }
+    ensures begun { OnErr result (HasBegun S.takes S.lacks_room sink.old (bytes (fraction_text (borrowed_tables tables.now) (fraction_digits number.now))) sink.new) }
+{
+    if fraction_len(number) == 0 {
+        return Ok(());
+    }
+    let symbols = tables.symbols.symbols;
+    sink.write_str(symbols.decimal_separator())?;
+    write_fraction_digits(&tables.digits, number, sink)
+}
+
+// Writes the text of a number without a sign.
+pub(crate) fn write_unsigned_text<S: Sink>(
+    tables: &DecimalTables<'_>,
+    number: &UnsignedDecimal,
+    sink: &mut S,
+) -> Result<(), Error>
+    requires { S.refused sink.old ≡ false }
+    ensures ok { OnOk result (S.takes sink.old (bytes (unsigned_text (borrowed_tables tables.now) number.now)) sink.new) }
+    ensures refused { S.refused sink.new ≡ is_err result }
+    ensures begun { OnErr result (HasBegun S.takes S.lacks_room sink.old (bytes (unsigned_text (borrowed_tables tables.now) number.now)) sink.new) }
+{
+    let mut text = ShortText::new();
+    if text.push_number(tables, number).is_some() {
+        return sink.write_str(text.as_str());
+    }
+    write_whole_text(tables, number, sink)?;
+    write_fraction_text(tables, number, sink)
+}
