@@ -1,8 +1,6 @@
 // Examples of public items that the other rows do not call: values, errors, identifiers, symbols, formatted numbers.
-use crate::one_locale::OneLocale;
 use icu_decimal::input::Decimal;
 use icu_decimal::options::GroupingStrategy;
-use icu_decimal::preferences::DecimalFormatterPreferences;
 use icu_decimal::provider::{
     DataError, DataIdentifier, DecimalSymbolStrsBuilder, DecimalSymbols, DecimalSymbolsStrs,
 };
@@ -14,6 +12,8 @@ use std::test::Fail;
 use tinystr::TinyAsciiStr;
 
 const LATIN: [char; 10] = ['0', '1', '2', '3', '4', '5', '6', '7', '8', '9'];
+
+const THAI: [char; 10] = ['๐', '๑', '๒', '๓', '๔', '๕', '๖', '๗', '๘', '๙'];
 
 // A value is read alike whether it is borrowed or owned.
 fn expect_read(rt: &impl Abort) {
@@ -191,19 +191,11 @@ fn two_texts<'x>(
     found
 }
 
-// The same, in English.
-fn in_english(alloc: Global, text: &str, other: &str) -> Result<String, Fail> {
+// The same, with the symbols of English and these digits.
+fn in_english(alloc: Global, digits: &[char; 10], text: &str, other: &str) -> Result<String, Fail> {
     let symbols = DecimalSymbols::new_en_for_testing(alloc)?;
-    let provider = OneLocale {
-        symbols: &symbols,
-        digits: LATIN,
-    };
-    let preferences = DecimalFormatterPreferences::default();
-    let options = GroupingStrategy::Auto.into();
-    let found = match DecimalFormatter::try_new_unstable(&provider, preferences, options) {
-        Ok(formatter) => two_texts(alloc, &formatter, text, other),
-        Err(_) => Err(Fail::from("no formatter")),
-    };
+    let formatter = DecimalFormatter::from_tables(&symbols, digits, GroupingStrategy::Auto.into());
+    let found = two_texts(alloc, &formatter, text, other);
     drop(symbols);
     found
 }
@@ -212,11 +204,12 @@ fn in_english(alloc: Global, text: &str, other: &str) -> Result<String, Fail> {
 fn expect_written(
     rt: &impl Abort,
     alloc: Global,
+    digits: &[char; 10],
     text: &str,
     other: &str,
     want: &str,
 ) -> Result<(), Fail> {
-    let found = in_english(alloc, text, other)?;
+    let found = in_english(alloc, digits, text, other)?;
     assert_eq!(rt; found.as_str(), want, "{text} beside {other}");
     Ok(())
 }
@@ -236,7 +229,9 @@ const FORMATTED: [(&str, &str, &str); 7] = [
 #[test]
 fn formatted_numbers(rt: HostRuntime) -> Result<(), Fail> {
     for (text, other, want) in &FORMATTED {
-        expect_written(&rt, rt.alloc(), text, other, want)?;
+        expect_written(&rt, rt.alloc(), &LATIN, text, other, want)?;
     }
+    let want = "๑,๐๐๐,๐๐๗ ๑,๐๐๐,๐๐๗ 5 true";
+    expect_written(&rt, rt.alloc(), &THAI, "1000007", "1000007", want)?;
     Ok(())
 }
