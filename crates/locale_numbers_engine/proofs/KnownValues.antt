@@ -1,6 +1,7 @@
 -- The lines of some bytes, as the page on requests gives them.
-use Rattle.std.proofs.Common.{◌≡◌, [], ◌∷◌, refl}
+use Rattle.std.proofs.Common.{◌≡◌, ℕ, List, [], ◌∷◌, Some, refl}
 use Rattle.locale_numbers_engine.specs.Lines.{lines_of, whole_lines, output_of}
+use Rattle.locale_numbers_engine.specs.Run.{MayReadOnceAnswered}
 
 -- no bytes have no line
 pub no_bytes : lines_of [] ≡ []
@@ -31,3 +32,13 @@ return_stays = refl
 -- each answer has its feed, also that to a last line with none
 pub echo_ended : output_of (λ line. line) (97 ∷ 10 ∷ 98 ∷ []) ≡ 97 ∷ 10 ∷ 98 ∷ 10 ∷ []
 echo_ended = refl
+
+-- where a run may read: before anything was told, and with `a` and its feed told where the answer is written
+pub read_at_start : (may_read : List ℕ → Type 0) → MayReadOnceAnswered may_read Some Some (λ line. line) (97 ∷ 10 ∷ []) [] → may_read (97 ∷ 10 ∷ [])
+read_at_start may_read may = may (97 ∷ 10 ∷ []) [] [] refl refl
+
+pub read_within_a_line : (may_read : List ℕ → Type 0) → MayReadOnceAnswered may_read Some Some (λ line. line) (97 ∷ 10 ∷ []) [] → may_read (10 ∷ [])
+read_within_a_line may_read may = may (10 ∷ []) [] (97 ∷ []) refl refl
+
+pub read_behind_a_line : (may_read : List ℕ → Type 0) → MayReadOnceAnswered may_read Some Some (λ line. line) (97 ∷ 10 ∷ []) [] → may_read []
+read_behind_a_line may_read may = may [] (97 ∷ 10 ∷ []) (97 ∷ 10 ∷ []) refl refl

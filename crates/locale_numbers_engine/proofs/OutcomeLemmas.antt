@@ -6,7 +6,7 @@ use Rattle.std.proofs.Math.Seq.{take-append_seam, take-length}
 use Rattle.std.specs.Io.KnownBytes.{Appends, Consumes, Keeps, IsAtEnd}
 use Rattle.std.proofs.KnownBytes.{Appends-trans, Appends-kept, Consumes-trans, Consumes-whole}
 use Rattle.locale_numbers_engine.specs.Lines.{lines_of, last_line, ended, AreLines, Splits, answers_to, output_of}
-use Rattle.locale_numbers_engine.specs.Run.{most, WritesFront, WritesTold, WritesPart, WritesFirst}
+use Rattle.locale_numbers_engine.specs.Run.{most, WritesFront, WritesTold, WritesPart, WritesFirst, MayReadOnceAnswered}
 use Rattle.locale_numbers_engine.specs.Progress.{Counts, Progress, Answered, AnsweredPart, Finishes, AnswersAll}
 use Rattle.locale_numbers_engine.proofs.LinesLemmas.{lines_of-split, lines_are, whole_lines_are}
 use Rattle.locale_numbers_engine.proofs.WriteLemmas.{front_written}
@@ -107,6 +107,17 @@ told_answered answer told held before between after old new over next had has ca
   wrote = subst (λ (l : List (List ℕ)). Appends before after (answers_to answer l)) (sym (whole_lines_are told came.lines held (came_splits answer told held before between old new over next came)))
       (Appends-kept before between after (answers_to answer came.lines) (came_wrote answer told held before between old new over next came) same);
 }
+
+-- the lines told whole were answered, so the reader may be read
+pub read_allowed : {R W : Type 0} (may_read : R → Type 0) (remaining : R → Option (List ℕ)) (contents : W → Option (List ℕ)) (answer : List ℕ → List ℕ) (first_reader reader : R) (first_writer writer : W)
+    (told held : List ℕ) (old new : ℕ) (over next : List (List ℕ) → ℕ) → MayReadOnceAnswered may_read remaining contents answer first_reader first_writer
+    → Consumes (remaining first_reader) (remaining reader) told → Progress answer told held [] [] (contents first_writer) (contents writer) old new over next → may_read reader
+read_allowed may_read remaining contents answer first_reader reader first_writer writer told held old new over next may gave came =
+    let before = contents first_writer in
+    let after = contents writer in
+    may reader writer told gave
+    (subst (λ (l : List (List ℕ)). Appends before after (answers_to answer l)) (sym (whole_lines_are told came.lines held (came_splits answer told held before after old new over next came)))
+    (came_wrote answer told held before after old new over next came))
 
 -- they are a front of the output when the writer then failed
 pub told_part : (answer : List ℕ → List ℕ) (told held : List ℕ) (before between after : Option (List ℕ)) (old new : ℕ) (over next : List (List ℕ) → ℕ) (had has : Option (List ℕ))

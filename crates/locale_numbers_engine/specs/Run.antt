@@ -1,7 +1,7 @@
 -- What a run has written and counted at each of its outcomes, where reader and writer tell their bytes.
 -- Defined in docs/requests.md, "What a run leaves".
 -- Cited by `run_with`; `had` and `has` are the reader's bytes before and after, `held` and `holds` the writer's.
-use Rattle.std.specs.Prelude.{ℕ, ◌≡◌, ◌≤◌, ◌-◌, ◌^◌, min, List, length, take, Option, IfSome}
+use Rattle.std.specs.Prelude.{ℕ, ◌≡◌, ◌-◌, ◌^◌, min, List, length, take, Option, IfSome}
 use Rattle.std.specs.Io.KnownBytes.{Appends, Consumes}
 use Rattle.locale_numbers_engine.specs.Lines.{lines_of, whole_lines, answers_to, output_of}
 
@@ -46,8 +46,9 @@ CountsLines had count = IfSome had (λ input. count ≡ min (length (lines_of in
 abbrev pub CountsMade : (List (List ℕ) → ℕ) → Option (List ℕ) → ℕ → Type 0
 CountsMade over had count = IfSome had (λ input. count ≡ over (lines_of input))
 
--- the reader gave a byte at least in each of 2^64 - 1 reads
-pub record GivesTooLong (had has : Option (List ℕ)) : Type 0 where
-  pub told : List ℕ
-  pub gave : Consumes had has told
-  pub long : most ≤ length told
+-- a reader, and those that come of it by reads, may be read where the lines that it has told whole are answered on a writer that comes of this one:
+-- `remaining` has the bytes that a reader will give, `contents` those that a writer holds
+abbrev pub MayReadOnceAnswered : {R W : Type 0} → (R → Type 0) → (R → Option (List ℕ)) → (W → Option (List ℕ)) → (List ℕ → List ℕ) → R → W → Type 0
+MayReadOnceAnswered {R} {W} may_read remaining contents answer first_reader first_writer =
+    (reader : R) (writer : W) (told : List ℕ) → Consumes (remaining first_reader) (remaining reader) told
+    → Appends (contents first_writer) (contents writer) (answers_to answer (whole_lines told)) → may_read reader

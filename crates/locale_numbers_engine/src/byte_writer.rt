@@ -1,4 +1,4 @@
-ghost use Rattle.std.specs.Prelude.{◌≡◌, ℕ, ◌≤◌, Bool, ◌||◌, List, length, Option, IfOk, is_err};
+ghost use Rattle.std.specs.Prelude.{◌≡◌, ℕ, ◌≤◌, Bool, false, List, length, Option, IfOk, is_err};
 ghost use Rattle.std.specs.Io.KnownBytes.{Keeps, WriteAppends};
 ghost use Rattle.locale_numbers_engine.specs.ByteIo.{write_fails};
 
@@ -25,19 +25,22 @@ pub trait ByteWriter {
     /// Takes a beginning of `piece`, and answers how many bytes that is: 2, where of `one` it takes
     /// `on`.
     ///
-    /// A write that takes no byte of a piece that is not empty counts as failed.
+    /// A write that takes no byte of a piece that is not empty counts as failed. The condition is that no
+    /// write and no flush has failed before.
     fn write(&mut self, piece: &[u8]) -> Result<usize, ByteWriteFault>
+        requires well { failed self.old ≡ false }
         ensures bound { IfOk result (λ count. count ≤ length piece.now) }
         ensures bytes { WriteAppends (contents self.old) (contents self.new) result piece.now }
 
         // A failed write sets it for good, and nothing else does.
-        ensures fault { failed self.new ≡ (failed self.old || write_fails result piece.now) };
+        ensures fault { failed self.new ≡ write_fails result piece.now };
 
     /// Sends on what it has taken and still keeps back: where it took `one` and has sent `on`, the
-    /// `e`.
+    /// `e`. The condition is that no write and no flush has failed before.
     fn flush(&mut self) -> Result<(), ByteWriteFault>
+        requires well { failed self.old ≡ false }
         ensures bytes { Keeps (contents self.old) (contents self.new) }
-        ensures fault { failed self.new ≡ (failed self.old || is_err result) };
+        ensures fault { failed self.new ≡ is_err result };
 
     /// Whether a write or a flush has failed: true after a write that takes no byte of `a`.
     fn has_failed(&self) -> bool

@@ -8,8 +8,7 @@ use thiserror::Error;
 /// line feed, `c`.
 #[derive(Clone, Copy, Debug, PartialEq, Eq, Error)]
 pub enum RunError {
-    /// The reader failed, as one whose read was interrupted, or still gave bytes after
-    /// 18,446,744,073,709,551,615 reads.
+    /// The reader failed, as one whose read was interrupted.
     #[error("the reader failed")]
     Read,
     /// The writer failed, as one whose flush did, or took no byte of a piece that was not empty.

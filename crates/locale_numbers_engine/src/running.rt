@@ -1,10 +1,10 @@
-ghost use Rattle.std.specs.Prelude.{◌≡◌, ◌⊎◌, ◌<◌, [], length, string_bytes, true, false, IfOk, IsErrOf, MatchResult, OnOk};
+ghost use Rattle.std.specs.Prelude.{◌≡◌, ◌<◌, [], length, string_bytes, true, false, IfOk, IsErrOf, MatchResult, OnOk};
 ghost use Rattle.std.specs.Io.KnownBytes.{Keeps};
 ghost use Rattle.locale_numbers_engine.specs.Lines.{answers_to, last_line};
 ghost use Rattle.locale_numbers_engine.specs.Outcomes.{MatchRun, ends_in_write, is_write};
 ghost use Rattle.locale_numbers_engine.specs.Progress.{AnswersAll, Finishes};
 ghost use Rattle.locale_numbers_engine.specs.Run.{WritesAll, WritesTold, WritesPart, WritesFirst, WritesFront};
-ghost use Rattle.locale_numbers_engine.specs.Run.{CountsLines, CountsMade, GivesTooLong};
+ghost use Rattle.locale_numbers_engine.specs.Run.{CountsLines, CountsMade, MayReadOnceAnswered};
 
 use crate::answerer::Answerer;
 use crate::answering::answer_line;
@@ -70,6 +70,7 @@ fn stream<A: Answerer, R: ByteReader, W: ByteWriter>(
     requires room { 0 < length piece.old }
     requires reader_well { R.failed reader.old ≡ false }
     requires writer_well { W.failed writer.old ≡ false }
+    requires prompt { MayReadOnceAnswered R.may_read R.remaining W.contents (A.answer_of answerer.old) reader.old writer.old }
     ensures outcome { let answer = A.answer_of answerer.old in
         let had = R.remaining reader.old in
         let held = W.contents writer.old in
@@ -81,8 +82,7 @@ fn stream<A: Answerer, R: ByteReader, W: ByteWriter>(
         (WritesPart answer had held holds)
         (WritesFirst answer had held holds)) }
     ensures reader_stays_well { OnOk result (R.failed reader.new ≡ false) }
-    ensures reader_failed { IsErrOf result RunError.Read →
-        (R.failed reader.new ≡ true) ⊎ GivesTooLong (R.remaining reader.old) (R.remaining reader.new) }
+    ensures reader_failed { IsErrOf result RunError.Read → R.failed reader.new ≡ true }
     ensures fault { W.failed writer.new ≡ ends_in_write result }
     ensures memory_only { IsErrOf result RunError.Memory →
         (R.failed reader.new ≡ false) × (W.failed writer.new ≡ false) }
@@ -92,7 +92,7 @@ fn stream<A: Answerer, R: ByteReader, W: ByteWriter>(
     let mut held = Vec::new(alloc);
     let mut ready = String::new(alloc);
     let mut lines = 0;
-    'read: for _turn in 0..u64::MAX {
+    'read: loop {
         match reader.read(piece) {
             Ok(0) => {
                 let count = finish(answerer, held.as_slice(), &mut ready, lines, writer)?;
@@ -112,7 +112,6 @@ fn stream<A: Answerer, R: ByteReader, W: ByteWriter>(
             Err(_) => return Err(stop(writer)),
         }
     }
-    Err(stop(writer))
 }
 
 /// Answers each line that `reader` gives, in order, onto `writer`, each answer with a line feed.
@@ -125,10 +124,12 @@ fn stream<A: Answerer, R: ByteReader, W: ByteWriter>(
 /// line that goes on, and answers: these are written before the next piece is read, and whenever they
 /// come to 65,536 bytes. After the last answer the writer is flushed once.
 ///
-/// Of neither `reader` nor `writer` a call may have failed before, and the answerer is ready.
+/// Of neither `reader` nor `writer` a call may have failed before, and the answerer is ready. The reader
+/// is read where each whole line that it gave is answered and written, and nowhere else; a reader that
+/// names a condition names one that holds there.
 ///
-/// - Read: a read failed, or the reader still gave bytes after 18,446,744,073,709,551,615 reads. The
-///   whole lines that it gave have been answered, and the writer has been flushed.
+/// - Read: a read failed. The whole lines that the reader gave have been answered, and the writer has
+///   been flushed.
 /// - Write: a write or the flush failed, or a write took no byte. A beginning of the output is written.
 /// - Memory: a request for memory was refused, here or by the answerer. Some first lines have been
 ///   answered, each whole.
@@ -141,6 +142,9 @@ pub fn run_with<A: Answerer, R: ByteReader, W: ByteWriter>(
     requires can_answer { A.is_ready answerer.old }
     requires reader_well { R.failed reader.old ≡ false }
     requires writer_well { W.failed writer.old ≡ false }
+
+    // A line is answered as soon as it is whole: the reader is read only where all that it gave are.
+    requires prompt { MayReadOnceAnswered R.may_read R.remaining W.contents (A.answer_of answerer.old) reader.old writer.old }
     ensures output { OnOk result (
         WritesAll (A.answer_of answerer.old) (R.remaining reader.old)
         (W.contents writer.old) (W.contents writer.new)) }
@@ -152,8 +156,7 @@ pub fn run_with<A: Answerer, R: ByteReader, W: ByteWriter>(
     ensures read { IsErrOf result RunError.Read →
         WritesTold (A.answer_of answerer.old) (R.remaining reader.old) (R.remaining reader.new)
         (W.contents writer.old) (W.contents writer.new) }
-    ensures reader_failed { IsErrOf result RunError.Read →
-        (R.failed reader.new ≡ true) ⊎ GivesTooLong (R.remaining reader.old) (R.remaining reader.new) }
+    ensures reader_failed { IsErrOf result RunError.Read → R.failed reader.new ≡ true }
     ensures write { IsErrOf result RunError.Write →
         WritesPart (A.answer_of answerer.old) (R.remaining reader.old)
         (W.contents writer.old) (W.contents writer.new) }

@@ -24,7 +24,7 @@ impl<W: io::Write> ByteWriter for Tracked<W> {
 
     fn flush(&mut self) -> Result<(), ByteWriteFault> {
         let flushed = self.inner.flush();
-        self.failed = self.failed || flushed.is_err();
+        self.failed = flushed.is_err();
         match flushed {
             Ok(()) => Ok(()),
             Err(_) => Err(ByteWriteFault),

@@ -1,8 +1,8 @@
-use Rattle.std.proofs.Common.{◌<◌, ◌≤◌, ◌+◌, ◌++◌, [], rules, arith, refl, length, take, length-append, length-take}
+use Rattle.std.proofs.Common.{◌<◌, ◌++◌, [], rules, refl, length, take}
 use Rattle.std.proofs.lemmas.Result.{err_from_is_err_and}
 use Rattle.std.proofs.KnownBytes.{Consumes-nil, Consumes-trans, Consumes-kept}
 use Rattle.locale_numbers_engine.proofs.ProgressLemmas.{progress_none}
-use Rattle.locale_numbers_engine.proofs.OutcomeLemmas.{progress_fed, all_part, all_answered, told_ended}
+use Rattle.locale_numbers_engine.proofs.OutcomeLemmas.{progress_fed, all_part, all_answered, told_ended, read_allowed}
 use Rattle.locale_numbers_engine.proofs.RefusalLemmas.{feed_refused, finish_refused, stop_refused}
 use Rattle.locale_numbers_engine.proofs.running.stream.Goals as goal
 
@@ -10,7 +10,6 @@ pub read-init : goal.read-init
 read-init g c = record {
   told = [];
   gave = Consumes-nil _;
-  turns = search rules;
   came = progress_none _ _ _ _ c.new-held.ensures.items;
   nothing = c.new-ready.ensures.bytes;
   same = refl;
@@ -19,17 +18,18 @@ read-init g c = record {
   writer_well = c.requires.writer_well;
 }
 
+pub read-requires-clause-allowed : goal.read-requires-clause-allowed
+read-requires-clause-allowed g c =
+    read_allowed g.R.ByteReader.may_read g.R.ByteReader.remaining g.W.ByteWriter.contents _ _ _ _ _ _ _ _ _ _ _ c.requires.prompt c.read.invariant.gave c.read.invariant.came
+
 pub read-preserved : goal.read-preserved
 read-preserved g c =
     let so_far = c.read.invariant in
     let buffer = c.read-in-read.new.buffer in
     let given = c.in-Ok.given in
-    let turns : c.read._turn + 1 ≤ length (so_far.told ++ take given buffer) =
-    omega (arith, so_far.turns, c.in-Ok.given-test, c.in-Ok.ensures.bound, length-append so_far.told (take given buffer), length-take given buffer) in
     record {
       told = so_far.told ++ take given buffer;
       gave = Consumes-trans _ _ _ _ _ so_far.gave c.in-Ok.ensures.bytes.0;
-      turns = turns;
       came = progress_fed _ _ _ _ _ _ _ _ _ _ _ _ _ _ _ so_far.came so_far.same c.in_ok-lines-in-Ok.ensures.came;
       nothing = search rules;
       same = search rules;
@@ -74,6 +74,3 @@ pub returns-in-Err-clause-outcome : goal.returns-in-Err-clause-outcome
 returns-in-Err-clause-outcome g c =
     let so_far = c.read.invariant in
     stop_refused _ _ _ _ _ _ _ _ _ _ _ _ _ _ so_far.came (Consumes-kept _ _ _ _ so_far.gave c.in-Err.ensures.bytes) c.stop.ensures.kept
-
-pub returns-clause-outcome : goal.returns-clause-outcome
-returns-clause-outcome g c = stop_refused _ _ _ _ _ _ _ _ _ _ _ _ _ _ c.read.invariant.came c.read.invariant.gave c.stop-2.ensures.kept

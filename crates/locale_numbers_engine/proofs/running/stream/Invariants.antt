@@ -1,4 +1,4 @@
-use Rattle.std.proofs.Common.{◌≡◌, ◌≤◌, ℕ, List, [], false, string_bytes, length}
+use Rattle.std.proofs.Common.{◌≡◌, ℕ, List, [], false, string_bytes}
 use Rattle.std.specs.Io.KnownBytes.{Consumes}
 use Rattle.locale_numbers_engine.specs.Progress.{Progress}
 use Rattle.locale_numbers_engine.proofs.running.stream.Given as goal
@@ -7,7 +7,6 @@ abbrev pub invariant-read : goal.invariant-read
 invariant-read g l = record {
   told : List ℕ;
   gave : Consumes (g.R.ByteReader.remaining l.initial.reader) (g.R.ByteReader.remaining l.reader) told;
-  turns : l._turn ≤ length told;
   came : Progress (g.A.Answerer.answer_of l.initial.answerer) told l.held.items [] [] (g.W.ByteWriter.contents l.initial.writer) (g.W.ByteWriter.contents l.writer) 0 l.lines
       (g.A.Answerer.made_over l.initial.answerer) (g.A.Answerer.made_over l.answerer);
   nothing : string_bytes l.ready ≡ [];
@@ -16,3 +15,6 @@ invariant-read g l = record {
   reader_well : g.R.ByteReader.failed l.reader ≡ false;
   writer_well : g.W.ByteWriter.failed l.writer ≡ false;
 }
+
+abbrev pub decreases-read : goal.decreases-read
+decreases-read g l = g.R.ByteReader.reads_left l.reader
