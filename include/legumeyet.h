@@ -1,0 +1,280 @@
+/*
+ * Legumeyet: numbers written as their readers write them, from C.
+ *
+ * A book of tables is opened from a JSON text. From a book formatters are opened, one for each locale tag. A formatter writes numbers
+ * into bytes of the caller's, and reads such text back:
+ *
+ *     legumeyet_book book = {0};
+ *     legumeyet_decimal_formatter english = {0};
+ *     uint8_t out[64];
+ *     size_t length;
+ *     legumeyet_book_open(json, json_length, &book);
+ *     legumeyet_decimal_formatter_open(&book, (const uint8_t *)"en", 2, LEGUMEYET_GROUPING_AUTO, &english);
+ *     legumeyet_options as_it_is = {0};
+ *     legumeyet_decimal_formatter_format(&english, (const uint8_t *)"-987654.321", 11, &as_it_is, out, sizeof out, &length);
+ *     fwrite(out, 1, length, stdout);                            // -987,654.321
+ *     legumeyet_decimal_formatter_close(&english);
+ *     legumeyet_book_close(&book);
+ *
+ * Texts are UTF-8, a pointer and a length in bytes, with no NUL behind them. A pointer is never null; of a text of length 0 it is any
+ * pointer that is not null.
+ *
+ * A handle is memory of the caller's. Zeroed memory is a closed handle. A handle is not copied, and is closed once. What stands in it
+ * is not for callers. It may be used in another thread than the one that opened it, by one call at a time. Handles are free of each
+ * other: a formatter has the tables that it needs, so its book may be closed before it.
+ *
+ * A call that answers no 0 leaves its handles as they were. Of the numbers that apply the first of the call's list is answered.
+ * A call that takes `out`, `room` and `length` writes the text to the front of the `room` bytes at `out`, and its length in bytes to
+ * `length`; bytes behind the text stay as they were. Where the text is longer than `room` it answers LEGUMEYET_TOO_SMALL, the `room`
+ * bytes are the first of the text, and `length` is what the text needs. Any other error leaves `out` and `length` as they were.
+ * `out` may not overlap anything else that the call is given.
+ */
+#ifndef LEGUMEYET_H
+#define LEGUMEYET_H
+
+#include <stdbool.h>
+#include <stddef.h>
+#include <stdint.h>
+
+#ifdef __cplusplus
+extern "C" {
+#endif
+
+/* The version of this header: functions and numbers are added, and none of them ever changes its meaning. */
+#define LEGUMEYET_VERSION 1
+
+/* What a call answers. */
+enum {
+    LEGUMEYET_OK = 0,           /* all is well */
+    LEGUMEYET_MEMORY = 1,       /* memory was refused */
+    LEGUMEYET_CLOSED = 2,       /* the handle is closed */
+    LEGUMEYET_TOO_SMALL = 3,    /* the text, or the list of parts, needs more room; how much was written to `length`, to `count` */
+    LEGUMEYET_OPTION = 4,       /* an option is none of its numbers, as a grouping of 4 */
+    LEGUMEYET_TAG = 5,          /* the text is no locale tag, as `e` */
+    LEGUMEYET_TABLE = 6,        /* the book lacks a table for the tag */
+    LEGUMEYET_NUMBER = 7,       /* the text is no decimal number, as `5.` */
+    LEGUMEYET_LIMIT = 8,        /* a digit of the number stands beyond the magnitudes -32768 to 32767 */
+    LEGUMEYET_RANGE = 9,        /* what the number is shown as in compact form reaches ten to the power 32768 */
+    LEGUMEYET_UTF8 = 10,        /* the text is not UTF-8 */
+    LEGUMEYET_UNREADABLE = 11,  /* under the formatter's symbols two numbers may have one text */
+    LEGUMEYET_NOT_WRITTEN = 12, /* the formatter writes no number so, as `98,7654` in English */
+    /* Why a text is no book: the first faulty entry decides, and of an entry the least number. */
+    LEGUMEYET_BOOK_JSON = 101,      /* the bytes are no JSON, as `[1` */
+    LEGUMEYET_BOOK_SHAPE = 102,     /* the value is not five arrays or six, as `[]`, or an entry has not its form */
+    LEGUMEYET_BOOK_TAG = 103,       /* a locale, or the parent of one, is refused, as `e` */
+    LEGUMEYET_BOOK_SYSTEM = 104,    /* a name of a numbering system is not 3 to 8 lower-case letters and digits */
+    LEGUMEYET_BOOK_TEXT = 105,      /* a tab or a line feed stands in the text of a symbol or a pattern */
+    LEGUMEYET_BOOK_DIGITS = 106,    /* the digits of a system are not ten characters, or a tab or a line feed is among them */
+    LEGUMEYET_BOOK_CONDITION = 107, /* the condition of a plural category is not one */
+    LEGUMEYET_BOOK_TYPES = 108,     /* the types of patterns do not rise */
+    LEGUMEYET_BOOK_EXPONENTS = 109, /* an exponent of patterns falls, is above its type, or is more than 15 below it */
+    LEGUMEYET_BOOK_DUPLICATE = 110, /* an earlier entry of the array has the same key */
+    LEGUMEYET_BOOK_CYCLE = 111      /* the parents of a locale lead back to it */
+};
+
+/* When grouping separators are written. */
+enum {
+    LEGUMEYET_GROUPING_AUTO = 0,   /* where the sizes of the locale place them: `1,234,567` */
+    LEGUMEYET_GROUPING_NEVER = 1,  /* nowhere: `1234567` */
+    LEGUMEYET_GROUPING_ALWAYS = 2, /* as AUTO */
+    LEGUMEYET_GROUPING_MIN2 = 3    /* as AUTO, but only with two digits before the last separator: `1000`, `10,000` */
+};
+
+/* How long compact text is. */
+enum {
+    LEGUMEYET_LENGTH_SHORT = 0, /* `1.6K` */
+    LEGUMEYET_LENGTH_LONG = 1   /* `1.6 thousand` */
+};
+
+/* Which sign is written; chosen by what the rounding left. */
+enum {
+    LEGUMEYET_SIGN_KEEP = 0,        /* the one of the number as it was given: `+5` stays `+5` */
+    LEGUMEYET_SIGN_AUTO = 1,        /* a minus where the number has one; a plus is left out */
+    LEGUMEYET_SIGN_NEVER = 2,       /* none */
+    LEGUMEYET_SIGN_ALWAYS = 3,      /* a plus where the number has none */
+    LEGUMEYET_SIGN_EXCEPT_ZERO = 4, /* none at zero, and else as ALWAYS */
+    LEGUMEYET_SIGN_NEGATIVE = 5     /* a minus on a number that is not zero, and else none */
+};
+
+/* Which multiple of the increment, at the position, the number is rounded to. */
+enum {
+    LEGUMEYET_ROUND_KEEP = 0,        /* it is not rounded */
+    LEGUMEYET_ROUND_EXPAND = 1,      /* away from zero */
+    LEGUMEYET_ROUND_TRUNC = 2,       /* towards zero */
+    LEGUMEYET_ROUND_CEIL = 3,        /* upwards */
+    LEGUMEYET_ROUND_FLOOR = 4,       /* downwards */
+    LEGUMEYET_ROUND_HALF_EXPAND = 5, /* to the nearest, a tie away from zero */
+    LEGUMEYET_ROUND_HALF_TRUNC = 6,  /* to the nearest, a tie towards zero */
+    LEGUMEYET_ROUND_HALF_CEIL = 7,   /* to the nearest, a tie upwards */
+    LEGUMEYET_ROUND_HALF_FLOOR = 8,  /* to the nearest, a tie downwards */
+    LEGUMEYET_ROUND_HALF_EVEN = 9    /* to the nearest, a tie to the even one */
+};
+
+/* The kinds of parts. */
+enum {
+    LEGUMEYET_PART_MINUS_SIGN = 1,
+    LEGUMEYET_PART_PLUS_SIGN = 2,
+    LEGUMEYET_PART_INTEGER = 3,  /* the integer digits with their separators */
+    LEGUMEYET_PART_GROUP = 4,    /* a grouping separator, inside an INTEGER */
+    LEGUMEYET_PART_DECIMAL = 5,  /* the decimal separator */
+    LEGUMEYET_PART_FRACTION = 6  /* the fraction digits */
+};
+
+/* A book of tables; see above, "A handle". */
+typedef struct {
+    void *content;
+    bool is_open;
+} legumeyet_book;
+
+/* A formatter of plain numbers: `-1,234.5`. */
+typedef struct {
+    void *content;
+    bool is_open;
+} legumeyet_decimal_formatter;
+
+/* A formatter of compact numbers: `-1.2K`. */
+typedef struct {
+    void *content;
+    bool is_open;
+} legumeyet_compact_formatter;
+
+/* What is made of a number before it is written: it is rounded, and then its sign is chosen. Zeroed, the number stays as it is. */
+typedef struct {
+    uint32_t sign;     /* a LEGUMEYET_SIGN */
+    uint32_t rounding; /* a LEGUMEYET_ROUND */
+    int16_t position;  /* the magnitude that is rounded at: 0 the ones, -2 the hundredths; of LEGUMEYET_ROUND_KEEP it counts for nothing */
+} legumeyet_options;
+
+/* A part of a text: the bytes from `start` up to `end`. */
+typedef struct {
+    size_t start;
+    size_t end;
+    uint32_t kind; /* a LEGUMEYET_PART */
+} legumeyet_interval;
+
+/*
+ * Opens the book that a JSON text is; books/README.md says how such a text is made.
+ *
+ * What `book` had open is closed, where the call answers 0. `[[],[],[],[],[]]` is the shortest book.
+ *
+ * Answers 0; LEGUMEYET_BOOK_JSON to LEGUMEYET_BOOK_CYCLE; LEGUMEYET_MEMORY.
+ */
+int32_t legumeyet_book_open(const uint8_t *json, size_t json_length, legumeyet_book *book);
+
+/*
+ * Closes a book, and lets go of its memory. Its formatters stay as they are.
+ *
+ * Answers 0; LEGUMEYET_CLOSED, where it was closed already.
+ */
+int32_t legumeyet_book_close(legumeyet_book *book);
+
+/*
+ * Opens the formatter of plain numbers for a locale tag: that of `en` writes -1234.5 as `-1,234.5`, that of `ar-EG` as `-١٬٢٣٤٫٥`.
+ *
+ * It has its own copy of the tables. What `formatter` had open is closed, where the call answers 0.
+ *
+ * Answers 0; LEGUMEYET_CLOSED, of the book; LEGUMEYET_OPTION, of the grouping; LEGUMEYET_TAG; LEGUMEYET_TABLE, where the book has no
+ * symbols or no digits for the tag; LEGUMEYET_MEMORY, also in place of the last two.
+ */
+int32_t legumeyet_decimal_formatter_open(legumeyet_book *book, const uint8_t *tag, size_t tag_length, uint32_t grouping,
+                                         legumeyet_decimal_formatter *formatter);
+
+/* Closes a formatter. Answers 0; LEGUMEYET_CLOSED, where it was closed already. */
+int32_t legumeyet_decimal_formatter_close(legumeyet_decimal_formatter *formatter);
+
+/*
+ * Writes a decimal number that is given as text: `-987654.321` as `-987,654.321` in English. `1.5e3` is such a text too.
+ *
+ * With the rounding LEGUMEYET_ROUND_HALF_EVEN at -1 and the sign LEGUMEYET_SIGN_ALWAYS `9.75` is written `+9.8`.
+ *
+ * Answers 0; LEGUMEYET_CLOSED; LEGUMEYET_OPTION, of the sign or the rounding; LEGUMEYET_NUMBER; LEGUMEYET_LIMIT; LEGUMEYET_MEMORY, which
+ * a number of eight digits at most never takes; LEGUMEYET_TOO_SMALL.
+ */
+int32_t legumeyet_decimal_formatter_format(legumeyet_decimal_formatter *formatter, const uint8_t *number, size_t number_length,
+                                           const legumeyet_options *options, uint8_t *out, size_t room, size_t *length);
+
+/*
+ * Writes the number `mantissa` times ten to the power `exponent`: -123456 and -2 as `-1,234.56` in English, 5 and 3 as `5,000`.
+ *
+ * With a negative exponent so many fraction digits are shown: 500 and -2 as `5.00`.
+ *
+ * Answers as legumeyet_decimal_formatter_format, but for LEGUMEYET_NUMBER.
+ */
+int32_t legumeyet_decimal_formatter_format_i64(legumeyet_decimal_formatter *formatter, int64_t mantissa, int16_t exponent,
+                                               const legumeyet_options *options, uint8_t *out, size_t room, size_t *length);
+
+/*
+ * Writes as legumeyet_decimal_formatter_format does, and lists the parts of the text in order of their beginning: of `-1,234.5` the
+ * minus sign at 0 to 1, the integer at 1 to 6, the group at 2 to 3, the decimal at 6 to 7 and the fraction at 7 to 8.
+ *
+ * `count` is how many parts there are. Where they are more than `intervals_room` the call answers LEGUMEYET_TOO_SMALL too, and the
+ * first `intervals_room` of them stand at `intervals`; those behind the last part stay as they were.
+ *
+ * Answers as legumeyet_decimal_formatter_format; LEGUMEYET_MEMORY also for the list.
+ */
+int32_t legumeyet_decimal_formatter_format_parts(legumeyet_decimal_formatter *formatter, const uint8_t *number, size_t number_length,
+                                                 const legumeyet_options *options, uint8_t *out, size_t room, size_t *length,
+                                                 legumeyet_interval *intervals, size_t intervals_room, size_t *count);
+
+/*
+ * Reads a text back as the one number that the formatter writes so, and writes it as digits: `-1,234.50` of English as `-1234.50`.
+ *
+ * Answers 0; LEGUMEYET_CLOSED; LEGUMEYET_UTF8; LEGUMEYET_UNREADABLE; LEGUMEYET_NOT_WRITTEN; LEGUMEYET_MEMORY; LEGUMEYET_TOO_SMALL.
+ */
+int32_t legumeyet_decimal_formatter_read(legumeyet_decimal_formatter *formatter, const uint8_t *text, size_t text_length, uint8_t *out,
+                                         size_t room, size_t *length);
+
+/*
+ * Opens the formatter of compact numbers for a locale tag: the short one of `en` writes 15127 as `15K`.
+ *
+ * It has its own copy of the tables. What `formatter` had open is closed, where the call answers 0. ICU4X's grouping of compact numbers
+ * is LEGUMEYET_GROUPING_MIN2.
+ *
+ * Answers as legumeyet_decimal_formatter_open: LEGUMEYET_OPTION also of `text_length`, a LEGUMEYET_LENGTH; LEGUMEYET_TABLE also where the
+ * book has no plural rules or no patterns of that length for the tag.
+ */
+int32_t legumeyet_compact_formatter_open(legumeyet_book *book, const uint8_t *tag, size_t tag_length, uint32_t text_length,
+                                         uint32_t grouping, legumeyet_compact_formatter *formatter);
+
+/* Closes a formatter. Answers 0; LEGUMEYET_CLOSED, where it was closed already. */
+int32_t legumeyet_compact_formatter_close(legumeyet_compact_formatter *formatter);
+
+/*
+ * Writes a decimal number that is given as text: `-1172700` as `-1.2M` in English, in short form.
+ *
+ * Answers as legumeyet_decimal_formatter_format; LEGUMEYET_RANGE before LEGUMEYET_MEMORY.
+ */
+int32_t legumeyet_compact_formatter_format(legumeyet_compact_formatter *formatter, const uint8_t *number, size_t number_length,
+                                           const legumeyet_options *options, uint8_t *out, size_t room, size_t *length);
+
+/*
+ * Writes the number `mantissa` times ten to the power `exponent`: 1650 and 0 as `1.6K` in English, in short form.
+ *
+ * Answers as legumeyet_compact_formatter_format, but for LEGUMEYET_NUMBER.
+ */
+int32_t legumeyet_compact_formatter_format_i64(legumeyet_compact_formatter *formatter, int64_t mantissa, int16_t exponent,
+                                               const legumeyet_options *options, uint8_t *out, size_t room, size_t *length);
+
+/*
+ * Answers a request line, as docs/requests.md has it, without its line feed: `en`, `plain`, `auto`, `keep`, `-`, `-987654.321` with tabs
+ * between by `ok`, a tab and `-987,654.321`. A line that is refused is answered by `err`, a tab and a word, and the call by 0.
+ *
+ * Answers 0; LEGUMEYET_CLOSED; LEGUMEYET_MEMORY; LEGUMEYET_TOO_SMALL.
+ */
+int32_t legumeyet_book_answer(legumeyet_book *book, const uint8_t *line, size_t line_length, uint8_t *out, size_t room, size_t *length);
+
+/*
+ * Writes what an answer of these calls means, in English: of LEGUMEYET_TAG `no locale tag`.
+ *
+ * Answers 0; LEGUMEYET_OPTION, where `error` is none of the numbers above; LEGUMEYET_TOO_SMALL.
+ */
+int32_t legumeyet_error_text(int32_t error, uint8_t *out, size_t room, size_t *length);
+
+/* The version of the library, as LEGUMEYET_VERSION is that of this header. */
+uint32_t legumeyet_version(void);
+
+#ifdef __cplusplus
+}
+#endif
+
+#endif
