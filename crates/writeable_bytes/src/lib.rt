@@ -1,0 +1,14 @@
+//! Writing texts into bytes that the caller has: no memory is taken.
+//!
+//! `a,b` written to four bytes `....` leaves `a,b.`, and to two of them `a,`, with the length 3 that it needs.
+
+#![tactic(auto)]
+
+mod bytes_sink;
+mod error;
+mod laying;
+mod slice_writing;
+
+pub use bytes_sink::BytesSink;
+pub use error::TooSmall;
+pub use slice_writing::write_to_slice;
