@@ -8,19 +8,19 @@ set -eu
 top=$(cd "$(dirname "$0")/.." && pwd)
 made=${TMPDIR:-/tmp}/fixed_decimal_bench      # outside the repository: a check of all crates reads every .rt file below it
 mkdir -p "$made/crates/fixed_decimal_bench/src"
-for crate in writeable fixed_decimal_unsigned fixed_decimal; do
+for crate in writeable fixed_decimal_digits fixed_decimal_unsigned fixed_decimal; do
     cp -au "$top/crates/$crate" "$made/crates/"
 done
-grep -E '^(writeable|fixed_decimal_unsigned|fixed_decimal):' "$top/crates.txt" >"$made/crates.txt"
+grep -E '^(writeable|fixed_decimal_digits|fixed_decimal_unsigned|fixed_decimal):' "$top/crates.txt" >"$made/crates.txt"
 echo 'fixed_decimal_bench: anyhow fixed_decimal writeable' >>"$made/crates.txt"
 cp "$top/bench/decimals/main.rt.txt" "$made/crates/fixed_decimal_bench/src/main.rt"
 (cd "$made/crates/fixed_decimal_bench" && rt run)
 [ $# -gt 0 ] || exit 0
 
-# The second program, in a folder that holds these two crates.
+# The second program, in a folder that holds the crates below it, as this list of all crates has them.
 build() {
     mkdir -p "$1/crates/beside/src"
-    grep -E '^(writeable|fixed_decimal_unsigned):' "$top/crates.txt" >"$1/crates.txt"
+    grep -E '^(writeable|fixed_decimal_digits|fixed_decimal_unsigned):' "$2" >"$1/crates.txt"
     echo 'beside: anyhow fixed_decimal_unsigned writeable' >>"$1/crates.txt"
     cp "$top/bench/decimals/beside.rt.txt" "$1/crates/beside/src/main.rt"
     (cd "$1/crates/beside" && rt run >/dev/null)
@@ -28,10 +28,12 @@ build() {
 now=$made/now
 before=$made/before
 mkdir -p "$now/crates" "$before/crates"
-cp -au "$top/crates/writeable" "$top/crates/fixed_decimal_unsigned" "$now/crates/"
-(cd "$top" && git archive "$1" crates/writeable crates/fixed_decimal_unsigned) | tar -x -C "$before"
-build "$now"
-build "$before"
+cp -au "$top/crates/writeable" "$top/crates/fixed_decimal_digits" "$top/crates/fixed_decimal_unsigned" "$now/crates/"
+below=$(cd "$top" && git ls-tree --name-only "$1" crates/ | grep -xE 'crates/(writeable|fixed_decimal_digits|fixed_decimal_unsigned)')
+(cd "$top" && git archive "$1" $below) | tar -x -C "$before"
+(cd "$top" && git show "$1:crates.txt") >"$made/before.list"
+build "$now" "$top/crates.txt"
+build "$before" "$made/before.list"
 : >"$made/now.times"
 : >"$made/before.times"
 for turn in 1 2 3 4 5; do

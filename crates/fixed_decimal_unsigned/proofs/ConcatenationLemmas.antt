@@ -10,11 +10,11 @@ use Rattle.fixed_decimal_unsigned.specs.declared.error.ConcatenateError.TheVaria
 use Rattle.fixed_decimal_unsigned.specs.Number.{Number, digit}
 use Rattle.fixed_decimal_unsigned.specs.NonzeroPlaces.{IsFirstPlace, IsLastPlace}
 use Rattle.fixed_decimal_unsigned.specs.Range.{HoldsDigits}
-use Rattle.fixed_decimal_unsigned.specs.RoundingSteps.{IsTrimmed}
-use Rattle.fixed_decimal_unsigned.specs.Stored.{count_of, IsStored}
-use Rattle.fixed_decimal_unsigned.proofs.TenLemmas.{tens_split, tens_next}
-use Rattle.fixed_decimal_unsigned.proofs.DigitsLemmas.{number_joined, number_cons}
-use Rattle.fixed_decimal_unsigned.proofs.CutLemmas.{no_front, tail_last}
+use Rattle.fixed_decimal_digits.specs.DigitList.{IsTrimmed, count_of}
+use Rattle.fixed_decimal_unsigned.specs.Stored.{IsStored}
+use Rattle.fixed_decimal_digits.proofs.TenLemmas.{tens_split, tens_next}
+use Rattle.fixed_decimal_digits.proofs.DigitsLemmas.{number_joined, number_cons, below_joined}
+use Rattle.fixed_decimal_digits.proofs.CutLemmas.{no_front, tail_last}
 use Rattle.fixed_decimal_unsigned.proofs.MantissaLemmas.{number_made}
 use Rattle.fixed_decimal_unsigned.proofs.NonzeroLemmas.{first_place, last_place, some_kept}
 use Rattle.fixed_decimal_unsigned.proofs.RangeLemmas.{trimmed_of, holds_length}
@@ -54,10 +54,6 @@ joined_count ds es top u zeros l at =
 pub zeros_below : (zeros : ℕ) (es : List ℕ) → AllBelowBase 10 es → AllBelowBase 10 (replicate zeros 0 ++ es)
 zeros_below zero es h = h
 zeros_below (suc n) es h = (omega arith, zeros_below n es h)
-
-pub below_joined : (ds es : List ℕ) → AllBelowBase 10 ds → AllBelowBase 10 es → AllBelowBase 10 (ds ++ es)
-below_joined [] es h k = k
-below_joined (d ∷ ds) es h k = (h.0, below_joined ds es h.1 k)
 
 first_joined : (ds es : List ℕ) → 0 < length ds → 0 < get_or ds 0 0 → 0 < get_or (ds ++ es) 0 0
 first_joined [] es p f = absurd (omega arith)

@@ -4,9 +4,9 @@ use Rattle.std.proofs.lemmas.Nat.{mod-mul-add}
 use Rattle.std.specs.Int.Digits.{number_from_digits, AllBelowBase}
 use Rattle.fixed_decimal_unsigned.specs.GivenDigits.{DigitsGiven, IsKept, with_digit}
 use Rattle.fixed_decimal_unsigned.specs.Range.{IsLong}
-use Rattle.fixed_decimal_unsigned.proofs.TenLemmas.{tens_apart, tens_next}
-use Rattle.fixed_decimal_unsigned.proofs.DigitsLemmas.{number_reaches}
-use Rattle.fixed_decimal_unsigned.proofs.ConcatenationLemmas.{joined, joined_length, joined_number, below_joined, zeros_below}
+use Rattle.fixed_decimal_digits.proofs.TenLemmas.{tens_apart, tens_next}
+use Rattle.fixed_decimal_digits.proofs.DigitsLemmas.{number_reaches, below_joined}
+use Rattle.fixed_decimal_unsigned.proofs.ConcatenationLemmas.{joined, joined_length, joined_number, zeros_below}
 use Rattle.fixed_decimal_unsigned.proofs.LongLemmas.{long_count}
 
 pub zero_kept : (ds : List ℕ) (zeros count : ℕ) → IsKept ds zeros count → 0 < length ds → count < 2 ^ 63 → IsKept ds (zeros + 1) (count + 1)

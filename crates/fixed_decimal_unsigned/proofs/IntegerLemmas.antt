@@ -5,27 +5,11 @@ use Rattle.std.proofs.lemmas.Bool.{cases_lt}
 use Rattle.std.specs.Int.Digits.{number_from_digits, AllBelowBase}
 use Rattle.fixed_decimal_unsigned.specs.Integers.{IsInteger}
 use Rattle.fixed_decimal_unsigned.specs.Range.{IsHighest}
-use Rattle.fixed_decimal_unsigned.specs.RoundingSteps.{IsTrimmed}
-use Rattle.fixed_decimal_unsigned.specs.Stored.{count_of}
+use Rattle.fixed_decimal_digits.specs.DigitList.{IsTrimmed, count_of}
 use Rattle.fixed_decimal_unsigned.proofs.MantissaLemmas.{number_made}
 use Rattle.fixed_decimal_unsigned.proofs.RangeLemmas.{highest_is}
-use Rattle.fixed_decimal_unsigned.proofs.TenLemmas.{tens_apart, tens_next, tens_positive, tens_split}
-use Rattle.fixed_decimal_unsigned.proofs.DigitsLemmas.{number_reaches}
-
-tenfold : (q t u : ℕ) → u ≡ t * 10 → q * 10 * t ≡ q * u
-tenfold q t u e = omega (arith, ap (λ x. q * x) e)
-
-pub zero_stripped : (n left zeros : ℕ) → left % 10 ≡ 0 → n ≡ left * 10 ^ zeros → n ≡ left / 10 * 10 ^ (zeros + 1)
-zero_stripped n left zeros z e =
-    let tens : left ≡ left / 10 * 10 = omega arith in
-    e ∙ ap (λ x. x * 10 ^ zeros) tens ∙ tenfold (left / 10) (10 ^ zeros) (10 ^ (zeros + 1)) (tens_next zeros)
-
-power_under : (left zeros : ℕ) → 0 < left → 10 ^ zeros ≤ left * 10 ^ zeros
-power_under left zeros p = let h : 1 * 10 ^ zeros ≤ left * 10 ^ zeros = mul-le-mul_right (10 ^ zeros) p in omega arith
-
-pub zeros_few : (n left zeros : ℕ) → 0 < left → n < 2 ^ 128 → n ≡ left * 10 ^ zeros → zeros < 39
-zeros_few n left zeros p l e =
-    ⊎_elim (λ a. a) (λ a. let up = tens_apart 39 zeros a in let under = power_under left zeros p in absurd (omega arith)) (cases_lt zeros 39)
+use Rattle.fixed_decimal_digits.proofs.TenLemmas.{tens_apart, tens_positive, tens_split}
+use Rattle.fixed_decimal_digits.proofs.DigitsLemmas.{number_reaches}
 
 pub digits_few : (ds : List ℕ) (n : ℕ) → number_from_digits 10 ds ≡ n → n < 2 ^ 128 → (0 < length ds → 0 < get_or ds 0 0) → length ds < 40
 digits_few ds n e l f =

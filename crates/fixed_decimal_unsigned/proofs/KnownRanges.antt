@@ -6,10 +6,10 @@ use Rattle.fixed_decimal_unsigned.specs.Range.{IsHighest, IsLowest, IsLong}
 use Rattle.fixed_decimal_unsigned.specs.Shifts.{Shifts, Cuts, plain_zero, TrimsStart, TrimsEnd, PadsStart, PadsEnd}
 use Rattle.fixed_decimal_unsigned.specs.NonzeroPlaces.{IsFirstPlace, IsLastPlace}
 use Rattle.fixed_decimal_unsigned.specs.Concatenation.{Overlaps, Concatenates}
-use Rattle.fixed_decimal_unsigned.proofs.TenLemmas.{tens_apart, digit_above}
+use Rattle.fixed_decimal_digits.proofs.TenLemmas.{tens_apart, digit_above}
 use Rattle.std.proofs.Math.Nat.{mul-mod_left}
 use Rattle.fixed_decimal_unsigned.specs.Integers.{IsInteger}
-use Rattle.fixed_decimal_unsigned.specs.Rounding.{IsLimited, count_limit}
+use Rattle.fixed_decimal_digits.specs.Rounding.{IsLimited, count_limit}
 use Rattle.fixed_decimal_unsigned.proofs.LongLemmas.{last_above, long_count, not_long}
 use Rattle.fixed_decimal_unsigned.proofs.RangeLemmas.{below_limit}
 

@@ -1,39 +1,7 @@
--- Rows of docs/numbers.md on roundings, in units of which ten make the unit at the position, so that a wrong definition does not pass.
-use Rattle.std.proofs.Common.{ℕ, zero, suc, ◌*◌, ◌<◌, ◌≤◌, refl, arith, lit≤}
+-- When a rounding may take memory, at known numbers, so that a wrong definition does not pass.
+use Rattle.std.proofs.Common.{ℕ, zero, suc, ◌<◌, ◌≤◌, arith, lit≤}
 use Rattle.fixed_decimal_unsigned.specs.Number.{digit}
-use Rattle.fixed_decimal_unsigned.specs.Rounding.{IsRounded, increment_number}
-use Rattle.fixed_decimal_unsigned.specs.declared.modes.UnsignedRoundingMode.TheVariants.{Expand, Trunc, HalfExpand, HalfTrunc, HalfEven}
-use Rattle.fixed_decimal_unsigned.specs.declared.modes.RoundingIncrement.TheVariants.{MultiplesOf25}
 use Rattle.fixed_decimal_unsigned.specs.Range.{MayGrowAt}
-
-up_to_the_next : IsRounded Expand 10 21 30
-up_to_the_next = record { multiple = (3, refl); over = lit≤ tt; least = λ other m over. let is = m.1 in omega arith }
-
-a_multiple_stays : IsRounded Expand 10 20 20
-a_multiple_stays = record { multiple = (2, refl); over = lit≤ tt; least = λ other m over. over }
-
-down_to_the_last : IsRounded Trunc 10 29 20
-down_to_the_last = record { multiple = (2, refl); under = lit≤ tt; greatest = λ other m under. let is = m.1 in omega arith }
-
-tie_up : IsRounded HalfExpand 10 25 30
-tie_up = record { multiple = (3, refl); nearest = λ other m. let is = m.1 in omega arith; tied = λ other m ne e. let is = m.1 in omega arith }
-
-tie_down : IsRounded HalfTrunc 10 25 20
-tie_down = record { multiple = (2, refl); nearest = λ other m. let is = m.1 in omega arith; tied = λ other m ne e. let is = m.1 in omega arith }
-
-tie_to_two : IsRounded HalfEven 10 25 20
-tie_to_two = record { multiple = (2, refl); nearest = λ other m. let is = m.1 in omega arith; tied = λ other m ne e. (1, refl) }
-
-tie_to_four : IsRounded HalfEven 10 35 40
-tie_to_four = record { multiple = (4, refl); nearest = λ other m. let is = m.1 in omega arith; tied = λ other m ne e. (2, refl) }
-
-no_tie_to_three : ¬ (IsRounded HalfEven 10 25 30)
-no_tie_to_three h =
-    let even = h.tied 20 (2, refl) (λ e. absurd (omega (arith, e))) refl in let is = even.1 in absurd (omega arith)
-
--- 37.5 by 25: twice 25 is even, once is not
-tie_by_twenty_five : IsRounded HalfEven (increment_number MultiplesOf25 * 10) 375 500
-tie_by_twenty_five = record { multiple = (2, refl); nearest = λ other m. let is = m.1 in omega arith; tied = λ other m ne e. (1, refl) }
 
 -- written at place 0 as a multiple of 25, 110000010 gets a digit more; 11000010 has room for it, and 110000012 has it already
 grows_by_one : MayGrowAt 0 110000010

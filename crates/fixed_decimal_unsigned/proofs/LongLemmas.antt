@@ -1,16 +1,20 @@
 -- Counts of more than eight digits: where memory for digits may be wanted.
-use Rattle.std.proofs.Common.{◌≡◌, ℕ, suc, ◌+◌, ◌-◌, ◌*◌, ◌/◌, ◌%◌, ◌^◌, ◌<◌, ◌≤◌, List, [], ◌∷◌, ◌++◌, length, length-append, get_or, Result, Ok, Err, IsOk, OnErr, refl, sym, ap, ◌∙◌, subst, arith, ⊎_elim}
-use Rattle.std.proofs.Math.Nat.{div-add-mod', mul-div_cancel, mul-le-mul_right, mul_assoc, mod-one, eq-zero-or-pos}
+use Rattle.std.proofs.Common.{◌≡◌, ℕ, suc, ◌+◌, ◌-◌, ◌*◌, ◌/◌, ◌%◌, ◌^◌, ◌<◌, ◌≤◌, List, [], ◌∷◌, ◌++◌, length, length-append, get_or, Result, Ok, Err, IsOk, OnErr, refl, sym, ap, ◌∙◌, subst, arith, ⊎_elim, zero, w32, map, drop, lit≤, add-one, drop-cons}
+use Rattle.std.proofs.Math.Nat.{div-add-mod', mul-div_cancel, mul-le-mul_right, mul_assoc, mod-one, eq-zero-or-pos, pow-suc, pow-le-pow_right}
 use Rattle.std.proofs.lemmas.Bool.{cases_lt}
 use Rattle.std.specs.Char.{digit_value}
-use Rattle.std.specs.Int.Digits.{number_from_digits}
+use Rattle.std.specs.Int.Digits.{number_from_digits, AllBelowBase}
 use Rattle.fixed_decimal_unsigned.specs.NumberText.{spelled}
 use Rattle.fixed_decimal_unsigned.specs.Range.{IsLong}
-use Rattle.fixed_decimal_unsigned.specs.Stored.{count_of, IsStored}
-use Rattle.fixed_decimal_unsigned.proofs.TenLemmas.{tens_positive, tens_apart, tens_split, digit_under}
-use Rattle.fixed_decimal_unsigned.proofs.DigitsLemmas.{number_reaches}
+use Rattle.fixed_decimal_digits.specs.DigitList.{count_of}
+use Rattle.fixed_decimal_unsigned.specs.Stored.{IsStored}
+use Rattle.fixed_decimal_digits.proofs.TenLemmas.{tens_positive, tens_apart, tens_split, digit_under}
 use Rattle.fixed_decimal_unsigned.proofs.MantissaLemmas.{spelled_from}
 use Rattle.fixed_decimal_unsigned.proofs.RangeLemmas.{holds_length, trimmed_of}
+use Rattle.std.proofs.lemmas.List.{append_assoc, append-nil, drop_all, length_push, map-append}
+use Rattle.std.proofs.lemmas.Int.Digits.{digits_value_is}
+use Rattle.std.specs.Int.{to_be_bytes}
+use Rattle.std.specs.Str.Parse.{digits_value_after}
 
 -- a multiple of ten to `low` has no last digit below
 pub last_above : (n e count low : ℕ) → count ≡ n * 10 ^ e → 0 < n % 10 → count % 10 ^ low ≡ 0 → low ≤ e
@@ -42,14 +46,6 @@ pub ok_unless : {T E : Type 0} {P : Type 0} (r : Result T E) → OnErr r P → �
 ok_unless (Ok _) h n = refl
 ok_unless (Err _) h n = absurd (n h)
 
-eight_digits : (ds : List ℕ) → 8 ≤ length ds → (0 < length ds → 0 < get_or ds 0 0) → 10 ^ 7 ≤ number_from_digits 10 ds
-eight_digits ds l first =
-    let reach = number_reaches ds (omega arith) (first (omega arith)) in let up = tens_apart 7 (length ds - 1) (omega arith) in omega arith
-
--- a number whose digits but the last are at least eight
-pub nine_digits : (ds : List ℕ) (n : ℕ) → 8 ≤ length ds → (0 < length ds → 0 < get_or ds 0 0) → number_from_digits 10 ds ≡ n / 10 → 10 ^ 8 ≤ n
-nine_digits ds n l first e = let many = eight_digits ds l first in omega arith
-
 -- and of a text, where the first digit that is not zero stands first
 text_reaches : (text : List ℕ) → 0 < length text → 0 < digit_value (get_or text 0 0) → 10 ^ (length text - 1) ≤ spelled text
 text_reaches [] some first = absurd (omega arith)
@@ -73,3 +69,13 @@ long_mantissa kept zeros count mantissa e h last none many =
     long_count kept (zeros + e) (mantissa * 10 ^ e)
     (ap (λ x. x * 10 ^ e) h ∙ mul_assoc kept (10 ^ zeros) (10 ^ e) ∙ ap (λ x. kept * x) (sym (tens_split zeros e (zeros + e) refl)))
     (last some) many
+
+-- the first digit of two texts
+pub first_of_both : (xs ys : List ℕ) → (0 < length xs → 0 < digit_value (get_or xs 0 0)) → (length xs ≡ 0 → 0 < length ys → 0 < digit_value (get_or ys 0 0))
+    → 0 < length (map digit_value (xs ++ ys)) → 0 < get_or (map digit_value (xs ++ ys)) 0 0
+first_of_both [] [] f g l = absurd (omega arith)
+first_of_both [] (c ∷ cs) f g l = g refl (omega arith)
+first_of_both (c ∷ cs) ys f g l = f (omega arith)
+
+pub spelled_both : (xs ys : List ℕ) → number_from_digits 10 (map digit_value (xs ++ ys)) ≡ spelled (xs ++ ys)
+spelled_both xs ys = sym (digits_value_is 10 (xs ++ ys))

@@ -6,7 +6,7 @@ use Rattle.std.specs.Char.{digit_value}
 use Rattle.std.specs.Str.Parse.{digits_value_after}
 use Rattle.fixed_decimal_unsigned.specs.Number.{Number}
 use Rattle.fixed_decimal_unsigned.specs.NumberText.{spelled, AreEndsIn, number_at}
-use Rattle.fixed_decimal_unsigned.proofs.TenLemmas.{tens_split, tens_next, tens_positive}
+use Rattle.fixed_decimal_digits.proofs.TenLemmas.{tens_split, tens_next, tens_positive}
 use Rattle.fixed_decimal_unsigned.proofs.StoredLemmas.{positive_tested}
 
 pub spelled_after : (xs ys : List ℕ) (n : ℕ) → digits_value_after 10 (digits_value_after 10 n xs) ys ≡ digits_value_after 10 n (xs ++ ys)

@@ -7,11 +7,11 @@ use Rattle.std.specs.Int.Digits.{number_from_digits, AllBelowBase}
 use Rattle.fixed_decimal_unsigned.specs.Number.{Number, digit, place}
 use Rattle.fixed_decimal_unsigned.specs.NonzeroPlaces.{IsFirstPlace, IsLastPlace}
 use Rattle.fixed_decimal_unsigned.specs.Range.{MayGrowAt}
-use Rattle.fixed_decimal_unsigned.specs.RoundingSteps.{IsTrimmed}
-use Rattle.fixed_decimal_unsigned.specs.Stored.{count_of, IsStored}
-use Rattle.fixed_decimal_unsigned.proofs.TenLemmas.{digit_under, tens_apart}
-use Rattle.fixed_decimal_unsigned.proofs.LoopLemmas.{front_last}
-use Rattle.fixed_decimal_unsigned.proofs.StoredLemmas.{digit_inside, digit_over, count_none, count_positive, count_reaches}
+use Rattle.fixed_decimal_digits.specs.DigitList.{IsTrimmed, count_of}
+use Rattle.fixed_decimal_unsigned.specs.Stored.{IsStored}
+use Rattle.fixed_decimal_digits.proofs.TenLemmas.{digit_under, tens_apart}
+use Rattle.fixed_decimal_digits.proofs.LoopLemmas.{front_last}
+use Rattle.fixed_decimal_digits.proofs.CountLemmas.{digit_inside, digit_over, count_none, count_positive, count_reaches}
 use Rattle.fixed_decimal_unsigned.proofs.MantissaLemmas.{number_made}
 use Rattle.fixed_decimal_unsigned.proofs.RangeLemmas.{trimmed_of}
 

@@ -8,17 +8,12 @@ use Rattle.std.specs.Char.{digit_value}
 use Rattle.std.specs.Int.Digits.{AllBelowBase}
 use Rattle.fixed_decimal_unsigned.specs.Number.{Number, IsNumber, digit, digits_down, whole_digits, fraction_digits}
 use Rattle.fixed_decimal_unsigned.specs.NumberText.{AreDigits, spelled, behind_point, character, small_mark, Parts, number_at, mantissa_of, up_of, down_of, AreEndsIn, Reads, text_of}
-use Rattle.fixed_decimal_unsigned.proofs.TenLemmas.{tens_positive, tens_split}
+use Rattle.fixed_decimal_digits.proofs.TenLemmas.{tens_positive, tens_split, remainder_more}
 use Rattle.fixed_decimal_unsigned.proofs.MantissaLemmas.{spelled_from, number_made, same_number}
 use Rattle.fixed_decimal_unsigned.proofs.ReadOnceLemmas.{same_at, reads_once}
 
 pub digit_below_ten : (count p : ℕ) → digit count p < 10
 digit_below_ten count p = mod-lt (count / 10 ^ p) {m = 10} (omega arith)
-
--- each digit of a count is below ten
-pub tens_down : (count base n : ℕ) → AllBelowBase 10 (digits_down count base n)
-tens_down count base zero = tt
-tens_down count base (suc k) = (digit_below_ten count (base + k), tens_down count base k)
 
 pub character_value : (d : ℕ) → d < 10 → digit_value (character d) ≡ d
 character_value d h = grind (arith, nat_tests)
@@ -31,18 +26,6 @@ printed_digits count base (suc k) =
 pub printed_length : (count base n : ℕ) → length (map character (digits_down count base n)) ≡ n
 printed_length count base zero = refl
 printed_length count base (suc k) = ap suc (printed_length count base k)
-
-remainder_by : (a b d r s t : ℕ) → b * 10 + d ≡ a → b * (t * 10) + s ≡ a * t + r → s ≡ d * t + r
-remainder_by a b d r s t e f = omega (arith, ap (λ x. x * t) e)
-
--- a remainder by one more power has one more digit before it
-pub remainder_more : (n t : ℕ) → 0 < t → n % (t * 10) ≡ n / t % 10 * t + n % t
-remainder_more n t p =
-    let q : n / t / 10 ≡ n / (t * 10) = div-div-eq-div-mul n t 10 in
-    let a : n / (t * 10) * (t * 10) + n % (t * 10) ≡ n = div-add-mod' n (t * 10) in
-    let b : n / t * t + n % t ≡ n = div-add-mod' n t in
-    let d : n / t / 10 * 10 + n / t % 10 ≡ n / t = div-add-mod' (n / t) 10 in
-    remainder_by (n / t) (n / (t * 10)) (n / t % 10) (n % t) (n % (t * 10)) t (ap (λ x. x * 10 + n / t % 10) (sym q) ∙ d) (a ∙ sym b)
 
 plain_sum : (d t r : ℕ) → (0 * 10 + d) * t + r ≡ d * t + r
 plain_sum d t r = omega arith

@@ -3,29 +3,19 @@ use Rattle.std.proofs.Common.{◌≡◌, ℕ, ◌+◌, ◌-◌, ◌*◌, ◌%◌
 use Rattle.std.proofs.Math.Nat.{zero-mul, eq-zero-or-pos, mul-mod_left, pow-le-pow_right, zero-mod}
 use Rattle.std.proofs.lemmas.Bool.{cases_lt}
 use Rattle.fixed_decimal_unsigned.specs.Number.{Number}
-use Rattle.fixed_decimal_unsigned.specs.Rounding.{count_limit, IsLimited, IsRounded, IsMultiple, increment_number}
-use Rattle.fixed_decimal_unsigned.specs.declared.modes.RoundingIncrement.{RoundingIncrement}
-use Rattle.fixed_decimal_unsigned.specs.RoundingSteps.{IsTrimmed}
+use Rattle.fixed_decimal_digits.specs.Rounding.{count_limit, IsLimited, IsRounded, IsMultiple, increment_number}
+use Rattle.fixed_decimal_digits.specs.declared.RoundingIncrement.{RoundingIncrement}
+use Rattle.fixed_decimal_digits.specs.DigitList.{IsTrimmed, count_of}
 use Rattle.fixed_decimal_unsigned.specs.Range.{IsHighest, HoldsDigits, Rounds}
-use Rattle.fixed_decimal_unsigned.specs.Stored.{count_of, IsStored}
-use Rattle.fixed_decimal_unsigned.specs.declared.modes.UnsignedRoundingMode.{UnsignedRoundingMode}
-use Rattle.fixed_decimal_unsigned.specs.declared.modes.UnsignedRoundingMode.TheVariants.{Expand, Trunc, HalfExpand, HalfTrunc, HalfEven}
-use Rattle.fixed_decimal_unsigned.proofs.TenLemmas.{tens_apart, tens_positive}
-use Rattle.fixed_decimal_unsigned.proofs.StoredLemmas.{count_reaches, count_below, count_none}
-use Rattle.fixed_decimal_unsigned.proofs.RoundingStepLemmas.{below_some}
+use Rattle.fixed_decimal_unsigned.specs.Stored.{IsStored}
+use Rattle.fixed_decimal_digits.specs.declared.UnsignedRoundingMode.{UnsignedRoundingMode}
+use Rattle.fixed_decimal_digits.specs.declared.UnsignedRoundingMode.TheVariants.{Expand, Trunc, HalfExpand, HalfTrunc, HalfEven}
+use Rattle.fixed_decimal_digits.proofs.TenLemmas.{tens_apart, tens_positive}
+use Rattle.fixed_decimal_digits.proofs.CountLemmas.{count_reaches, count_below, count_none}
+use Rattle.fixed_decimal_digits.proofs.RoundingStepLemmas.{whole_room, top_below}
 
 pub trimmed_of : (ds : List ℕ) (top low high : ℕ) → IsStored ds top low high → IsTrimmed ds top
 trimmed_of ds top low high s = record { tens = s.tens; first = s.first; last = s.last; room = let r = s.room in omega arith; zero_top = s.zero_top }
-
--- a count that is a multiple of a power has its last digit at that place or above
-pub whole_room : (ds : List ℕ) (top p : ℕ) → IsTrimmed ds top → 0 < length ds → count_of ds top % 10 ^ p ≡ 0 → p + length ds ≤ top + 1
-whole_room ds top p h s w =
-    ⊎_elim (λ a. let b : 0 < count_of ds top % 10 ^ p = below_some ds top p h s a in absurd (omega arith)) (λ a. a) (cases_lt (top + 1) (p + length ds))
-
--- and one below a power has its first digit below that place
-pub top_below : (ds : List ℕ) (top k : ℕ) → IsTrimmed ds top → 0 < length ds → count_of ds top < 10 ^ k → top < k
-top_below ds top k h s b =
-    ⊎_elim (λ a. a) (λ a. let up = tens_apart k top a in let reach = count_reaches ds top s (h.first s) h.room in absurd (omega arith)) (cases_lt top k)
 
 pub holds_length : (ds : List ℕ) (top low places : ℕ) → IsTrimmed ds top → HoldsDigits (count_of ds top) low places → length ds ≤ places
 holds_length [] top low places h d = omega arith

@@ -4,12 +4,13 @@ use Rattle.std.proofs.Math.Nat.{zero-mul, mul_assoc}
 use Rattle.std.proofs.lemmas.Nat.{pow-add}
 use Rattle.std.specs.Int.Digits.{number_from_digits}
 use Rattle.fixed_decimal_unsigned.specs.Number.{Number}
-use Rattle.fixed_decimal_unsigned.specs.RoundingSteps.{IsTrimmed}
+use Rattle.fixed_decimal_digits.specs.DigitList.{IsTrimmed, count_of}
 use Rattle.fixed_decimal_unsigned.specs.Range.{IsHighest, IsLowest}
 use Rattle.fixed_decimal_unsigned.specs.Shifts.{rise, fall, Shifts, TrimsStart, TrimsEnd, TrimsWhole, PadsStart, PadsEnd}
-use Rattle.fixed_decimal_unsigned.specs.Stored.{count_of, IsStored}
-use Rattle.fixed_decimal_unsigned.proofs.TenLemmas.{mod_below_power}
-use Rattle.fixed_decimal_unsigned.proofs.RangeLemmas.{trimmed_of, whole_room, highest_is}
+use Rattle.fixed_decimal_unsigned.specs.Stored.{IsStored}
+use Rattle.fixed_decimal_digits.proofs.TenLemmas.{mod_below_power}
+use Rattle.fixed_decimal_unsigned.proofs.RangeLemmas.{trimmed_of, highest_is}
+use Rattle.fixed_decimal_digits.proofs.RoundingStepLemmas.{whole_room}
 use Rattle.fixed_decimal_unsigned.proofs.MantissaLemmas.{number_made}
 
 pub lowest_is : (ds : List ℕ) (top most : ℕ) → IsTrimmed ds top → most ≤ 32768 → IsLowest most (count_of ds top) (min most (top + 1 - length ds))

@@ -6,12 +6,8 @@ use Rattle.std.proofs.lemmas.Bool.Decides.{nat_tests}
 use Rattle.std.specs.Char.{digit_value}
 use Rattle.std.specs.Str.Parse.{digits_value_after}
 use Rattle.fixed_decimal_unsigned.specs.NumberText.{AreDigits, spelled}
-use Rattle.fixed_decimal_unsigned.proofs.TenLemmas.{tens_next}
-
-pub digits_at : (text : List ℕ) (i : ℕ) → AreDigits text → i < length text → digit_value (get_or text i 0) < 10
-digits_at [] i h l = absurd (omega arith)
-digits_at (c ∷ cs) zero h l = h.0
-digits_at (c ∷ cs) (suc i) h l = digits_at cs i h.1 (omega arith)
+use Rattle.fixed_decimal_digits.proofs.TenLemmas.{tens_next}
+pub use Rattle.fixed_decimal_digits.proofs.DigitTextLemmas.{digits_at}
 
 capped_step : (n d : ℕ) → min (min n 65536 * 10 + d) 65536 ≡ min (n * 10 + d) 65536
 capped_step n d = omega arith
@@ -40,10 +36,6 @@ value_front front c k n e h =
 
 digit_positive : (c : ℕ) → digit_value c < 10 → (c ≡ 48 → ⊥) → 0 < digit_value c
 digit_positive c h ne = grind (arith, nat_tests)
-
--- a zero at the front counts nothing, and another digit there is positive
-pub digits_behind : (c : ℕ) (rest : List ℕ) → AreDigits (c ∷ rest) → AreDigits rest
-digits_behind c rest h = h.1
 
 pub value_behind : (c n : ℕ) (rest : List ℕ) → c ≡ 48 → n ≡ spelled (c ∷ rest) → n ≡ spelled rest
 value_behind c n rest e h = h ∙ ap (λ d. digits_value_after 10 (0 * 10 + digit_value d) rest) e

@@ -1,15 +1,15 @@
 -- Digits written a piece a call: the events of the next piece, and of the rest.
-use Rattle.std.proofs.Common.{◌≡◌, ℕ, zero, suc, ◌+◌, ◌-◌, ◌<◌, ◌≤◌, List, [], ◌∷◌, ◌++◌, length, map, take, refl, sym, ap, ◌∙◌, arith}
+use Rattle.std.proofs.Common.{◌≡◌, ℕ, zero, suc, ◌+◌, ◌-◌, ◌<◌, ◌≤◌, List, [], ◌∷◌, ◌++◌, length, map, take, refl, sym, ap, ◌∙◌, arith, ◌*◌, ◌/◌, ◌%◌, get_or, set, drop}
 use Rattle.std.proofs.Math.ListN.{set}
 use Rattle.std.specs.Str.{IsAscii}
-use Rattle.std.proofs.lemmas.List.{append_assoc, append-nil, map-append, take_more_set}
+use Rattle.std.proofs.lemmas.List.{append_assoc, append-nil, map-append, take_more_set, drop_all, take_all, drop_more}
 use Rattle.std.proofs.lemmas.Str.Ascii.{IsAscii-nil, IsAscii-cons}
 use Rattle.std.proofs.lemmas.Str.{IsAscii-append}
 use Rattle.writeable.specs.AnnotatedText.{bytes, text_of as written}
 use Rattle.writeable.proofs.AnnotatedTextLemmas.{text_of_bytes, bytes_joined}
 use Rattle.fixed_decimal_unsigned.specs.Number.{Number, digit, digits_down, whole_digits, fraction_digits}
 use Rattle.fixed_decimal_unsigned.specs.NumberText.{character, behind_point, point, text_of as printed}
-use Rattle.fixed_decimal_unsigned.proofs.PrintedLemmas.{digit_below_ten}
+use Rattle.fixed_decimal_unsigned.proofs.PrintedLemmas.{digit_below_ten, printed_length}
 
 -- so many digits are the upper of them, and the rest
 digits_apart : (count base size rest : ℕ) → digits_down count base (size + rest) ≡ digits_down count (base + rest) size ++ digits_down count base rest
@@ -124,3 +124,9 @@ events_text v =
 
 pub events_length : (v : Number) → length (written (bytes (map character (whole_digits v)) ++ bytes (behind_point (map character (fraction_digits v))))) ≡ length (printed v)
 events_length v = ap length (events_text v)
+
+-- a piece that is one block
+pub whole_piece : (text : List ℕ) (count base size : ℕ) → size ≡ 64 → text ≡ map character (digits_down count base 64) → take size text ≡ map character (digits_down count base size)
+whole_piece text count base size e h =
+    let long : length text ≡ 64 = ap length h ∙ printed_length count base 64 in
+    ap (λ n. take n text) e ∙ take_all 64 text (omega (arith, long)) ∙ h ∙ ap (λ n. map character (digits_down count base n)) (sym e)

@@ -1,6 +1,5 @@
 pub mod BorrowedParts
 pub mod Concatenation
-pub mod DigitWord
 pub mod Equality
 pub mod ErrorNumbers
 pub mod GivenDigits
@@ -9,10 +8,8 @@ pub mod Laws
 pub mod Number
 pub mod NonzeroPlaces
 pub mod NumberText
-pub mod Packed
 pub mod Range
-pub mod Rounding
-pub mod RoundingSteps
 pub mod Shifts
 pub mod Stored
 pub mod TextParts
+pub use Rattle.fixed_decimal_digits.specs.Rounding

@@ -1,7 +1,8 @@
 -- A number with a visible range: a count of the least unit, 10^-32768, and the range of magnitudes that its text shows.
 -- Defined in docs/numbers.md, "The number".
 -- Cited by each clause on an `UnsignedDecimal` or a `Decimal`, by `digit_at` and by `magnitude_range`.
-use Rattle.std.specs.Prelude.{◌≡◌, ℕ, ℤ, pos, negsuc, zero, suc, ◌+◌, ◌-◌, ◌/◌, ◌%◌, ◌^◌, ◌<◌, ◌≤◌, List, [], ◌∷◌}
+use Rattle.std.specs.Prelude.{◌≡◌, ℕ, ℤ, pos, negsuc, ◌+◌, ◌-◌, ◌%◌, ◌^◌, ◌<◌, ◌≤◌, List}
+pub use Rattle.fixed_decimal_digits.specs.CountDigits.{digit, digits_down}
 
 -- the place of a magnitude: how many units make ten to that magnitude, as a power of ten. The ones have place 32768
 abbrev pub place : ℤ → ℕ
@@ -13,15 +14,6 @@ pub record Number : Type 0 where
   pub count : ℕ
   pub low : ℕ
   pub high : ℕ
-
--- the digit of a count at a place
-abbrev pub digit : ℕ → ℕ → ℕ
-digit count p = count / 10 ^ p % 10
-
--- the digits of a count at so many places from `base` up, the highest first
-abbrev pub digits_down : ℕ → ℕ → ℕ → List ℕ
-digits_down count base zero = []
-digits_down count base (suc k) = digit count (base + k) ∷ digits_down count base k
 
 -- the digits shown before the point, from the highest down to the ones
 abbrev pub whole_digits : Number → List ℕ

@@ -2,11 +2,12 @@
 -- Defined in docs/numbers.md, "The text".
 -- Cited by `try_from_str` and `try_from_utf8`, by the printed text, and by the laws that join them.
 use Rattle.std.specs.Prelude.{◌≡◌, ℕ, ◌+◌, ◌-◌, ◌*◌, ◌^◌, ◌<◌, ◌≤◌, ◌==◌, ◌||◌, ◌⊎◌, min, max, Bool, true, false, cond, List, [], ◌∷◌, ◌++◌, length, map}
-use Rattle.std.specs.Str.Parse.{AllDigits, digits_value}
+use Rattle.std.specs.Str.Parse.{digits_value}
+pub use Rattle.fixed_decimal_digits.specs.DigitText.{digit_zero, character, AreDigits}
 use Rattle.fixed_decimal_unsigned.specs.Number.{Number, whole_digits, fraction_digits}
 use Rattle.fixed_decimal_unsigned.specs.Range.{IsLong}
 
--- the characters that a text may hold beside digits, and the first digit
+-- the characters that a text may hold beside digits
 abbrev pub point : ℕ
 point = 46
 
@@ -18,13 +19,6 @@ small_mark = 101
 
 abbrev pub capital_mark : ℕ
 capital_mark = 69
-
-abbrev pub digit_zero : ℕ
-digit_zero = 48
-
--- each character is one of the ten decimal digits
-abbrev pub AreDigits : List ℕ → Type 0
-AreDigits text = AllDigits 10 text
 
 -- the number that digits spell
 abbrev pub spelled : List ℕ → ℕ
@@ -122,10 +116,6 @@ pub record ReadsLong (text : List ℕ) : Type 0 where
 -- no parts make the text
 abbrev pub IsNoText : List ℕ → Type 0
 IsNoText text = (parts : Parts) → ¬ (Spells text parts)
-
--- the character of a digit
-abbrev pub character : ℕ → ℕ
-character d = digit_zero + d
 
 -- the printed text: a digit a magnitude from the highest down, and a point before magnitude -1
 abbrev pub text_of : Number → List ℕ

@@ -4,9 +4,9 @@
 use Rattle.std.specs.Prelude.{◌≡◌, ℕ, ◌+◌, ◌*◌, ◌%◌, ◌^◌, ◌<◌, ◌≤◌, min}
 use Rattle.fixed_decimal_unsigned.specs.Number.{Number}
 use Rattle.fixed_decimal_unsigned.specs.NonzeroPlaces.{IsLastPlace}
-use Rattle.fixed_decimal_unsigned.specs.Rounding.{Takes, increment_number}
-use Rattle.fixed_decimal_unsigned.specs.declared.modes.UnsignedRoundingMode.{UnsignedRoundingMode}
-use Rattle.fixed_decimal_unsigned.specs.declared.modes.RoundingIncrement.{RoundingIncrement}
+use Rattle.fixed_decimal_digits.specs.Rounding.{Takes, increment_number}
+use Rattle.fixed_decimal_digits.specs.declared.UnsignedRoundingMode.{UnsignedRoundingMode}
+use Rattle.fixed_decimal_digits.specs.declared.RoundingIncrement.{RoundingIncrement}
 
 -- high is the lowest place that is not below `least`, has `place` at most one above it, and holds the whole count
 pub record IsHighest (least place count high : ℕ) : Type 0 where

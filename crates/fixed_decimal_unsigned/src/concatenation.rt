@@ -1,62 +1,9 @@
-ghost use Rattle.std.specs.Prelude.{◌≡◌, ◌+◌, ◌<◌, ◌≤◌, ◌↔◌, ◌++◌, length, replicate, OnOk, OnErr, IfOk, IfErr, IfSome};
+ghost use Rattle.std.specs.Prelude.{◌≡◌, ◌↔◌, OnOk, OnErr, IfOk, IfErr};
 ghost use Rattle.fixed_decimal_unsigned.specs.Concatenation.{Overlaps, Concatenates, MayWantMemory, handed_back};
 
-use crate::digits::Digits;
 use crate::error::ConcatenateError;
 use crate::unsigned_decimal::UnsignedDecimal;
-use std::alloc::AllocError;
-
-// Adds so many zeros behind the digits.
-#[tactic(auto, using(std::proofs::lemmas::Grind::replicate_next))]
-pub fn push_zeros(digits: &mut Digits, count: usize)
-    requires { length digits.old.items + count ≤ digits.old.capacity }
-    ensures items { digits.new.items ≡ digits.old.items ++ replicate count 0 }
-    ensures capacity { digits.new.capacity ≡ digits.old.capacity }
-{
-    for _turn in 0..count {
-        digits.push_reserved(0);
-    }
-}
-
-// Adds the digits of another list behind the digits.
-#[tactic(auto, using(std::proofs::lemmas::List::take_more))]
-fn push_all(digits: &mut Digits, other: &Digits)
-    requires { length digits.old.items + length other.now.items ≤ digits.old.capacity }
-    ensures items { digits.new.items ≡ digits.old.items ++ other.now.items }
-    ensures capacity { digits.new.capacity ≡ digits.old.capacity }
-{
-    for index in 0..other.len() {
-        digits.push_reserved(other.get(index));
-    }
-}
-
-// Adds so many zeros and then the digits of another list, or nothing where memory is refused.
-fn push_behind(digits: &mut Digits, zeros: usize, other: &Digits) -> Result<(), AllocError>
-    requires { zeros + length other.now.items ≤ 65536 }
-    ensures ok { OnOk result (digits.new.items ≡ digits.old.items ++ (replicate zeros 0 ++ other.now.items)) }
-    ensures err { OnErr result (digits.new ≡ digits.old) }
-    ensures room { OnErr result (8 < length digits.old.items + (zeros + length other.now.items)) }
-{
-    let _inline = digits.len();
-    digits.reserve(zeros + other.len())?;
-    push_zeros(digits, zeros);
-    push_all(digits, other);
-    Ok(())
-}
-
-// How many zeros stand between the last of some digits and the first of others, where none of these reaches up to those.
-fn zeros_between(digits: &Digits, top: u16, other_top: u16) -> Option<usize>
-    requires { length digits.now.items ≤ top + 1 }
-    ensures some { IfSome result (λ zeros. other_top + 1 + zeros + length digits.now.items ≡ top + 1) }
-    ensures none { result ≡ None → top + 1 ≤ other_top + length digits.now.items }
-{
-    let last = top as usize + 1 - digits.len();
-    let first = other_top as usize;
-    if last <= first {
-        return None;
-    }
-    Some(last - first - 1)
-}
+use fixed_decimal_digits::{push_behind, zeros_between};
 
 impl UnsignedDecimal {
     /// Puts another number behind this one: `12` and `0.3` give `12.3`.

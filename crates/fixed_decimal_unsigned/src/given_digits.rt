@@ -4,10 +4,9 @@ ghost use Rattle.fixed_decimal_unsigned.specs.GivenDigits.{with_digit};
 ghost use Rattle.fixed_decimal_unsigned.specs.NumberText.{AreEndsIn, number_at};
 ghost use Rattle.fixed_decimal_unsigned.specs.Range.{IsLong};
 
-use crate::concatenation::push_zeros;
-use crate::digits::Digits;
 use crate::reading::{assembled, moved_ends};
 use crate::unsigned_decimal::UnsignedDecimal;
+use fixed_decimal_digits::{Digits, push_zeros};
 use std::alloc::{AllocError, Global};
 use std::marker::Model;
 

@@ -1,48 +1,11 @@
-ghost use Rattle.std.specs.Prelude.{◌≡◌, ◌+◌, ◌*◌, ◌%◌, ◌^◌, ◌<◌, ◌≤◌, [], length, slice_index, IfOk, OnOk, OnErr, IsOk};
-ghost use Rattle.std.specs.Int.Digits.{number_from_digits, AllBelowBase};
+ghost use Rattle.std.specs.Prelude.{IfOk, OnErr, IsOk};
 ghost use Rattle.fixed_decimal_unsigned.specs.Integers.{IsInteger};
 ghost use Rattle.fixed_decimal_unsigned.specs.Range.{IsLong};
 
-use crate::digits::Digits;
-use crate::places::ONES;
 use crate::reading::{Ends, assembled};
 use crate::unsigned_decimal::UnsignedDecimal;
+use fixed_decimal_digits::{Digits, ONES, push_number, strip_zeros};
 use std::alloc::{AllocError, Global};
-
-// Pushes the digits of a number onto none.
-#[tactic(auto, using(std::proofs::lemmas::Int::Digits::number_push))]
-fn push_number(digits: &mut Digits, number: u128) -> Result<(), AllocError>
-    requires { digits.old.items ≡ [] }
-    ensures value { OnOk result (number_from_digits 10 digits.new.items ≡ number) }
-    ensures tens { OnOk result (AllBelowBase 10 digits.new.items) }
-    ensures none { OnOk result (number ≡ 0 → digits.new.items ≡ []) }
-    ensures first { OnOk result (0 < length digits.new.items → 0 < slice_index digits.new.items 0) }
-    ensures room { OnErr result (10 ^ 8 ≤ number) }
-{
-    if number == 0 {
-        return Ok(());
-    }
-    push_number(digits, number / 10)?;
-    digits.push((number % 10) as u8)?;
-    Ok(())
-}
-
-// A number without the zeros that it ends in, and how many these are.
-#[tactic(auto, using(crate::proofs::IntegerLemmas::zero_stripped, crate::proofs::IntegerLemmas::zeros_few))]
-fn strip_zeros(number: u128) -> (u128, usize)
-    requires { 0 < number }
-    ensures value { number ≡ result.0 * 10 ^ result.1 }
-    ensures last { 0 < result.0 % 10 }
-    ensures few { result.1 < 39 }
-{
-    let mut left = number;
-    let mut zeros = 0usize;
-    while left % 10 == 0 {
-        left /= 10;
-        zeros += 1;
-    }
-    (left, zeros)
-}
 
 // The whole number as a decimal.
 fn from_whole(alloc: Global, number: u128) -> Result<UnsignedDecimal, AllocError>

@@ -2,9 +2,6 @@
 ghost use Rattle.std.specs.Prelude.{◌≡◌};
 ghost use Rattle.fixed_decimal_unsigned.specs.Number.{place as place_is};
 
-// The place of the ones.
-pub const ONES: u16 = 32768;
-
 // The place of a magnitude.
 pub fn place_of(magnitude: i16) -> u16
     ensures { result ≡ place_is magnitude }

@@ -1,28 +1,22 @@
 // Reading a text: the range that its digits and its exponent name, and the digits kept.
-ghost use Rattle.std.specs.Prelude.{◌≡◌, ℕ, ◌+◌, ◌-◌, ◌*◌, ◌^◌, ◌%◌, ◌<◌, ◌≤◌, ◌==◌, ◌++◌, ◌||◌, min, max, cond, length, map, slice_index, IfOk, IfSome, IfNone, OnOk, OnErr, IsErrOf};
-ghost use Rattle.std.specs.Int.Digits.{number_from_digits, number_from_digits_after, AllBelowBase};
+ghost use Rattle.std.specs.Prelude.{◌≡◌, ◌+◌, ◌-◌, ◌*◌, ◌^◌, ◌%◌, ◌<◌, ◌≤◌, ◌==◌, ◌++◌, ◌||◌, min, max, cond, length, slice_index, IfOk, IfSome, IfNone, OnOk, OnErr, IsErrOf};
+ghost use Rattle.std.specs.Int.Digits.{number_from_digits, AllBelowBase};
 ghost use Rattle.std.specs.Char.{digit_value};
-ghost use Rattle.std.specs.Str.Parse.{digits_value_after};
 ghost use Rattle.fixed_decimal_unsigned.specs.NumberText.{AreDigits, spelled, AreEndsIn, IsWithin, number_of, Reads, ReadsLong, IsBeyond, IsNoText};
 ghost use Rattle.fixed_decimal_unsigned.specs.BorrowedParts.{parts_of};
 ghost use Rattle.fixed_decimal_unsigned.specs.Range.{IsLong};
 
-use crate::digit_bytes::digit_of;
-use crate::digits::{BLOCK, Digits};
 use crate::error::ParseError;
-use crate::places::ONES;
 use crate::text_parts::TextParts;
 use crate::unsigned_decimal::UnsignedDecimal;
+use fixed_decimal_digits::{Digits, ONES, digit_of, digits_of_texts};
 use std::alloc::{AllocError, Global};
 
 // No exponent in range reaches this; a larger one is read as this.
 const EXPONENT_CAP: usize = 65536;
 
-// So many digits fit in a word, and need no memory.
-const INLINE_DIGITS: usize = 8;
-
 /// The number that digits spell, or 65536 where it is larger: 12 of `012`. The condition is that each byte is a digit.
-#[tactic(auto, using(crate::proofs::SpelledLemmas::digits_at, crate::proofs::SpelledLemmas::capped_more))]
+#[tactic(auto, using(fixed_decimal_digits::proofs::DigitTextLemmas::digits_at, crate::proofs::SpelledLemmas::capped_more))]
 pub fn capped_number(text: &[u8]) -> usize
     requires { AreDigits text.now }
     ensures { result ≡ min (spelled text.now) 65536 }
@@ -54,7 +48,7 @@ fn without_end_zeros(text: &[u8]) -> &[u8]
 }
 
 // The text without the zeros that it begins with.
-#[tactic(auto, using(crate::proofs::SpelledLemmas::digits_behind, crate::proofs::SpelledLemmas::value_behind, crate::proofs::SpelledLemmas::front_positive))]
+#[tactic(auto, using(fixed_decimal_digits::proofs::DigitTextLemmas::digits_behind, crate::proofs::SpelledLemmas::value_behind, crate::proofs::SpelledLemmas::front_positive))]
 fn without_front_zeros(text: &[u8]) -> &[u8]
     requires { AreDigits text.now }
     ensures digits { AreDigits result.now }
@@ -70,57 +64,6 @@ fn without_front_zeros(text: &[u8]) -> &[u8]
         kept = rest;
     }
     kept
-}
-
-// Adds the digits of a text, for which there is room, two at a time behind those that are there.
-#[tactic(auto, using(crate::proofs::SpelledLemmas::digits_at, crate::proofs::BlockLemmas::two_left, crate::proofs::BlockLemmas::one_left, crate::proofs::BlockLemmas::none_left))]
-fn push_pairs(digits: &mut Digits, text: &[u8])
-    requires text_digits { AreDigits text.now }
-    requires room { length digits.old.items + length text.now ≤ digits.old.capacity }
-    ensures items { digits.new.items ≡ digits.old.items ++ map digit_value text.now }
-    ensures capacity { digits.new.capacity ≡ digits.old.capacity }
-{
-    let mut at = 0;
-    while at + 1 < text.len() {
-        digits.push_two(digit_of(text[at]), digit_of(text[at + 1]));
-        at += 2;
-    }
-    if at < text.len() {
-        digits.push_reserved(digit_of(text[at]));
-    }
-}
-
-// Adds the digits of a text, for which there is room, in blocks behind an even count.
-fn push_blocks(digits: &mut Digits, text: &[u8])
-    requires text_digits { AreDigits text.now }
-    requires room { length digits.old.items + length text.now ≤ digits.old.capacity }
-    requires even { length digits.old.items % 2 ≡ 0 }
-    ensures items { digits.new.items ≡ digits.old.items ++ map digit_value text.now }
-    ensures capacity { digits.old.capacity ≤ digits.new.capacity }
-{
-    let mut rest = text;
-    while rest.len() >= BLOCK {
-        let (front, back) = rest.split_at(BLOCK);
-        digits.push_block(front);
-        rest = back;
-    }
-    push_pairs(digits, rest);
-}
-
-// Adds the digits of a text, for which there is room, behind those that are there.
-#[tactic(auto, using(crate::proofs::SpelledLemmas::digits_behind, crate::proofs::BlockLemmas::first_left))]
-fn push_text(digits: &mut Digits, text: &[u8])
-    requires text_digits { AreDigits text.now }
-    requires room { length digits.old.items + length text.now ≤ digits.old.capacity }
-    ensures items { digits.new.items ≡ digits.old.items ++ map digit_value text.now }
-    ensures capacity { digits.old.capacity ≤ digits.new.capacity }
-{
-    if digits.len() % 2 == 0 {
-        push_blocks(digits, text);
-    } else if let Some((first, rest)) = text.split_first() {
-        digits.push_reserved(digit_of(*first));
-        push_blocks(digits, rest);
-    }
 }
 
 // The places of the first and the last digit of a mantissa.
@@ -195,46 +138,6 @@ fn without_leading_zeros<'a>(integer: &'a [u8], fraction: &'a [u8]) -> (&'a [u8]
     }
 }
 
-// A word with the digits of a text behind those that it has, four bits each.
-#[tactic(auto, using(crate::proofs::SpelledLemmas::digits_at, crate::proofs::WordLemmas::folded_more, crate::proofs::WordLemmas::folded_all))]
-fn word_after(word: u32, text: &[u8]) -> u32
-    requires text_digits { AreDigits text.now }
-    requires few { length text.now ≤ 8 }
-    requires room { word < 16 ^ (8 - length text.now) }
-    ensures { result ≡ digits_value_after 16 word text.now }
-{
-    let mut after = word;
-    for c in text {
-        after = after * 16 + digit_of(*c) as u32;
-    }
-    after
-}
-
-// The digits that two texts spell one behind the other, at most eight. No memory is taken.
-fn few_digits(alloc: Global, whole: &[u8], rest: &[u8]) -> Digits
-    requires whole_digits { AreDigits whole.now }
-    requires rest_digits { AreDigits rest.now }
-    requires few { length whole.now + length rest.now ≤ 8 }
-    ensures { result.items ≡ map digit_value (whole.now ++ rest.now) }
-{
-    let word = word_after(word_after(0, whole), rest);
-    Digits::of_word(alloc, word, whole.len() + rest.len())
-}
-
-// The digits that two texts spell one behind the other, more than eight.
-fn many_digits(alloc: Global, whole: &[u8], rest: &[u8]) -> Result<Digits, AllocError>
-    requires whole_digits { AreDigits whole.now }
-    requires rest_digits { AreDigits rest.now }
-    requires count { length whole.now + length rest.now < 2 ^ 64 }
-    ensures items { IfOk result (λ d. d.items ≡ map digit_value (whole.now ++ rest.now)) }
-    ensures room { OnErr result (8 < length whole.now + length rest.now) }
-{
-    let mut digits = Digits::with_room(alloc, whole.len() + rest.len())?;
-    push_text(&mut digits, whole);
-    push_text(&mut digits, rest);
-    Ok(digits)
-}
-
 // The digits that two texts spell one behind the other.
 fn gathered(alloc: Global, integer: &[u8], fraction: &[u8]) -> Result<Digits, AllocError>
     requires integer_digits { AreDigits integer.now }
@@ -248,11 +151,7 @@ fn gathered(alloc: Global, integer: &[u8], fraction: &[u8]) -> Result<Digits, Al
     ensures room { OnErr result (10 ^ 8 ≤ spelled (integer.now ++ fraction.now)) }
 {
     let (whole, rest) = without_leading_zeros(integer, fraction);
-    let count = whole.len() + rest.len();
-    if count <= INLINE_DIGITS {
-        return Ok(few_digits(alloc, whole, rest));
-    }
-    let digits = many_digits(alloc, whole, rest)?;
+    let digits = digits_of_texts(alloc, whole, rest)?;
     Ok(digits)
 }
 

@@ -1,16 +1,14 @@
 ghost use Rattle.std.specs.Prelude.{◌≡◌, ◌≢◌, ℕ, ◌+◌, ◌<◌, ◌≤◌, OnOk, OnErr, IsOk};
 ghost use Rattle.fixed_decimal_unsigned.specs.Number.{place};
 ghost use Rattle.fixed_decimal_unsigned.specs.Range.{Rounds, HoldsDigits, MayGrowAt};
-ghost use Rattle.fixed_decimal_unsigned.specs.Rounding.{IsLimited};
-ghost use Rattle.fixed_decimal_unsigned.specs.RoundingSteps.{IsTrimmed};
-ghost use Rattle.fixed_decimal_unsigned.specs.Stored.{count_of};
+ghost use Rattle.fixed_decimal_digits.specs.Rounding.{IsLimited};
+ghost use Rattle.fixed_decimal_digits.specs.DigitList.{IsTrimmed, count_of};
 
-use crate::digits::Digits;
-use crate::modes::{RoundingIncrement, UnsignedRoundingMode};
-use crate::places::{ONES, place_of};
-use crate::rounding_pair::round_digits;
-use crate::turns::Turns;
+use crate::places::place_of;
 use crate::unsigned_decimal::UnsignedDecimal;
+use fixed_decimal_digits::{
+    Digits, ONES, RoundingIncrement, Turns, UnsignedRoundingMode, round_digits,
+};
 use std::alloc::AllocError;
 use std::sync::ledger::Ledger;
 

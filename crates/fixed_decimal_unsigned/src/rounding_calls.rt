@@ -2,9 +2,8 @@ ghost use Rattle.std.specs.Prelude.{◌≡◌, ◌≢◌, ◌<◌, OnOk, OnErr, 
 ghost use Rattle.fixed_decimal_unsigned.specs.Number.{place};
 ghost use Rattle.fixed_decimal_unsigned.specs.Range.{Rounds, MayGrowAt};
 
-use crate::modes::{RoundingIncrement, UnsignedRoundingMode};
-use crate::turns::Turns;
 use crate::unsigned_decimal::UnsignedDecimal;
+use fixed_decimal_digits::{RoundingIncrement, Turns, UnsignedRoundingMode};
 use std::alloc::{AllocError, AllocFailed};
 use std::marker::Brand;
 use std::sync::ledger::{Blank, Ledger};

@@ -1,9 +1,8 @@
 ghost use Rattle.std.specs.Prelude.{◌≡◌, ◌+◌, ◌-◌, ◌<◌, ◌≤◌, length, IsTrue, ◌⊎◌, false};
 ghost use Rattle.fixed_decimal_unsigned.specs.Shifts.{rise, fall, Shifts, plain_zero};
 
-use crate::digits::Digits;
-use crate::places::ONES;
 use crate::unsigned_decimal::UnsignedDecimal;
+use fixed_decimal_digits::{Digits, ONES};
 
 // Whether a place stays one when it is moved.
 fn is_place_moved(place: u16, by: i16) -> bool

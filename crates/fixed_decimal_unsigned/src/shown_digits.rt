@@ -1,60 +1,15 @@
-//! The digits that a number shows, one after another.
-ghost use Rattle.std.specs.Prelude.{◌≡◌, ◌+◌, ◌≤◌, ◌++◌, length, min, replicate, take, drop, Some, IfSome};
-ghost use Rattle.std.specs.Iterator.{YieldsFirst, UpTo, at_most, item_count};
-ghost use Rattle.std.specs.Iterator.SizeHint.{IsWithinCount};
-ghost use Rattle.fixed_decimal_unsigned.specs.Number.{digits_down, fraction_digits, whole_digits};
+ghost use Rattle.std.specs.Prelude.{◌≡◌};
+ghost use Rattle.fixed_decimal_unsigned.specs.Number.{fraction_digits, whole_digits};
 
-use crate::digits::{DigitRun, STEP};
-use crate::places::ONES;
 use crate::unsigned_decimal::UnsignedDecimal;
-use std::iter::{ExactSizeIterator, FusedIterator};
-use std::marker::Model;
-
-/// The digits of a number at a range of magnitudes, from the highest to the lowest, each from 0 to 9: before the point of
-/// `012.30` they are 0, 1, 2, and behind it 3, 0.
-///
-/// It borrows the number, and takes no memory.
-#[derive(Debug, Drop)]
-pub struct ShownDigits<'l> {
-    zeros_before: usize,
-    inside: DigitRun<'l>,
-    zeros_behind: usize,
-}
-
-impl<'l> Model for ShownDigits<'l> {
-    ghost use Rattle.std.specs.Prelude.{ℕ, ◌≤◌, ◌++◌, List, replicate};
-
-    ghost Value = { List ℕ };
-
-    ghost view = { λ it. replicate it.zeros_before 0 ++ (it.inside ++ replicate it.zeros_behind 0) };
-
-    ghost invariant = { λ it. (it.zeros_before ≤ 65536) × (it.zeros_behind ≤ 65536) };
-}
-
-// The digits of a number at so many places from `base` up.
-fn digits_at(number: &UnsignedDecimal, base: u16, count: u16) -> ShownDigits<'_>
-    requires { base + count ≤ 65536 }
-    ensures { result ≡ digits_down number.now.count base count }
-{
-    let past = base as usize + count as usize;
-    let first = number.top as usize + 1;
-    let zeros_before = past.saturating_sub(first).min(count as usize);
-    let places = count as usize - zeros_before;
-    let inside = number.digits.run(first.saturating_sub(past), places);
-    let zeros_behind = places - inside.len();
-    ShownDigits {
-        zeros_before,
-        inside,
-        zeros_behind,
-    }
-}
+use fixed_decimal_digits::{ONES, ShownDigits, digits_at};
 
 impl UnsignedDecimal {
     /// The digits shown before the point, from the highest to the ones: of `012.30` they are 0, 1, 2. It takes no memory.
     pub fn whole_digits(&self) -> ShownDigits<'_>
         ensures { result ≡ whole_digits self.now }
     {
-        digits_at(self, ONES, self.high - (ONES - 1))
+        digits_at(&self.digits, self.top, ONES, self.high - (ONES - 1))
     }
 
     /// The digits shown behind the point, from the tenths down: of `012.30` they are 3, 0, and of `12` there are none. It
@@ -62,86 +17,6 @@ impl UnsignedDecimal {
     pub fn fraction_digits(&self) -> ShownDigits<'_>
         ensures { result ≡ fraction_digits self.now }
     {
-        digits_at(self, self.low, ONES - self.low)
+        digits_at(&self.digits, self.top, self.low, ONES - self.low)
     }
 }
-
-impl<'l> ShownDigits<'l> {
-    /// Puts the next digits into the front of `block`, sixteen or all that are left where these are fewer, and answers how
-    /// many. What stands in `block` behind them stays.
-    ///
-    /// Each is from 0 to 9. Of `012.30` the digits before the point are 0, 1, 2, and the answer is 3; the next answer is 0.
-    /// A writer that takes sixteen digits by one call pays for one step, and not for sixteen. It takes no memory.
-    pub fn next_block(&mut self, block: &mut [u8; 16]) -> usize
-        ensures count { result ≡ min 16 (length self.old) }
-        ensures taken { take result block.new ≡ take result self.old }
-        ensures same { drop result block.new ≡ drop result block.old }
-        ensures rest { self.new ≡ drop result self.old }
-    {
-        if self.zeros_before == 0 && self.inside.len() >= STEP {
-            *block = self.inside.next_sixteen();
-            return STEP;
-        }
-        self.next_few(block)
-    }
-
-    // Does what `next_block` does, digit by digit.
-    fn next_few(&mut self, block: &mut [u8; 16]) -> usize
-        ensures count { result ≡ min 16 (length self.old) }
-        ensures taken { take result block.new ≡ take result self.old }
-        ensures same { drop result block.new ≡ drop result block.old }
-        ensures rest { self.new ≡ drop result self.old }
-    {
-        let mut count = 0;
-        while count < STEP {
-            let Some(digit) = self.next() else {
-                return count;
-            };
-            block[count] = digit;
-            count += 1;
-        }
-        count
-    }
-}
-
-/// The digits in their order; after the last one `None`, for good. Behind the point of `012.30` they are 3, 0,
-/// `None`.
-impl<'l> Iterator for ShownDigits<'l> {
-    type Item = u8;
-
-    ghost next_gives = { YieldsFirst (λ it. it) };
-
-    ghost remaining = { item_count (λ it. it) };
-
-    fn next(&mut self) -> Option<u8> {
-        if self.zeros_before > 0 {
-            self.zeros_before -= 1;
-            return Some(0);
-        }
-        if let Some(digit) = self.inside.next() {
-            return Some(digit);
-        }
-        if self.zeros_behind > 0 {
-            self.zeros_behind -= 1;
-            return Some(0);
-        }
-        None
-    }
-
-    fn size_hint(&self) -> (usize, Option<usize>)
-        ensures lower { IsWithinCount result.0 (at_most (length self.now)) }
-        ensures upper { IfSome result.1 (UpTo (at_most (length self.now))) }
-        ensures value { result ≡ (length self.now, Some (length self.now)) }
-    {
-        let left = self.len();
-        (left, Some(left))
-    }
-}
-
-impl<'l> ExactSizeIterator for ShownDigits<'l> {
-    fn len(&self) -> usize {
-        self.zeros_before + self.inside.len() + self.zeros_behind
-    }
-}
-
-impl<'l> FusedIterator for ShownDigits<'l> {}

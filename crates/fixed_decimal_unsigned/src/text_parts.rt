@@ -1,10 +1,10 @@
 // A text taken apart: digits, a fraction, an exponent.
-ghost use Rattle.std.specs.Prelude.{◌≡◌, false, ◌≤◌, ◌++◌, ◌∷◌, [], length, take, MatchOption, IfSome, IfNone, IsTrue, ◌↔◌};
+ghost use Rattle.std.specs.Prelude.{◌≡◌, false, ◌++◌, [], IfSome, IfNone, IsTrue, ◌↔◌};
 ghost use Rattle.fixed_decimal_unsigned.specs.NumberText.{AreDigits, behind_point, SpellsExponent, Spells, IsNoText, minus_if};
 ghost use Rattle.fixed_decimal_unsigned.specs.TextParts.{StartsNoDigit, StartsNoPoint, IsNoFraction, IsNoExponent, StartsNoMinus, IsMark};
 ghost use Rattle.fixed_decimal_unsigned.specs.BorrowedParts.{parts_of};
 
-use crate::digits::BLOCK;
+use fixed_decimal_digits::digits_in_blocks;
 
 // The parts of a text, borrowed from it.
 #[derive(Clone, Copy)]
@@ -13,32 +13,6 @@ pub struct TextParts<'a> {
     pub fraction: &'a [u8],
     pub negative: bool,
     pub exponent: &'a [u8],
-}
-
-// Whether each character is a digit.
-fn are_digits(text: &[u8]) -> bool
-    ensures { IsTrue result → AreDigits text.now }
-{
-    let mut all = true;
-    for c in text {
-        all = all & c.is_ascii_digit();
-    }
-    all
-}
-
-// How many characters whole blocks of digits make up that the text begins with.
-fn digits_in_blocks(text: &[u8]) -> usize
-    ensures within { result ≤ length text.now }
-    ensures digits { AreDigits (take result text.now) }
-{
-    let mut count = 0;
-    while text.len() - count >= BLOCK {
-        if !are_digits(&text[count..count + BLOCK]) {
-            return count;
-        }
-        count += BLOCK;
-    }
-    count
 }
 
 // The digits that a text begins with, and the rest.

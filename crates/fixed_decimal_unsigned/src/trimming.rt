@@ -2,9 +2,9 @@ ghost use Rattle.std.specs.Prelude.{◌≡◌, ◌+◌, ◌-◌, ◌≤◌, min,
 ghost use Rattle.fixed_decimal_unsigned.specs.Number.{place};
 ghost use Rattle.fixed_decimal_unsigned.specs.Shifts.{TrimsStart, TrimsEnd, TrimsWhole, PadsStart, PadsEnd};
 
-use crate::digits::Digits;
-use crate::places::{ONES, place_of};
+use crate::places::place_of;
 use crate::unsigned_decimal::UnsignedDecimal;
+use fixed_decimal_digits::{Digits, ONES};
 
 // The lower of a place and the place of the last digit.
 fn end_below(digits: &Digits, top: u16, most: u16) -> u16

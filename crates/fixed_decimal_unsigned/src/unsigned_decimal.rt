@@ -4,8 +4,8 @@ ghost use Rattle.fixed_decimal_unsigned.specs.Number.{place, digit, IsNumber};
 ghost use Rattle.fixed_decimal_unsigned.specs.Integers.{IsInteger};
 ghost use Rattle.fixed_decimal_unsigned.specs.Range.{IsLong};
 
-use crate::digits::Digits;
-use crate::places::{ONES, magnitude_of, place_of};
+use crate::places::{magnitude_of, place_of};
+use fixed_decimal_digits::{Digits, ONES, digit_at_place};
 use std::alloc::{AllocError, Global};
 use std::marker::Model;
 use std::ops::RangeInclusive;
@@ -25,7 +25,8 @@ pub struct UnsignedDecimal {
 
 impl Model for UnsignedDecimal {
     ghost use Rattle.fixed_decimal_unsigned.specs.Number.{Number};
-    ghost use Rattle.fixed_decimal_unsigned.specs.Stored.{count_of, IsStored};
+    ghost use Rattle.fixed_decimal_digits.specs.DigitList.{count_of};
+    ghost use Rattle.fixed_decimal_unsigned.specs.Stored.{IsStored};
 
     ghost Value = { Number };
 
@@ -75,16 +76,7 @@ impl UnsignedDecimal {
         ensures value { result ≡ digit self.now.count (place magnitude) }
         ensures ten { result < 10 }
     {
-        let place = place_of(magnitude);
-        if place > self.top {
-            return 0;
-        }
-        let index = (self.top - place) as usize;
-        if index < self.digits.len() {
-            self.digits.get(index)
-        } else {
-            0
-        }
+        digit_at_place(&self.digits, self.top as u32, place_of(magnitude) as u32)
     }
 
     /// The magnitudes that are shown, from the lowest to the highest: -1 to 2 of `012.3`. It takes no memory.

@@ -5,9 +5,9 @@ ghost use Rattle.writeable.specs.Taking.{HasBegun};
 ghost use Rattle.fixed_decimal_unsigned.specs.Number.{digit, digits_down, whole_digits, fraction_digits};
 ghost use Rattle.fixed_decimal_unsigned.specs.NumberText.{character, behind_point, text_of};
 
-use crate::digits::BLOCK;
-use crate::places::{ONES, magnitude_of};
+use crate::places::magnitude_of;
 use crate::unsigned_decimal::UnsignedDecimal;
+use fixed_decimal_digits::{BLOCK, ONES};
 use std::fmt;
 use writeable::{Error, LengthHint, Sink, Writeable, display};
 

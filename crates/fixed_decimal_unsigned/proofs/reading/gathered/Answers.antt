@@ -1,20 +1,8 @@
 use Rattle.std.proofs.Common.{◌<◌, ◌≤◌, ◌^◌, ◌∙◌, length, get_or, sym, ap, subst}
 use Rattle.std.specs.Int.Digits.{number_from_digits}
 use Rattle.writeable.specs.Taking.{on_err}
-use Rattle.fixed_decimal_unsigned.proofs.LongLemmas.{long_gathered}
-use Rattle.fixed_decimal_unsigned.proofs.WordLemmas.{first_of_both, spelled_both}
+use Rattle.fixed_decimal_unsigned.proofs.LongLemmas.{long_gathered, first_of_both, spelled_both}
 use Rattle.fixed_decimal_unsigned.proofs.reading.gathered.Goals as goal
-
-pub returns-then-count-le-INLINE_DIGITS-clause-value : goal.returns-then-count-le-INLINE_DIGITS-clause-value
-returns-then-count-le-INLINE_DIGITS-clause-value c =
-    let parts = c.without_leading_zeros.result in
-    ap (number_from_digits 10) c.few_digits.ensures ∙ spelled_both parts.0.now parts.1.now ∙ sym c.without_leading_zeros.ensures.value
-
-pub returns-then-count-le-INLINE_DIGITS-clause-first : goal.returns-then-count-le-INLINE_DIGITS-clause-first
-returns-then-count-le-INLINE_DIGITS-clause-first c =
-    let parts = c.without_leading_zeros.result in
-    subst (λ ds. 0 < length ds → 0 < get_or ds 0 0) (sym c.few_digits.ensures)
-    (first_of_both parts.0.now parts.1.now c.without_leading_zeros.ensures.integer_first c.without_leading_zeros.ensures.fraction_first)
 
 pub returns-clause-value : goal.returns-clause-value
 returns-clause-value c =

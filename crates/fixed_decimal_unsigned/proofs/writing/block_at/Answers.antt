@@ -1,7 +1,7 @@
 use Rattle.std.proofs.Common.{◌+◌, ◌-◌, map, sym, ap, ◌∙◌, arith}
 use Rattle.fixed_decimal_unsigned.specs.Number.{digits_down}
 use Rattle.fixed_decimal_unsigned.specs.NumberText.{character}
-use Rattle.fixed_decimal_unsigned.proofs.ShownDigitsLemmas.{down_inside}
+use Rattle.fixed_decimal_digits.proofs.ShownDigitsLemmas.{down_inside}
 use Rattle.fixed_decimal_unsigned.proofs.StoredLemmas.{room_of}
 use Rattle.fixed_decimal_unsigned.proofs.writing.block_at.Goals as goal
 

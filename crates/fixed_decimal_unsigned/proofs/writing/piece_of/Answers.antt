@@ -1,4 +1,4 @@
-use Rattle.fixed_decimal_unsigned.proofs.TextBlockLemmas.{whole_piece}
+use Rattle.fixed_decimal_unsigned.proofs.WritingLemmas.{whole_piece}
 use Rattle.fixed_decimal_unsigned.proofs.writing.piece_of.Goals as goal
 
 pub returns-in-Some : goal.returns-in-Some

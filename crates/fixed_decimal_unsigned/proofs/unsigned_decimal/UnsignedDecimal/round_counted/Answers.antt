@@ -2,7 +2,7 @@ use Rattle.std.proofs.Common.{◌≡◌, max, sym, ap, ◌∙◌, subst, arith}
 use Rattle.std.proofs.lemmas.Int.{to_z-of_z}
 use Rattle.writeable.specs.Taking.{on_err}
 use Rattle.fixed_decimal_unsigned.specs.Number.{place}
-use Rattle.fixed_decimal_unsigned.specs.Stored.{count_of}
+use Rattle.fixed_decimal_digits.specs.DigitList.{count_of}
 use Rattle.fixed_decimal_unsigned.specs.Range.{HoldsDigits}
 use Rattle.fixed_decimal_unsigned.proofs.NonzeroLemmas.{grows_at}
 use Rattle.fixed_decimal_unsigned.proofs.RangeLemmas.{trimmed_of, holds_length, rounded_kept, rounds_made, limited_multiple, turns_bounded}

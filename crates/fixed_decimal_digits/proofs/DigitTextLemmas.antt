@@ -1,0 +1,17 @@
+-- Texts of digits: each character, and what is left of them.
+use Rattle.std.proofs.Common.{◌≡◌, ℕ, zero, suc, ◌+◌, ◌*◌, ◌%◌, ◌^◌, ◌<◌, min, List, [], ◌∷◌, ◌++◌, length, get_or, take, sym, ap, ◌∙◌, arith}
+use Rattle.std.proofs.lemmas.Int.Digits.{digits_value_more, digits_value_push}
+use Rattle.std.proofs.lemmas.Nat.{mod-mul-add}
+use Rattle.std.proofs.lemmas.Bool.Decides.{nat_tests}
+use Rattle.std.specs.Char.{digit_value}
+use Rattle.std.specs.Str.Parse.{digits_value_after}
+use Rattle.fixed_decimal_digits.specs.DigitText.{AreDigits}
+
+pub digits_at : (text : List ℕ) (i : ℕ) → AreDigits text → i < length text → digit_value (get_or text i 0) < 10
+digits_at [] i h l = absurd (omega arith)
+digits_at (c ∷ cs) zero h l = h.0
+digits_at (c ∷ cs) (suc i) h l = digits_at cs i h.1 (omega arith)
+
+-- a zero at the front counts nothing, and another digit there is positive
+pub digits_behind : (c : ℕ) (rest : List ℕ) → AreDigits (c ∷ rest) → AreDigits rest
+digits_behind c rest h = h.1

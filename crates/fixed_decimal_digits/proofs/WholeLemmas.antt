@@ -1,0 +1,36 @@
+-- Whole numbers: the zeros at their end, and how many digits they have.
+use Rattle.std.proofs.Common.{◌≡◌, ℕ, ◌+◌, ◌-◌, ◌*◌, ◌/◌, ◌%◌, ◌^◌, ◌<◌, ◌≤◌, max, min, List, [], ◌∷◌, length, get_or, refl, sym, ap, ◌∙◌, subst, arith, ⊎_elim, suc, ◌++◌, length-append, Result, Ok, Err, OnErr}
+use Rattle.std.proofs.Math.Nat.{le-mul_of_pos_right, mul-le-mul_right, div-add-mod', mul-div_cancel, mul_assoc, mod-one, eq-zero-or-pos}
+use Rattle.std.proofs.lemmas.Bool.{cases_lt}
+use Rattle.std.specs.Int.Digits.{number_from_digits, AllBelowBase}
+use Rattle.fixed_decimal_digits.proofs.TenLemmas.{tens_apart, tens_next}
+use Rattle.fixed_decimal_digits.proofs.DigitsLemmas.{number_reaches}
+use Rattle.std.specs.Char.{digit_value}
+
+tenfold : (q t u : ℕ) → u ≡ t * 10 → q * 10 * t ≡ q * u
+tenfold q t u e = omega (arith, ap (λ x. q * x) e)
+
+pub zero_stripped : (n left zeros : ℕ) → left % 10 ≡ 0 → n ≡ left * 10 ^ zeros → n ≡ left / 10 * 10 ^ (zeros + 1)
+zero_stripped n left zeros z e =
+    let tens : left ≡ left / 10 * 10 = omega arith in
+    e ∙ ap (λ x. x * 10 ^ zeros) tens ∙ tenfold (left / 10) (10 ^ zeros) (10 ^ (zeros + 1)) (tens_next zeros)
+
+power_under : (left zeros : ℕ) → 0 < left → 10 ^ zeros ≤ left * 10 ^ zeros
+power_under left zeros p = let h : 1 * 10 ^ zeros ≤ left * 10 ^ zeros = mul-le-mul_right (10 ^ zeros) p in omega arith
+
+pub zeros_few : (n left zeros : ℕ) → 0 < left → n < 2 ^ 128 → n ≡ left * 10 ^ zeros → zeros < 39
+zeros_few n left zeros p l e =
+    ⊎_elim (λ a. a) (λ a. let up = tens_apart 39 zeros a in let under = power_under left zeros p in absurd (omega arith)) (cases_lt zeros 39)
+
+eight_digits : (ds : List ℕ) → 8 ≤ length ds → (0 < length ds → 0 < get_or ds 0 0) → 10 ^ 7 ≤ number_from_digits 10 ds
+eight_digits ds l first =
+    let reach = number_reaches ds (omega arith) (first (omega arith)) in let up = tens_apart 7 (length ds - 1) (omega arith) in omega arith
+
+-- a number whose digits but the last are at least eight
+pub nine_digits : (ds : List ℕ) (n : ℕ) → 8 ≤ length ds → (0 < length ds → 0 < get_or ds 0 0) → number_from_digits 10 ds ≡ n / 10 → 10 ^ 8 ≤ n
+nine_digits ds n l first e = let many = eight_digits ds l first in omega arith
+
+-- and memory for them was refused
+pub nine_refused : {T E : Type 0} (r : Result T E) (ds : List ℕ) (n : ℕ) → 8 ≤ length ds → (0 < length ds → 0 < get_or ds 0 0) → number_from_digits 10 ds ≡ n / 10 → OnErr r (10 ^ 8 ≤ n)
+nine_refused (Ok x) ds n l first e = tt
+nine_refused (Err x) ds n l first e = nine_digits ds n l first e

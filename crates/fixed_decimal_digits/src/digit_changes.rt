@@ -1,0 +1,208 @@
+// Digits put behind a list of them, and taken away from either end.
+ghost use Rattle.std.specs.Prelude.{◌≡◌, ◌+◌, ◌%◌, ◌<◌, ◌≤◌, [], ◌∷◌, ◌++◌, length, take, drop, map, IsOk, OnOk, OnErr};
+ghost use Rattle.std.specs.Char.{digit_value};
+ghost use Rattle.fixed_decimal_digits.specs.DigitText.{AreDigits};
+
+use crate::digit_bytes::{bytes_of_block, drop_bytes, push_bytes, set_byte, shift_half};
+use crate::digits::{BLOCK, Digits};
+use std::alloc::AllocError;
+
+impl Digits {
+    // Adds a digit behind the last.
+    pub(crate) fn push(&mut self, digit: u8) -> Result<(), AllocError>
+        requires { digit < 10 }
+        ensures ok { OnOk result (self.new.items ≡ self.old.items ++ digit ∷ []) }
+        ensures err { OnErr result (self.new ≡ self.old) }
+        ensures room { OnErr result (8 ≤ length self.old.items) }
+    {
+        let _inline = self.len();
+        self.reserve(1)?;
+        self.push_reserved(digit);
+        Ok(())
+    }
+
+    /// Makes room for so many more digits: with room for two more behind 9, 0, 5, both are pushed and no memory is taken for them.
+    ///
+    /// The digits stay. Memory is taken where there is less room; where it is refused (`AllocError`) the list is as before.
+    #[tactic(auto, using(crate::proofs::PackedChanges::bytes_length))]
+    pub fn reserve(&mut self, more: usize) -> Result<(), AllocError>
+        ensures items { self.new.items ≡ self.old.items }
+        ensures ok { OnOk result (length self.new.items + more ≤ self.new.capacity) }
+        ensures err { OnErr result (self.new ≡ self.old) }
+        ensures succeeds { length self.old.items + more ≤ self.old.capacity → IsOk result }
+    {
+        let Some(count) = self.count.checked_add(more) else {
+            return Err(AllocError);
+        };
+        let bytes = count / 2 + count % 2;
+        self.kept.reserve(bytes - self.kept.len())
+    }
+
+    // Adds a digit behind an even count: it begins a byte.
+    fn push_upper(&mut self, digit: u8)
+        requires ten { digit < 10 }
+        requires room { length self.old.items < self.old.capacity }
+        requires even { length self.old.items % 2 ≡ 0 }
+        ensures items { self.new.items ≡ self.old.items ++ digit ∷ [] }
+        ensures capacity { self.new.capacity ≡ self.old.capacity }
+    {
+        self.kept.push_reserved(digit * 16);
+        self.count += 1;
+    }
+
+    // Adds a digit behind an odd count: it goes into the last byte.
+    fn push_lower(&mut self, digit: u8)
+        requires ten { digit < 10 }
+        requires room { length self.old.items < self.old.capacity }
+        requires odd { length self.old.items % 2 ≡ 1 }
+        ensures items { self.new.items ≡ self.old.items ++ digit ∷ [] }
+        ensures capacity { self.new.capacity ≡ self.old.capacity }
+    {
+        let last = self.count / 2;
+        let byte = self.kept.as_slice()[last];
+        set_byte(&mut self.kept, last, byte + digit);
+        self.count += 1;
+    }
+
+    /// Adds a digit behind the last: 7 behind 9, 0, 5 makes 9, 0, 5, 7. The condition is that there is room. It takes no memory.
+    pub fn push_reserved(&mut self, digit: u8)
+        requires ten { digit < 10 }
+        requires room { length self.old.items < self.old.capacity }
+        ensures items { self.new.items ≡ self.old.items ++ digit ∷ [] }
+        ensures capacity { self.new.capacity ≡ self.old.capacity }
+    {
+        if self.len() % 2 == 0 {
+            self.push_upper(digit);
+        } else {
+            self.push_lower(digit);
+        }
+    }
+
+    // Adds two digits behind an even count, in a byte of their own.
+    fn push_both(&mut self, first: u8, second: u8)
+        requires tens { (first < 10) × (second < 10) }
+        requires room { length self.old.items + 2 ≤ self.old.capacity }
+        requires even { length self.old.items % 2 ≡ 0 }
+        ensures items { self.new.items ≡ self.old.items ++ first ∷ second ∷ [] }
+        ensures capacity { self.new.capacity ≡ self.old.capacity }
+    {
+        self.kept.push_reserved(first * 16 + second);
+        self.count += 2;
+    }
+
+    // Adds two digits for which there is room.
+    pub(crate) fn push_two(&mut self, first: u8, second: u8)
+        requires tens { (first < 10) × (second < 10) }
+        requires room { length self.old.items + 2 ≤ self.old.capacity }
+        ensures items { self.new.items ≡ self.old.items ++ first ∷ second ∷ [] }
+        ensures capacity { self.new.capacity ≡ self.old.capacity }
+    {
+        if self.len() % 2 == 0 {
+            self.push_both(first, second);
+        } else {
+            self.push_lower(first);
+            self.push_upper(second);
+        }
+    }
+
+    // Adds the digits of a block of text, for which there is room, behind an even count.
+    pub(crate) fn push_block(&mut self, text: &[u8])
+        requires text_digits { AreDigits text.now }
+        requires block { length text.now ≡ 64 }
+        requires room { length self.old.items + 64 ≤ self.old.capacity }
+        requires even { length self.old.items % 2 ≡ 0 }
+        ensures items { self.new.items ≡ self.old.items ++ map digit_value text.now }
+        ensures capacity { self.old.capacity ≤ self.new.capacity }
+    {
+        push_bytes(&mut self.kept, &bytes_of_block(text));
+        self.count += BLOCK;
+    }
+
+    // Keeps an even count of the first digits.
+    fn keep_even(&mut self, len: usize)
+        requires within { len ≤ length self.old.items }
+        requires even { len % 2 ≡ 0 }
+        ensures items { self.new.items ≡ take len self.old.items }
+        ensures capacity { self.new.capacity ≡ self.old.capacity }
+    {
+        self.kept.truncate(len / 2);
+        self.count = len;
+    }
+
+    // Keeps an odd count of the first digits: the lower half of the last byte is cleared.
+    fn keep_odd(&mut self, len: usize)
+        requires within { len ≤ length self.old.items }
+        requires odd { len % 2 ≡ 1 }
+        ensures items { self.new.items ≡ take len self.old.items }
+        ensures capacity { self.new.capacity ≡ self.old.capacity }
+    {
+        let last = len / 2;
+        self.kept.truncate(last + 1);
+        let byte = self.kept.as_slice()[last];
+        set_byte(&mut self.kept, last, byte / 16 * 16);
+        self.count = len;
+    }
+
+    // Keeps the first digits, so many as `len`.
+    pub(crate) fn truncate(&mut self, len: usize)
+        ensures items { self.new.items ≡ take len self.old.items }
+        ensures capacity { self.new.capacity ≡ self.old.capacity }
+        ensures fits { length self.old.items ≤ self.old.capacity }
+        ensures inline { 8 ≤ self.new.capacity }
+    {
+        if len < self.len() {
+            if len % 2 == 0 {
+                self.keep_even(len);
+            } else {
+                self.keep_odd(len);
+            }
+        }
+    }
+
+    // Takes an even count of digits away from the front.
+    fn drop_even(&mut self, count: usize)
+        requires within { count ≤ length self.old.items }
+        requires even { count % 2 ≡ 0 }
+        ensures items { self.new.items ≡ drop count self.old.items }
+        ensures capacity { self.new.capacity ≡ self.old.capacity }
+    {
+        drop_bytes(&mut self.kept, count / 2);
+        self.count -= count;
+    }
+
+    // Takes the first digit away: each other one moves up by half a byte.
+    fn drop_one(&mut self)
+        requires { 0 < length self.old.items }
+        ensures items { self.new.items ≡ drop 1 self.old.items }
+        ensures capacity { self.new.capacity ≡ self.old.capacity }
+    {
+        shift_half(&mut self.kept);
+        self.kept.truncate(self.count / 2);
+        self.count -= 1;
+    }
+
+    // Takes the first digits away, so many as `count`.
+    #[tactic(auto, using(crate::proofs::PackedChanges::dropped_twice))]
+    pub(crate) fn drop_front(&mut self, count: usize)
+        requires { count ≤ length self.old.items }
+        ensures items { self.new.items ≡ drop count self.old.items }
+        ensures capacity { self.new.capacity ≡ self.old.capacity }
+    {
+        if count % 2 == 0 {
+            self.drop_even(count);
+        } else {
+            self.drop_even(count - 1);
+            self.drop_one();
+        }
+    }
+
+    /// Takes every digit away: none is left of 9, 0, 5. It takes no memory.
+    pub fn clear(&mut self)
+        ensures items { self.new.items ≡ [] }
+        ensures capacity { self.new.capacity ≡ self.old.capacity }
+        ensures inline { 8 ≤ self.new.capacity }
+    {
+        self.kept.clear();
+        self.count = 0;
+    }
+}

@@ -1,0 +1,85 @@
+// Some of the digits of a list, one after another, or sixteen at once.
+ghost use Rattle.std.specs.Prelude.{◌≡◌, ◌+◌, ◌^◌, ◌<◌, ◌≤◌, length, take, drop};
+ghost use Rattle.std.specs.Iterator.{YieldsFirst, item_count};
+
+use crate::digits::{Digits, STEP};
+use std::iter::FusedIterator;
+use std::marker::Model;
+
+// Some of the digits, one after another.
+#[derive(Debug, Drop)]
+pub struct DigitRun<'l> {
+    digits: &'l Digits,
+    next: usize,
+    left: usize,
+}
+
+impl<'l> Model for DigitRun<'l> {
+    ghost use Rattle.std.specs.Prelude.{ℕ, ◌+◌, ◌^◌, ◌<◌, ◌≤◌, List, length, take, drop};
+
+    ghost Value = { List ℕ };
+
+    ghost view = { λ run. take run.left (drop run.next run.digits.now.items) };
+
+    ghost invariant = { λ run. (run.next + run.left ≤ length run.digits.now.items) × ((run.next + run.left < 2 ^ 64) × (run.left < 2 ^ 63)) };
+}
+
+impl Digits {
+    // The digits from an index on, so many at most.
+    #[tactic(auto, using(crate::proofs::PackedChanges::run_is))]
+    pub(crate) fn run(&self, from: usize, most: usize) -> DigitRun<'_>
+        requires { most < 2 ^ 63 }
+        ensures { result ≡ take most (drop from self.now.items) }
+    {
+        let next = from.min(self.len());
+        let left = most.min(self.len() - next);
+        DigitRun {
+            digits: self,
+            next,
+            left,
+        }
+    }
+}
+
+impl<'l> DigitRun<'l> {
+    // How many digits are left.
+    pub fn len(&self) -> usize
+        ensures value { result ≡ length self.now }
+        ensures bound { result < 2 ^ 63 }
+    {
+        self.left
+    }
+
+    // The next sixteen digits.
+    pub fn next_sixteen(&mut self) -> [u8; 16]
+        requires { 16 ≤ length self.old }
+        ensures value { result ≡ take 16 self.old }
+        ensures rest { self.new ≡ drop 16 self.old }
+    {
+        let digits = self.digits.sixteen(self.next);
+        self.next += STEP;
+        self.left -= STEP;
+        digits
+    }
+}
+
+impl<'l> Iterator for DigitRun<'l> {
+    type Item = u8;
+
+    ghost next_gives = { YieldsFirst (λ run. run) };
+
+    ghost remaining = { item_count (λ run. run) };
+
+    #[tactic(auto, using(crate::proofs::PackedChanges::run_next))]
+    fn next(&mut self) -> Option<u8> {
+        if self.left == 0 {
+            return None;
+        }
+        let digit = self.digits.get(self.next);
+        self.next += 1;
+        self.left -= 1;
+        Some(digit)
+    }
+}
+
+impl<'l> FusedIterator for DigitRun<'l> {}

@@ -1,0 +1,146 @@
+// The digits of a text.
+ghost use Rattle.std.specs.Prelude.{◌≡◌, ◌+◌, ◌-◌, ◌%◌, ◌^◌, ◌<◌, ◌≤◌, ◌++◌, length, map, take, IfOk, OnErr, IsTrue};
+ghost use Rattle.std.specs.Char.{digit_value};
+ghost use Rattle.std.specs.Str.Parse.{digits_value_after};
+ghost use Rattle.fixed_decimal_digits.specs.DigitText.{AreDigits};
+
+use crate::digit_bytes::digit_of;
+use crate::digits::{BLOCK, Digits};
+use std::alloc::{AllocError, Global};
+
+// So many digits fit in a word, and need no memory.
+const INLINE_DIGITS: usize = 8;
+
+// Whether each character is a digit.
+fn are_digits(text: &[u8]) -> bool
+    ensures { IsTrue result → AreDigits text.now }
+{
+    let mut all = true;
+    for c in text {
+        all = all & c.is_ascii_digit();
+    }
+    all
+}
+
+/// How many characters whole blocks of digits make up that a text begins with: 64 of seventy ones, 0 of `1.5`. It takes no memory.
+pub fn digits_in_blocks(text: &[u8]) -> usize
+    ensures within { result ≤ length text.now }
+    ensures digits { AreDigits (take result text.now) }
+{
+    let mut count = 0;
+    while text.len() - count >= BLOCK {
+        if !are_digits(&text[count..count + BLOCK]) {
+            return count;
+        }
+        count += BLOCK;
+    }
+    count
+}
+
+// Adds the digits of a text, for which there is room, two at a time behind those that are there.
+#[tactic(auto, using(crate::proofs::DigitTextLemmas::digits_at, crate::proofs::BlockLemmas::two_left, crate::proofs::BlockLemmas::one_left, crate::proofs::BlockLemmas::none_left))]
+fn push_pairs(digits: &mut Digits, text: &[u8])
+    requires text_digits { AreDigits text.now }
+    requires room { length digits.old.items + length text.now ≤ digits.old.capacity }
+    ensures items { digits.new.items ≡ digits.old.items ++ map digit_value text.now }
+    ensures capacity { digits.new.capacity ≡ digits.old.capacity }
+{
+    let mut at = 0;
+    while at + 1 < text.len() {
+        digits.push_two(digit_of(text[at]), digit_of(text[at + 1]));
+        at += 2;
+    }
+    if at < text.len() {
+        digits.push_reserved(digit_of(text[at]));
+    }
+}
+
+// Adds the digits of a text, for which there is room, in blocks behind an even count.
+fn push_blocks(digits: &mut Digits, text: &[u8])
+    requires text_digits { AreDigits text.now }
+    requires room { length digits.old.items + length text.now ≤ digits.old.capacity }
+    requires even { length digits.old.items % 2 ≡ 0 }
+    ensures items { digits.new.items ≡ digits.old.items ++ map digit_value text.now }
+    ensures capacity { digits.old.capacity ≤ digits.new.capacity }
+{
+    let mut rest = text;
+    while rest.len() >= BLOCK {
+        let (front, back) = rest.split_at(BLOCK);
+        digits.push_block(front);
+        rest = back;
+    }
+    push_pairs(digits, rest);
+}
+
+// Adds the digits of a text, for which there is room, behind those that are there.
+#[tactic(auto, using(crate::proofs::DigitTextLemmas::digits_behind, crate::proofs::BlockLemmas::first_left))]
+fn push_text(digits: &mut Digits, text: &[u8])
+    requires text_digits { AreDigits text.now }
+    requires room { length digits.old.items + length text.now ≤ digits.old.capacity }
+    ensures items { digits.new.items ≡ digits.old.items ++ map digit_value text.now }
+    ensures capacity { digits.old.capacity ≤ digits.new.capacity }
+{
+    if digits.len() % 2 == 0 {
+        push_blocks(digits, text);
+    } else if let Some((first, rest)) = text.split_first() {
+        digits.push_reserved(digit_of(*first));
+        push_blocks(digits, rest);
+    }
+}
+
+// A word with the digits of a text behind those that it has, four bits each.
+#[tactic(auto, using(crate::proofs::DigitTextLemmas::digits_at, crate::proofs::WordLemmas::folded_more, crate::proofs::WordLemmas::folded_all))]
+fn word_after(word: u32, text: &[u8]) -> u32
+    requires text_digits { AreDigits text.now }
+    requires few { length text.now ≤ 8 }
+    requires room { word < 16 ^ (8 - length text.now) }
+    ensures { result ≡ digits_value_after 16 word text.now }
+{
+    let mut after = word;
+    for c in text {
+        after = after * 16 + digit_of(*c) as u32;
+    }
+    after
+}
+
+// The digits that two texts spell one behind the other, at most eight. No memory is taken.
+fn few_digits(alloc: Global, whole: &[u8], rest: &[u8]) -> Digits
+    requires whole_digits { AreDigits whole.now }
+    requires rest_digits { AreDigits rest.now }
+    requires few { length whole.now + length rest.now ≤ 8 }
+    ensures { result.items ≡ map digit_value (whole.now ++ rest.now) }
+{
+    let word = word_after(word_after(0, whole), rest);
+    Digits::of_word(alloc, word, whole.len() + rest.len())
+}
+
+// The digits that two texts spell one behind the other, more than eight.
+fn many_digits(alloc: Global, whole: &[u8], rest: &[u8]) -> Result<Digits, AllocError>
+    requires whole_digits { AreDigits whole.now }
+    requires rest_digits { AreDigits rest.now }
+    requires count { length whole.now + length rest.now < 2 ^ 64 }
+    ensures items { IfOk result (λ d. d.items ≡ map digit_value (whole.now ++ rest.now)) }
+    ensures room { OnErr result (8 < length whole.now + length rest.now) }
+{
+    let mut digits = Digits::with_room(alloc, whole.len() + rest.len())?;
+    push_text(&mut digits, whole);
+    push_text(&mut digits, rest);
+    Ok(digits)
+}
+
+/// The digits that two texts spell one behind the other: 9, 0, 5 of `90` and `5`.
+///
+/// The condition is that each byte is a digit. Memory is taken where there are more than eight; it is refused (`AllocError`) only
+/// there.
+pub fn digits_of_texts(alloc: Global, whole: &[u8], rest: &[u8]) -> Result<Digits, AllocError>
+    requires whole_digits { AreDigits whole.now }
+    requires rest_digits { AreDigits rest.now }
+    requires count { length whole.now + length rest.now < 2 ^ 64 }
+    ensures items { IfOk result (λ d. d.items ≡ map digit_value (whole.now ++ rest.now)) }
+    ensures room { OnErr result (8 < length whole.now + length rest.now) }
+{
+    if whole.len() + rest.len() <= INLINE_DIGITS {
+        return Ok(few_digits(alloc, whole, rest));
+    }
+    many_digits(alloc, whole, rest)
+}

@@ -1,0 +1,177 @@
+// The digits of a number: this file, `digit_changes.rt` and `digit_run.rt` alone know how they lie in memory.
+ghost use Rattle.std.specs.Prelude.{◌≡◌, ◌==◌, ◌+◌, ◌%◌, ◌^◌, ◌<◌, ◌≤◌, ◌↔◌, [], length, slice_index, take, drop, map, IsTrue, IfOk, OnErr};
+ghost use Rattle.std.specs.Bool.{Decides};
+ghost use Rattle.std.specs.Int.Digits.{AllBelowBase};
+ghost use Rattle.fixed_decimal_digits.specs.DigitWord.{word_digits};
+ghost use Rattle.fixed_decimal_digits.specs.DigitText.{character};
+
+use crate::digit_bytes::{bytes_of_word, digits_between, digits_within, text_of_block};
+use smallvec::SmallVec;
+use std::alloc::{AllocError, Global};
+use std::marker::Model;
+
+// How many bytes lie inline: eight digits need no memory.
+pub const INLINE: usize = 4;
+
+/// So many digits are read, or written, by one step: those of thirty-two bytes.
+pub const BLOCK: usize = 64;
+
+// So many digits are handed out by one step: those of eight bytes.
+pub const STEP: usize = 16;
+
+/// A list of digits from 0 to 9, two to a byte, the higher one in the upper half: 9, 0, 5.
+///
+/// Up to eight digits need no memory.
+#[derive(Debug, Drop)]
+pub struct Digits {
+    pub(crate) kept: SmallVec<u8, INLINE>,
+    pub(crate) count: usize,
+}
+
+impl Model for Digits {
+    ghost use Rattle.std.specs.Prelude.{◌-◌, ◌*◌, ◌^◌, ◌≤◌, min};
+    ghost use Rattle.fixed_decimal_digits.specs.Packed.{digits_in, IsPacked};
+    ghost use Rattle.fixed_decimal_digits.specs.DigitList.{DigitList};
+
+    ghost Value = { DigitList };
+
+    ghost view = { λ a. record { items = digits_in a.kept.items a.count; capacity = min (2 * a.kept.capacity) (2 ^ 64 - 1) } };
+
+    ghost invariant = { λ a. IsPacked a.kept.items a.count × (4 ≤ a.kept.capacity) };
+}
+
+impl Digits {
+    /// No digits, of which there are 0. It takes no memory.
+    pub fn new(alloc: Global) -> Digits
+        ensures items { result.items ≡ [] }
+        ensures capacity { 8 ≤ result.capacity }
+    {
+        Digits {
+            kept: SmallVec::new(alloc),
+            count: 0,
+        }
+    }
+
+    /// No digits, with room for so many: with room for 12, twelve are pushed and no memory is taken for them.
+    ///
+    /// Memory is taken where that is more than eight; it is refused (`AllocError`) only there.
+    pub fn with_room(alloc: Global, count: usize) -> Result<Digits, AllocError>
+        ensures items { IfOk result (λ d. d.items ≡ []) }
+        ensures capacity { IfOk result (λ d. count ≤ d.capacity) }
+        ensures room { OnErr result (8 < count) }
+    {
+        let mut digits = Digits::new(alloc);
+        digits.reserve(count)?;
+        Ok(digits)
+    }
+
+    // The lowest digits of a word, so many, four bits each. No memory is taken.
+    pub(crate) fn of_word(alloc: Global, word: u32, count: usize) -> Digits
+        requires few { count ≤ 8 }
+        requires fits { word < 16 ^ count }
+        requires tens { AllBelowBase 10 (word_digits word count) }
+        ensures items { result.items ≡ word_digits word count }
+    {
+        let kept = if count % 2 == 0 {
+            bytes_of_word(alloc, word, count / 2)
+        } else {
+            bytes_of_word(alloc, word * 16, count / 2 + 1)
+        };
+        Digits { kept, count }
+    }
+
+    /// How many digits there are: 3 of 9, 0, 5. It takes no memory.
+    #[tactic(auto, using(crate::proofs::PackedChanges::bytes_length))]
+    pub fn len(&self) -> usize
+        ensures value { result ≡ length self.now.items }
+        ensures fits { result ≤ self.now.capacity }
+        ensures inline { 8 ≤ self.now.capacity }
+    {
+        let _bytes = self.kept.len();
+        self.count
+    }
+
+    /// Whether there is no digit: false of 0. It takes no memory.
+    pub fn is_empty(&self) -> bool
+        ensures { result ≡ (length self.now.items == 0) }
+    {
+        self.count == 0
+    }
+
+    /// The digit at an index, counted from the first: 5 at 2 of 9, 0, 5. The condition is that there is one. It takes no memory.
+    #[tactic(auto, using(crate::proofs::PackedChanges::bytes_length, crate::proofs::PackedChanges::upper_digit, crate::proofs::PackedChanges::lower_digit))]
+    pub fn get(&self, index: usize) -> u8
+        requires { index < length self.now.items }
+        ensures value { result ≡ slice_index self.now.items index }
+        ensures ten { result < 10 }
+    {
+        let byte = self.kept.as_slice()[index / 2];
+        if index % 2 == 0 { byte / 16 } else { byte % 16 }
+    }
+
+    // Whether two digits that stand side by side, the first at an index, are both this one.
+    #[tactic(auto, using(crate::proofs::PackedChanges::bytes_length, crate::proofs::PackedChanges::both_digits))]
+    pub(crate) fn are_both(&self, index: usize, digit: u8) -> bool
+        requires within { index + 1 < length self.now.items }
+        requires ten { digit < 10 }
+        ensures { IsTrue result ↔ ((slice_index self.now.items index ≡ digit) × (slice_index self.now.items (index + 1) ≡ digit)) }
+    {
+        let _count = self.len();
+        if index % 2 == 0 {
+            self.kept.as_slice()[index / 2] == digit * 17
+        } else {
+            self.get(index) == digit && self.get(index + 1) == digit
+        }
+    }
+
+    // The sixteen digits from an index on.
+    #[tactic(auto, using(crate::proofs::PackedChanges::bytes_length))]
+    pub(crate) fn sixteen(&self, index: usize) -> [u8; 16]
+        requires { index + 16 ≤ length self.now.items }
+        ensures { result ≡ take 16 (drop index self.now.items) }
+    {
+        let (_, rest) = self.kept.as_slice().split_at(index / 2);
+        if index % 2 == 0 {
+            let (front, _) = rest.split_at(STEP / 2);
+            digits_within(front)
+        } else {
+            let (front, _) = rest.split_at(STEP / 2 + 1);
+            digits_between(front)
+        }
+    }
+
+    /// The text of a block of digits, `BLOCK` of them from an even index on: of sixty-four ones, `1` sixty-four times.
+    ///
+    /// The condition is that there are so many. It takes no memory.
+    #[tactic(auto, using(crate::proofs::PackedChanges::bytes_length))]
+    pub fn block(&self, index: usize) -> [u8; 64]
+        requires even { index % 2 ≡ 0 }
+        requires within { index + 64 ≤ length self.now.items }
+        ensures { result ≡ map character (take 64 (drop index self.now.items)) }
+    {
+        let (_, rest) = self.kept.as_slice().split_at(index / 2);
+        let (front, _) = rest.split_at(BLOCK / 2);
+        text_of_block(front)
+    }
+
+    // Whether the digits are those of another list.
+    pub(crate) fn is_same(&self, other: &Digits) -> bool
+        ensures { Decides result (self.now.items ≡ other.now.items) }
+    {
+        self.count == other.count && self.kept.as_slice() == other.kept.as_slice()
+    }
+
+    /// The same digits in a list of their own: of 9, 0, 5 another 9, 0, 5.
+    ///
+    /// Memory is taken where there are more than eight; it is refused (`AllocError`) only there.
+    pub fn try_clone(&self) -> Result<Digits, AllocError>
+        ensures value { IfOk result (λ d. d.items ≡ self.now.items) }
+        ensures room { OnErr result (8 < length self.now.items) }
+    {
+        let kept = SmallVec::from_slice(*self.kept.allocator(), self.kept.as_slice())?;
+        Ok(Digits {
+            kept,
+            count: self.count,
+        })
+    }
+}

@@ -1,0 +1,37 @@
+//! The digits of a number as they are kept, two to a byte: the inner crate of `fixed_decimal_unsigned`.
+//!
+//! `Digits` holds them from the highest to the lowest one that is not zero. They are made of a text or of a whole number, put
+//! behind others, cut, rounded, and shown one by one or in blocks; all else of a number stands above.
+
+#![tactic(auto)]
+
+mod comparing;
+mod concatenation;
+mod cutting;
+mod digit_bytes;
+mod digit_changes;
+mod digit_run;
+mod digit_text;
+mod digits;
+mod integers;
+mod modes;
+mod places;
+mod rounding_digits;
+mod rounding_pair;
+mod rounding_steps;
+mod shown_digits;
+mod turns;
+
+pub use comparing::is_same_count;
+pub use concatenation::{push_behind, push_zeros, zeros_between};
+pub use cutting::cut_above;
+pub use digit_bytes::digit_of;
+pub use digit_text::{digits_in_blocks, digits_of_texts};
+pub use digits::{BLOCK, Digits};
+pub use integers::{push_number, strip_zeros};
+pub use modes::{RoundingIncrement, UnsignedRoundingMode};
+pub use places::ONES;
+pub use rounding_pair::round_digits;
+pub use rounding_steps::digit_at_place;
+pub use shown_digits::{ShownDigits, digits_at};
+pub use turns::Turns;
