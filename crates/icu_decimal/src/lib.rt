@@ -1,8 +1,8 @@
 //! Decimal numbers as a locale writes them, after the ICU4X crate of this name.
 //!
 //! A formatter borrows symbols and digits from a provider, and writes any decimal to any sink, with its parts: in English `-1,234.5`.
-//! The rules are in docs/plain-text.md and docs/formatters.md. This crate raises its inner crates under ICU4X's paths and computes
-//! nothing itself.
+//! The rules are in docs/plain-text.md and docs/formatters.md. This crate raises its inner crates under ICU4X's paths; itself it
+//! only hands the tables of a formatter to what reads texts.
 //!
 //! ```rust
 //! use icu_decimal::DecimalFormatter;
@@ -22,12 +22,16 @@ pub mod laws;
 pub mod pattern;
 pub mod plurals;
 pub mod provider;
+mod reading;
 
 pub use icu_decimal_compact::{
     AbstractFormatter, CompactDecimalFormatter, FormattedUnsigned, FormattedUnsignedCompactDecimal,
 };
-pub use icu_decimal_plain::{FormattedDecimal, FormattedSign, FormattedUnsignedDecimal, grouper};
+pub use icu_decimal_plain::{
+    DecimalTables, FormattedDecimal, FormattedSign, FormattedUnsignedDecimal, grouper,
+};
 pub use icu_decimal_provider::preferences;
 pub use icu_decimal_provider::preferences::DecimalFormatterPreferences;
 pub use icu_decimal_symbols::{Cow, options, parts};
-pub use icu_decimal_text::{DecimalFormatter, is_readable, read_plain, read_readable};
+pub use icu_decimal_text::DecimalFormatter;
+pub use reading::{is_readable, read_plain, read_readable};

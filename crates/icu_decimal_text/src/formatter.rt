@@ -3,6 +3,7 @@
 ghost use Rattle.std.specs.Prelude.{◌≡◌, IfOk, string_bytes};
 ghost use Rattle.std.specs.Result.{result_map_both};
 ghost use Rattle.icu_decimal_chains.specs.Chains.{chain};
+ghost use Rattle.icu_decimal_plain.specs.BorrowedTables.{borrowed_tables};
 ghost use Rattle.icu_decimal_plain.specs.PlainText.{decimal_text, formatted};
 ghost use Rattle.icu_decimal_symbols.specs.Options.{strategy_in};
 ghost use Rattle.icu_decimal_text.specs.FoundTables.{found_tables};
@@ -24,7 +25,7 @@ use writeable::Writeable;
 /// That of `en` writes -1234.5 as `-1,234.5`. After ICU4X's `DecimalFormatter`.
 #[derive(Clone, Copy, Debug)]
 pub struct DecimalFormatter<'b> {
-    pub(crate) tables: DecimalTables<'b>,
+    tables: DecimalTables<'b>,
 }
 
 impl<'b> DecimalFormatter<'b> {
@@ -61,6 +62,13 @@ impl<'b> DecimalFormatter<'b> {
         DecimalFormatter {
             tables: DecimalTables::new(symbols, digits, strategy_of(options)),
         }
+    }
+
+    /// What it writes with, as one value: of the formatter of `en` what writes -1234.5 as `-1,234.5`. It takes no memory.
+    pub fn tables(&self) -> &DecimalTables<'b>
+        ensures { borrowed_tables result.now ≡ tables_of self.now }
+    {
+        &self.tables
     }
 
     /// The symbols that it writes with: in English `-`, `+`, `.`, `,` and the sizes 3, 3, 1. It takes no memory.

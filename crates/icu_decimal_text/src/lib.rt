@@ -1,19 +1,16 @@
-//! Formatters of decimals: the tables of a locale, found by what it prefers, and what is written with them and read back.
+//! Formatters of decimals: the tables of a locale, found by what it prefers, and what is written with them.
 //!
 //! Preferences of `en` give a formatter that writes -1234.5 as `-1,234.5`. The rules are in docs/formatters.md.
 //!
 //! ```rust
-//! use icu_decimal_text::{DecimalFormatter, read_plain};
+//! use icu_decimal_text::DecimalFormatter;
 //!
 //! let formatter = DecimalFormatter::try_new_unstable(&provider, preferences, options)?;
 //! formatter.format(&number).write_to(&mut sink)?;                         // -1,234.5
-//! let number = read_plain(alloc, &formatter, "-1,234.50")?;               // -1234.50
 //! ```
 #![tactic(auto)]
 
 mod formatter;
 pub mod laws;
-mod reading;
 
 pub use formatter::DecimalFormatter;
-pub use reading::{is_readable, read_plain, read_readable};

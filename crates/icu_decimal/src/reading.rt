@@ -6,9 +6,9 @@ ghost use Rattle.icu_decimal_reading.specs.Readable.{is_readable_by};
 ghost use Rattle.icu_decimal_reading.specs.ReadingLaws.{AreTables};
 ghost use Rattle.icu_decimal_text.specs.HeldTables.{tables_of};
 
-use crate::formatter::DecimalFormatter;
 use fixed_decimal::Decimal;
 use icu_decimal_reading::ReadError;
+use icu_decimal_text::DecimalFormatter;
 use std::alloc::Global;
 
 /// Whether texts can be read back under the formatter's symbols: in English they can.
@@ -20,7 +20,7 @@ pub fn is_readable(formatter: &DecimalFormatter<'_>) -> bool
     ensures value { result ≡ is_readable_by (tables_of formatter.now) }
     ensures tables { AreTables (tables_of formatter.now) }
 {
-    icu_decimal_reading::is_readable(&formatter.tables)
+    icu_decimal_reading::is_readable(formatter.tables())
 }
 
 /// The decimal whose text under the formatter this is: in English `-1,234.50` is -1234.50, shown down to magnitude -2.
@@ -39,7 +39,7 @@ pub fn read_plain(
     ensures value { IfOk result (λ v. IsPlainText (tables_of formatter.now) text.now v) }
     ensures reading { IsAnswered result (plain_reading (tables_of formatter.now) text.now) }
 {
-    icu_decimal_reading::read_plain(alloc, &formatter.tables, text)
+    icu_decimal_reading::read_plain(alloc, formatter.tables(), text)
 }
 
 /// As `read_plain`, of a formatter whose symbols are known to be readable: in English `-1,234.50` is -1234.50.
@@ -59,5 +59,5 @@ pub fn read_readable(
     ensures value { IfOk result (λ v. IsPlainText (tables_of formatter.now) text.now v) }
     ensures reading { IsAnswered result (plain_reading (tables_of formatter.now) text.now) }
 {
-    icu_decimal_reading::read_readable(alloc, &formatter.tables, text)
+    icu_decimal_reading::read_readable(alloc, formatter.tables(), text)
 }
