@@ -1,7 +1,8 @@
-ghost use Rattle.std.specs.Prelude.{◌≡◌, ◌≢◌, ℕ, ◌+◌, ◌<◌, ◌≤◌, OnOk, OnErr, IfOk, IfErr, IsOk};
+ghost use Rattle.std.specs.Prelude.{◌≡◌, ◌≢◌, ℕ, ◌+◌, ◌*◌, ◌^◌, ◌<◌, ◌≤◌, OnOk, OnErr, IfOk, IfErr, IsOk};
 ghost use Rattle.fixed_decimal_unsigned.specs.Number.{place};
 ghost use Rattle.fixed_decimal_unsigned.specs.Range.{HoldsDigits, MayGrowAt};
-ghost use Rattle.fixed_decimal.specs.SignedRounding.{RoundsSigned};
+ghost use Rattle.fixed_decimal_unsigned.specs.Rounding.{TakesOdd, increment_number};
+ghost use Rattle.fixed_decimal.specs.SignedRounding.{RoundsSigned, size_mode};
 
 use crate::decimal::Decimal;
 use crate::modes::SignedRoundingMode;
@@ -25,6 +26,7 @@ impl Signed<UnsignedDecimal> {
     ) -> Result<(), AllocError>
         ensures succeeds { increment ≢ RoundingIncrement.MultiplesOf25 → IsOk result }
         ensures room { OnErr result (MayGrowAt (place position) self.old.absolute.count) }
+        ensures odd { OnErr result (TakesOdd (size_mode self.old.sign mode) (increment_number increment * 10 ^ place position) self.old.absolute.count) }
         ensures value { OnOk result (RoundsSigned mode increment (place position) self.old self.new) }
         ensures same { OnErr result (self.new ≡ self.old) }
         ensures turns { (low digits : ℕ) → HoldsDigits self.old.absolute.count low digits → turns.new ≤ turns.old + digits + 2 }
@@ -37,8 +39,9 @@ impl Signed<UnsignedDecimal> {
     /// Rounds to a multiple of the increment at a position: `-7.3` at -2 by `Ceil` to 25 is `-7.25`.
     ///
     /// Zero stands in place of a multiple whose size reaches ten to the power 32768; the sign is kept.
-    /// Memory is wanted only for `MultiplesOf25` and a number of eight digits or more whose last one, that
-    /// is not zero, stands right above the position; where it was refused the number is as it was.
+    /// Memory is wanted only where the multiple ends in 25 or 75 at the position, and the number has eight
+    /// digits or more, of which the last one that is not zero stands right above it; where it was refused
+    /// the number is as it was.
     pub fn round_with_mode_and_increment(
         &mut self,
         position: i16,
@@ -47,6 +50,7 @@ impl Signed<UnsignedDecimal> {
     ) -> Result<(), AllocError>
         ensures succeeds { increment ≢ RoundingIncrement.MultiplesOf25 → IsOk result }
         ensures room { OnErr result (MayGrowAt (place position) self.old.absolute.count) }
+        ensures odd { OnErr result (TakesOdd (size_mode self.old.sign mode) (increment_number increment * 10 ^ place position) self.old.absolute.count) }
         ensures value { OnOk result (RoundsSigned mode increment (place position) self.old self.new) }
         ensures same { OnErr result (self.new ≡ self.old) }
     {
@@ -118,6 +122,7 @@ impl Signed<UnsignedDecimal> {
     ) -> Result<Decimal, AllocFailed<Decimal>>
         ensures succeeds { increment ≢ RoundingIncrement.MultiplesOf25 → IsOk result }
         ensures room { OnErr result (MayGrowAt (place position) self.absolute.count) }
+        ensures odd { OnErr result (TakesOdd (size_mode self.sign mode) (increment_number increment * 10 ^ place position) self.absolute.count) }
         ensures value { IfOk result (λ v. RoundsSigned mode increment (place position) self v) }
         ensures same { IfErr result (λ e. e.value ≡ self) }
     {

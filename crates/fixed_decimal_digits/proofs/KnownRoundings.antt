@@ -1,6 +1,6 @@
 -- Rows of docs/numbers.md on roundings, in units of which ten make the unit at the position, so that a wrong definition does not pass.
-use Rattle.std.proofs.Common.{◌*◌, ◌≤◌, refl, arith, lit≤}
-use Rattle.fixed_decimal_digits.specs.Rounding.{IsRounded, increment_number}
+use Rattle.std.proofs.Common.{◌≡◌, ◌*◌, refl, arith, lit≤}
+use Rattle.fixed_decimal_digits.specs.Rounding.{IsRounded, TakesOdd, increment_number}
 use Rattle.fixed_decimal_digits.specs.declared.modes.UnsignedRoundingMode.TheVariants.{Expand, Trunc, HalfExpand, HalfTrunc, HalfEven}
 use Rattle.fixed_decimal_digits.specs.declared.modes.RoundingIncrement.TheVariants.{MultiplesOf25}
 
@@ -32,3 +32,17 @@ no_tie_to_three h =
 -- 37.5 by 25: twice 25 is even, once is not
 tie_by_twenty_five : IsRounded HalfEven (increment_number MultiplesOf25 * 10) 375 500
 tie_by_twenty_five = record { multiple = (2, refl); nearest = λ other m. let is = m.1 in omega arith; tied = λ other m ne e. (1, refl) }
+
+-- by 25, 110000010 is rounded up to an odd count of 25, 110000025, and down to an even one, 110000000
+up_to_an_odd_count : TakesOdd Expand 25 110000010
+up_to_an_odd_count = record {
+  multiple = 110000025;
+  rounded = record { multiple = (4400001, refl); over = lit≤ tt; least = λ other m over. let is = m.1 in omega arith };
+  odd = λ m. let is = m.1 in omega arith;
+}
+
+down_to_an_even_count : ¬ (TakesOdd Trunc 25 110000010)
+down_to_an_even_count h =
+    let is = h.rounded.multiple.1 in let under = h.rounded.under in let reach = h.rounded.greatest 110000000 (4400000, refl) (lit≤ tt) in
+    let same : h.multiple ≡ 2200000 * 50 = omega arith in
+    h.odd (2200000, same)

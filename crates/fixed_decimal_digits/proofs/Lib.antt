@@ -9,6 +9,7 @@ pub mod LoopLemmas
 pub mod PackedChanges
 pub mod PackedLemmas
 pub mod PairLemmas
+pub mod OddLemmas
 pub mod TenLemmas
 pub mod RoundingStepLemmas
 pub mod RoundingLemmas

@@ -1,6 +1,6 @@
 -- The digits at a place, and the part below it against half of what the place counts.
-use Rattle.std.proofs.Common.{◌≡◌, ℕ, ◌+◌, ◌-◌, ◌*◌, ◌/◌, ◌%◌, ◌^◌, ◌<◌, ◌≤◌, Bool, true, false, List, length, sym, ap, ◌∙◌, arith, inl, inr, max, min, [], ◌∷◌, refl, subst, ⊎_elim}
-use Rattle.std.proofs.Math.Nat.{div-div-eq-div-mul, eq-zero-or-pos, zero-mod, mul-mod_left, eq_of_mul-eq-mul_right, div-add-mod', mod-lt, mul-le-mul_right, zero-mul, pow-le-pow_right}
+use Rattle.std.proofs.Common.{◌≡◌, ℕ, ◌+◌, ◌-◌, ◌*◌, ◌/◌, ◌%◌, ◌^◌, ◌<◌, ◌≤◌, Bool, true, false, List, length, sym, ap, ◌∙◌, arith, inl, inr, ⊎_elim}
+use Rattle.std.proofs.Math.Nat.{div-div-eq-div-mul, eq-zero-or-pos, zero-mod, mul-mod_left, eq_of_mul-eq-mul_right, div-add-mod', mod-lt, mul-le-mul_right}
 use Rattle.std.specs.Int.Digits.{number_from_digits}
 use Rattle.std.specs.declared.cmp.Ordering.{Ordering}
 use Rattle.std.specs.declared.cmp.Ordering.TheVariants.{Less, Equal, Greater}

@@ -1,11 +1,7 @@
 -- Powers of ten, and quotients by them.
-use Rattle.std.proofs.Common.{◌≡◌, ℕ, suc, ◌+◌, ◌-◌, ◌*◌, ◌/◌, ◌%◌, ◌^◌, ◌<◌, ◌≤◌, sym, ap, ◌∙◌, arith, zero, min, max, ◌==◌, ◌||◌, Bool, true, false, cond, List, [], ◌∷◌, ◌++◌, length, length-append, map, refl, subst, inl}
-use Rattle.std.proofs.Math.Nat.{one-le-pow, pow-le-pow_right, pow-suc, div-eq_of_lt, mul-mod_left, mul-div_cancel, zero-mod, mul_assoc, div-div-eq-div-mul, mod-lt, mod-eq_of_lt, mod-one, div-add-mod', zero-add, suc-add}
-use Rattle.std.proofs.lemmas.Nat.{pow-add, div_below}
-use Rattle.std.proofs.lemmas.List.{append-nil, map-append}
-use Rattle.std.proofs.lemmas.Bool.Decides.{nat_tests}
-use Rattle.std.specs.Char.{digit_value}
-use Rattle.std.specs.Int.Digits.{AllBelowBase}
+use Rattle.std.proofs.Common.{◌≡◌, ℕ, suc, ◌+◌, ◌-◌, ◌*◌, ◌/◌, ◌%◌, ◌^◌, ◌<◌, ◌≤◌, sym, ap, ◌∙◌, arith}
+use Rattle.std.proofs.Math.Nat.{one-le-pow, pow-le-pow_right, pow-suc, div-eq_of_lt, mul-mod_left, mul-div_cancel, zero-mod, mul_assoc, div-div-eq-div-mul, div-add-mod'}
+use Rattle.std.proofs.lemmas.Nat.{pow-add}
 
 pub tens_positive : (k : ℕ) → 0 < 10 ^ k
 tens_positive k = let h : 1 ≤ 10 ^ k = one-le-pow k 10 (omega arith) in omega arith

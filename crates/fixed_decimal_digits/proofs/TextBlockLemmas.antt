@@ -1,6 +1,6 @@
 -- Blocks of digits: the text of a block of bytes.
-use Rattle.std.proofs.Common.{◌≡◌, ℕ, ◌+◌, ◌*◌, ◌/◌, ◌%◌, ◌<◌, ◌≤◌, List, ◌∷◌, ◌++◌, length, get_or, map, set, take, drop, sym, ap, ◌∙◌, arith}
-use Rattle.std.proofs.lemmas.List.{drop_all, take_all, drop_more}
+use Rattle.std.proofs.Common.{◌≡◌, ℕ, ◌+◌, ◌*◌, ◌/◌, ◌%◌, ◌<◌, ◌≤◌, List, ◌∷◌, ◌++◌, length, get_or, map, set, take, drop, sym, ap, ◌∙◌}
+use Rattle.std.proofs.lemmas.List.{drop_all, drop_more}
 use Rattle.fixed_decimal_digits.specs.DigitText.{character}
 use Rattle.fixed_decimal_digits.specs.Packed.{halves, digits_in}
 use Rattle.fixed_decimal_digits.proofs.HalvesLemmas.{put_two, filled, digits_whole}

@@ -1,11 +1,10 @@
 -- Whole numbers: the zeros at their end, and how many digits they have.
-use Rattle.std.proofs.Common.{◌≡◌, ℕ, ◌+◌, ◌-◌, ◌*◌, ◌/◌, ◌%◌, ◌^◌, ◌<◌, ◌≤◌, max, min, List, [], ◌∷◌, length, get_or, refl, sym, ap, ◌∙◌, subst, arith, ⊎_elim, suc, ◌++◌, length-append, Result, Ok, Err, OnErr}
-use Rattle.std.proofs.Math.Nat.{le-mul_of_pos_right, mul-le-mul_right, div-add-mod', mul-div_cancel, mul_assoc, mod-one, eq-zero-or-pos}
+use Rattle.std.proofs.Common.{◌≡◌, ℕ, ◌+◌, ◌-◌, ◌*◌, ◌/◌, ◌%◌, ◌^◌, ◌<◌, ◌≤◌, List, length, get_or, ap, ◌∙◌, arith, ⊎_elim, Result, Ok, Err, OnErr}
+use Rattle.std.proofs.Math.Nat.{mul-le-mul_right}
 use Rattle.std.proofs.lemmas.Bool.{cases_lt}
-use Rattle.std.specs.Int.Digits.{number_from_digits, AllBelowBase}
+use Rattle.std.specs.Int.Digits.{number_from_digits}
 use Rattle.fixed_decimal_digits.proofs.TenLemmas.{tens_apart, tens_next}
 use Rattle.fixed_decimal_digits.proofs.DigitsLemmas.{number_reaches}
-use Rattle.std.specs.Char.{digit_value}
 
 tenfold : (q t u : ℕ) → u ≡ t * 10 → q * 10 * t ≡ q * u
 tenfold q t u e = omega (arith, ap (λ x. q * x) e)
@@ -30,7 +29,7 @@ eight_digits ds l first =
 pub nine_digits : (ds : List ℕ) (n : ℕ) → 8 ≤ length ds → (0 < length ds → 0 < get_or ds 0 0) → number_from_digits 10 ds ≡ n / 10 → 10 ^ 8 ≤ n
 nine_digits ds n l first e = let many = eight_digits ds l first in omega arith
 
--- and memory for them was refused
-pub nine_refused : {T E : Type 0} (r : Result T E) (ds : List ℕ) (n : ℕ) → 8 ≤ length ds → (0 < length ds → 0 < get_or ds 0 0) → number_from_digits 10 ds ≡ n / 10 → OnErr r (10 ^ 8 ≤ n)
-nine_refused (Ok x) ds n l first e = tt
-nine_refused (Err x) ds n l first e = nine_digits ds n l first e
+-- what holds anyway holds where memory is refused
+pub refused_anyway : {T E P : Type 0} (r : Result T E) → P → OnErr r P
+refused_anyway (Ok x) holds = tt
+refused_anyway (Err x) holds = holds

@@ -1,12 +1,10 @@
 -- A word of digits: the digits that are folded into it, and the bytes that it is.
-use Rattle.std.proofs.Common.{◌≡◌, ℕ, zero, suc, ◌+◌, ◌*◌, ◌/◌, ◌%◌, ◌^◌, ◌<◌, ◌≤◌, w32, List, [], ◌∷◌, ◌++◌, length, get_or, map, drop, refl, sym, ap, ◌∙◌, subst, arith, lit≤, add-one, drop-cons}
+use Rattle.std.proofs.Common.{◌≡◌, ℕ, zero, suc, ◌+◌, ◌*◌, ◌/◌, ◌%◌, ◌^◌, ◌<◌, ◌≤◌, List, [], ◌∷◌, ◌++◌, length, get_or, map, drop, refl, sym, ap, ◌∙◌, subst, arith, lit≤, add-one, drop-cons}
 use Rattle.std.proofs.lemmas.List.{append_assoc, append-nil, drop_all, length_push, map-append}
-use Rattle.std.proofs.lemmas.Int.Digits.{digits_value_is}
 use Rattle.std.proofs.Math.Nat.{pow-suc, pow-le-pow_right}
-use Rattle.std.specs.Int.{to_be_bytes}
 use Rattle.std.specs.Char.{digit_value}
 use Rattle.std.specs.Str.Parse.{digits_value_after}
-use Rattle.std.specs.Int.Digits.{number_from_digits, AllBelowBase}
+use Rattle.std.specs.Int.Digits.{AllBelowBase}
 use Rattle.fixed_decimal_digits.specs.DigitWord.{word_digits, word_bytes}
 use Rattle.fixed_decimal_digits.specs.DigitText.{AreDigits}
 use Rattle.fixed_decimal_digits.specs.Packed.{packed, digits_in, IsPacked}

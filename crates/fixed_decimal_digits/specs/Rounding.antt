@@ -48,6 +48,12 @@ IsRounded HalfExpand unit n m = IsNearest unit n m (λ other. other ≤ m)
 IsRounded HalfTrunc unit n m = IsNearest unit n m (λ other. m ≤ other)
 IsRounded HalfEven unit n m = IsNearest unit n m (λ _. IsMultiple (2 * unit) m)
 
+-- the multiple that the mode names is an odd count of units
+pub record TakesOdd (mode : UnsignedRoundingMode) (unit n : ℕ) : Type 0 where
+  pub multiple : ℕ
+  pub rounded : IsRounded mode unit n multiple
+  pub odd : ¬ (IsMultiple (2 * unit) multiple)
+
 -- the first count whose size is ten to the power 32768
 unfoldable pub count_limit : ℕ
 count_limit = 10 ^ 65536

@@ -3,7 +3,7 @@ ghost use Rattle.std.specs.Prelude.{◌≡◌, ◌≢◌, ℕ, ◌+◌, ◌-◌,
 ghost use Rattle.std.specs.Bool.{MatchBool};
 ghost use Rattle.std.specs.Int.Digits.{number_from_digits, AllBelowBase};
 ghost use Rattle.fixed_decimal_digits.specs.DigitList.{count_of, IsTrimmed};
-ghost use Rattle.fixed_decimal_digits.specs.Rounding.{IsRounded, increment_number};
+ghost use Rattle.fixed_decimal_digits.specs.Rounding.{IsRounded, TakesOdd, increment_number};
 ghost use Rattle.fixed_decimal_digits.specs.RoundingSteps.{IsAppended, takes_upper_of};
 
 use crate::digits::Digits;
@@ -77,6 +77,7 @@ fn digits_added(pair: u8) -> usize
     ensures most { result ≤ 2 }
     ensures first { 0 < pair → pair < 100 → 1 ≤ result }
     ensures both { 0 < pair % 10 → pair < 100 → 2 ≤ result }
+    ensures two { 2 ≤ result → 0 < pair % 10 }
 {
     if pair == 0 || pair >= 100 {
         return 0;
@@ -142,8 +143,9 @@ fn append_pair<L: Ledger>(digits: &mut Digits, pair: u8, turns: &mut Turns<L>) -
 /// Rounds the digits of a number at a place: 9, 9 at 32768, rounded at 32768 by `Expand`, are 1, and the answer is 32770.
 ///
 /// The answer is the new place of the first digit, which may be past the last place. The condition is that the digits neither
-/// begin with a zero nor end in one, which then holds of the new ones. Memory is wanted only for `MultiplesOf25` and a last digit
-/// right above the place, the first at least eight above it; where it is refused (`AllocError`) the digits are as before.
+/// begin with a zero nor end in one, which then holds of the new ones. Memory is wanted only for a multiple that ends in 25 or 75
+/// and a last digit right above the place, the first at least eight above it; where it is refused (`AllocError`) the digits are as
+/// before.
 pub fn round_digits<L: Ledger>(
     digits: &mut Digits,
     top: u32,
@@ -161,6 +163,7 @@ pub fn round_digits<L: Ledger>(
     ensures succeeds { increment ≢ RoundingIncrement.MultiplesOf25 → IsOk result }
     ensures room { OnErr result (place + 8 ≤ top) }
     ensures last { OnErr result (place + length digits.old.items ≡ top) }
+    ensures odd { OnErr result (TakesOdd mode (increment_number increment * 10 ^ place) (count_of digits.old.items top)) }
     ensures turns { turns.new ≤ turns.old + length digits.old.items }
 {
     let Some(pair) = rounded_pair(digits, top, place, mode, increment) else {

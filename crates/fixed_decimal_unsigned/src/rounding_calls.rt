@@ -1,6 +1,7 @@
-ghost use Rattle.std.specs.Prelude.{◌≡◌, ◌≢◌, ◌<◌, OnOk, OnErr, IfOk, IfErr, IsOk};
+ghost use Rattle.std.specs.Prelude.{◌≡◌, ◌≢◌, ◌*◌, ◌^◌, ◌<◌, OnOk, OnErr, IfOk, IfErr, IsOk};
 ghost use Rattle.fixed_decimal_unsigned.specs.Number.{place};
 ghost use Rattle.fixed_decimal_unsigned.specs.Range.{Rounds, MayGrowAt};
+ghost use Rattle.fixed_decimal_digits.specs.Rounding.{TakesOdd, increment_number};
 
 use crate::unsigned_decimal::UnsignedDecimal;
 use fixed_decimal_digits::{RoundingIncrement, Turns, UnsignedRoundingMode};
@@ -22,6 +23,7 @@ impl UnsignedDecimal {
         requires some { 0 < L.parts }
         ensures succeeds { increment ≢ RoundingIncrement.MultiplesOf25 → IsOk result }
         ensures room { OnErr result (MayGrowAt (place position) self.old.count) }
+        ensures odd { OnErr result (TakesOdd mode (increment_number increment * 10 ^ place position) self.old.count) }
         ensures value { OnOk result (Rounds mode increment (place position) self.old self.new) }
         ensures same { OnErr result (self.new ≡ self.old) }
     {
@@ -31,9 +33,9 @@ impl UnsignedDecimal {
 
     /// Rounds to a multiple of the increment at a position: `37.5` at 0 by `HalfEven` to 25 is `50`.
     ///
-    /// Zero stands in place of a multiple that reaches ten to the power 32768. Memory is wanted only for
-    /// `MultiplesOf25` and a number of eight digits or more whose last one, that is not zero, stands right
-    /// above the position; where it was refused the number is as it was.
+    /// Zero stands in place of a multiple that reaches ten to the power 32768. Memory is wanted only where
+    /// the multiple ends in 25 or 75 at the position, and the number has eight digits or more, of which the
+    /// last one that is not zero stands right above it; where it was refused the number is as it was.
     pub fn round_with_mode_and_increment(
         &mut self,
         position: i16,
@@ -42,6 +44,7 @@ impl UnsignedDecimal {
     ) -> Result<(), AllocError>
         ensures succeeds { increment ≢ RoundingIncrement.MultiplesOf25 → IsOk result }
         ensures room { OnErr result (MayGrowAt (place position) self.old.count) }
+        ensures odd { OnErr result (TakesOdd mode (increment_number increment * 10 ^ place position) self.old.count) }
         ensures value { OnOk result (Rounds mode increment (place position) self.old self.new) }
         ensures same { OnErr result (self.new ≡ self.old) }
     {
@@ -91,6 +94,7 @@ impl UnsignedDecimal {
     ) -> Result<UnsignedDecimal, AllocFailed<UnsignedDecimal>>
         ensures succeeds { increment ≢ RoundingIncrement.MultiplesOf25 → IsOk result }
         ensures room { OnErr result (MayGrowAt (place position) self.count) }
+        ensures odd { OnErr result (TakesOdd mode (increment_number increment * 10 ^ place position) self.count) }
         ensures value { IfOk result (λ v. Rounds mode increment (place position) self v) }
         ensures same { IfErr result (λ e. e.value ≡ self) }
     {
