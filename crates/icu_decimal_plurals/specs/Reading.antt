@@ -1,7 +1,7 @@
 -- Which texts are a condition, and which lists of categories and texts are the rules of a language.
 -- UTS 35, part 3 (numbers), section 5.1 (plural rules syntax); docs/plurals.md, "Reading rules".
 -- Cited by `PluralRules::new`.
-use Rattle.std.specs.Prelude.{◌≡◌, ⊤, ℕ, Bool, true, false, cond, ◌==◌, List, [], ◌∷◌, map, Option, None, Some, option_map, option_and_then}
+use Rattle.std.specs.Prelude.{◌≡◌, ⊤, ℕ, ◌≤◌, Bool, true, false, cond, ◌==◌, List, [], ◌∷◌, length, map, Option, None, Some, option_map, option_and_then}
 use Rattle.std.specs.Borrow.{Bor}
 use Rattle.std.specs.List.{before_first}
 use Rattle.icu_decimal_plurals.specs.declared.category.PluralCategory.{PluralCategory}
@@ -51,6 +51,11 @@ abbrev pub is_free : List (List ℕ) → Bool
 is_free [] = true
 is_free (text ∷ []) = is_blank (before_samples text)
 is_free _ = false
+
+-- for no category two texts are given, and for `other` none that has a condition
+pub record MayBeRules (given : List (PluralCategory × List ℕ)) : Type 0 where
+  pub free : is_free (texts_for Other given) ≡ true
+  pub once : (category : PluralCategory) → length (texts_for category given) ≤ 1
 
 -- the rules of what is read for each category
 abbrev pub rules_with : Option (Option ConditionData) → Option (Option ConditionData) → Option (Option ConditionData) → Option (Option ConditionData) → Option (Option ConditionData) → Option Rules

@@ -1,6 +1,6 @@
 -- The rules of a language, and the category that they give a number.
 -- UTS 35, part 3 (numbers), section 5 (language plural rules); docs/plurals.md, "Categories".
--- Cited by `category_for`.
+-- Cited by `category_for` and by `try_clone` of `PluralRules`.
 use Rattle.std.specs.Prelude.{Bool, false, cond, Option, None, Some}
 use Rattle.icu_decimal_plurals.specs.declared.category.PluralCategory.{PluralCategory}
 use Rattle.icu_decimal_plurals.specs.Operands.{Operands}
@@ -13,6 +13,10 @@ pub record Rules : Type 0 where
   pub two : Option ConditionData
   pub few : Option ConditionData
   pub many : Option ConditionData
+
+-- every number is of `other`
+abbrev pub no_rules : Rules
+no_rules = record { zero = None; one = None; two = None; few = None; many = None }
 
 -- there is a condition, and it holds
 abbrev pub is_met : Operands → Option ConditionData → Bool

@@ -6,6 +6,7 @@
 
 mod category;
 mod condition;
+mod copying;
 mod cut;
 mod error;
 mod grammar;

@@ -1,9 +1,9 @@
 //! Rules, read from categories and texts.
 
-ghost use Rattle.std.specs.Prelude.{◌≡◌, ◌==◌, ◌<◌, length, ◌∷◌, [], Some, None, IfOk, IsOk, IsErrOf, IsErr, Err, ◌≢◌, MatchOption};
+ghost use Rattle.std.specs.Prelude.{◌≡◌, ◌==◌, ◌<◌, ◌≤◌, false, length, ◌∷◌, [], Some, None, IfOk, IsOk, IsErrOf, IsErr, IsTrue, Err, ◌≢◌, MatchOption};
 ghost use Rattle.std.specs.List.{position};
 ghost use Rattle.icu_decimal_plurals.specs.Conditions.{ConditionData};
-ghost use Rattle.icu_decimal_plurals.specs.Reading.{samples_mark, before_samples, condition_in, pairs_of, texts_for, condition_by, is_free, is_same, rules_of, NamesOther};
+ghost use Rattle.icu_decimal_plurals.specs.Reading.{samples_mark, before_samples, condition_in, pairs_of, texts_for, condition_by, is_free, is_same, rules_of, MayBeRules, NamesOther};
 
 use crate::category::PluralCategory;
 use crate::condition::Condition;
@@ -67,7 +67,7 @@ fn text_for<'t>(
     Ok(found)
 }
 
-// The condition that is given for a category, or none. Without a text no memory is taken.
+// The condition that is given for a category, or none. Two are `Syntax`, and without a text no memory is taken.
 #[tactic(auto, using(crate::proofs::RulesLemmas::two_conditions))]
 fn condition_for(
     alloc: Global,
@@ -99,6 +99,28 @@ fn is_free(given: &[(PluralCategory, &str)]) -> bool
     }
 }
 
+// Whether a category is given once at most.
+fn is_once(category: PluralCategory, given: &[(PluralCategory, &str)]) -> bool
+    ensures once { IsTrue result → length (texts_for category (pairs_of given.now)) ≤ 1 }
+    ensures twice { result ≡ false → 1 < length (texts_for category (pairs_of given.now)) }
+{
+    text_for(category, given).is_ok()
+}
+
+// Whether no category is given twice, and `other` has no condition.
+#[tactic(auto, using(crate::proofs::RulesLemmas::once_each, crate::proofs::RulesLemmas::no_rules_unfree, crate::proofs::RulesLemmas::no_rules_zero, crate::proofs::RulesLemmas::no_rules_one, crate::proofs::RulesLemmas::no_rules_two, crate::proofs::RulesLemmas::no_rules_few, crate::proofs::RulesLemmas::no_rules_many))]
+fn may_be_rules(given: &[(PluralCategory, &str)]) -> bool
+    ensures some { IsTrue result → MayBeRules (pairs_of given.now) }
+    ensures none { result ≡ false → rules_of (pairs_of given.now) ≡ None }
+{
+    is_free(given)
+        && is_once(PluralCategory::Zero, given)
+        && is_once(PluralCategory::One, given)
+        && is_once(PluralCategory::Two, given)
+        && is_once(PluralCategory::Few, given)
+        && is_once(PluralCategory::Many, given)
+}
+
 #[tactic(auto, using(crate::proofs::RulesLemmas::no_text))]
 /// The rules of these categories and texts. `Syntax`: they are none.
 pub fn read_rules(
@@ -107,9 +129,10 @@ pub fn read_rules(
 ) -> Result<PluralRules, ConditionError>
     ensures ok { IfOk result (λ rules. rules_of (pairs_of given.now) ≡ Some rules) }
     ensures syntax { IsErrOf result ConditionError.Syntax → rules_of (pairs_of given.now) ≡ None }
+    ensures memory { IsErrOf result ConditionError.Memory → MayBeRules (pairs_of given.now) }
     ensures room { NamesOther (pairs_of given.now) → result ≢ Err ConditionError.Memory }
 {
-    if !is_free(given) {
+    if !may_be_rules(given) {
         return Err(ConditionError::Syntax);
     }
     let zero = condition_for(alloc, PluralCategory::Zero, given)?;

@@ -43,18 +43,20 @@ fn applies(condition: &Option<Condition>, operands: &PluralOperands) -> bool
 }
 
 impl PluralRules {
-    ghost use Rattle.icu_decimal_plurals.specs.Reading.{NamesOther, pairs_of, rules_of};
+    ghost use Rattle.icu_decimal_plurals.specs.Reading.{MayBeRules, NamesOther, pairs_of, rules_of};
     ghost use Rattle.icu_decimal_plurals.specs.Rules.{category_of};
 
     /// The rules of these categories and conditions, as CLDR writes them: of `one` and `i = 1 and v = 0 @integer 1` those of English.
     /// What stands from the first `@` on is ignored. For `other` nothing but spaces may stand before it.
     ///
     /// `Custom`: a text is no condition, one for `other` has a condition, or a category is given twice. `Memory`: a request for memory
-    /// was refused; where no category but `other` is given none is made. The source is UTS 35, part 3, section 5.1.
+    /// was refused; where no category but `other` is given none is made, nor where one is given twice or `other` has a condition. The
+    /// source is UTS 35, part 3, section 5.1.
     pub fn new(alloc: Global, given: &[(PluralCategory, &str)]) -> Result<PluralRules, DataError>
         ensures ok { IfOk result (λ rules. rules_of (pairs_of given.now) ≡ Some rules) }
         ensures custom { IsErrOf result DataError.Custom → rules_of (pairs_of given.now) ≡ None }
         ensures errors { IfErr result (λ error. (error ≡ DataError.Custom) ⊎ (error ≡ DataError.Memory)) }
+        ensures memory { IsErrOf result DataError.Memory → MayBeRules (pairs_of given.now) }
         ensures room { NamesOther (pairs_of given.now) → result ≢ Err DataError.Memory }
     {
         match read_rules(alloc, given) {
