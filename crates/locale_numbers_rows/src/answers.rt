@@ -64,8 +64,8 @@ pub fn answer_row(alloc: Global, arguments: &[&str]) -> Result<String, RowError>
     text
 }
 
-// Whether bytes are a book.
-fn tried(alloc: Global, bytes: &[u8]) -> Result<(), BookError> {
+/// Whether bytes are a book.
+pub fn tried(alloc: Global, bytes: &[u8]) -> Result<(), BookError> {
     match Book::from_json(alloc, bytes) {
         Ok(book) => {
             drop(book);

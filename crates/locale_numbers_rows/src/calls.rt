@@ -1,7 +1,8 @@
 //! Which call a line asks for.
 use crate::row_error::RowError;
 use crate::{
-    answers, faults, formatters, loads, plain, repeated, runs, sent_back, starts, tracked,
+    answers, beginnings, faults, formatters, loads, plain, repeated, runs, sent_back, starts,
+    tracked, watched,
 };
 use std::alloc::Global;
 use std::rt::Files;
@@ -30,6 +31,7 @@ fn run_result<F: Files>(
         "run_cuts" => runs::cuts_row(alloc, arguments),
         "run_with" => runs::shouted_row(alloc, arguments),
         "run_loads" => loads::loads_row(alloc, arguments),
+        "run_watched" => watched::watched_row(alloc, arguments),
         "program" => starts::program_row(rt, alloc, arguments),
         other => tracked_result(alloc, other, arguments),
     }
@@ -43,6 +45,7 @@ fn result_of_fields<F: Files>(rt: &F, alloc: Global, fields: &[&str]) -> Result<
     match *call {
         "answer" => answers::answer_row(alloc, arguments),
         "from_json" => answers::book_row(alloc, arguments),
+        "from_json_beginnings" => beginnings::beginnings_row(alloc, arguments),
         "formatter" | "short_formatter" | "long_formatter" => {
             formatters::formatter_row(alloc, call, arguments)
         }

@@ -3,6 +3,7 @@
 #![tactic(auto)]
 
 mod answers;
+mod beginnings;
 mod books;
 mod calls;
 mod case;
@@ -25,6 +26,7 @@ mod shouter;
 mod starts;
 mod taking;
 mod tracked;
+mod watched;
 
 use row_error::RowError;
 use std::alloc::Global;
