@@ -1,5 +1,5 @@
 //! Runs whose reader looks, at each read, at how much was written.
-ghost use Rattle.std.specs.Prelude.{◌≤◌, None, false};
+ghost use Rattle.std.specs.Prelude.{◌≤◌, None, false, length};
 
 use crate::case::case_of;
 use crate::numbers::count;
@@ -41,6 +41,8 @@ impl<'a> ByteReader for Watching<'a> {
     ghost remaining = { λ _. None };
 
     ghost failed = { λ watching. watching.failed };
+
+    ghost reads_left = { λ watching. length watching.rest.now };
 
     fn read(&mut self, buffer: &mut [u8]) -> Result<usize, ByteReadFault> {
         let written = self.written.get();
