@@ -12,6 +12,7 @@ pub use Rattle.icu_decimal_patterns.specs.KeptEntries
 pub use Rattle.icu_decimal_patterns.specs.Pattern
 pub use Rattle.icu_decimal_patterns.specs.SlotsJson
 pub use Rattle.icu_decimal_patterns.specs.TableJson
+pub use Rattle.icu_decimal_patterns.specs.TextlessElements
 pub use Rattle.icu_decimal_plurals.specs.Categories
 pub use Rattle.icu_decimal_plurals.specs.ConditionGrammar
 pub use Rattle.icu_decimal_plurals.specs.Conditions

@@ -13,3 +13,4 @@ pub mod SmallEntries
 pub mod TableJson
 pub mod TableLaws
 pub mod TableSteps
+pub mod TextlessElements

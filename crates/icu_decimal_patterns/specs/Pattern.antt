@@ -1,13 +1,18 @@
 -- What a pattern writes: two texts round one placeholder, or one text without any.
 -- After the patterns with a single placeholder of ICU4X; docs/compact-text.md, "Patterns".
 -- Cited by the calls of `Pattern` and `Interpolated`.
-use Rattle.std.specs.Prelude.{ℕ, List, ◌++◌, Option, None, Some}
+use Rattle.std.specs.Prelude.{◌≡◌, ℕ, List, [], ◌++◌, Option, None, Some}
 use Rattle.writeable.specs.AnnotatedText.{Event, bytes}
 
 -- texts as bytes
 pub data PatternText : Type 0 where
   literal : List ℕ → PatternText
   around : List ℕ → List ℕ → PatternText
+
+-- each text of the pattern is empty
+abbrev pub HasNoText : PatternText → Type 0
+HasNoText (literal text) = text ≡ []
+HasNoText (around before after) = (before ≡ []) × (after ≡ [])
 
 -- a pattern with these events in its placeholder
 abbrev pub pattern_events : PatternText → List Event → List Event

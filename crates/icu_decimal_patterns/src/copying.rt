@@ -1,15 +1,19 @@
 //! Copies of tables and their patterns.
 
-ghost use Rattle.std.specs.Prelude.{◌≡◌, IfOk};
+ghost use Rattle.std.specs.Prelude.{◌≡◌, [], IfOk, IfSome, IsOk};
+ghost use Rattle.icu_decimal_patterns.specs.Pattern.{HasNoText};
+ghost use Rattle.icu_decimal_patterns.specs.TextlessElements.{HaveNoText};
 
 use crate::compact_patterns::CompactPatterns;
 use crate::elements::PluralElements;
 use crate::pattern::Pattern;
+use icu_decimal_shown::CompactEntry;
 use std::alloc::{AllocError, Global};
 
 // An equal pattern, where there is one.
 fn copied(slot: &Option<Pattern>) -> Result<Option<Pattern>, AllocError>
-    ensures { IfOk result (λ copy. copy ≡ slot.now) }
+    ensures succeeds { IfSome slot.now HasNoText → IsOk result }
+    ensures value { IfOk result (λ copy. copy ≡ slot.now) }
 {
     match slot {
         Some(pattern) => {
@@ -21,10 +25,12 @@ fn copied(slot: &Option<Pattern>) -> Result<Option<Pattern>, AllocError>
 }
 
 impl PluralElements<Pattern> {
-    /// Equal patterns in the same slots: of `{0}K` for `one` and `{0}Ks` for `other` these once more. `AllocError` is answered
-    /// for memory alone.
+    /// Equal patterns in the same slots: of `{0}K` for `one` and `{0}Ks` for `other` these once more.
+    ///
+    /// Memory is taken for each text that is not empty; it is refused (`AllocError`) only where there is one.
     pub fn try_clone(&self) -> Result<Self, AllocError>
-        ensures { IfOk result (λ copy. copy ≡ self.now) }
+        ensures succeeds { HaveNoText self.now → IsOk result }
+        ensures value { IfOk result (λ copy. copy ≡ self.now) }
     {
         let explicit_zero = copied(&self.explicit_zero)?;
         let explicit_one = copied(&self.explicit_one)?;
@@ -47,12 +53,24 @@ impl PluralElements<Pattern> {
     }
 }
 
+// Equal entries, in their order; no memory is taken for none.
+fn entries_copied(alloc: Global, entries: &[CompactEntry]) -> Result<Vec<CompactEntry>, AllocError>
+    ensures succeeds { entries.now ≡ [] → IsOk result }
+    ensures value { IfOk result (λ copies. copies.items ≡ entries.now) }
+{
+    if entries.is_empty() {
+        return Ok(Vec::new(alloc));
+    }
+    Vec::from_slice(alloc, entries)
+}
+
 // Equal patterns, in their order.
-pub(crate) fn all_copied(
+fn all_copied(
     alloc: Global,
     patterns: &[PluralElements<Pattern>],
 ) -> Result<Vec<PluralElements<Pattern>>, AllocError>
-    ensures { IfOk result (λ copies. copies.items ≡ patterns.now) }
+    ensures succeeds { patterns.now ≡ [] → IsOk result }
+    ensures value { IfOk result (λ copies. copies.items ≡ patterns.now) }
 {
     let mut copies = Vec::new(alloc);
     for each in patterns {
@@ -63,12 +81,15 @@ pub(crate) fn all_copied(
 }
 
 impl CompactPatterns {
-    /// An equal table: of that with `K` at type 3 another with `K` at type 3. `AllocError` is answered for memory alone.
+    /// An equal table: of that with `K` at type 3 another with `K` at type 3.
+    ///
+    /// Memory is taken for each entry; it is refused (`AllocError`) only where there is one.
     pub fn try_clone(&self) -> Result<Self, AllocError>
-        ensures { IfOk result (λ copy. copy ≡ self.now) }
+        ensures succeeds { self.now.entries ≡ [] → IsOk result }
+        ensures value { IfOk result (λ copy. copy ≡ self.now) }
     {
         let alloc = *self.entries.allocator();
-        let entries = Vec::from_slice(alloc, self.entries.as_slice())?;
+        let entries = entries_copied(alloc, self.entries.as_slice())?;
         let patterns = all_copied(alloc, self.patterns.as_slice())?;
         Ok(CompactPatterns { entries, patterns })
     }

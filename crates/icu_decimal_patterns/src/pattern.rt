@@ -1,10 +1,10 @@
 //! Patterns: what stands before and behind one placeholder.
 
-ghost use Rattle.std.specs.Prelude.{◌≡◌, ◌++◌, IfOk, Some, string_bytes, false, is_err, OnOk, OnErr};
+ghost use Rattle.std.specs.Prelude.{◌≡◌, [], ◌++◌, IfOk, IsOk, Some, string_bytes, false, is_err, OnOk, OnErr};
 ghost use Rattle.std.specs.Cmp.{partial_equiv_from_equiv};
 ghost use Rattle.writeable.specs.AnnotatedText.{bytes};
 ghost use Rattle.writeable.specs.Taking.{HasBegun};
-ghost use Rattle.icu_decimal_patterns.specs.Pattern.{literal, around, pattern_events};
+ghost use Rattle.icu_decimal_patterns.specs.Pattern.{HasNoText, literal, around, pattern_events};
 ghost use Rattle.icu_decimal_patterns.specs.HeldPattern.{least_length, pattern_of};
 ghost use Rattle.icu_decimal_patterns.specs.SamePattern.{same_pattern, same_pattern_equiv};
 
@@ -40,6 +40,17 @@ impl Model for Pattern {
     ghost view = { λ p. pattern_of p.texts };
 }
 
+// The same text; no memory is taken for the empty one.
+fn text_copied(text: &String) -> Result<String, AllocError>
+    ensures succeeds { string_bytes text.now ≡ [] → IsOk result }
+    ensures value { IfOk result (λ copy. string_bytes copy ≡ string_bytes text.now) }
+{
+    if text.is_empty() {
+        return Ok(String::new(*text.allocator()));
+    }
+    text.clone()
+}
+
 impl Pattern {
     /// The pattern with `before` before its placeholder and `after` behind it: the empty text and `K` make of `1.2` the text
     /// `1.2K`. It takes no memory.
@@ -72,18 +83,21 @@ impl Pattern {
         }
     }
 
-    /// An equal pattern: of `{0}K` another `{0}K`. `AllocError` is answered for memory alone.
+    /// An equal pattern: of `{0}K` another `{0}K`.
+    ///
+    /// Memory is taken for each text that is not empty; it is refused (`AllocError`) only where there is one.
     pub fn try_clone(&self) -> Result<Self, AllocError>
-        ensures { IfOk result (λ copy. copy ≡ self.now) }
+        ensures succeeds { HasNoText self.now → IsOk result }
+        ensures value { IfOk result (λ copy. copy ≡ self.now) }
     {
         match &self.texts {
             Texts::Literal(text) => {
-                let text = text.clone()?;
+                let text = text_copied(text)?;
                 Ok(Pattern::literal(text))
             }
             Texts::Around(before, after) => {
-                let before = before.clone()?;
-                let after = after.clone()?;
+                let before = text_copied(before)?;
+                let after = text_copied(after)?;
                 Ok(Pattern::around(before, after))
             }
         }

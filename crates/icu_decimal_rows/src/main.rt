@@ -5,6 +5,7 @@
 
 mod abstract_formatter;
 mod compact;
+mod copies;
 mod formatters;
 mod plurals;
 mod preferences;

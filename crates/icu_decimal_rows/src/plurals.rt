@@ -61,8 +61,8 @@ fn operands_of(alloc: Global, number: &str, exponent: &str) -> Result<PluralOper
     Ok(operands)
 }
 
-// The category of a number with an exponent, by these rules.
-fn category_of(
+/// The category of a number with an exponent, by these rules.
+pub fn category_of(
     alloc: Global,
     rules: &PluralRules,
     number: &str,

@@ -2,7 +2,7 @@
 
 use crate::formatters::FormatterCall;
 use crate::stop::Stop;
-use crate::{formatters, plurals, preferences, shown, tables};
+use crate::{copies, formatters, plurals, preferences, shown, tables};
 use std::alloc::{AllocError, Global};
 
 // The answer of a call of a formatter: behind its name stand what the formatter is made of and what the call is passed.
@@ -32,6 +32,7 @@ fn answer_of_fields(alloc: Global, fields: &[&str]) -> Result<String, Stop> {
         }
         "show" | "exact_entry" | "exponent_for_magnitude" => shown::answer(alloc, name, passed),
         "table" => tables::answer(alloc, passed),
+        "to_json" | "from_json" | "category_by_copy" => copies::answer(alloc, name, passed),
         "preferences" => preferences::answer(alloc, passed),
         "options" => preferences::options(alloc, passed),
         _ => answer_of_formatter(alloc, name, passed),

@@ -86,9 +86,9 @@ impl DataProvider<DecimalCompactLongV1> for OneLocale<'_> {
     }
 }
 
-// The slots of a JSON text.
-fn slots_of(alloc: Global, slots: &str) -> Result<Value, Stop> {
-    match Value::from_str(alloc, slots) {
+/// The value of a JSON text.
+pub fn value_of(alloc: Global, text: &str) -> Result<Value, Stop> {
+    match Value::from_str(alloc, text) {
         Ok(value) => Ok(value),
         Err(fault) => if fault.is_memory() {
             Err(Stop::Memory)
@@ -105,7 +105,7 @@ fn elements_in(alloc: Global, slots: &Value) -> Result<PluralElements<Pattern>, 
 
 // The patterns of a JSON text of slots.
 fn elements_of(alloc: Global, slots: &str) -> Result<PluralElements<Pattern>, Stop> {
-    let slots = slots_of(alloc, slots)?;
+    let slots = value_of(alloc, slots)?;
     let elements = elements_in(alloc, &slots);
     drop(slots);
     elements
@@ -187,8 +187,8 @@ pub fn table_of(
     Ok(CompactPatterns::new(alloc, types, zero)?)
 }
 
-// The types and the exponents of a table, with semicolons between.
-fn listed(alloc: Global, table: &CompactPatterns) -> Result<String, Stop> {
+/// The types and the exponents of a table, with semicolons between.
+pub fn listed(alloc: Global, table: &CompactPatterns) -> Result<String, Stop> {
     let mut text = String::new(alloc);
     for entry in table.entries() {
         if !text.is_empty() {
