@@ -1,0 +1,62 @@
+//! Answers that are written, and values that are let go once they were.
+
+use crate::stop::Stop;
+use std::fmt::{Debug, Display};
+use writeable::Writeable;
+
+/// Writes a text.
+pub fn put_text(out: &mut String, text: &str) -> Result<(), Stop> {
+    out.push_str(text)?;
+    Ok(())
+}
+
+/// Writes what a value displays: a magnitude as `-2`.
+pub fn put<T: Display>(out: &mut String, value: &T) -> Result<(), Stop> {
+    write!(out, "{value}")?;
+    Ok(())
+}
+
+/// Writes a value as Rust does: `Less`, `Some(Sun)`.
+pub fn put_debug<T: Debug>(out: &mut String, value: &T) -> Result<(), Stop> {
+    write!(out, "{value:?}")?;
+    Ok(())
+}
+
+/// Writes what a value displays, which is then let go.
+pub fn put_last<T: Display + Drop>(out: &mut String, value: T) -> Result<(), Stop> {
+    let done = put(out, &value);
+    drop(value);
+    done
+}
+
+/// Writes the text of a value, by `write_to_string`.
+pub fn put_written<T: Writeable>(out: &mut String, value: &T) -> Result<(), Stop> {
+    let text = value.write_to_string(*out.allocator())?;
+    let done = put_text(out, text.as_str());
+    drop(text);
+    done
+}
+
+/// Writes the text of a value, which is then let go.
+pub fn put_last_written<T: Writeable + Drop>(out: &mut String, value: T) -> Result<(), Stop> {
+    let done = put_written(out, &value);
+    drop(value);
+    done
+}
+
+/// Puts an item behind those of a list.
+pub fn push<T: Drop>(list: &mut Vec<T>, item: T) -> Result<(), Stop> {
+    list.push(item)?;
+    Ok(())
+}
+
+/// A value that was filled step by step, or what refused a step; then the value is let go.
+pub fn filled<T: Drop, E>(value: T, steps: Result<(), E>) -> Result<T, E> {
+    match steps {
+        Ok(()) => Ok(value),
+        Err(refused) => {
+            drop(value);
+            Err(refused)
+        }
+    }
+}
