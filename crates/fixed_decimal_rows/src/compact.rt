@@ -1,15 +1,14 @@
-use crate::number::{Number, text_of, told};
-use crate::step::{Step, number_of, split_word};
-use crate::stop::Stop;
+use crate::number::{Number, parsed, told};
+use crate::step::Step;
 use fixed_decimal::{CompactDecimal, Decimal, ParseError};
+use rows::{Stop, number_of, put_last_written, put_written, split_word};
 use std::alloc::{AllocError, Global};
-use writeable::Writeable;
 
 // A compact number of its significand and its exponent.
 fn of_parts(alloc: Global, words: &str) -> Result<CompactDecimal, Stop> {
     let (significand, exponent) = split_word(words);
     let exponent = number_of::<u8>(exponent)?;
-    let significand = Decimal::try_from_str(alloc, significand)?;
+    let significand = parsed(Decimal::try_from_str(alloc, significand))?;
     Ok(CompactDecimal::from_significand_and_exponent(significand, exponent))
 }
 
@@ -29,17 +28,20 @@ impl Number for CompactDecimal {
         self.try_clone()
     }
 
-    fn tell(&self, alloc: Global, step: Step<'_>) -> Result<Option<String>, Stop> {
+    fn tell(&self, step: Step<'_>, out: &mut String) -> Result<bool, Stop> {
         match step.name {
-            "exponent" => told(alloc, &self.exponent()),
-            "significand" => Ok(Some(self.significand().write_to_string(alloc)?)),
-            _ => Ok(None),
+            "exponent" => told(out, &self.exponent()),
+            "significand" => {
+                put_written(out, self.significand())?;
+                Ok(true)
+            }
+            _ => Ok(false),
         }
     }
 
-    fn finish(self, alloc: Global, step: Step<'_>) -> Result<String, Stop> {
+    fn finish(self, step: Step<'_>, out: &mut String) -> Result<(), Stop> {
         if step.name == "into_significand" {
-            text_of(alloc, self.into_significand())
+            put_last_written(out, self.into_significand())
         } else {
             drop(self);
             Err(Stop::Unknown)

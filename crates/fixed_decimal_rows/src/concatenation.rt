@@ -1,58 +1,50 @@
 //! Answers of concatenations, of both types of numbers.
 
-use crate::stop::Stop;
 use fixed_decimal::{ConcatenateError, UnsignedDecimal};
-use std::alloc::Global;
+use rows::{Stop, put_last_written};
 use std::fmt::Display;
+use writeable::Writeable;
 
 // The answer where two numbers overlap: both, handed back or left.
-fn overlap<N: Display>(alloc: Global, first: &N, second: &UnsignedDecimal) -> Result<String, Stop> {
-    Ok(format!(in alloc; "Overlap: {first} and {second}")?)
+fn overlap<N: Display + Drop + Writeable>(
+    out: &mut String,
+    first: N,
+    second: UnsignedDecimal,
+) -> Result<(), Stop> {
+    let written = write!(out, "Overlap: {first} and {second}");
+    drop(first);
+    drop(second);
+    Ok(written?)
 }
 
-// The answer where this number was left.
-fn left_text<N: Display>(
-    alloc: Global,
-    number: &N,
-    done: &Result<(), ConcatenateError<UnsignedDecimal>>,
-) -> Result<String, Stop> {
-    match done {
-        Ok(()) => Ok(format!(in alloc; "{number}")?),
-        Err(ConcatenateError::Overlap(back)) => overlap(alloc, number, back),
-        Err(ConcatenateError::Memory(_)) => Err(Stop::Memory),
-    }
-}
-
-// The answer where this sum was given.
-fn given_text<N: Display>(
-    alloc: Global,
-    sum: &Result<N, ConcatenateError<(N, UnsignedDecimal)>>,
-) -> Result<String, Stop> {
-    match sum {
-        Ok(sum) => Ok(format!(in alloc; "{sum}")?),
-        Err(ConcatenateError::Overlap((first, second))) => overlap(alloc, first, second),
-        Err(ConcatenateError::Memory(_)) => Err(Stop::Memory),
-    }
+// Lets both numbers go, and answers that memory was refused.
+fn refused<N: Display + Drop + Writeable>(first: N, second: UnsignedDecimal) -> Result<(), Stop> {
+    drop(first);
+    drop(second);
+    Err(Stop::Memory)
 }
 
 /// The answer of `concatenate_end`, which left this number.
-pub fn left<N: Display + Drop>(
-    alloc: Global,
+pub fn left<N: Display + Drop + Writeable>(
+    out: &mut String,
     number: N,
     done: Result<(), ConcatenateError<UnsignedDecimal>>,
-) -> Result<String, Stop> {
-    let text = left_text(alloc, &number, &done);
-    drop(done);
-    drop(number);
-    text
+) -> Result<(), Stop> {
+    match done {
+        Ok(()) => put_last_written(out, number),
+        Err(ConcatenateError::Overlap(back)) => overlap(out, number, back),
+        Err(ConcatenateError::Memory(back)) => refused(number, back),
+    }
 }
 
 /// The answer of `concatenated_end`.
-pub fn given<N: Display + Drop>(
-    alloc: Global,
+pub fn given<N: Display + Drop + Writeable>(
+    out: &mut String,
     sum: Result<N, ConcatenateError<(N, UnsignedDecimal)>>,
-) -> Result<String, Stop> {
-    let text = given_text(alloc, &sum);
-    drop(sum);
-    text
+) -> Result<(), Stop> {
+    match sum {
+        Ok(sum) => put_last_written(out, sum),
+        Err(ConcatenateError::Overlap((first, second))) => overlap(out, first, second),
+        Err(ConcatenateError::Memory((first, second))) => refused(first, second),
+    }
 }

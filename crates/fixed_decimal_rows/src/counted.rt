@@ -1,12 +1,10 @@
 //! Roundings whose turns are counted. A count takes no bytes, so a row sees the number alone.
 ghost use Rattle.std.specs.Prelude.{◌≡◌, ◌+◌, ◌<◌, ◌≤◌};
 
-use crate::number::text_of;
-use crate::step::number_of;
-use crate::stop::Stop;
 use fixed_decimal::{
     Decimal, RoundingIncrement, SignedRoundingMode, Turns, UnsignedDecimal, UnsignedRoundingMode,
 };
+use rows::{Stop, number_of, put_last_written};
 use std::alloc::{AllocError, Global};
 use std::marker::Brand;
 use std::sync::ledger::{Blank, Ledger};
@@ -71,11 +69,11 @@ fn counted_byte<L: Ledger>(
 }
 
 /// The answer of a row that names a byte: its number rounded up to tens by `round_counted`.
-pub fn byte_answer(alloc: Global, fields: &[&str]) -> Result<String, Stop> {
+pub fn byte_answer(alloc: Global, fields: &[&str], out: &mut String) -> Result<(), Stop> {
     let Some(byte) = fields.first() else {
         return Err(Stop::Unknown);
     };
     let byte = number_of(byte)?;
     let number = counted_byte::<Brand>(alloc, byte, Blank::new(1))?;
-    text_of(alloc, number)
+    put_last_written(out, number)
 }

@@ -1,17 +1,20 @@
-use crate::number::{Number, text_of};
+use crate::number::{Number, parsed};
 use crate::rounding::{Passed, Rounding};
-use crate::step::{Step, number_of, split_word, unescaped};
-use crate::stop::Stop;
+use crate::step::Step;
 use crate::words::{sign_display_of, sign_of};
 use crate::{concatenation, counted, in_place, integers};
 use fixed_decimal::{Decimal, ParseError, Sign, SignDisplay, UnsignedDecimal};
+use rows::{Stop, number_of, put_debug, put_last_written, split_word, unescaped};
 use std::alloc::{AllocError, Global};
 
 // A decimal of a sign and an absolute value.
 fn of_parts(alloc: Global, words: &str) -> Result<Decimal, Stop> {
     let (sign, absolute) = split_word(words);
     let sign = sign_of(sign)?;
-    Ok(Decimal::new(sign, UnsignedDecimal::try_from_str(alloc, absolute)?))
+    Ok(Decimal::new(
+        sign,
+        parsed(UnsignedDecimal::try_from_str(alloc, absolute))?,
+    ))
 }
 
 // Rounds by a call that is passed a position alone; false where it is none.
@@ -116,17 +119,9 @@ fn left_by(number: Decimal, call: Consuming<'_>) -> Result<Decimal, Stop> {
 }
 
 // The answer of a consuming call: the text of the number that it leaves.
-fn consumed(alloc: Global, number: Decimal, call: Consuming<'_>) -> Result<String, Stop> {
-    match left_by(number, call) {
-        Ok(left) => text_of(alloc, left),
-        Err(stop) => Err(stop),
-    }
-}
-
-// The same, by the step.
-fn consumed_by(alloc: Global, number: Decimal, step: Step<'_>) -> Result<String, Stop> {
+fn consumed(number: Decimal, step: Step<'_>, out: &mut String) -> Result<(), Stop> {
     match consuming_of(step) {
-        Ok(call) => consumed(alloc, number, call),
+        Ok(call) => put_last_written(out, left_by(number, call)?),
         Err(stop) => {
             drop(number);
             Err(stop)
@@ -135,28 +130,36 @@ fn consumed_by(alloc: Global, number: Decimal, step: Step<'_>) -> Result<String,
 }
 
 // The answer of `concatenate_end` of the absolute value.
-fn concatenate_end(alloc: Global, mut number: Decimal, other: &str) -> Result<String, Stop> {
-    match UnsignedDecimal::try_from_str(alloc, other) {
+fn concatenate_end(mut number: Decimal, other: &str, out: &mut String) -> Result<(), Stop> {
+    match parsed(UnsignedDecimal::try_from_str(*out.allocator(), other)) {
         Ok(other) => {
             let done = number.concatenate_end(other);
-            concatenation::left(alloc, number, done)
+            concatenation::left(out, number, done)
         }
-        Err(refused) => {
+        Err(stop) => {
             drop(number);
-            Err(Stop::from(refused))
+            Err(stop)
         }
     }
 }
 
 // The answer of `concatenated_end`.
-fn concatenated_end(alloc: Global, number: Decimal, other: &str) -> Result<String, Stop> {
-    match UnsignedDecimal::try_from_str(alloc, other) {
-        Ok(other) => concatenation::given(alloc, number.concatenated_end(other)),
-        Err(refused) => {
+fn concatenated_end(number: Decimal, other: &str, out: &mut String) -> Result<(), Stop> {
+    match parsed(UnsignedDecimal::try_from_str(*out.allocator(), other)) {
+        Ok(other) => concatenation::given(out, number.concatenated_end(other)),
+        Err(stop) => {
             drop(number);
-            Err(Stop::from(refused))
+            Err(stop)
         }
     }
+}
+
+// The decimal of bytes.
+fn of_bytes(alloc: Global, text: &str) -> Result<Decimal, Stop> {
+    let bytes = unescaped(alloc, text)?;
+    let read = Decimal::try_from_utf8(alloc, bytes.as_slice());
+    drop(bytes);
+    parsed(read)
 }
 
 impl Number for Decimal {
@@ -169,10 +172,7 @@ impl Number for Decimal {
             "zero" => Ok(Decimal::zero(alloc)),
             "one" => Ok(Decimal::one(alloc)),
             "new" => of_parts(alloc, step.passed),
-            "try_from_utf8" => {
-                let bytes = unescaped(alloc, step.passed)?;
-                Ok(Decimal::try_from_utf8(alloc, bytes.as_slice())?)
-            }
+            "try_from_utf8" => of_bytes(alloc, step.passed),
             _ => integers::decimal(alloc, step),
         }
     }
@@ -181,7 +181,7 @@ impl Number for Decimal {
         self.try_clone()
     }
 
-    fn change(&mut self, _alloc: Global, step: Step<'_>) -> Result<bool, Stop> {
+    fn change(&mut self, step: Step<'_>) -> Result<bool, Stop> {
         match step.name {
             "set_sign" => self.set_sign(sign_of(step.passed)?),
             "apply_sign_display" => self.apply_sign_display(sign_display_of(step.passed)?),
@@ -193,18 +193,19 @@ impl Number for Decimal {
         Ok(true)
     }
 
-    fn tell(&self, alloc: Global, step: Step<'_>) -> Result<Option<String>, Stop> {
-        match step.name {
-            "sign" => Ok(Some(format!(in alloc; "{:?}", self.sign())?)),
-            _ => in_place::answer(alloc, self, step),
+    fn tell(&self, step: Step<'_>, out: &mut String) -> Result<bool, Stop> {
+        if step.name == "sign" {
+            put_debug(out, &self.sign())?;
+            return Ok(true);
         }
+        in_place::tell(self, step, out)
     }
 
-    fn finish(self, alloc: Global, step: Step<'_>) -> Result<String, Stop> {
+    fn finish(self, step: Step<'_>, out: &mut String) -> Result<(), Stop> {
         match step.name {
-            "concatenate_end" => concatenate_end(alloc, self, step.passed),
-            "concatenated_end" => concatenated_end(alloc, self, step.passed),
-            _ => consumed_by(alloc, self, step),
+            "concatenate_end" => concatenate_end(self, step.passed, out),
+            "concatenated_end" => concatenated_end(self, step.passed, out),
+            _ => consumed(self, step, out),
         }
     }
 }

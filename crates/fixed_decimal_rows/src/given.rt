@@ -1,9 +1,8 @@
 //! Numbers made of their digits, given one after another.
 ghost use Rattle.std.specs.Prelude.{◌≡◌, length, IfOk, OnOk};
 
-use crate::step::{number_of, split_word};
-use crate::stop::Stop;
 use fixed_decimal::{GivenDigits, UnsignedDecimal};
+use rows::{Stop, number_of, split_word};
 use std::alloc::Global;
 
 // Gives the digits of a word, one after another.

@@ -2,10 +2,9 @@
 
 use crate::number::{ends, told};
 use crate::rounding::Rounding;
-use crate::step::{Step, number_of};
-use crate::stop::Stop;
+use crate::step::Step;
 use fixed_decimal::{ShownDigits, UnsignedDecimal};
-use std::alloc::Global;
+use rows::{Stop, number_of, put, put_text};
 
 // Makes a call that is passed nothing; false where the name is of none.
 fn trim(number: &mut UnsignedDecimal, name: &str) -> bool {
@@ -67,66 +66,71 @@ pub fn round_by(number: &mut UnsignedDecimal, step: Step<'_>) -> Result<(), Stop
     Ok(())
 }
 
-// Adds digits to a list of them.
-fn list(text: &mut String, digits: &[u8]) -> Result<(), Stop> {
+// Writes a digit of a list.
+fn put_digit(out: &mut String, digit: u8) -> Result<(), Stop> {
+    put_text(out, " ")?;
+    put(out, &digit)
+}
+
+// Writes how many digits there are, and each of them, taken one by one.
+fn put_singly(out: &mut String, digits: ShownDigits<'_>) -> Result<(), Stop> {
+    put(out, &digits.len())?;
+    put_text(out, ":")?;
     for digit in digits {
-        write!(text, " {digit}")?;
+        put_digit(out, digit)?;
     }
     Ok(())
 }
 
-// How many digits there are, and each of them, taken one by one.
-fn listed_singly(alloc: Global, digits: ShownDigits<'_>) -> Result<String, Stop> {
-    let mut text = format!(in alloc; "{}:", digits.len())?;
+// Writes digits of a block.
+fn put_block(out: &mut String, digits: &[u8]) -> Result<(), Stop> {
     for digit in digits {
-        list(&mut text, &[digit])?;
+        put_digit(out, *digit)?;
     }
-    Ok(text)
+    Ok(())
 }
 
-// The same list, of digits that are taken a block at a time.
-fn listed_by_blocks(alloc: Global, mut digits: ShownDigits<'_>) -> Result<String, Stop> {
-    let mut text = format!(in alloc; "{}:", digits.len())?;
+// Writes the same list, of digits that are taken a block at a time.
+fn put_by_blocks(out: &mut String, mut digits: ShownDigits<'_>) -> Result<(), Stop> {
+    put(out, &digits.len())?;
+    put_text(out, ":")?;
     let mut block = [0; 16];
     while digits.len() > 0 {
         let count = digits.next_block(&mut block);
-        list(&mut text, &block[..count])?;
+        put_block(out, &block[..count])?;
     }
-    Ok(text)
+    Ok(())
 }
 
-// The list of digits, where those taken one by one are those taken a block at a time, and `None` where they are not.
-fn listed(
-    alloc: Global,
+// Writes the list of digits, where those taken one by one are those taken a block at a time; false where they are not.
+fn put_listed(
+    out: &mut String,
     single: ShownDigits<'_>,
     blocks: ShownDigits<'_>,
-) -> Result<Option<String>, Stop> {
-    let text = listed_singly(alloc, single)?;
-    let other = listed_by_blocks(alloc, blocks)?;
-    if text.as_str() == other.as_str() {
-        Ok(Some(text))
-    } else {
-        Ok(None)
-    }
+) -> Result<bool, Stop> {
+    let mut other = String::new(*out.allocator());
+    let listed = put_by_blocks(&mut other, blocks);
+    let single = put_singly(out, single);
+    let is_same = out.as_str() == other.as_str();
+    drop(other);
+    listed?;
+    single?;
+    Ok(is_same)
 }
 
-/// What a call tells of the number, or `None` where it tells nothing.
-pub fn answer(
-    alloc: Global,
-    number: &UnsignedDecimal,
-    step: Step<'_>,
-) -> Result<Option<String>, Stop> {
+/// Writes what a call tells of the number; false where it tells nothing.
+pub fn tell(number: &UnsignedDecimal, step: Step<'_>, out: &mut String) -> Result<bool, Stop> {
     match step.name {
-        "nonzero_magnitude_start" => told(alloc, &number.nonzero_magnitude_start()),
-        "nonzero_magnitude_end" => told(alloc, &number.nonzero_magnitude_end()),
-        "is_zero" => told(alloc, &number.is_zero()),
-        "digit_at" => told(alloc, &number.digit_at(number_of(step.passed)?)),
-        "whole_digits" => listed(alloc, number.whole_digits(), number.whole_digits()),
-        "fraction_digits" => listed(alloc, number.fraction_digits(), number.fraction_digits()),
+        "nonzero_magnitude_start" => told(out, &number.nonzero_magnitude_start()),
+        "nonzero_magnitude_end" => told(out, &number.nonzero_magnitude_end()),
+        "is_zero" => told(out, &number.is_zero()),
+        "digit_at" => told(out, &number.digit_at(number_of(step.passed)?)),
+        "whole_digits" => put_listed(out, number.whole_digits(), number.whole_digits()),
+        "fraction_digits" => put_listed(out, number.fraction_digits(), number.fraction_digits()),
         "magnitude_range" => {
             let range = number.magnitude_range();
-            ends(alloc, range.start(), range.end())
+            ends(out, range.start(), range.end())
         }
-        _ => Ok(None),
+        _ => Ok(false),
     }
 }

@@ -1,8 +1,8 @@
 //! Numbers of integers of each width.
 
-use crate::step::{Step, number_of};
-use crate::stop::Stop;
+use crate::step::Step;
 use fixed_decimal::{Decimal, FixedInteger, UnsignedDecimal};
+use rows::{Stop, number_of};
 use std::alloc::Global;
 
 /// The unsigned number of an integer.

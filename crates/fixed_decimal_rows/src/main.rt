@@ -3,7 +3,7 @@
 
 #![tactic(auto)]
 
-mod bounded;
+mod calls;
 mod compact;
 mod concatenation;
 mod counted;
@@ -15,20 +15,21 @@ mod integers;
 mod number;
 mod one_byte;
 mod rounding;
-mod rows;
 mod runs;
 mod scientific;
 mod step;
-mod stop;
 mod unsigned;
 mod whole;
 mod words;
 
+use calls::Calls;
+use rows::print_answers;
 use std::io;
 
 fn main(rt: HostRuntime) -> io::Result<()> {
     let alloc = rt.alloc();
     let input = io::read_to_string(alloc, rt.stdin())?;
-    let output = rows::answered(alloc, input.as_str())?;
-    rt.print(output.as_str())
+    let printed = print_answers(&rt, alloc, input.as_str(), &Calls { alloc });
+    drop(input);
+    printed
 }

@@ -1,9 +1,9 @@
-use crate::bounded::held_in_room;
-use crate::step::{Step, long_text, number_of, unescaped};
-use crate::stop::Stop;
+use crate::step::{Step, long_text};
 use fixed_decimal::ParseError;
+use rows::{Stop, number_of, put, put_in_room, put_last_written, put_written, unescaped};
 use std::alloc::{AllocError, Global};
 use std::fmt::Display;
+use std::mem;
 use writeable::Writeable;
 
 /// A type of numbers, with what a row can ask of it.
@@ -18,26 +18,35 @@ pub trait Number: Display + Drop + PartialEq + Sized + Writeable {
     fn copy(&self) -> Result<Self, AllocError>;
 
     /// Makes a call that changes the number; false where the type has no such call.
-    fn change(&mut self, _alloc: Global, _step: Step<'_>) -> Result<bool, Stop> {
+    fn change(&mut self, _step: Step<'_>) -> Result<bool, Stop> {
         Ok(false)
     }
 
-    /// What a call tells that only the type has; `None` where the type has no such call.
-    fn tell(&self, _alloc: Global, _step: Step<'_>) -> Result<Option<String>, Stop> {
-        Ok(None)
+    /// Writes what a call tells that only the type has; false where the type has no such call.
+    fn tell(&self, _step: Step<'_>, _out: &mut String) -> Result<bool, Stop> {
+        Ok(false)
     }
 
-    /// The answer of a call that only the type has, and that consumes the number.
-    fn finish(self, _alloc: Global, _step: Step<'_>) -> Result<String, Stop> {
+    /// Writes the answer of a call that only the type has, and that consumes the number.
+    fn finish(self, _step: Step<'_>, _out: &mut String) -> Result<(), Stop> {
         drop(self);
         Err(Stop::Unknown)
+    }
+}
+
+/// The number that was read, or the number of the refusal.
+pub fn parsed<T>(read: Result<T, ParseError>) -> Result<T, Stop> {
+    match read {
+        Ok(value) => Ok(value),
+        Err(ParseError::Memory) => Err(Stop::Memory),
+        Err(refused) => Err(Stop::Refused(refused.number())),
     }
 }
 
 // The number of the text of bytes, by `try_from_str`.
 fn read_bytes<N: Number>(alloc: Global, bytes: &[u8]) -> Result<N, Stop> {
     match str::from_utf8(bytes) {
-        Ok(text) => Ok(N::read(alloc, text)?),
+        Ok(text) => parsed(N::read(alloc, text)),
         Err(_) => Err(Stop::Unknown),
     }
 }
@@ -55,7 +64,7 @@ fn read_long<N: Number>(alloc: Global, word: &str) -> Result<N, Stop> {
     let text = long_text(alloc, word)?;
     let number = N::read(alloc, text.as_str());
     drop(text);
-    Ok(number?)
+    parsed(number)
 }
 
 // The number that a row begins with.
@@ -68,108 +77,148 @@ fn started<N: Number>(alloc: Global, step: Step<'_>) -> Result<N, Stop> {
 }
 
 // Makes a call that changes the number, or puts its copy in its place; false where there is no such call.
-fn changed<N: Number>(alloc: Global, number: &mut N, step: Step<'_>) -> Result<bool, Stop> {
+fn changed<N: Number>(number: &mut N, step: Step<'_>) -> Result<bool, Stop> {
     if step.name != "try_clone" {
-        return number.change(alloc, step);
+        return number.change(step);
     }
     let copy = number.copy()?;
-    *number = copy;
+    drop(mem::replace(number, copy));
     Ok(true)
 }
 
-/// The answer of a call that tells a value.
-pub fn told<T: Display>(alloc: Global, value: &T) -> Result<Option<String>, Stop> {
-    Ok(Some(format!(in alloc; "{value}")?))
+/// Writes the answer of a call that tells a value.
+pub fn told<T: Display>(out: &mut String, value: &T) -> Result<bool, Stop> {
+    put(out, value)?;
+    Ok(true)
 }
 
-/// The answer of a call that tells two ends.
-pub fn ends<T: Display>(alloc: Global, low: &T, high: &T) -> Result<Option<String>, Stop> {
-    Ok(Some(format!(in alloc; "{low} to {high}")?))
+/// Writes the answer of a call that tells two ends.
+pub fn ends<T: Display>(out: &mut String, low: &T, high: &T) -> Result<bool, Stop> {
+    write!(out, "{low} to {high}")?;
+    Ok(true)
 }
 
-/// The text of a number.
-pub fn text_of<W: Writeable + Drop>(alloc: Global, number: W) -> Result<String, Stop> {
-    let text = number.write_to_string(alloc);
-    drop(number);
-    Ok(text?)
-}
-
-// The two ends of a length hint.
-fn hint_of<N: Number>(alloc: Global, number: &N) -> Result<Option<String>, Stop> {
+// Writes the two ends of a length hint.
+fn hint_of<N: Number>(number: &N, out: &mut String) -> Result<bool, Stop> {
     let hint = number.writeable_length_hint();
     match hint.high {
-        Some(high) => ends(alloc, &hint.low, &high),
-        None => told(alloc, &hint.low),
+        Some(high) => ends(out, &hint.low, &high),
+        None => told(out, &hint.low),
     }
 }
 
 // Whether the number is the one that a text spells.
 fn is_that_of<N: Number>(alloc: Global, number: &N, text: &str) -> Result<bool, Stop> {
-    let other = N::read(alloc, text)?;
-    Ok(*number == other)
+    let other = parsed(N::read(alloc, text))?;
+    let is_same = *number == other;
+    drop(other);
+    Ok(is_same)
+}
+
+// Whether the number's text is this one.
+fn has_text<N: Number>(alloc: Global, number: &N, text: &str) -> Result<bool, Stop> {
+    let own = number.write_to_string(alloc)?;
+    let is_same = own.as_str() == text;
+    drop(own);
+    Ok(is_same)
 }
 
 // Whether the number's text is a long one.
 fn has_long_text<N: Number>(alloc: Global, number: &N, word: &str) -> Result<bool, Stop> {
     let text = long_text(alloc, word)?;
-    Ok(number.write_to_string(alloc)?.as_str() == text.as_str())
+    let is_same = has_text(alloc, number, text.as_str());
+    drop(text);
+    is_same
 }
 
-// The answer of a call that changes nothing, or `None` where it is none of these.
+// Writes what a sink with so much room holds of the number.
+fn held_in_room<N: Number>(number: &N, room: &str, out: &mut String) -> Result<bool, Stop> {
+    put_in_room(out, number, number_of(room)?)?;
+    Ok(true)
+}
+
+// Writes the answer of a call that changes nothing; false where it is none of these.
 fn common_answer<N: Number>(
     alloc: Global,
     number: &N,
     step: Step<'_>,
-) -> Result<Option<String>, Stop> {
+    out: &mut String,
+) -> Result<bool, Stop> {
     match step.name {
-        "eq" => told(alloc, &is_that_of(alloc, number, step.passed)?),
-        "has_long_text" => told(alloc, &has_long_text(alloc, number, step.passed)?),
-        "to_string" => told(alloc, number),
-        "writeable_length_hint" => hint_of(alloc, number),
-        "write_to" => Ok(Some(held_in_room(alloc, number, number_of(step.passed)?)?)),
-        _ => number.tell(alloc, step),
+        "eq" => told(out, &is_that_of(alloc, number, step.passed)?),
+        "has_long_text" => told(out, &has_long_text(alloc, number, step.passed)?),
+        "to_string" => told(out, number),
+        "writeable_length_hint" => hint_of(number, out),
+        "write_to" => held_in_room(number, step.passed, out),
+        _ => number.tell(step, out),
     }
 }
 
-// The answer of a call that changes the number, its text, or of one that changes nothing; `None` where it is none of these.
+// Writes the answer of a call that changes the number, its text, or of one that changes nothing; false where it is none of these.
 fn plain_answer<N: Number>(
     alloc: Global,
     number: &mut N,
     step: Step<'_>,
-) -> Result<Option<String>, Stop> {
-    if changed(alloc, number, step)? {
-        return Ok(Some(number.write_to_string(alloc)?));
+    out: &mut String,
+) -> Result<bool, Stop> {
+    if changed(number, step)? {
+        put_written(out, number)?;
+        return Ok(true);
     }
-    common_answer(alloc, number, step)
+    common_answer(alloc, number, step, out)
 }
 
-// The answer of a row's last call: what it answers, or the text of the number that it leaves.
-fn last_answer<N: Number>(alloc: Global, mut number: N, step: Step<'_>) -> Result<String, Stop> {
-    match plain_answer(alloc, &mut number, step)? {
-        Some(answer) => Ok(answer),
-        None => number.finish(alloc, step),
-    }
-}
-
-// The number that is left behind some calls.
-fn left_behind<N: Number>(alloc: Global, start: &str, calls: &[&str]) -> Result<N, Stop> {
-    let mut number: N = started(alloc, Step::of(start))?;
+// Makes calls that each change the number.
+fn change_all<N: Number>(number: &mut N, calls: &[&str]) -> Result<(), Stop> {
     for call in calls {
-        if !changed(alloc, &mut number, Step::of(call))? {
+        if !changed(number, Step::of(call))? {
             return Err(Stop::Unknown);
         }
     }
-    Ok(number)
+    Ok(())
 }
 
-/// The answer of a row of calls: the first makes a number, each further one is made on what the one before it left.
-pub fn answer<N: Number>(alloc: Global, fields: &[&str]) -> Result<String, Stop> {
+// Makes calls, of which the last one is answered: writes the answer, or answers false where the last call consumes the number.
+fn answer_calls<N: Number>(
+    alloc: Global,
+    number: &mut N,
+    calls: &[&str],
+    last: Step<'_>,
+    out: &mut String,
+) -> Result<bool, Stop> {
+    change_all(number, calls)?;
+    plain_answer(alloc, number, last, out)
+}
+
+// Writes the answer of a row's calls on a number.
+fn answer_on<N: Number>(
+    alloc: Global,
+    mut number: N,
+    calls: &[&str],
+    last: Step<'_>,
+    out: &mut String,
+) -> Result<(), Stop> {
+    match answer_calls(alloc, &mut number, calls, last, out) {
+        Ok(true) => {
+            drop(number);
+            Ok(())
+        }
+        Ok(false) => number.finish(last, out),
+        Err(stop) => {
+            drop(number);
+            Err(stop)
+        }
+    }
+}
+
+/// Writes the answer of a row of calls: the first makes a number, each further one is made on what the one before it left.
+pub fn answer<N: Number>(alloc: Global, fields: &[&str], out: &mut String) -> Result<(), Stop> {
     let Some((start, calls)) = fields.split_first() else {
         return Err(Stop::Unknown);
     };
-    let Some((last, calls)) = calls.split_last() else {
-        return text_of::<N>(alloc, started(alloc, Step::of(start))?);
-    };
-    let number: N = left_behind(alloc, start, calls)?;
-    last_answer(alloc, number, Step::of(last))
+    let number: N = started(alloc, Step::of(start))?;
+    match calls.split_last() {
+        Some((end, calls)) => answer_on(alloc, number, calls, Step::of(end), out),
+        None => put_last_written(out, number),
+    }
 }

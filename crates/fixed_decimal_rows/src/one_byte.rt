@@ -1,11 +1,10 @@
 //! Whole numbers of one digit to a byte: the plain program that the calls of `UnsignedDecimal`, which keeps two to a
 //! byte, are compared with on many numbers.
 
-use crate::number::text_of;
-use crate::step::number_of;
-use crate::stop::Stop;
+use crate::number::parsed;
 use crate::unsigned::concatenate_end;
 use fixed_decimal::UnsignedDecimal;
+use rows::{Stop, filled, number_of, put, put_last_written};
 use std::alloc::{AllocError, Global};
 
 // What both kinds are compared after.
@@ -37,14 +36,11 @@ fn push_digits(digits: &mut Vec<u8>, text: &str) -> Result<(), AllocError> {
 impl OneByte {
     // The number that digits spell.
     fn read(alloc: Global, text: &str) -> Result<OneByte, AllocError> {
-        let mut digits = Vec::new(alloc);
-        match push_digits(&mut digits, text) {
-            Ok(()) => Ok(OneByte { digits }),
-            Err(refused) => {
-                drop(digits);
-                Err(refused)
-            }
-        }
+        let mut read = OneByte {
+            digits: Vec::new(alloc),
+        };
+        let pushed = push_digits(&mut read.digits, text);
+        filled(read, pushed)
     }
 
     // Rounds up at a place.
@@ -135,23 +131,34 @@ fn plain_text(alloc: Global, text: &str, change: Change<'_>) -> Result<String, A
     shown
 }
 
-// The text of the number of a text after a change, by the calls.
-fn packed_text(alloc: Global, text: &str, change: Change<'_>) -> Result<String, Stop> {
-    let mut number = UnsignedDecimal::try_from_str(alloc, text)?;
+// Writes the text of the number of a text after a change, by the calls.
+fn put_packed(out: &mut String, text: &str, change: Change<'_>) -> Result<(), Stop> {
+    let mut number = parsed(UnsignedDecimal::try_from_str(*out.allocator(), text))?;
     match change {
         Change::Nothing => (),
         Change::Expanded(place) => number.expand(place as i16),
         Change::Cut(place) => number.set_max_position(place as i16),
-        Change::Concatenated(back) => return concatenate_end(alloc, number, back),
+        Change::Concatenated(back) => return concatenate_end(number, back, out),
     }
-    text_of(alloc, number)
+    put_last_written(out, number)
+}
+
+// Whether the calls show this text after a change.
+fn is_shown(alloc: Global, packed: &str, change: Change<'_>, plain: &str) -> Result<bool, Stop> {
+    let mut out = String::new(alloc);
+    let written = put_packed(&mut out, packed, change);
+    let is_same = out.as_str() == plain;
+    drop(out);
+    written?;
+    Ok(is_same)
 }
 
 // Whether both show the same digits after a change.
 fn is_same(alloc: Global, packed: &str, plain: &str, change: Change<'_>) -> Result<bool, Stop> {
-    let packed = packed_text(alloc, packed, change)?;
     let plain = plain_text(alloc, plain, change)?;
-    Ok(packed.as_str() == plain.as_str())
+    let is_same = is_shown(alloc, packed, change, plain.as_str());
+    drop(plain);
+    is_same
 }
 
 // A text with so many zeros behind it.
@@ -187,7 +194,7 @@ fn is_alike(alloc: Global, text: &str, count: u8) -> Result<bool, Stop> {
 
 /// The answer of a row that names how many digits stand behind a first, and how many such numbers are tried: how many
 /// of them differ.
-pub fn answer(alloc: Global, fields: &[&str]) -> Result<String, Stop> {
+pub fn answer(alloc: Global, fields: &[&str], out: &mut String) -> Result<(), Stop> {
     let [count, seeds] = fields else {
         return Err(Stop::Unknown);
     };
@@ -199,5 +206,5 @@ pub fn answer(alloc: Global, fields: &[&str]) -> Result<String, Stop> {
             differ = differ.saturating_add(1);
         }
     }
-    Ok(format!(in alloc; "{differ}")?)
+    put(out, &differ)
 }

@@ -1,9 +1,8 @@
 //! What a rounding is passed: a position, a mode and an increment; and what a consuming call is passed.
 
-use crate::step::{number_of, split_word};
-use crate::stop::Stop;
 use crate::words::{increment_of, mode_of};
 use fixed_decimal::{RoundingIncrement, SignedRoundingMode, UnsignedRoundingMode};
+use rows::{Stop, number_of, split_word};
 
 /// A rounding's position, mode and increment; a call that is passed no increment has that of every count.
 #[derive(Clone, Copy)]

@@ -1,11 +1,10 @@
 //! Rows of `run_calls`.
 
-use crate::bounded::{Bounded, held};
 use crate::rounding::Rounding;
-use crate::step::{Step, number_of, unescaped};
-use crate::stop::Stop;
+use crate::step::Step;
 use crate::words::{sign_display_of, sign_of};
 use fixed_decimal::{Call, CallsError, run_calls};
+use rows::{Bounded, Stop, filled, number_of, push, put, put_held, put_text, unescaped};
 use std::alloc::Global;
 use writeable::{Sink, TextSink};
 
@@ -50,7 +49,7 @@ fn call_of(step: Step<'_>) -> Result<Call, Stop> {
 // Puts the calls that fields spell to the others.
 fn put_calls(calls: &mut Vec<Call>, fields: &[&str]) -> Result<(), Stop> {
     for field in fields {
-        calls.push(call_of(Step::of(field))?)?;
+        push(calls, call_of(Step::of(field))?)?;
     }
     Ok(())
 }
@@ -58,81 +57,87 @@ fn put_calls(calls: &mut Vec<Call>, fields: &[&str]) -> Result<(), Stop> {
 // The calls that fields spell.
 fn calls_of(alloc: Global, fields: &[&str]) -> Result<Vec<Call>, Stop> {
     let mut calls = Vec::new(alloc);
-    match put_calls(&mut calls, fields) {
-        Ok(()) => Ok(calls),
-        Err(stop) => {
-            drop(calls);
-            Err(stop)
-        }
-    }
+    let put = put_calls(&mut calls, fields);
+    filled(calls, put)
 }
 
-// The answer of a run, and what its sink then holds.
-fn answer_of(
-    alloc: Global,
+// Writes the answer of a run that was refused, and what its sink then holds.
+fn put_refusal(
+    refused: CallsError,
+    text: &str,
+    has_refused: bool,
+    out: &mut String,
+) -> Result<(), Stop> {
+    if text.is_empty() && !has_refused {
+        return Err(Stop::Refused(refused.number()));
+    }
+    put_text(out, "error ")?;
+    put(out, &refused.number())?;
+    put_text(out, " ")?;
+    put_held(out, text, has_refused)
+}
+
+// Writes the answer of a run, and what its sink then holds.
+fn put_ran(
     ran: Result<(), CallsError>,
     text: &str,
     has_refused: bool,
-) -> Result<String, Stop> {
-    let held = held(alloc, text, has_refused)?;
+    out: &mut String,
+) -> Result<(), Stop> {
     match ran {
-        Ok(()) => Ok(held),
+        Ok(()) => put_held(out, text, has_refused),
         Err(CallsError::Memory) => Err(Stop::Memory),
-        Err(refused) if held.is_empty() => Err(Stop::Refused(refused.number())),
-        Err(refused) => Ok(format!(in alloc; "error {} {held}", refused.number())?),
+        Err(refused) => put_refusal(refused, text, has_refused, out),
     }
 }
 
 // The answer of a run of calls, written into a sink that holds a text.
-fn answer_in_text(alloc: Global, start: &[u8], calls: &[Call]) -> Result<String, Stop> {
+fn answer_in_text(start: &[u8], calls: &[Call], out: &mut String) -> Result<(), Stop> {
+    let alloc = *out.allocator();
     let mut sink = TextSink::new(alloc);
     let ran = run_calls(alloc, start, calls, &mut sink);
-    let answer = answer_of(alloc, ran, sink.text(), sink.has_refused());
+    let answer = put_ran(ran, sink.text(), sink.has_refused(), out);
     drop(sink);
     answer
 }
 
 // The same, of a number that may be spelled by escapes.
-fn answer_of_escaped(alloc: Global, start: &str, calls: &[Call]) -> Result<String, Stop> {
-    let start = unescaped(alloc, start)?;
-    let answer = answer_in_text(alloc, start.as_slice(), calls);
+fn answer_of_escaped(start: &str, calls: &[Call], out: &mut String) -> Result<(), Stop> {
+    let start = unescaped(*out.allocator(), start)?;
+    let answer = answer_in_text(start.as_slice(), calls, out);
     drop(start);
     answer
 }
 
 /// The answer of a run of calls, written into a sink that holds a text.
-pub fn answer(alloc: Global, fields: &[&str]) -> Result<String, Stop> {
+pub fn answer(alloc: Global, fields: &[&str], out: &mut String) -> Result<(), Stop> {
     let Some((start, fields)) = fields.split_first() else {
         return Err(Stop::Unknown);
     };
     let calls = calls_of(alloc, fields)?;
-    let answer = answer_of_escaped(alloc, start, calls.as_slice());
+    let answer = answer_of_escaped(start, calls.as_slice(), out);
     drop(calls);
     answer
 }
 
 // The answer of a run of calls, written into a sink with so much room.
-fn answer_bounded(
-    alloc: Global,
-    start: &[u8],
-    calls: &[Call],
-    room: usize,
-) -> Result<String, Stop> {
+fn answer_bounded(start: &[u8], calls: &[Call], room: usize, out: &mut String) -> Result<(), Stop> {
+    let alloc = *out.allocator();
     let mut sink = Bounded::new(alloc, room);
     let ran = run_calls(alloc, start, calls, &mut sink);
-    let answer = answer_of(alloc, ran, sink.text(), sink.has_refused());
+    let answer = put_ran(ran, sink.text(), sink.has_refused(), out);
     drop(sink);
     answer
 }
 
 /// The answer of a run of calls, written into a sink with so much room as the first field says.
-pub fn answer_in_room(alloc: Global, fields: &[&str]) -> Result<String, Stop> {
+pub fn answer_in_room(alloc: Global, fields: &[&str], out: &mut String) -> Result<(), Stop> {
     let [room, start, fields @ ..] = fields else {
         return Err(Stop::Unknown);
     };
     let room = number_of(room)?;
     let calls = calls_of(alloc, fields)?;
-    let answer = answer_bounded(alloc, start.as_bytes(), calls.as_slice(), room);
+    let answer = answer_bounded(start.as_bytes(), calls.as_slice(), room, out);
     drop(calls);
     answer
 }

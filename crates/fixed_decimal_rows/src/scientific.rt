@@ -1,20 +1,28 @@
-use crate::number::Number;
-use crate::step::{Step, split_word, unescaped};
-use crate::stop::Stop;
+use crate::number::{Number, parsed};
+use crate::step::Step;
 use fixed_decimal::{Decimal, FixedInteger, ParseError, ScientificDecimal};
+use rows::{Stop, split_word, unescaped};
 use std::alloc::{AllocError, Global};
 
 // A scientific number of its significand and its exponent.
 fn of_parts(alloc: Global, words: &str) -> Result<ScientificDecimal, Stop> {
     let (significand, exponent) = split_word(words);
-    let significand = Decimal::try_from_str(alloc, significand)?;
-    match FixedInteger::try_from_str(alloc, exponent) {
+    let significand = parsed(Decimal::try_from_str(alloc, significand))?;
+    match parsed(FixedInteger::try_from_str(alloc, exponent)) {
         Ok(exponent) => Ok(ScientificDecimal::from(significand, exponent)),
-        Err(refused) => {
+        Err(stop) => {
             drop(significand);
-            Err(Stop::from(refused))
+            Err(stop)
         }
     }
+}
+
+// The scientific number of bytes.
+fn of_bytes(alloc: Global, text: &str) -> Result<ScientificDecimal, Stop> {
+    let bytes = unescaped(alloc, text)?;
+    let read = ScientificDecimal::try_from_utf8(alloc, bytes.as_slice());
+    drop(bytes);
+    parsed(read)
 }
 
 impl Number for ScientificDecimal {
@@ -25,10 +33,7 @@ impl Number for ScientificDecimal {
     fn make(alloc: Global, step: Step<'_>) -> Result<ScientificDecimal, Stop> {
         match step.name {
             "from" => of_parts(alloc, step.passed),
-            "try_from_utf8" => {
-                let bytes = unescaped(alloc, step.passed)?;
-                Ok(ScientificDecimal::try_from_utf8(alloc, bytes.as_slice())?)
-            }
+            "try_from_utf8" => of_bytes(alloc, step.passed),
             _ => Err(Stop::Unknown),
         }
     }

@@ -1,9 +1,9 @@
-use crate::number::{Number, text_of};
+use crate::number::{Number, parsed};
 use crate::rounding::{Passed, Rounding};
-use crate::step::{Step, unescaped};
-use crate::stop::Stop;
+use crate::step::Step;
 use crate::{concatenation, given, in_place, integers};
 use fixed_decimal::{ParseError, SignedRoundingMode, UnsignedDecimal, UnsignedRoundingMode};
+use rows::{Stop, put_last_written, unescaped};
 use std::alloc::{AllocError, Global};
 
 // The number that a call leaves which is passed nothing.
@@ -80,22 +80,9 @@ fn left_by(number: UnsignedDecimal, name: &str, passed: Passed) -> Result<Unsign
 }
 
 // The answer of a consuming call: the text of the number that it leaves.
-fn consumed(
-    alloc: Global,
-    number: UnsignedDecimal,
-    name: &str,
-    passed: Passed,
-) -> Result<String, Stop> {
-    match left_by(number, name, passed) {
-        Ok(left) => text_of(alloc, left),
-        Err(stop) => Err(stop),
-    }
-}
-
-// The same, by the step.
-fn consumed_by(alloc: Global, number: UnsignedDecimal, step: Step<'_>) -> Result<String, Stop> {
+fn consumed(number: UnsignedDecimal, step: Step<'_>, out: &mut String) -> Result<(), Stop> {
     match Passed::of(step.passed) {
-        Ok(passed) => consumed(alloc, number, step.name, passed),
+        Ok(passed) => put_last_written(out, left_by(number, step.name, passed)?),
         Err(stop) => {
             drop(number);
             Err(stop)
@@ -105,31 +92,39 @@ fn consumed_by(alloc: Global, number: UnsignedDecimal, step: Step<'_>) -> Result
 
 /// The answer of `concatenate_end`.
 pub fn concatenate_end(
-    alloc: Global,
     mut number: UnsignedDecimal,
     other: &str,
-) -> Result<String, Stop> {
-    match UnsignedDecimal::try_from_str(alloc, other) {
+    out: &mut String,
+) -> Result<(), Stop> {
+    match parsed(UnsignedDecimal::try_from_str(*out.allocator(), other)) {
         Ok(other) => {
             let done = number.concatenate_end(other);
-            concatenation::left(alloc, number, done)
+            concatenation::left(out, number, done)
         }
-        Err(refused) => {
+        Err(stop) => {
             drop(number);
-            Err(Stop::from(refused))
+            Err(stop)
         }
     }
 }
 
 // The answer of `concatenated_end`.
-fn concatenated_end(alloc: Global, number: UnsignedDecimal, other: &str) -> Result<String, Stop> {
-    match UnsignedDecimal::try_from_str(alloc, other) {
-        Ok(other) => concatenation::given(alloc, number.concatenated_end(other)),
-        Err(refused) => {
+fn concatenated_end(number: UnsignedDecimal, other: &str, out: &mut String) -> Result<(), Stop> {
+    match parsed(UnsignedDecimal::try_from_str(*out.allocator(), other)) {
+        Ok(other) => concatenation::given(out, number.concatenated_end(other)),
+        Err(stop) => {
             drop(number);
-            Err(Stop::from(refused))
+            Err(stop)
         }
     }
+}
+
+// The number of bytes.
+fn of_bytes(alloc: Global, text: &str) -> Result<UnsignedDecimal, Stop> {
+    let bytes = unescaped(alloc, text)?;
+    let read = UnsignedDecimal::try_from_utf8(alloc, bytes.as_slice());
+    drop(bytes);
+    parsed(read)
 }
 
 impl Number for UnsignedDecimal {
@@ -141,10 +136,7 @@ impl Number for UnsignedDecimal {
         match step.name {
             "zero" => Ok(UnsignedDecimal::zero(alloc)),
             "one" => Ok(UnsignedDecimal::one(alloc)),
-            "try_from_utf8" => {
-                let bytes = unescaped(alloc, step.passed)?;
-                Ok(UnsignedDecimal::try_from_utf8(alloc, bytes.as_slice())?)
-            }
+            "try_from_utf8" => of_bytes(alloc, step.passed),
             "given_digits" => given::number(alloc, step.passed),
             _ => integers::unsigned(alloc, step),
         }
@@ -154,7 +146,7 @@ impl Number for UnsignedDecimal {
         self.try_clone()
     }
 
-    fn change(&mut self, _alloc: Global, step: Step<'_>) -> Result<bool, Stop> {
+    fn change(&mut self, step: Step<'_>) -> Result<bool, Stop> {
         match step.name {
             "round_with_mode" | "round_with_mode_and_increment" => {
                 in_place::round_by(self, step)?;
@@ -164,15 +156,15 @@ impl Number for UnsignedDecimal {
         }
     }
 
-    fn tell(&self, alloc: Global, step: Step<'_>) -> Result<Option<String>, Stop> {
-        in_place::answer(alloc, self, step)
+    fn tell(&self, step: Step<'_>, out: &mut String) -> Result<bool, Stop> {
+        in_place::tell(self, step, out)
     }
 
-    fn finish(self, alloc: Global, step: Step<'_>) -> Result<String, Stop> {
+    fn finish(self, step: Step<'_>, out: &mut String) -> Result<(), Stop> {
         match step.name {
-            "concatenate_end" => concatenate_end(alloc, self, step.passed),
-            "concatenated_end" => concatenated_end(alloc, self, step.passed),
-            _ => consumed_by(alloc, self, step),
+            "concatenate_end" => concatenate_end(self, step.passed, out),
+            "concatenated_end" => concatenated_end(self, step.passed, out),
+            _ => consumed(self, step, out),
         }
     }
 }

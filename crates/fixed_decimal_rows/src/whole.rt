@@ -1,16 +1,24 @@
 use crate::integers;
-use crate::number::{Number, text_of};
-use crate::step::{Step, unescaped};
-use crate::stop::Stop;
+use crate::number::{Number, parsed};
+use crate::step::Step;
 use fixed_decimal::{Decimal, FixedInteger, ParseError};
+use rows::{Stop, put_last_written, unescaped};
 use std::alloc::{AllocError, Global};
 
 // The whole number that the decimal of a text becomes.
 fn of_decimal(alloc: Global, text: &str) -> Result<FixedInteger, Stop> {
-    match FixedInteger::try_from(Decimal::try_from_str(alloc, text)?) {
+    match FixedInteger::try_from(parsed(Decimal::try_from_str(alloc, text))?) {
         Ok(whole) => Ok(whole),
         Err(refused) => Err(Stop::Refused(refused.number())),
     }
+}
+
+// The whole number of bytes.
+fn of_bytes(alloc: Global, text: &str) -> Result<FixedInteger, Stop> {
+    let bytes = unescaped(alloc, text)?;
+    let read = FixedInteger::try_from_utf8(alloc, bytes.as_slice());
+    drop(bytes);
+    parsed(read)
 }
 
 impl Number for FixedInteger {
@@ -21,10 +29,7 @@ impl Number for FixedInteger {
     fn make(alloc: Global, step: Step<'_>) -> Result<FixedInteger, Stop> {
         match step.name {
             "try_from" => of_decimal(alloc, step.passed),
-            "try_from_utf8" => {
-                let bytes = unescaped(alloc, step.passed)?;
-                Ok(FixedInteger::try_from_utf8(alloc, bytes.as_slice())?)
-            }
+            "try_from_utf8" => of_bytes(alloc, step.passed),
             _ => integers::whole(alloc, step),
         }
     }
@@ -33,9 +38,9 @@ impl Number for FixedInteger {
         self.try_clone()
     }
 
-    fn finish(self, alloc: Global, step: Step<'_>) -> Result<String, Stop> {
+    fn finish(self, step: Step<'_>, out: &mut String) -> Result<(), Stop> {
         if step.name == "into_decimal" {
-            text_of(alloc, self.into_decimal())
+            put_last_written(out, self.into_decimal())
         } else {
             drop(self);
             Err(Stop::Unknown)

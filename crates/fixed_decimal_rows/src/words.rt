@@ -1,9 +1,9 @@
 //! The words of a row that name a case of an enum.
 
-use crate::stop::Stop;
 use fixed_decimal::{
     RoundingIncrement, Sign, SignDisplay, SignedRoundingMode, UnsignedRoundingMode,
 };
+use rows::Stop;
 
 /// The sign that a word names.
 pub fn sign_of(word: &str) -> Result<Sign, Stop> {
