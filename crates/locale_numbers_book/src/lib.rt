@@ -10,6 +10,7 @@ mod error;
 mod formatter_error;
 mod json;
 pub mod laws;
+mod releasing;
 mod sample_book;
 mod table;
 mod tag_formatters;
