@@ -1,0 +1,1 @@
+"""Refuses memory, reads and writes of built programs, and judges how they end."""
