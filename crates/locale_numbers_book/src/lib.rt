@@ -10,7 +10,6 @@ mod error;
 mod formatter_error;
 mod json;
 pub mod laws;
-mod releasing;
 mod sample_book;
 mod table;
 mod tag_formatters;
