@@ -32,7 +32,7 @@ SHARES = {
     "icu_locale_core_extensions": 185, "icu_locale_core_locale": 531, "icu_decimal_shown": 68,
     "icu_locale_core_preferences": 112, "icu_locale_core": 51, "icu_decimal_provider": 107, "locale_numbers_parents": 106,
     "icu_decimal_plurals": 118, "icu_decimal_plain": 327, "icu_decimal_patterns": 343, "icu_decimal_reading": 184, "icu_decimal_text": 68,
-    "icu_decimal_compact": 200, "icu_decimal": 81, "locale_numbers_book": 327,
+    "icu_decimal_compact": 200, "icu_decimal": 81, "locale_numbers_tables": 220, "locale_numbers_book": 140,
 }
 
 

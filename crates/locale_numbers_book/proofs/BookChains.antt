@@ -6,9 +6,9 @@ use Rattle.icu_locale_core.specs.TagPreferences.{DataLocaleMeaning}
 use Rattle.icu_decimal_chains.specs.Chains.{Follows, walk}
 use Rattle.locale_numbers_parents.specs.Parents.{Entry, IsParents, leads_to, listed_parent}
 use Rattle.locale_numbers_parents.proofs.ParentsLemmas.{append_none, cuts_none, no_parents, one_more, stays_open}
-use Rattle.locale_numbers_book.specs.declared.error.BookError.TheVariants.{Shape, Tag, Duplicate, Cycle}
-use Rattle.locale_numbers_book.specs.Entries.{all_of, field_at}
-use Rattle.locale_numbers_book.specs.Faults.{compact_faults, digits_faults, first_broken, rules_faults, symbols_faults}
+use Rattle.locale_numbers_tables.specs.declared.BookError.TheVariants.{Shape, Tag, Duplicate, Cycle}
+use Rattle.locale_numbers_tables.specs.Entries.{all_of, field_at}
+use Rattle.locale_numbers_tables.specs.Faults.{compact_faults, digits_faults, first_broken, rules_faults, symbols_faults}
 use Rattle.locale_numbers_book.specs.Form.{has_form, items_at}
 use Rattle.locale_numbers_book.specs.Laws.{BookChainsEnd}
 use Rattle.locale_numbers_book.specs.ParentEntries.{closes_cycle, has_parent_shape, is_listed, parent_entry, parent_fault, parents_faults}

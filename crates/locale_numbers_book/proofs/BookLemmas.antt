@@ -5,20 +5,20 @@ use Rattle.std.specs.Option.{option_or}
 use Rattle.std.specs.Str.{bytes_eq}
 use Rattle.serde_json.specs.Data.{Data, Items, no_items}
 use Rattle.serde_json.specs.Find.{as_array}
-use Rattle.locale_numbers_book.specs.declared.error.BookError.{BookError}
+use Rattle.locale_numbers_tables.specs.declared.BookError.{BookError}
 use Rattle.locale_numbers_book.specs.Arrays.{of_arrays}
 use Rattle.locale_numbers_book.specs.Book.{BookTables, IsBook}
-use Rattle.locale_numbers_book.specs.CompactEntries.{compact_entry}
-use Rattle.locale_numbers_book.specs.Entries.{all_of, digits_entry, field_at, symbols_entry}
-use Rattle.locale_numbers_book.specs.Faults.{compact_faults, digits_faults, rules_faults, symbols_faults}
+use Rattle.locale_numbers_tables.specs.CompactEntries.{compact_entry}
+use Rattle.locale_numbers_tables.specs.Entries.{all_of, digits_entry, field_at, symbols_entry}
+use Rattle.locale_numbers_tables.specs.Faults.{compact_faults, digits_faults, rules_faults, symbols_faults}
 use Rattle.locale_numbers_book.specs.Form.{arrays_fault, book_fault}
-use Rattle.locale_numbers_book.specs.Keys.{same_data_locale, same_key, table_in}
+use Rattle.locale_numbers_tables.specs.Keys.{same_data_locale, same_key, table_in}
 use Rattle.locale_numbers_book.specs.ParentEntries.{parent_entry, parents_faults}
-use Rattle.locale_numbers_book.specs.Refusal.{IsTold}
-use Rattle.locale_numbers_book.specs.Room.{arrays_may_grow, book_may_grow}
-use Rattle.locale_numbers_book.specs.RulesEntries.{rules_entry}
-use Rattle.locale_numbers_book.proofs.FaultLemmas.{told_at, told_first}
-use Rattle.locale_numbers_book.proofs.TableLemmas.{either, front_true}
+use Rattle.locale_numbers_tables.specs.Telling.{IsTold}
+use Rattle.locale_numbers_book.specs.BookRoom.{arrays_may_grow, book_may_grow}
+use Rattle.locale_numbers_tables.specs.RulesEntries.{rules_entry}
+use Rattle.locale_numbers_tables.proofs.FaultLemmas.{told_at, told_first}
+use Rattle.locale_numbers_tables.proofs.TableLemmas.{either, front_true}
 
 pub some_same : {A : Type 0} (x y : A) → Some x ≡ Some y → x ≡ y
 some_same x y h = cc

@@ -1,12 +1,12 @@
 -- A value that is five arrays or six: `specs/Form.antt` and `specs/Arrays.antt`.
-use Rattle.std.proofs.Common.{◌≡◌, ◌≤◌, ℕ, ◌+◌, ◌==◌, ◌&&◌, ◌||◌, suc, Bool, true, false, List, [], ◌∷◌, drop, Option, None, Some, is_some, unwrap_or, refl, sym, ap, ◌∙◌, inl, inr, arith}
+use Rattle.std.proofs.Common.{◌≡◌, ◌≤◌, ℕ, ◌==◌, ◌&&◌, ◌||◌, suc, Bool, true, false, List, [], ◌∷◌, drop, Option, Some, is_some, unwrap_or, refl, sym, ap, ◌∙◌, inl, inr, arith}
 use Rattle.std.proofs.lemmas.Bool.{and_parts, cases_Bool, eqb-true}
 use Rattle.serde_json.specs.Data.{Data, null, boolean, number, string, array, object, Items, no_items, item}
 use Rattle.serde_json.specs.Find.{as_array}
 use Rattle.serde_json.specs.View.{items_view}
 use Rattle.serde_json.specs.declared.value.Value.{Value}
 use Rattle.locale_numbers_book.specs.Arrays.{last_array, of_arrays}
-use Rattle.locale_numbers_book.specs.Entries.{count_of_items, field_at}
+use Rattle.locale_numbers_tables.specs.Entries.{count_of_items, field_at}
 use Rattle.locale_numbers_book.specs.Form.{has_form, items_at}
 
 array_is : (d : Data) → is_some (as_array d) ≡ true → d ≡ array (unwrap_or (as_array d) no_items)

@@ -1,13 +1,13 @@
 -- Worked rows of `specs/Faults.antt`: the fault of a small book for each word, the least number in an entry, and the first faulty entry.
 -- Each is an example of docs/books.md, "Faults", or follows from its rules by hand.
-use Rattle.std.proofs.Common.{◌≡◌, ℕ, List, [], ◌∷◌, codes, Option, Some, None, refl}
+use Rattle.std.proofs.Common.{◌≡◌, ℕ, List, [], ◌∷◌, codes, Some, None, refl}
 use Rattle.std.specs.Str.{chars}
 use Rattle.serde_json.specs.Data.{Data, Items, null, number, unsigned, string, array, no_items, item}
 use Rattle.icu_locale_core.specs.Stepping.{headed_after, whole_after}
 use Rattle.icu_locale_core.specs.TagStages.{with_piece, body_after}
-use Rattle.locale_numbers_book.specs.declared.error.BookError.TheVariants.{Shape, Tag, System, Text, Digits, Condition, Types, Exponents, Duplicate, Cycle}
+use Rattle.locale_numbers_tables.specs.declared.BookError.TheVariants.{Shape, Tag, System, Text, Digits, Condition, Types, Exponents, Duplicate, Cycle}
 use Rattle.locale_numbers_book.specs.Form.{book_fault}
-use Rattle.locale_numbers_book.specs.TagReading.{tag_of, data_locale_of}
+use Rattle.locale_numbers_tables.specs.TagReading.{tag_of, data_locale_of}
 
 -- ---- small books
 

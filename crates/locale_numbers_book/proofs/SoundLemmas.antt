@@ -15,17 +15,17 @@ use Rattle.icu_decimal.specs.SlotsJson.{slots_of}
 use Rattle.icu_decimal.specs.SmallEntries.{AreSmall}
 use Rattle.icu_decimal.specs.Elements.{without_one}
 use Rattle.icu_decimal.proofs.KeptLemmas.{keeps_one, kept_rises}
-use Rattle.locale_numbers_book.specs.declared.error.BookError.{BookError}
-use Rattle.locale_numbers_book.specs.declared.error.BookError.TheVariants.{Shape, Tag, System, Text, Types, Exponents}
-use Rattle.locale_numbers_book.specs.CompactEntries.{Row, compact_entry, compact_of, has_plain_patterns, rise_from, row_in, row_with, rows_in, rows_of, table_made, zero_of}
-use Rattle.locale_numbers_book.specs.Entries.{all_of, entry_key, field_at, has_count}
-use Rattle.locale_numbers_book.specs.Faults.{compact_fault, compact_faults, digits_faults, first_broken, first_fault_behind, has_compact_shape, has_locale, rules_faults, symbols_faults}
+use Rattle.locale_numbers_tables.specs.declared.BookError.{BookError}
+use Rattle.locale_numbers_tables.specs.declared.BookError.TheVariants.{Shape, Tag, System, Text, Types, Exponents}
+use Rattle.locale_numbers_tables.specs.CompactEntries.{Row, compact_entry, compact_of, has_plain_patterns, rise_from, row_in, row_with, rows_in, rows_of, table_made, zero_of}
+use Rattle.locale_numbers_tables.specs.Entries.{all_of, entry_key, field_at, has_count}
+use Rattle.locale_numbers_tables.specs.Faults.{compact_fault, compact_faults, digits_faults, first_broken, first_fault_behind, has_compact_shape, has_locale, rules_faults, symbols_faults}
 use Rattle.locale_numbers_book.specs.Form.{has_form, items_at}
-use Rattle.locale_numbers_book.specs.Fields.{size_in, system_or_none_in}
-use Rattle.locale_numbers_book.specs.Keys.{has_no_key_twice, same_key, without_key_twice}
+use Rattle.locale_numbers_tables.specs.Fields.{size_in, system_or_none_in}
+use Rattle.locale_numbers_tables.specs.Keys.{has_no_key_twice, same_key, without_key_twice}
 use Rattle.locale_numbers_book.specs.Laws.{AreSoundTables, BookTablesAreSound, IsSoundTable}
 use Rattle.locale_numbers_book.specs.ParentEntries.{parents_faults}
-use Rattle.locale_numbers_book.proofs.CompactLemmas.{table_meant, true_le}
+use Rattle.locale_numbers_tables.proofs.CompactLemmas.{table_meant, true_le}
 
 -- ---- numbers of rows
 

@@ -11,7 +11,7 @@ use Rattle.icu_locale_core.specs.SingleVariant.{MeansKeyword, SingleMeaning, Mea
 use Rattle.icu_locale_core.specs.TagPreferences.{keyword_piece, numbering_key, one_piece, preferences_of}
 use Rattle.icu_locale_core.specs.Values.{without_true}
 use Rattle.icu_locale_core.proofs.SingleTags.{single_is_tag}
-use Rattle.locale_numbers_book.proofs.TagLemmas.{tag_read, tag_faulty}
+use Rattle.locale_numbers_tables.proofs.TagLemmas.{tag_read, tag_faulty}
 use Rattle.locale_numbers_book.specs.Wanted.{wanted_of}
 
 pub asks_of : (text : Text) (tag : TagMeaning) → MeansTag (pieces text) tag → wanted_of text ≡ Some (preferences_of tag)

@@ -12,12 +12,12 @@ use Rattle.icu_decimal.specs.KeptEntries.{CompactTable}
 use Rattle.icu_decimal.specs.Rules.{Rules}
 use Rattle.icu_decimal.specs.Symbols.{Symbols}
 use Rattle.locale_numbers_parents.specs.Parents.{Entry}
-use Rattle.locale_numbers_book.specs.Entries.{all_of, field_at, symbols_entry, digits_entry}
-use Rattle.locale_numbers_book.specs.RulesEntries.{rules_entry}
-use Rattle.locale_numbers_book.specs.CompactEntries.{compact_entry}
+use Rattle.locale_numbers_tables.specs.Entries.{all_of, field_at, symbols_entry, digits_entry}
+use Rattle.locale_numbers_tables.specs.RulesEntries.{rules_entry}
+use Rattle.locale_numbers_tables.specs.CompactEntries.{compact_entry}
 use Rattle.locale_numbers_book.specs.ParentEntries.{parent_entry}
 use Rattle.locale_numbers_book.specs.Form.{book_fault, items_at}
-use Rattle.locale_numbers_book.specs.Keys.{same_data_locale, same_key, table_in}
+use Rattle.locale_numbers_tables.specs.Keys.{same_data_locale, same_key, table_in}
 
 -- the tables of a book
 pub record BookTables : Type 0 where

@@ -1,14 +1,14 @@
 -- The outer form of a book, which is five arrays or six, and the first fault of one.
 -- Defined in docs/books.md, "The form" and "Faults".
 -- Cited by the steps of `Book::from_json`, and by itself through Book.antt and Refusal.antt.
-use Rattle.std.specs.Prelude.{ℕ, Bool, ◌&&◌, ◌||◌, List, [], Option, Some, is_some, unwrap_or, if◌then◌else◌}
+use Rattle.std.specs.Prelude.{ℕ, Bool, ◌&&◌, ◌||◌, [], Option, Some, is_some, unwrap_or, if◌then◌else◌}
 use Rattle.std.specs.Option.{option_or}
 use Rattle.serde_json.specs.Data.{Data, Items, no_items}
 use Rattle.serde_json.specs.Find.{as_array}
-use Rattle.locale_numbers_book.specs.declared.error.BookError.{BookError}
-use Rattle.locale_numbers_book.specs.declared.error.BookError.TheVariants.{Shape}
-use Rattle.locale_numbers_book.specs.Entries.{has_count, field_at}
-use Rattle.locale_numbers_book.specs.Faults.{symbols_faults, digits_faults, rules_faults, compact_faults}
+use Rattle.locale_numbers_tables.specs.declared.BookError.{BookError}
+use Rattle.locale_numbers_tables.specs.declared.BookError.TheVariants.{Shape}
+use Rattle.locale_numbers_tables.specs.Entries.{has_count, field_at}
+use Rattle.locale_numbers_tables.specs.Faults.{symbols_faults, digits_faults, rules_faults, compact_faults}
 use Rattle.locale_numbers_book.specs.ParentEntries.{parents_faults}
 
 abbrev pub is_array_at : ℕ → Data → Bool

@@ -16,10 +16,10 @@ use Rattle.icu_decimal.specs.Identifiers.{Identifier}
 use Rattle.icu_decimal.specs.KeptEntries.{CompactTable, IsTable, Patterns, TypePatterns}
 use Rattle.icu_decimal.specs.SmallEntries.{AreSmall}
 use Rattle.locale_numbers_book.specs.Book.{BookTables, IsBook}
-use Rattle.locale_numbers_book.specs.CompactEntries.{table_made}
-use Rattle.locale_numbers_book.specs.Keys.{same_key}
+use Rattle.locale_numbers_tables.specs.CompactEntries.{table_made}
+use Rattle.locale_numbers_tables.specs.Keys.{same_key}
 use Rattle.locale_numbers_book.specs.Tables.{parent_under, steps_in}
-use Rattle.locale_numbers_book.specs.TagReading.{tag_of, data_locale_of}
+use Rattle.locale_numbers_tables.specs.TagReading.{tag_of, data_locale_of}
 
 -- a list of pieces is read as a tag exactly where it means one, and as that one
 abbrev pub TagsAreRead : Type 0

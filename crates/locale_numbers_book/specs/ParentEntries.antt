@@ -1,16 +1,16 @@
 -- The sixth array of a book: entries of a locale and its parent, and the first that is faulty.
 -- Defined in docs/books.md, "Parents" and "Faults".
 -- Cited by the steps of `Book::from_json`.
-use Rattle.std.specs.Prelude.{◌≡◌, Bool, true, false, ◌&&◌, not, List, [], ◌∷◌, ◌++◌, Option, None, Some, is_some, option_and_then, option_map, option_to_list}
+use Rattle.std.specs.Prelude.{◌≡◌, Bool, false, ◌&&◌, not, List, [], ◌∷◌, ◌++◌, Option, None, Some, is_some, option_and_then, option_map, option_to_list}
 use Rattle.std.specs.Option.{option_or}
 use Rattle.serde_json.specs.Data.{Data, Items, no_items, item}
 use Rattle.icu_locale_core.specs.TagPreferences.{DataLocaleMeaning}
 use Rattle.locale_numbers_parents.specs.Parents.{Entry, leads_to, listed_parent}
-use Rattle.locale_numbers_book.specs.declared.error.BookError.{BookError}
-use Rattle.locale_numbers_book.specs.declared.error.BookError.TheVariants.{Shape, Tag, Duplicate, Cycle}
-use Rattle.locale_numbers_book.specs.Fields.{locale_in}
-use Rattle.locale_numbers_book.specs.Entries.{has_count, field_at, is_text_at}
-use Rattle.locale_numbers_book.specs.Faults.{first_broken}
+use Rattle.locale_numbers_tables.specs.declared.BookError.{BookError}
+use Rattle.locale_numbers_tables.specs.declared.BookError.TheVariants.{Shape, Tag, Duplicate, Cycle}
+use Rattle.locale_numbers_tables.specs.Fields.{locale_in}
+use Rattle.locale_numbers_tables.specs.Entries.{has_count, field_at, is_text_at}
+use Rattle.locale_numbers_tables.specs.Faults.{first_broken}
 
 -- the locale and its parent
 abbrev pub parent_entry : Data → Option Entry

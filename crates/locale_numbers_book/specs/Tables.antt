@@ -14,7 +14,7 @@ use Rattle.icu_decimal.specs.Rules.{Rules}
 use Rattle.icu_decimal.specs.Symbols.{Symbols}
 use Rattle.locale_numbers_parents.specs.Parents.{Entry, most_steps, parent_step}
 use Rattle.locale_numbers_book.specs.Book.{BookTables}
-use Rattle.locale_numbers_book.specs.Keys.{same_data_locale, same_key, table_at}
+use Rattle.locale_numbers_tables.specs.Keys.{same_data_locale, same_key, table_at}
 
 -- the symbols of the entry with this locale and this system, or with none
 abbrev pub symbols_under : BookTables → Identifier → Result Symbols DataError

@@ -5,7 +5,7 @@ use Rattle.std.specs.Prelude.{Option, option_map}
 use Rattle.icu_locale_core.specs.Subtags.{Text}
 use Rattle.icu_locale_core.specs.Pieces.{pieces}
 use Rattle.icu_locale_core.specs.TagPreferences.{Preferences, preferences_of}
-use Rattle.locale_numbers_book.specs.TagReading.{tag_of}
+use Rattle.locale_numbers_tables.specs.TagReading.{tag_of}
 
 -- the preferences of a text, where it is a tag
 abbrev pub wanted_of : Text → Option Preferences

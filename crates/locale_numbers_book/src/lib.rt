@@ -6,18 +6,17 @@
 #![tactic(auto)]
 
 mod book;
-mod error;
 mod formatter_error;
 mod json;
 pub mod laws;
+mod providers;
 mod sample_book;
-mod table;
 mod tag_formatters;
 mod tag_reader;
 
 pub use book::{Book, book_from};
-pub use error::BookError;
 pub use formatter_error::FormatterError;
+pub use locale_numbers_tables::BookError;
 pub use sample_book::SAMPLE_BOOK;
 pub use tag_formatters::compact_preferences;
 pub use tag_reader::read_preferences;

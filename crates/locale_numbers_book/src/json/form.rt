@@ -5,10 +5,10 @@ ghost use Rattle.serde_json.specs.Data.{array};
 ghost use Rattle.serde_json.specs.Find.{as_array};
 ghost use Rattle.serde_json.specs.View.{view, items_view};
 ghost use Rattle.locale_numbers_book.specs.Arrays.{of_arrays};
-ghost use Rattle.locale_numbers_book.specs.Entries.{field_at, has_count};
+ghost use Rattle.locale_numbers_tables.specs.Entries.{field_at, has_count};
 ghost use Rattle.locale_numbers_book.specs.Form.{has_form, is_array_at, items_at};
 
-use super::entries::has_count;
+use locale_numbers_tables::fields::has_count;
 use serde_json::Value;
 use std::alloc::Global;
 use std::vec::IntoIter;

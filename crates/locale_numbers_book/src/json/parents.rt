@@ -2,18 +2,18 @@
 ghost use Rattle.std.specs.Prelude.{◌≡◌, ◌&&◌, ◌||◌, true, [], ◌∷◌, IfOk, IfErr, IsErrOf, OnOk, Some, None, is_some, option_and_then, option_map, unwrap_or};
 ghost use Rattle.serde_json.specs.Data.{no_items};
 ghost use Rattle.serde_json.specs.View.{items_view, view};
-ghost use Rattle.locale_numbers_book.specs.declared.error.BookError.TheVariants.{Shape, Tag};
-ghost use Rattle.locale_numbers_book.specs.Entries.{all_of};
-ghost use Rattle.locale_numbers_book.specs.Faults.{first_broken};
+ghost use Rattle.locale_numbers_tables.specs.declared.BookError.TheVariants.{Shape, Tag};
+ghost use Rattle.locale_numbers_tables.specs.Entries.{all_of};
+ghost use Rattle.locale_numbers_tables.specs.Faults.{first_broken};
 ghost use Rattle.locale_numbers_book.specs.ParentEntries.{AddsParent, has_parent_shape, parent_entry, parent_fault, parents_faults};
-ghost use Rattle.locale_numbers_book.specs.Refusal.{IsTold};
-ghost use Rattle.locale_numbers_book.specs.Room.{begins_with, locale_may_grow, parent_may_grow};
+ghost use Rattle.locale_numbers_tables.specs.Room.{begins_with, locale_may_grow};
+ghost use Rattle.locale_numbers_tables.specs.Telling.{IsTold};
+ghost use Rattle.locale_numbers_book.specs.BookRoom.{parent_may_grow};
 
-use super::entries::has_count;
-use super::fields::{is_text_at, locale};
-use crate::BookError;
 use icu_locale_core::DataLocale;
 use locale_numbers_parents::{ParentFault, Parents};
+use locale_numbers_tables::BookError;
+use locale_numbers_tables::fields::{has_count, is_text_at, locale};
 use serde_json::Value;
 use std::alloc::Global;
 
@@ -25,7 +25,7 @@ fn has_parent_shape(entry: &Value) -> bool
 }
 
 /// The locale and the parent of an entry.
-#[tactic(auto, using(crate::proofs::FaultLemmas::first_grows, crate::proofs::FaultLemmas::second_grows))]
+#[tactic(auto, using(crate::proofs::ParentLemmas::first_grows, crate::proofs::ParentLemmas::second_grows))]
 fn parent_entry(alloc: Global, entry: &Value) -> Result<(DataLocale, DataLocale), BookError>
     ensures value { IfOk result (λ pair. parent_entry (view entry.now) ≡ Some pair) }
     ensures shape { OnOk result (has_parent_shape (view entry.now) ≡ true) }
@@ -51,7 +51,7 @@ fn parent_entry(alloc: Global, entry: &Value) -> Result<(DataLocale, DataLocale)
 }
 
 /// Adds what an entry says, and lets the entry go.
-#[tactic(auto, using(crate::proofs::FaultLemmas::parent_asks, crate::proofs::FaultLemmas::parent_sound, crate::proofs::FaultLemmas::parent_new))]
+#[tactic(auto, using(crate::proofs::ParentLemmas::parent_asks, crate::proofs::ParentLemmas::parent_sound, crate::proofs::ParentLemmas::parent_new))]
 fn add_parent(alloc: Global, parents: &mut Parents, entry: Value) -> Result<(), BookError>
     ensures added { OnOk result (AddsParent (view entry) parents.old parents.new) }
     ensures fault { IfErr result (λ fault. IsTold (parent_fault parents.old (view entry)) fault) }

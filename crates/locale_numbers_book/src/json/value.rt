@@ -1,10 +1,9 @@
 //! Bytes as a JSON value.
 ghost use Rattle.std.specs.Prelude.{◌≡◌, ◌<◌, IfOk, IsErrOf, IfErr, length};
 ghost use Rattle.serde_json.specs.View.{view};
-ghost use Rattle.locale_numbers_book.specs.Json.{Reads, IsNoJson};
-ghost use Rattle.locale_numbers_book.specs.BookError.{IsJsonOrMemory};
+ghost use Rattle.locale_numbers_book.specs.Json.{IsJsonOrMemory, IsNoJson, Reads};
 
-use crate::BookError;
+use locale_numbers_tables::BookError;
 use serde_json::Value;
 use std::alloc::Global;
 

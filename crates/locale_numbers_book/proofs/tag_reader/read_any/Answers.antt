@@ -1,5 +1,5 @@
 use Rattle.std.proofs.Common.{sym, ap, ◌∙◌, Some}
-use Rattle.locale_numbers_book.proofs.TagLemmas.{other_one}
+use Rattle.locale_numbers_tables.proofs.TagLemmas.{other_one}
 use Rattle.locale_numbers_book.proofs.WantedLemmas.{asks_of, asks_nothing}
 use Rattle.locale_numbers_book.proofs.tag_reader.read_any.Goals as goal
 

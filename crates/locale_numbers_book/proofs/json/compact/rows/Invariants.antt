@@ -1,8 +1,0 @@
-use Rattle.std.proofs.Common.{◌≡◌, ◌++◌, List, drop, option_map}
-use Rattle.serde_json.specs.View.{items_view}
-use Rattle.locale_numbers_book.specs.CompactEntries.{Row, row_in}
-use Rattle.locale_numbers_book.specs.Entries.{all_of}
-use Rattle.locale_numbers_book.proofs.json.compact.rows.Given as goal
-
-abbrev pub invariant-loop-item : goal.invariant-loop-item
-invariant-loop-item l = all_of row_in (items_view l.items) ≡ option_map (λ (rest : List Row). l.list.items ++ rest) (all_of row_in (items_view (drop l.item-index l.items)))

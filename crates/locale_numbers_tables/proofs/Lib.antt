@@ -1,0 +1,10 @@
+pub mod SystemLemmas
+pub mod TagLemmas
+pub mod KeyLemmas
+pub mod TableLemmas
+pub mod FaultLemmas
+pub mod AddLemmas
+pub mod RulesLemmas
+pub mod CompactLemmas
+pub mod CompactFaults
+pub mod KnownValues

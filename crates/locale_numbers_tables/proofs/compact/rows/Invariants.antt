@@ -1,0 +1,8 @@
+use Rattle.std.proofs.Common.{◌≡◌, ◌++◌, List, drop, option_map}
+use Rattle.serde_json.specs.View.{items_view}
+use Rattle.locale_numbers_tables.specs.CompactEntries.{Row, row_in}
+use Rattle.locale_numbers_tables.specs.Entries.{all_of}
+use Rattle.locale_numbers_tables.proofs.compact.rows.Given as goal
+
+abbrev pub invariant-loop-item : goal.invariant-loop-item
+invariant-loop-item l = all_of row_in (items_view l.items) ≡ option_map (λ (rest : List Row). l.list.items ++ rest) (all_of row_in (items_view (drop l.item-index l.items)))

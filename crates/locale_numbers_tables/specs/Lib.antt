@@ -1,0 +1,12 @@
+pub mod TagReading
+pub mod BookError
+pub mod Telling
+pub mod Fields
+pub mod Entries
+pub mod Keys
+pub mod RulesEntries
+pub mod CompactEntries
+pub mod Faults
+pub mod CompactSteps
+pub mod Room
+pub mod Adding

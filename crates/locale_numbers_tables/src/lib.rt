@@ -1,0 +1,20 @@
+//! The tables of a book: what the entries of its arrays say, each under its key, and what is wrong with the first faulty one.
+//!
+//! The array `[["latn","0123456789"]]` is the table of one system, `latn`, with its ten digits; with a second entry for `latn` it is
+//! refused as `Duplicate`.
+
+#![tactic(auto)]
+
+mod compact;
+mod entries;
+mod entry;
+mod error;
+pub mod fields;
+mod rules;
+mod table;
+mod tables;
+mod texts;
+
+pub use entry::Entry;
+pub use error::BookError;
+pub use tables::table_of;

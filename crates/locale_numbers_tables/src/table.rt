@@ -1,0 +1,31 @@
+//! A table that has no key twice.
+ghost use Rattle.std.specs.Prelude.{◌≡◌, ◌⊎◌, ◌++◌, [], ◌∷◌, None, IsSome, OnOk, IsErrOf, IfErr};
+ghost use Rattle.indexmap.specs.IndexMap.{get};
+ghost use Rattle.locale_numbers_tables.specs.declared.error.BookError.{BookError};
+
+use crate::BookError;
+use indexmap::IndexMap;
+use std::hash::Hash;
+
+/// Adds a table under a key that is not there yet.
+pub fn add<K: Eq + Hash + Drop, V: Drop>(
+    table: &mut IndexMap<K, V>,
+    key: K,
+    value: V,
+) -> Result<(), BookError>
+    ensures added { OnOk result (table.new.entries ≡ table.old.entries ++ (key, value) ∷ []) }
+    ensures fresh { OnOk result (get K.eq table.old key ≡ None) }
+    ensures duplicate { IsErrOf result BookError.Duplicate → IsSome (get K.eq table.old key) }
+
+    // A key that stands already is never told as out of memory.
+    ensures twice { IsSome (get K.eq table.old key) → IsErrOf result BookError.Duplicate }
+    ensures only { IfErr result (λ fault. (fault ≡ BookError.Duplicate) ⊎ (fault ≡ BookError.Memory)) }
+{
+    if table.contains_key(&key) {
+        return Err(BookError::Duplicate);
+    }
+    match table.insert(key, value) {
+        Ok(_) => Ok(()),
+        Err(_) => Err(BookError::Memory),
+    }
+}
