@@ -24,7 +24,6 @@ use tinystr::TinyAsciiStr;
 
 /// Tables of symbols, of digits, of plural rules and of short and long patterns, and the parents of locales, as a JSON text names
 /// them. `SAMPLE_BOOK` names the symbols of `en`, whose separators are `.` and `,`, and no parents.
-#[derive(Drop)]
 pub struct Book {
     pub(crate) symbols: IndexMap<DataIdentifier, DecimalSymbols>,
     pub(crate) digits: IndexMap<TinyAsciiStr<8>, [char; 10]>,
@@ -40,6 +39,20 @@ impl Model for Book {
     ghost Value = { BookTables };
 
     ghost view = { λ b. record { symbols = b.symbols.entries; digits = b.digits.entries; rules = b.rules.entries; short = b.short.entries; long = b.long.entries; parents = b.parents } };
+}
+
+// A book is let go by one call, whose proof a user's exits cite: a derived drop would be opened table by table at each of them.
+impl Drop for Book {
+    fn drop(self) {
+        let Book {
+            symbols: _symbols,
+            digits: _digits,
+            rules: _rules,
+            short: _short,
+            long: _long,
+            parents: _parents,
+        } = self;
+    }
 }
 
 /// The book of these arrays.
