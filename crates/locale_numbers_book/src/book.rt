@@ -16,7 +16,7 @@ use icu_decimal::provider::{CompactPatterns, DataIdentifier, DecimalSymbols};
 use icu_locale_core::DataLocale;
 use indexmap::IndexMap;
 use locale_numbers_parents::Parents;
-use locale_numbers_tables::{BookError, table_of};
+use locale_numbers_tables::{BookError, Seed, table_of};
 use serde_json::Value;
 use std::alloc::Global;
 use std::marker::Model;
@@ -25,11 +25,11 @@ use tinystr::TinyAsciiStr;
 /// Tables of symbols, of digits, of plural rules and of short and long patterns, and the parents of locales, as a JSON text names
 /// them. `SAMPLE_BOOK` names the symbols of `en`, whose separators are `.` and `,`, and no parents.
 pub struct Book {
-    pub(crate) symbols: IndexMap<DataIdentifier, DecimalSymbols>,
-    pub(crate) digits: IndexMap<TinyAsciiStr<8>, [char; 10]>,
-    pub(crate) rules: IndexMap<DataLocale, PluralRules>,
-    pub(crate) short: IndexMap<DataIdentifier, CompactPatterns>,
-    pub(crate) long: IndexMap<DataIdentifier, CompactPatterns>,
+    pub(crate) symbols: IndexMap<DataIdentifier, DecimalSymbols, Seed>,
+    pub(crate) digits: IndexMap<TinyAsciiStr<8>, [char; 10], Seed>,
+    pub(crate) rules: IndexMap<DataLocale, PluralRules, Seed>,
+    pub(crate) short: IndexMap<DataIdentifier, CompactPatterns, Seed>,
+    pub(crate) long: IndexMap<DataIdentifier, CompactPatterns, Seed>,
     pub(crate) parents: Option<Parents>,
 }
 
@@ -55,9 +55,9 @@ impl Drop for Book {
     }
 }
 
-/// The book of these arrays.
+/// The book of these arrays, its tables hashed by this seed.
 #[tactic(auto, using(crate::proofs::BookLemmas::or_second, crate::proofs::BookLemmas::or_third, crate::proofs::BookLemmas::or_fourth, crate::proofs::BookLemmas::or_fifth, crate::proofs::BookLemmas::or_sixth))]
-fn tables_of(alloc: Global, arrays: Arrays) -> Result<Book, BookError>
+fn tables_of(alloc: Global, seed: Seed, arrays: Arrays) -> Result<Book, BookError>
     ensures value { IfOk result (IsBook (of_arrays (items_view arrays.symbols.items) (items_view arrays.digits.items) (items_view arrays.rules.items) (items_view arrays.short.items) (items_view arrays.long.items) (option_map (λ entries. items_view entries.items) arrays.parents))) }
     ensures fault { IfErr result (λ fault. IsTold (arrays_fault (items_view arrays.symbols.items) (items_view arrays.digits.items) (items_view arrays.rules.items) (items_view arrays.short.items) (items_view arrays.long.items) (unwrap_or (option_map (λ entries. items_view entries.items) arrays.parents) no_items)) fault) }
     ensures room { IsErrOf result BookError.Memory → arrays_may_grow (items_view arrays.symbols.items) (items_view arrays.digits.items) (items_view arrays.rules.items) (items_view arrays.short.items) (items_view arrays.long.items) (unwrap_or (option_map (λ entries. items_view entries.items) arrays.parents) no_items) ≡ true }
@@ -70,11 +70,11 @@ fn tables_of(alloc: Global, arrays: Arrays) -> Result<Book, BookError>
         long,
         parents,
     } = arrays;
-    let symbols = table_of(alloc, symbols)?;
-    let digits = table_of(alloc, digits)?;
-    let rules = table_of(alloc, rules)?;
-    let short = table_of(alloc, short)?;
-    let long = table_of(alloc, long)?;
+    let symbols = table_of(alloc, seed, symbols)?;
+    let digits = table_of(alloc, seed, digits)?;
+    let rules = table_of(alloc, seed, rules)?;
+    let short = table_of(alloc, seed, short)?;
+    let long = table_of(alloc, seed, long)?;
     match parents_in(alloc, parents) {
         Ok(parents) => Ok(Book {
             symbols,
@@ -90,7 +90,7 @@ fn tables_of(alloc: Global, arrays: Arrays) -> Result<Book, BookError>
 
 /// The book that a JSON value is.
 #[tactic(auto, using(crate::proofs::BookLemmas::told_value, crate::proofs::BookLemmas::room_value))]
-fn book_of(alloc: Global, value: Value) -> Result<Book, BookError>
+fn book_of(alloc: Global, seed: Seed, value: Value) -> Result<Book, BookError>
     ensures value { IfOk result (IsBook (view value)) }
     ensures fault { IfErr result (λ fault. IsTold (book_fault (view value)) fault) }
 
@@ -98,7 +98,7 @@ fn book_of(alloc: Global, value: Value) -> Result<Book, BookError>
     ensures room { IsErrOf result BookError.Memory → book_may_grow (view value) ≡ true }
 {
     match arrays_of(alloc, value) {
-        Some(arrays) => match tables_of(alloc, arrays) {
+        Some(arrays) => match tables_of(alloc, seed, arrays) {
             Ok(book) => Ok(book),
             Err(fault) => Err(fault),
         },
@@ -122,7 +122,7 @@ impl Book {
         ensures refused { IfErr result (λ fault. IsRefused bytes.now fault) }
     {
         match value_of(alloc, bytes) {
-            Ok(value) => book_of(alloc, value),
+            Ok(value) => book_of(alloc, Seed::of_text(bytes), value),
             Err(fault) => Err(fault),
         }
     }
@@ -134,7 +134,8 @@ pub fn book_from(alloc: Global, bytes: Vec<u8>) -> Result<Book, BookError>
     ensures value { IfOk result (λ book. (value : Data) × Reads bytes.items value × IsBook value book) }
     ensures refused { IfErr result (λ fault. IsRefused bytes.items fault) }
 {
+    let seed = Seed::of_text(&bytes);
     let read = value_of(alloc, &bytes);
     drop(bytes);
-    book_of(alloc, read?)
+    book_of(alloc, seed, read?)
 }

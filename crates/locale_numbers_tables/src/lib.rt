@@ -11,10 +11,12 @@ mod entry;
 mod error;
 pub mod fields;
 mod rules;
+mod seed;
 mod table;
 mod tables;
 mod texts;
 
 pub use entry::Entry;
 pub use error::BookError;
+pub use seed::Seed;
 pub use tables::table_of;

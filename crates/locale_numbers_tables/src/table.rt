@@ -4,12 +4,13 @@ ghost use Rattle.indexmap.specs.IndexMap.{get};
 ghost use Rattle.locale_numbers_tables.specs.declared.error.BookError.{BookError};
 
 use crate::BookError;
+use crate::seed::Seed;
 use indexmap::IndexMap;
 use std::hash::Hash;
 
 /// Adds a table under a key that is not there yet.
 pub fn add<K: Eq + Hash + Drop, V: Drop>(
-    table: &mut IndexMap<K, V>,
+    table: &mut IndexMap<K, V, Seed>,
     key: K,
     value: V,
 ) -> Result<(), BookError>

@@ -10,6 +10,7 @@ ghost use Rattle.locale_numbers_tables.specs.Room.{begins_with};
 
 use crate::BookError;
 use crate::entry::Entry;
+use crate::seed::Seed;
 use crate::table::add;
 use indexmap::IndexMap;
 use serde_json::Value;
@@ -18,7 +19,7 @@ use std::alloc::Global;
 /// Adds what an entry says, and lets the entry go.
 fn add_entry<V: Entry>(
     alloc: Global,
-    table: &mut IndexMap<V::Key, V>,
+    table: &mut IndexMap<V::Key, V, Seed>,
     entry: Value,
 ) -> Result<(), BookError>
     ensures added { OnOk result (Adds V.Key.eq V.meaning V.key_in V.fault_in (view entry) table.old.entries table.new.entries) }
@@ -40,7 +41,7 @@ fn add_entry<V: Entry>(
 /// Adds what the entries of an array say to an empty table.
 fn fill<V: Entry>(
     alloc: Global,
-    table: &mut IndexMap<V::Key, V>,
+    table: &mut IndexMap<V::Key, V, Seed>,
     entries: Vec<Value>,
 ) -> Result<(), BookError>
     requires { table.old.entries ≡ [] }
@@ -58,11 +59,12 @@ fn fill<V: Entry>(
     Ok(())
 }
 
-/// The table that the entries of an array make; each entry is let go once it is read.
+/// The table that the entries of an array make, hashed by this seed; each entry is let go once it is read.
 pub fn table_of<V: Entry>(
     alloc: Global,
+    seed: Seed,
     entries: Vec<Value>,
-) -> Result<IndexMap<V::Key, V>, BookError>
+) -> Result<IndexMap<V::Key, V, Seed>, BookError>
     ensures value { IfOk result (λ table. table_in V.Key.eq V.meaning (items_view entries.items) ≡ Some table.entries) }
     ensures sound { OnOk result (first_fault_behind V.Key.eq V.key_in V.fault_in [] (items_view entries.items) ≡ None) }
     ensures fault { IfErr result (λ fault. IsTold (first_fault_behind V.Key.eq V.key_in V.fault_in [] (items_view entries.items)) fault) }
@@ -70,7 +72,7 @@ pub fn table_of<V: Entry>(
     // A fault of the first entry that is found before memory is asked for is never told as out of memory.
     ensures room { IsErrOf result BookError.Memory → begins_with V.may_grow (items_view entries.items) ≡ true }
 {
-    let mut table: IndexMap<V::Key, V> = IndexMap::new(alloc);
+    let mut table: IndexMap<V::Key, V, Seed> = IndexMap::with_hasher(alloc, seed);
     match fill(alloc, &mut table, entries) {
         Ok(()) => Ok(table),
         Err(fault) => Err(fault),

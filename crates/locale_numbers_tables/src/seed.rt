@@ -1,0 +1,70 @@
+//! What the tables of a book are hashed by: two numbers that come of the book's text.
+//!
+//! With a hash that is known, keys can be chosen that all have one: they would make the loading of a book quadratic. Here they would
+//! have to be chosen for the digest of the text that they stand in.
+
+ghost use Rattle.std.specs.Hash as fed;
+ghost use Rattle.std.specs.Hash.FoldHasher as folding;
+ghost use Rattle.std.specs.List.{fold};
+
+use sha2::{Digest, Sha256};
+use std::hash::{BuildHasher, FoldHasher, Hasher};
+
+/// A hasher that begins with one number of a text and ends with another.
+#[derive(Clone, Copy)]
+pub struct SeededHasher {
+    state: FoldHasher,
+    last: u64,
+}
+
+impl Hasher for SeededHasher {
+    ghost write = { λ h bytes. record h { state = folding.write h.state bytes } };
+
+    ghost finish = { λ h. folding.finish (fold folding.write h.state (fed.u64 h.last)) };
+
+    fn finish(&self) -> u64 {
+        let mut state = self.state;
+        state.write_u64(self.last);
+        state.finish()
+    }
+
+    fn write(&mut self, bytes: &[u8]) {
+        self.state.write(bytes);
+    }
+}
+
+/// What the tables of one book are hashed by: the hasher of its text, with which each key begins anew.
+#[derive(Clone, Copy)]
+pub struct Seed {
+    first: SeededHasher,
+}
+
+/// A number of eight bytes of a digest.
+fn hasher_of(bytes: &[u8]) -> FoldHasher {
+    let mut hasher = FoldHasher::default();
+    hasher.write(bytes);
+    hasher
+}
+
+impl Seed {
+    /// The seed of a text: the halves of its SHA-256 digest, each as one number. It takes no memory.
+    pub fn of_text(text: &[u8]) -> Self {
+        let digest = Sha256::digest(text);
+        Seed {
+            first: SeededHasher {
+                state: hasher_of(&digest[..16]),
+                last: hasher_of(&digest[16..]).finish(),
+            },
+        }
+    }
+}
+
+impl BuildHasher for Seed {
+    type Hasher = SeededHasher;
+
+    ghost build_hasher = { λ seed. seed.first };
+
+    fn build_hasher(&self) -> SeededHasher {
+        self.first
+    }
+}
