@@ -1,12 +1,12 @@
 //! The formatters of a book for a tag.
 ghost use Rattle.std.specs.Prelude.{◌≡◌, ◌⊎◌, Ok, Err, Some, None, false, IfOk, IfErr};
-ghost use Rattle.std.specs.Result.{IsErrOf};
+ghost use Rattle.std.specs.Result.{IsErrOf, result_map_both};
 ghost use Rattle.icu_decimal.specs.HeldCompact.{compact_tables_of};
 ghost use Rattle.icu_decimal.specs.HeldTables.{tables_of};
 ghost use Rattle.icu_locale_core.specs.Pieces.{pieces};
 ghost use Rattle.icu_locale_core.specs.SingleVariant.{SingleMeaning, MeansSingle};
 ghost use Rattle.icu_locale_core.specs.TagRoom.{tag_may_grow};
-ghost use Rattle.locale_numbers_book.specs.TagFormatters.{plain_for, short_for, long_for};
+ghost use Rattle.locale_numbers_book.specs.TagFormatters.{compact_for, found_beside, plain_for, short_for, long_for};
 ghost use Rattle.locale_numbers_book.specs.Wanted.{wanted_of};
 ghost use Rattle.locale_numbers_book.specs.declared.formatter_error.FormatterError.{FormatterError};
 
@@ -15,6 +15,7 @@ use crate::formatter_error::FormatterError;
 use crate::tag_reader::read_preferences;
 use icu_decimal::options::{CompactDecimalFormatterOptions, DecimalFormatterOptions};
 use icu_decimal::preferences::CompactDecimalFormatterPreferences;
+use icu_decimal::provider::DataError;
 use icu_decimal::{CompactDecimalFormatter, DecimalFormatter, DecimalFormatterPreferences};
 use std::alloc::Global;
 
@@ -42,6 +43,76 @@ fn preferences_of_tag(
         Ok(Some(preferences)) => Ok(preferences),
         Ok(None) => Err(FormatterError::Tag),
         Err(refused) => Err(FormatterError::from(refused)),
+    }
+}
+
+// The patterns of compact numbers, short or long, and what makes the formatter that takes them.
+pub trait Length {
+    ghost use Rattle.std.specs.Prelude.{Result};
+    ghost use Rattle.icu_decimal.specs.Identifiers.{Identifier};
+    ghost use Rattle.icu_decimal.specs.KeptEntries.{CompactTable};
+    ghost use Rattle.icu_decimal.specs.declared.error.DataError.{DataError};
+    ghost use Rattle.locale_numbers_book.specs.Book.{BookTables};
+
+    // Those of a book under an identifier.
+    ghost patterns: { BookTables → Identifier → Result CompactTable DataError };
+
+    fn formatter(
+        book: &Book,
+        preferences: CompactDecimalFormatterPreferences,
+        options: CompactDecimalFormatterOptions,
+    ) -> Result<CompactDecimalFormatter<'_>, DataError>
+        ensures { result_map_both compact_tables_of (λ error. error) result ≡ found_beside (patterns book.now) book.now preferences options.grouping_strategy };
+}
+
+pub struct Short;
+
+impl Length for Short {
+    ghost use Rattle.locale_numbers_book.specs.Tables.{short_under};
+
+    ghost patterns = { short_under };
+
+    fn formatter(
+        book: &Book,
+        preferences: CompactDecimalFormatterPreferences,
+        options: CompactDecimalFormatterOptions,
+    ) -> Result<CompactDecimalFormatter<'_>, DataError> {
+        CompactDecimalFormatter::try_new_short_unstable(book, preferences, options)
+    }
+}
+
+pub struct Long;
+
+impl Length for Long {
+    ghost use Rattle.locale_numbers_book.specs.Tables.{long_under};
+
+    ghost patterns = { long_under };
+
+    fn formatter(
+        book: &Book,
+        preferences: CompactDecimalFormatterPreferences,
+        options: CompactDecimalFormatterOptions,
+    ) -> Result<CompactDecimalFormatter<'_>, DataError> {
+        CompactDecimalFormatter::try_new_long_unstable(book, preferences, options)
+    }
+}
+
+// The formatter of compact numbers for a tag, with default options and these patterns.
+fn compact_formatter<'b, L: Length>(
+    book: &'b Book,
+    alloc: Global,
+    tag: &str,
+) -> Result<CompactDecimalFormatter<'b>, FormatterError>
+    ensures value { IfOk result (λ formatter. compact_for (L.patterns book.now) book.now tag.now ≡ Ok (compact_tables_of formatter)) }
+    ensures fault { IfErr result (λ fault. (fault ≡ FormatterError.Memory) ⊎ (compact_for (L.patterns book.now) book.now tag.now ≡ Err fault)) }
+    ensures room { tag_may_grow (pieces tag.now) ≡ false → ¬ (IsErrOf result FormatterError.Memory) }
+    ensures single { (m : SingleMeaning) → MeansSingle (pieces tag.now) m → ¬ (IsErrOf result FormatterError.Memory) }
+{
+    let preferences = compact_preferences(preferences_of_tag(alloc, tag)?);
+    let options = CompactDecimalFormatterOptions::default();
+    match L::formatter(book, preferences, options) {
+        Ok(formatter) => Ok(formatter),
+        Err(_) => Err(FormatterError::Table),
     }
 }
 
@@ -87,12 +158,7 @@ impl Book {
         ensures room { tag_may_grow (pieces tag.now) ≡ false → ¬ (IsErrOf result FormatterError.Memory) }
         ensures single { (m : SingleMeaning) → MeansSingle (pieces tag.now) m → ¬ (IsErrOf result FormatterError.Memory) }
     {
-        let preferences = compact_preferences(preferences_of_tag(alloc, tag)?);
-        let options = CompactDecimalFormatterOptions::default();
-        match CompactDecimalFormatter::try_new_short_unstable(self, preferences, options) {
-            Ok(formatter) => Ok(formatter),
-            Err(_) => Err(FormatterError::Table),
-        }
+        compact_formatter::<Short>(self, alloc, tag)
     }
 
     /// The formatter of compact numbers in long form for a tag, with default options: of `SAMPLE_BOOK` that of `en` writes 1650 as
@@ -109,11 +175,6 @@ impl Book {
         ensures room { tag_may_grow (pieces tag.now) ≡ false → ¬ (IsErrOf result FormatterError.Memory) }
         ensures single { (m : SingleMeaning) → MeansSingle (pieces tag.now) m → ¬ (IsErrOf result FormatterError.Memory) }
     {
-        let preferences = compact_preferences(preferences_of_tag(alloc, tag)?);
-        let options = CompactDecimalFormatterOptions::default();
-        match CompactDecimalFormatter::try_new_long_unstable(self, preferences, options) {
-            Ok(formatter) => Ok(formatter),
-            Err(_) => Err(FormatterError::Table),
-        }
+        compact_formatter::<Long>(self, alloc, tag)
     }
 }
