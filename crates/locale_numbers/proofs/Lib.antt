@@ -2,6 +2,7 @@ pub mod AlikeTags
 pub mod AnsweringLemmas
 pub mod CompactAnswerLemmas
 pub mod CompactReadingLemmas
+pub mod CuttingLemmas
 pub mod DigitsLemmas
 pub mod FoundCompactLemmas
 pub mod FoundLemmas

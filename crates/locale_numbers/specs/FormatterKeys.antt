@@ -1,7 +1,7 @@
 -- What a formatter is kept under, which key a line uses, and how many formatters are made for lines.
 -- Defined in docs/requests.md, "What a cache keeps".
 -- Cited by `run`.
-use Rattle.std.specs.Prelude.{◌≡◌, ℕ, Bool, true, ◌&&◌, List, [], map, min, Option, Some, None, Result, Ok, is_ok}
+use Rattle.std.specs.Prelude.{◌≡◌, ℕ, Bool, ◌&&◌, List, [], map, min, Option, Some, None, IfSome, IsSome, Result, Ok, is_ok}
 use Rattle.fixed_decimal.specs.Number.{Number}
 use Rattle.fixed_decimal.specs.SignedValue.{SignedValue}
 use Rattle.icu_decimal.specs.declared.options.GroupingStrategy.{GroupingStrategy}
@@ -82,11 +82,11 @@ finds_kind (kind.Compact length) book preferences grouping = is_ok (found_compac
 abbrev pub finds : BookTables → FormatterKey → Bool
 finds book key = finds_kind key.kind book key.preferences key.grouping
 
--- where a plain formatter says that its symbols are readable, they are
+-- what a plain formatter knows of its symbols is so: that they are readable, or that they are not
 abbrev pub KnowsReadable : PlainFormatter → Type 0
-KnowsReadable plain = plain.is_readable ≡ true → is_readable_by (tables_of plain.formatter) ≡ true
+KnowsReadable plain = IfSome plain.is_readable (λ known. is_readable_by (tables_of plain.formatter) ≡ known)
 
--- it has the tables that are found, and says so only of these
+-- it has the tables that are found, and knows no more of them than is so
 pub record HasTables (found : Result Tables DataError) (plain : PlainFormatter) : Type 0 where
   pub tables : found ≡ Ok (tables_of plain.formatter)
   pub readable : KnowsReadable plain
@@ -101,6 +101,16 @@ HasKind (kind.Compact length) book preferences grouping (Compact formatter) = fo
 -- the formatter is the one of the key
 abbrev pub IsMadeFor : BookTables → FormatterKey → KeptFormatter → Type 0
 IsMadeFor book key formatter = HasKind key.kind book key.preferences key.grouping formatter
+
+-- its symbols were asked whether they are readable, where that may be wanted
+abbrev pub KnowsAll : KeptFormatter → Type 0
+KnowsAll (Plain plain) = IsSome plain.is_readable
+KnowsAll (Compact formatter) = Unit {0}
+
+-- the formatter is the one that is kept for the key: its symbols are asked once, when it is made
+pub record IsKeptFor (book : BookTables) (key : FormatterKey) (formatter : KeptFormatter) : Type 0 where
+  pub made : IsMadeFor book key formatter
+  pub known : KnowsAll formatter
 
 -- the formatter is one of plain numbers
 abbrev pub IsPlain : KeptFormatter → Type 0

@@ -3,11 +3,13 @@ ghost use Rattle.std.specs.Prelude.{◌≡◌, ◌<◌, ◌+◌, ◌∷◌, [], 
 ghost use Rattle.std.specs.List.{All};
 ghost use Rattle.locale_numbers.specs.Cutting.{IsLastCut, IsNot, is_separator, cut_at};
 
+use memchr::{memchr, memrchr};
+
 // The place of the first separator.
 fn first_separator(text: &[u8], separator: u8) -> Option<usize>
     ensures { result ≡ position (is_separator separator) text.now }
 {
-    text.iter().position(|byte| *byte == separator)
+    memchr(separator, text)
 }
 
 // The place of the last separator.
@@ -16,7 +18,7 @@ fn last_separator(text: &[u8], separator: u8) -> Option<usize>
         (All (IsNot separator) text.now)
         (λ end. (end < length text.now) × (slice_index text.now end ≡ separator) × All (IsNot separator) (drop (end + 1) text.now)) }
 {
-    text.iter().rposition(|byte| *byte == separator)
+    memrchr(separator, text)
 }
 
 /// The first piece of a text, and what stands behind its separator, where it ends with one.

@@ -12,7 +12,12 @@ const TOO_LARGE: u32 = 65536;
 pub(crate) fn are_digits(word: &[u8]) -> bool
     ensures { result ≡ list_all is_digit word.now }
 {
-    word.iter().all(|byte| byte.is_ascii_digit())
+    for byte in word {
+        if !byte.is_ascii_digit() {
+            return false;
+        }
+    }
+    true
 }
 
 // The value of a digit's character.

@@ -8,7 +8,7 @@ use icu_decimal::options::GroupingStrategy;
 use locale_numbers_cache::CacheKey;
 
 /// Which tables a form is written with.
-#[derive(Clone, Copy, Debug, PartialEq, Eq, Hash)]
+#[derive(Clone, Copy, PartialEq, Eq, Hash)]
 pub(crate) enum Kind {
     /// Symbols and digits alone.
     Plain,

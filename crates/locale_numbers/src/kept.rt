@@ -18,11 +18,11 @@ pub(crate) struct Kept<'a, T: Tables> {
 impl<'a, T: Tables> Formatters<'a> for Kept<'a, T> {
     ghost use Rattle.std.specs.Prelude.{⊤, refl};
     ghost use Rattle.locale_numbers_cache.specs.Cached.{IsSound, made_over};
-    ghost use Rattle.locale_numbers.specs.FormatterKeys.{IsMadeFor, finds};
+    ghost use Rattle.locale_numbers.specs.FormatterKeys.{IsKeptFor, finds};
 
     ghost book = { λ s. T.book s.maker.tables.now };
 
-    ghost is_ready = { λ s. IsSound (finds (T.book s.maker.tables.now)) (IsMadeFor (T.book s.maker.tables.now)) s.formatters };
+    ghost is_ready = { λ s. IsSound (finds (T.book s.maker.tables.now)) (IsKeptFor (T.book s.maker.tables.now)) s.formatters };
 
     ghost counted_over = { λ s keys. made_over ⟦<FormatterKey as PartialEq>⟧.eq (finds (T.book s.maker.tables.now)) s.formatters keys };
 

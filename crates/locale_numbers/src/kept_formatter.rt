@@ -1,11 +1,11 @@
 //! What is kept under a key, and how it is made.
-ghost use Rattle.std.specs.Prelude.{◌≡◌, false, MatchOption};
+ghost use Rattle.std.specs.Prelude.{◌≡◌, false, IfSome, IsSome, IsTrue, MatchOption};
 ghost use Rattle.std.specs.Result.{result_map_both};
 ghost use Rattle.icu_decimal.specs.HeldCompact.{compact_tables_of};
 ghost use Rattle.icu_decimal.specs.HeldTables.{tables_of};
 ghost use Rattle.locale_numbers.specs.Answer.{found_in};
 ghost use Rattle.locale_numbers.specs.CompactAnswer.{found_compact};
-ghost use Rattle.locale_numbers.specs.FormatterKeys.{IsMadeFor, KnowsReadable, finds};
+ghost use Rattle.locale_numbers.specs.FormatterKeys.{IsMadeFor, KnowsAll, KnowsReadable, finds};
 
 use crate::formatter_key::{FormatterKey, Kind};
 use crate::formatters::Formatters;
@@ -18,13 +18,13 @@ use locale_numbers_book::compact_preferences;
 use locale_numbers_cache::{Hashed, Maker};
 use std::alloc::AllocError;
 
-/// A formatter of plain numbers, and whether its symbols are known to be readable.
+/// A formatter of plain numbers, and what is known of its symbols.
 #[derive(Clone, Copy)]
 pub(crate) struct PlainFormatter<'a> {
     /// The formatter.
     pub formatter: DecimalFormatter<'a>,
-    /// Whether its symbols were asked, and are readable.
-    pub is_readable: bool,
+    /// Whether its symbols are readable; `None` where they were not asked.
+    pub is_readable: Option<bool>,
 }
 
 /// A formatter that is kept. It borrows its tables.
@@ -61,8 +61,13 @@ pub(crate) fn plain_formatter<'a, T: Tables>(
 fn asked(formatter: DecimalFormatter<'_>, asks: bool) -> PlainFormatter<'_>
     ensures formatter { result.formatter ≡ formatter.entry }
     ensures readable { KnowsReadable result }
+    ensures known { IsTrue asks → IsSome result.is_readable }
 {
-    let readable = asks && is_readable(&formatter);
+    let readable = if asks {
+        Some(is_readable(&formatter))
+    } else {
+        None
+    };
     PlainFormatter {
         formatter,
         is_readable: readable,
@@ -96,7 +101,8 @@ fn formatter_by<'a, T: Tables>(
     key: FormatterKey,
     asks: bool,
 ) -> Option<KeptFormatter<'a>>
-    ensures { MatchOption result (finds (T.book tables.now) key ≡ false) (λ kept. IsMadeFor (T.book tables.now) key kept) }
+    ensures made { MatchOption result (finds (T.book tables.now) key ≡ false) (λ kept. IsMadeFor (T.book tables.now) key kept) }
+    ensures known { IsTrue asks → IfSome result KnowsAll }
 {
     match key.kind {
         Kind::Plain => match plain_formatter(tables, key) {
@@ -112,11 +118,11 @@ fn formatter_by<'a, T: Tables>(
 
 /// One that is kept is asked once whether its symbols are readable.
 impl<'a, T: Tables> Maker<Hashed<FormatterKey>, KeptFormatter<'a>> for FormatterMaker<'a, T> {
-    ghost use Rattle.locale_numbers.specs.FormatterKeys.{finds, IsMadeFor};
+    ghost use Rattle.locale_numbers.specs.FormatterKeys.{finds, IsKeptFor};
 
     ghost finds = { λ s key. finds (T.book s.tables.now) key };
 
-    ghost is_made = { λ s key kept. IsMadeFor (T.book s.tables.now) key kept };
+    ghost is_made = { λ s key kept. IsKeptFor (T.book s.tables.now) key kept };
 
     fn make(&self, key: Hashed<FormatterKey>) -> Option<KeptFormatter<'a>> {
         formatter_by(self.tables, key.value(), true)

@@ -29,10 +29,10 @@ impl<'a, T: Tables> Answerer for LineAnswerer<'a, T> {
     ghost use Rattle.locale_numbers_cache.specs.Cached.{IsSound, made_over};
     ghost use Rattle.locale_numbers_cache.specs.LastRead.{AreRead};
     ghost use Rattle.locale_numbers.specs.Answer.{answer_of};
-    ghost use Rattle.locale_numbers.specs.FormatterKeys.{IsMadeFor, finds, key_of};
+    ghost use Rattle.locale_numbers.specs.FormatterKeys.{IsKeptFor, finds, key_of};
     ghost use Rattle.locale_numbers.specs.Front.{front_of};
 
-    ghost is_ready = { λ s. IsSound (finds (T.book s.kept.maker.tables.now)) (IsMadeFor (T.book s.kept.maker.tables.now)) s.kept.formatters × All (AreRead front_of) s.read };
+    ghost is_ready = { λ s. IsSound (finds (T.book s.kept.maker.tables.now)) (IsKeptFor (T.book s.kept.maker.tables.now)) s.kept.formatters × All (AreRead front_of) s.read };
 
     ghost answer_of = { λ s line. answer_of (T.book s.kept.maker.tables.now) line };
 

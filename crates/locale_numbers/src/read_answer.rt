@@ -38,10 +38,10 @@ fn read_by(alloc: Global, plain: &PlainFormatter<'_>, text: &str) -> Result<Deci
     ensures memory { IsErrOf result ReadError.Memory → HasManyDigits (tables_of plain.now.formatter) text.now }
     ensures reading { IsAnswered result (plain_reading (tables_of plain.now.formatter) text.now) }
 {
-    if plain.is_readable {
-        read_readable(alloc, &plain.formatter, text)
-    } else {
-        read_plain(alloc, &plain.formatter, text)
+    match plain.is_readable {
+        Some(true) => read_readable(alloc, &plain.formatter, text),
+        Some(false) => Err(ReadError::Unreadable),
+        None => read_plain(alloc, &plain.formatter, text),
     }
 }
 

@@ -2,7 +2,7 @@ ghost use Rattle.std.specs.Prelude.{◌≡◌};
 ghost use Rattle.locale_numbers.specs.Refusal.{word_of};
 
 /// Why a line is answered by `err` and a word, in the order in which the causes are sought.
-#[derive(Clone, Copy, Debug, PartialEq, Eq)]
+#[derive(Clone, Copy)]
 pub(crate) enum Refusal {
     /// The line is not UTF-8, or has not six known fields.
     Shape,

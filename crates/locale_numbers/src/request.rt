@@ -12,7 +12,7 @@ use icu_decimal::options::GroupingStrategy;
 const TAB: u8 = b'\t';
 
 /// Which patterns a compact number is written with.
-#[derive(Clone, Copy, Debug, PartialEq, Eq, Hash)]
+#[derive(Clone, Copy, PartialEq, Eq, Hash)]
 pub(crate) enum PatternLength {
     /// The short ones, as of `1.6K`.
     Short,
@@ -21,7 +21,7 @@ pub(crate) enum PatternLength {
 }
 
 /// What is written for a number.
-#[derive(Clone, Copy, Debug, PartialEq, Eq)]
+#[derive(Clone, Copy)]
 pub(crate) enum Form {
     /// Its digits, grouped.
     Plain,
@@ -34,7 +34,7 @@ pub(crate) enum Form {
 }
 
 /// What a request line asks of whatever text it has.
-#[derive(Clone, Copy, Debug)]
+#[derive(Clone, Copy)]
 pub(crate) struct Request<'a> {
     /// The locale's tag.
     pub tag: &'a [u8],

@@ -10,7 +10,7 @@ use fixed_decimal::{RoundingIncrement, SignedRoundingMode, UnsignedRoundingMode}
 const COMMA: u8 = b',';
 
 /// What is rounded.
-#[derive(Clone, Copy, Debug, PartialEq, Eq)]
+#[derive(Clone, Copy)]
 pub(crate) enum RoundingAsked {
     /// Nothing.
     Unrounded,

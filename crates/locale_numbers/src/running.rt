@@ -1,6 +1,6 @@
-ghost use Rattle.std.specs.Prelude.{◌≡◌, ◌≤◌, ◌⊎◌, false, true, IfOk, OnOk, IsErrOf};
+ghost use Rattle.std.specs.Prelude.{◌≡◌, ◌≤◌, false, true, IfOk, OnOk, IsErrOf};
 ghost use Rattle.locale_numbers_engine.specs.Outcomes.{ends_in_write};
-ghost use Rattle.locale_numbers_engine.specs.Run.{WritesAll, WritesTold, WritesPart, WritesFirst, CountsLines, CountsMade, GivesTooLong};
+ghost use Rattle.locale_numbers_engine.specs.Run.{WritesAll, WritesTold, WritesPart, WritesFirst, CountsLines, CountsMade, MayReadOnceAnswered};
 ghost use Rattle.locale_numbers.specs.Answer.{answer_of};
 ghost use Rattle.locale_numbers.specs.FormatterKeys.{makes, same_keys};
 
@@ -33,8 +33,10 @@ use std::alloc::Global;
 /// kept. Of neither `reader` nor `writer` a call may have failed before. Takes memory; that it takes
 /// no more for more lines is measured by bench/, and not proved.
 ///
-/// - Read: a read failed, or the reader still gave bytes after 18,446,744,073,709,551,615 reads. The
-///   whole lines that it gave have been answered.
+/// A line is answered as soon as it is whole: `reader` is read where each whole line that it gave is
+/// answered and written, and nowhere else; a reader that names a condition names one that holds there.
+///
+/// - Read: a read failed. The whole lines that the reader gave have been answered.
 /// - Write: a write or the flush failed, or a write took no byte. A beginning of the output is written.
 /// - Memory: a request for memory was refused. Some first lines have been answered, each whole.
 pub fn run<T: Tables, R: ByteReader, W: ByteWriter>(
@@ -47,6 +49,9 @@ pub fn run<T: Tables, R: ByteReader, W: ByteWriter>(
     requires room { 1 ≤ capacity }
     requires reader_well { R.failed reader.old ≡ false }
     requires writer_well { W.failed writer.old ≡ false }
+
+    // A line is answered as soon as it is whole: the reader is read only where all that it gave are.
+    requires prompt { MayReadOnceAnswered R.may_read R.remaining W.contents (answer_of (T.book tables.now)) reader.old writer.old }
     ensures output { OnOk result (
         WritesAll (answer_of (T.book tables.now)) (R.remaining reader.old)
         (W.contents writer.old) (W.contents writer.new)) }
@@ -59,8 +64,7 @@ pub fn run<T: Tables, R: ByteReader, W: ByteWriter>(
     ensures read { IsErrOf result RunError.Read →
         WritesTold (answer_of (T.book tables.now)) (R.remaining reader.old) (R.remaining reader.new)
         (W.contents writer.old) (W.contents writer.new) }
-    ensures reader_failed { IsErrOf result RunError.Read →
-        (R.failed reader.new ≡ true) ⊎ GivesTooLong (R.remaining reader.old) (R.remaining reader.new) }
+    ensures reader_failed { IsErrOf result RunError.Read → R.failed reader.new ≡ true }
     ensures write { IsErrOf result RunError.Write →
         WritesPart (answer_of (T.book tables.now)) (R.remaining reader.old)
         (W.contents writer.old) (W.contents writer.new) }

@@ -5,7 +5,7 @@ ghost use Rattle.locale_numbers.specs.Request.{sign_named};
 use fixed_decimal::SignDisplay;
 
 /// Which sign is written.
-#[derive(Clone, Copy, Debug, PartialEq, Eq)]
+#[derive(Clone, Copy)]
 pub(crate) enum SignAsked {
     /// The one of the text.
     Keep,

@@ -1,9 +1,10 @@
-ghost use Rattle.std.specs.Prelude.{◌≡◌, ◌≤◌, ◌⊎◌, ◌↔◌, false, true, None, Some, Err, map, option_map, string_bytes, IfOk, IfErr, OnOk, IsErrOf};
+ghost use Rattle.std.specs.Prelude.{◌≡◌, ◌≤◌, ◌⊎◌, ◌↔◌, ℕ, List, false, true, None, Some, Err, map, option_map, string_bytes, IfOk, IfErr, OnOk, IsErrOf};
 ghost use Rattle.std.specs.IoError.{error_kind};
 ghost use Rattle.std.specs.declared.io.ErrorKind.TheVariants.{OutOfMemory};
-ghost use Rattle.locale_numbers_engine.specs.Run.{WritesAll, WritesTold, WritesPart, WritesFirst, GivesTooLong};
+ghost use Rattle.locale_numbers_engine.specs.Run.{WritesAll, WritesTold, WritesPart, WritesFirst, MayReadOnceAnswered};
+ghost use Rattle.locale_numbers_book.specs.Book.{BookTables};
 ghost use Rattle.locale_numbers.specs.Answer.{answer_of};
-ghost use Rattle.locale_numbers.specs.Program.{OfSomeBook, IsOfWords, MayStart, IsBeforeLines};
+ghost use Rattle.locale_numbers.specs.Program.{Says, OfSomeBook, IsOfWords, MayStart, IsBeforeLines};
 ghost use Rattle.locale_numbers.specs.Words.{words_said};
 
 use crate::fault::ProgramFault;
@@ -70,6 +71,11 @@ fn start_with<F: Files, R: ByteReader, W: ByteWriter>(
 ) -> Result<(), ProgramFault>
     requires reader_well { R.failed reader.old ≡ false }
     requires writer_well { W.failed writer.old ≡ false }
+
+    // The reader is read only where all lines that it gave whole are answered by the book that was read.
+    requires prompt { (book : BookTables) (text : List ℕ) → Says text book →
+        MayReadOnceAnswered R.may_read R.remaining W.contents (answer_of book) reader.old writer.old }
+
     // No fault of a file, of a book or of the run is told before one of the words.
     ensures usage { (result ≡ Err ProgramFault.Usage) ↔ (words_said (map (λ text. string_bytes text) texts.now) ≡ None) }
     ensures output { OnOk result (OfSomeBook (λ book.
@@ -85,8 +91,7 @@ fn start_with<F: Files, R: ByteReader, W: ByteWriter>(
     ensures read { IsErrOf result (ProgramFault.Run RunError.Read) → OfSomeBook (λ book.
         WritesTold (answer_of book) (R.remaining reader.old) (R.remaining reader.new)
         (W.contents writer.old) (W.contents writer.new)) }
-    ensures reader_failed { IsErrOf result (ProgramFault.Run RunError.Read) →
-        (R.failed reader.new ≡ true) ⊎ GivesTooLong (R.remaining reader.old) (R.remaining reader.new) }
+    ensures reader_failed { IsErrOf result (ProgramFault.Run RunError.Read) → R.failed reader.new ≡ true }
     ensures write { IsErrOf result (ProgramFault.Run RunError.Write) → OfSomeBook (λ book.
         WritesPart (answer_of book) (R.remaining reader.old)
         (W.contents writer.old) (W.contents writer.new)) }
@@ -127,6 +132,11 @@ pub fn start<H: Env + AllocGlobal + Files, R: ByteReader, W: ByteWriter>(
 ) -> Result<(), ProgramFault>
     requires reader_well { R.failed reader.old ≡ false }
     requires writer_well { W.failed writer.old ≡ false }
+
+    // The reader is read only where all lines that it gave whole are answered by the book that was read.
+    requires prompt { (book : BookTables) (text : List ℕ) → Says text book →
+        MayReadOnceAnswered R.may_read R.remaining W.contents (answer_of book) reader.old writer.old }
+
     ensures output { OnOk result (OfSomeBook (λ book.
         WritesAll (answer_of book) (R.remaining reader.old)
         (W.contents writer.old) (W.contents writer.new))) }
@@ -140,8 +150,7 @@ pub fn start<H: Env + AllocGlobal + Files, R: ByteReader, W: ByteWriter>(
     ensures read { IsErrOf result (ProgramFault.Run RunError.Read) → OfSomeBook (λ book.
         WritesTold (answer_of book) (R.remaining reader.old) (R.remaining reader.new)
         (W.contents writer.old) (W.contents writer.new)) }
-    ensures reader_failed { IsErrOf result (ProgramFault.Run RunError.Read) →
-        (R.failed reader.new ≡ true) ⊎ GivesTooLong (R.remaining reader.old) (R.remaining reader.new) }
+    ensures reader_failed { IsErrOf result (ProgramFault.Run RunError.Read) → R.failed reader.new ≡ true }
     ensures write { IsErrOf result (ProgramFault.Run RunError.Write) → OfSomeBook (λ book.
         WritesPart (answer_of book) (R.remaining reader.old)
         (W.contents writer.old) (W.contents writer.new)) }

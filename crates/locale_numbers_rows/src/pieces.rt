@@ -20,6 +20,8 @@ impl<'a> ByteReader for Pieces<'a> {
 
     ghost failed = { λ pieces. pieces.failed };
 
+    ghost reads_left = { λ pieces. pieces.reads_left };
+
     fn read(&mut self, buffer: &mut [u8]) -> Result<usize, ByteReadFault> {
         if self.reads_left == 0 || (self.ends_badly && self.rest.is_empty()) {
             self.failed = true;

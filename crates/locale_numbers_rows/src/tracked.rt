@@ -1,4 +1,6 @@
 //! What `Tracked` makes of a reader and a writer of std.
+ghost use Rattle.std.specs.Prelude.{◌≡◌, false};
+
 use crate::escapes::unescaped;
 use crate::row_error::RowError;
 use locale_numbers::{ByteReader, ByteWriter, Tracked};
@@ -32,7 +34,9 @@ impl io::Write for Interrupted {
     }
 }
 
-fn track_interrupted(flush_fails: bool) -> Tracked<Interrupted> {
+fn track_interrupted(flush_fails: bool) -> Tracked<Interrupted>
+    ensures { result.failed ≡ false }
+{
     Tracked::new(Interrupted {
         flushes: 0,
         flush_fails,
