@@ -1,8 +1,7 @@
 //! The constants of `AsciiByte`.
 
-use crate::argument::count_of;
-use crate::line::Fault;
 use crate::writing::put_ascii_bytes;
+use rows::{Stop, number_of};
 use tinystr::AsciiByte as Byte;
 
 /// The constants below 32, by fours.
@@ -54,10 +53,10 @@ const SMALL: [[Byte; 4]; 8] = [
 ];
 
 /// Writes four constants, those from a number on that 4 divides.
-pub fn answer(call: &str, first: &str, out: &mut String) -> Result<(), Fault> {
-    match four_from(count_of(first)?) {
+pub fn answer(call: &str, first: &str, out: &mut String) -> Result<(), Stop> {
+    match four_from(number_of(first)?) {
         Some(four) if call == "constants" => put_ascii_bytes(out, &four),
-        _ => Err(Fault::NotUnderstood),
+        _ => Err(Stop::Unknown),
     }
 }
 

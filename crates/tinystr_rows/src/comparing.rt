@@ -3,9 +3,8 @@
 ghost use Rattle.std.specs.Prelude.{◌≤◌};
 
 use crate::argument::Argument;
-use crate::line::Fault;
-use crate::writing::{put_bytes, put_flag};
-use std::alloc::AllocError;
+use crate::writing::put_bytes;
+use rows::{Stop, put, put_debug};
 use std::collections::BTreeSet;
 use std::collections::hash_map::DefaultHasher;
 use std::hash::{Hash, Hasher};
@@ -15,7 +14,7 @@ pub fn answer<const N: usize>(
     call: &str,
     arguments: &[Argument<'_>],
     out: &mut String,
-) -> Result<(), Fault>
+) -> Result<(), Stop>
     requires { N ≤ 16 }
 {
     match arguments {
@@ -23,7 +22,7 @@ pub fn answer<const N: usize>(
         [text] => answer_one(call, text.small::<N>()?, out),
         [one, other] => answer_two(call, one.small::<N>()?, other.small::<N>()?, out),
         texts if call == "BTreeSet" && N == 4 => put_set(texts, out),
-        _ => Err(Fault::NotUnderstood),
+        _ => Err(Stop::Unknown),
     }
 }
 
@@ -31,15 +30,14 @@ fn answer_one<const N: usize>(
     call: &str,
     text: TinyAsciiStr<N>,
     out: &mut String,
-) -> Result<(), Fault> {
+) -> Result<(), Stop> {
     match call {
-        "hashes_as_its_text" => return put_flag(out, hash_of(&text) == hash_of(&text.as_str())),
-        "{}" => write!(out, "{text}")?,
-        "{:>6}" => write!(out, "{text:>6}")?,
-        "{:?}" => write!(out, "{text:?}")?,
-        _ => return Err(Fault::NotUnderstood),
+        "hashes_as_its_text" => put(out, &(hash_of(&text) == hash_of(&text.as_str()))),
+        "{}" => put(out, &text),
+        "{:>6}" => Ok(write!(out, "{text:>6}")?),
+        "{:?}" => put_debug(out, &text),
+        _ => Err(Stop::Unknown),
     }
-    Ok(())
 }
 
 fn answer_two<const N: usize>(
@@ -47,13 +45,12 @@ fn answer_two<const N: usize>(
     one: TinyAsciiStr<N>,
     other: TinyAsciiStr<N>,
     out: &mut String,
-) -> Result<(), Fault> {
+) -> Result<(), Stop> {
     match call {
-        "eq" => write!(out, "{}", one == other)?,
-        "cmp" => write!(out, "{:?}", one.cmp(&other))?,
-        _ => return Err(Fault::NotUnderstood),
+        "eq" => put(out, &(one == other)),
+        "cmp" => put_debug(out, &one.cmp(&other)),
+        _ => Err(Stop::Unknown),
     }
-    Ok(())
 }
 
 fn hash_of<T: Hash>(value: &T) -> u64 {
@@ -63,7 +60,7 @@ fn hash_of<T: Hash>(value: &T) -> u64 {
 }
 
 /// Writes the texts in the order of a set.
-fn put_set(texts: &[Argument<'_>], out: &mut String) -> Result<(), Fault> {
+fn put_set(texts: &[Argument<'_>], out: &mut String) -> Result<(), Stop> {
     let mut set = BTreeSet::new(*out.allocator());
     let put = match insert_all(&mut set, texts) {
         Ok(()) => put_all(&set, out),
@@ -73,15 +70,15 @@ fn put_set(texts: &[Argument<'_>], out: &mut String) -> Result<(), Fault> {
     put
 }
 
-fn insert_all(set: &mut BTreeSet<TinyStr4>, texts: &[Argument<'_>]) -> Result<(), Fault> {
+fn insert_all(set: &mut BTreeSet<TinyStr4>, texts: &[Argument<'_>]) -> Result<(), Stop> {
     for text in texts {
-        set.insert(text.small::<4>()?).map_err(AllocError::from)?;
+        set.insert(text.small::<4>()?)?;
     }
     Ok(())
 }
 
 /// Writes the texts of a set in their order, a comma behind each.
-fn put_all(set: &BTreeSet<TinyStr4>, out: &mut String) -> Result<(), Fault> {
+fn put_all(set: &BTreeSet<TinyStr4>, out: &mut String) -> Result<(), Stop> {
     for text in set.iter() {
         out.push_str(text.as_str())?;
         out.push(',')?;

@@ -3,22 +3,22 @@
 ghost use Rattle.std.specs.Prelude.{◌≤◌};
 
 use crate::argument::Argument;
-use crate::line::Fault;
 use crate::writing::put_bytes;
+use rows::Stop;
 use tinystr::TinyAsciiStr;
 
 pub fn answer<const N: usize>(
     call: &str,
     arguments: &[Argument<'_>],
     out: &mut String,
-) -> Result<(), Fault>
+) -> Result<(), Stop>
     requires { N ≤ 16 }
 {
     let ("new_unsigned_decimal", [number]) = (call, arguments) else {
-        return Err(Fault::NotUnderstood);
+        return Err(Stop::Unknown);
     };
     let Ok(number) = number.word.parse::<u32>() else {
-        return Err(Fault::NotUnderstood);
+        return Err(Stop::Unknown);
     };
     match TinyAsciiStr::<N>::new_unsigned_decimal(number) {
         Ok(text) => put_bytes(out, text.as_utf8()),

@@ -3,8 +3,8 @@
 ghost use Rattle.std.specs.Prelude.{◌≤◌};
 
 use crate::argument::Argument;
-use crate::line::Fault;
 use crate::writing::put_bytes;
+use rows::Stop;
 use tinystr::TinyAsciiStr;
 
 /// The answer of a call, of texts of the capacity 1 or 4.
@@ -13,11 +13,11 @@ pub fn answer(
     capacity: &str,
     arguments: &[Argument<'_>],
     out: &mut String,
-) -> Result<(), Fault> {
+) -> Result<(), Stop> {
     match capacity {
         "1" => answer_at::<1>(call, arguments, out),
         "4" => answer_at::<4>(call, arguments, out),
-        _ => Err(Fault::NotUnderstood),
+        _ => Err(Stop::Unknown),
     }
 }
 
@@ -25,13 +25,13 @@ fn answer_at<const N: usize>(
     call: &str,
     arguments: &[Argument<'_>],
     out: &mut String,
-) -> Result<(), Fault>
+) -> Result<(), Stop>
     requires { N ≤ 16 }
 {
     match (call, arguments) {
         ("resize", [text, capacity]) => put_resized::<N>(text, capacity.word, out),
         ("concat", [front, rest, capacity]) => put_joined::<N>(front, rest, capacity.word, out),
-        _ => Err(Fault::NotUnderstood),
+        _ => Err(Stop::Unknown),
     }
 }
 
@@ -40,7 +40,7 @@ fn put_resized<const N: usize>(
     text: &Argument<'_>,
     capacity: &str,
     out: &mut String,
-) -> Result<(), Fault>
+) -> Result<(), Stop>
     requires { N ≤ 16 }
 {
     let text = text.small::<N>()?;
@@ -62,14 +62,14 @@ fn put_resized<const N: usize>(
         "14" => resized::<N, 14>(text, out),
         "15" => resized::<N, 15>(text, out),
         "16" => resized::<N, 16>(text, out),
-        _ => Err(Fault::NotUnderstood),
+        _ => Err(Stop::Unknown),
     }
 }
 
 fn resized<const N: usize, const M: usize>(
     text: TinyAsciiStr<N>,
     out: &mut String,
-) -> Result<(), Fault>
+) -> Result<(), Stop>
     requires text { N ≤ 16 }
     requires wanted { M ≤ 16 }
 {
@@ -82,7 +82,7 @@ fn put_joined<const N: usize>(
     rest: &Argument<'_>,
     capacity: &str,
     out: &mut String,
-) -> Result<(), Fault>
+) -> Result<(), Stop>
     requires { N ≤ 16 }
 {
     let (front, rest) = (front.small::<N>()?, rest.small::<N>()?);
@@ -90,6 +90,6 @@ fn put_joined<const N: usize>(
         "1" => put_bytes(out, front.concat::<N, 1>(rest).as_utf8()),
         "5" => put_bytes(out, front.concat::<N, 5>(rest).as_utf8()),
         "8" => put_bytes(out, front.concat::<N, 8>(rest).as_utf8()),
-        _ => Err(Fault::NotUnderstood),
+        _ => Err(Stop::Unknown),
     }
 }

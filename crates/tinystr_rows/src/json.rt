@@ -3,8 +3,8 @@
 ghost use Rattle.std.specs.Prelude.{◌≤◌};
 
 use crate::argument::Argument;
-use crate::line::Fault;
 use crate::writing::{put_bytes, put_read, put_unvalidated};
+use rows::Stop;
 use serde_json::Value;
 use tinystr::{TinyAsciiStr, UnvalidatedTinyAsciiStr};
 
@@ -12,36 +12,36 @@ pub fn answer<const N: usize>(
     call: &str,
     arguments: &[Argument<'_>],
     out: &mut String,
-) -> Result<(), Fault>
+) -> Result<(), Stop>
     requires { N ≤ 16 }
 {
     let [argument] = arguments else {
-        return Err(Fault::NotUnderstood);
+        return Err(Stop::Unknown);
     };
     match call {
         "to_json" => put_json(argument.small::<N>()?, out),
         "from_json" => put_from_json::<N>(argument.word, out),
         "unvalidated.from_json" => put_unvalidated_from_json::<N>(argument.word, out),
-        _ => Err(Fault::NotUnderstood),
+        _ => Err(Stop::Unknown),
     }
 }
 
 /// Writes the text that the JSON form of a small text holds.
-fn put_json<const N: usize>(small: TinyAsciiStr<N>, out: &mut String) -> Result<(), Fault> {
+fn put_json<const N: usize>(small: TinyAsciiStr<N>, out: &mut String) -> Result<(), Stop> {
     let value = small.to_json(*out.allocator())?;
     let put = put_text(&value, out);
     drop(value);
     put
 }
 
-fn put_text(value: &Value, out: &mut String) -> Result<(), Fault> {
+fn put_text(value: &Value, out: &mut String) -> Result<(), Stop> {
     match value.as_str() {
         Some(text) => put_bytes(out, text.as_bytes()),
-        None => Err(Fault::NotUnderstood),
+        None => Err(Stop::Unknown),
     }
 }
 
-fn put_from_json<const N: usize>(json: &str, out: &mut String) -> Result<(), Fault>
+fn put_from_json<const N: usize>(json: &str, out: &mut String) -> Result<(), Stop>
     requires { N ≤ 16 }
 {
     let value = value_of(json, out)?;
@@ -50,7 +50,7 @@ fn put_from_json<const N: usize>(json: &str, out: &mut String) -> Result<(), Fau
     put_read(out, read)
 }
 
-fn put_unvalidated_from_json<const N: usize>(json: &str, out: &mut String) -> Result<(), Fault>
+fn put_unvalidated_from_json<const N: usize>(json: &str, out: &mut String) -> Result<(), Stop>
     requires { N ≤ 16 }
 {
     let value = value_of(json, out)?;
@@ -59,16 +59,16 @@ fn put_unvalidated_from_json<const N: usize>(json: &str, out: &mut String) -> Re
     put_unvalidated(out, read)
 }
 
-fn value_of(json: &str, out: &String) -> Result<Value, Fault> {
+fn value_of(json: &str, out: &String) -> Result<Value, Stop> {
     match Value::from_str(*out.allocator(), json) {
         Ok(value) => Ok(value),
         Err(error) => {
             let is_memory = error.is_memory();
             drop(error);
             Err(if is_memory {
-                Fault::Memory
+                Stop::Memory
             } else {
-                Fault::NotUnderstood
+                Stop::Unknown
             })
         }
     }

@@ -7,44 +7,25 @@ use crate::{
     aligned, ascii_bytes, comparing, decimal, errors, joining, json, lossy, readers, texts, ule,
     unvalidated, words,
 };
-use std::alloc::{AllocError, Global};
+use rows::{Stop, Table};
+use std::alloc::Global;
 
-/// Why a line has no answer.
-#[derive(Drop)]
-pub enum Fault {
-    /// No call has this name, or its arguments are others.
-    NotUnderstood,
-    /// Out of memory.
-    Memory,
+/// The table of the calls of `tinystr`.
+#[derive(Clone, Copy)]
+pub struct Calls {
+    pub alloc: Global,
 }
 
-impl From<AllocError> for Fault {
-    fn from(_error: AllocError) -> Self {
-        Fault::Memory
+impl Table for Calls {
+    fn answer(&self, row: &str, out: &mut String) -> Result<(), Stop> {
+        let words: Vec<&str> = row.split('\t').collect(self.alloc)?;
+        let answered = answer_words(self.alloc, words.as_slice(), out);
+        drop(words);
+        answered
     }
 }
 
-/// Puts the answer of a line in the place of a text; `?` where it is not understood.
-pub fn answer(alloc: Global, line: &str, out: &mut String) -> Result<(), AllocError> {
-    out.clear();
-    match answer_line(alloc, line, out) {
-        Ok(()) => Ok(()),
-        Err(Fault::NotUnderstood) => {
-            out.clear();
-            out.push('?')
-        }
-        Err(Fault::Memory) => Err(AllocError),
-    }
-}
-
-fn answer_line(alloc: Global, line: &str, out: &mut String) -> Result<(), Fault> {
-    let words: Vec<&str> = line.split('\t').collect(alloc)?;
-    let answered = answer_words(alloc, words.as_slice(), out);
-    drop(words);
-    answered
-}
-
-fn answer_words(alloc: Global, words: &[&str], out: &mut String) -> Result<(), Fault> {
+fn answer_words(alloc: Global, words: &[&str], out: &mut String) -> Result<(), Stop> {
     match words {
         [module, error, counts @ ..] if *module == "error" => errors::answer(error, counts, out),
         [module, call, first] if *module == "asciibyte" => ascii_bytes::answer(call, first, out),
@@ -54,7 +35,7 @@ fn answer_words(alloc: Global, words: &[&str], out: &mut String) -> Result<(), F
             drop(arguments);
             answered
         }
-        _ => Err(Fault::NotUnderstood),
+        _ => Err(Stop::Unknown),
     }
 }
 
@@ -65,7 +46,7 @@ fn answer_call(
     capacity: &str,
     arguments: &[Argument<'_>],
     out: &mut String,
-) -> Result<(), Fault> {
+) -> Result<(), Stop> {
     if module == "joining" {
         return joining::answer(name, capacity, arguments, out);
     }
@@ -87,7 +68,7 @@ fn answer_call(
         "14" => answer_at::<14>(module, name, arguments, out),
         "15" => answer_at::<15>(module, name, arguments, out),
         "16" => answer_at::<16>(module, name, arguments, out),
-        _ => Err(Fault::NotUnderstood),
+        _ => Err(Stop::Unknown),
     }
 }
 
@@ -97,7 +78,7 @@ fn answer_at<const N: usize>(
     call: &str,
     arguments: &[Argument<'_>],
     out: &mut String,
-) -> Result<(), Fault>
+) -> Result<(), Stop>
     requires { N ≤ 16 }
 {
     match module {
@@ -112,6 +93,6 @@ fn answer_at<const N: usize>(
         "ule" => ule::answer::<N>(call, arguments, out),
         "unvalidated" => unvalidated::answer::<N>(call, arguments, out),
         "words" if call == "alike" && arguments.is_empty() => words::answer::<N>(out),
-        _ => Err(Fault::NotUnderstood),
+        _ => Err(Stop::Unknown),
     }
 }

@@ -3,23 +3,23 @@
 ghost use Rattle.std.specs.Prelude.{◌≤◌};
 
 use crate::argument::Argument;
-use crate::line::Fault;
 use crate::writing::put_bytes;
+use rows::Stop;
 use tinystr::TinyAsciiStr;
 
 pub fn answer<const N: usize>(
     call: &str,
     arguments: &[Argument<'_>],
     out: &mut String,
-) -> Result<(), Fault>
+) -> Result<(), Stop>
     requires { N ≤ 16 }
 {
     let [units, replacement] = arguments else {
-        return Err(Fault::NotUnderstood);
+        return Err(Stop::Unknown);
     };
     let [replacement] = replacement.array::<1>()?;
     if replacement == 0 || replacement > 127 {
-        return Err(Fault::NotUnderstood);
+        return Err(Stop::Unknown);
     }
     let text = match call {
         "from_utf8_lossy" => {
@@ -28,7 +28,7 @@ pub fn answer<const N: usize>(
         "from_utf16_lossy" => {
             TinyAsciiStr::<N>::from_utf16_lossy(units.units.as_slice(), replacement)
         }
-        _ => return Err(Fault::NotUnderstood),
+        _ => return Err(Stop::Unknown),
     };
     put_bytes(out, text.as_utf8())
 }

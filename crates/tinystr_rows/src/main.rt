@@ -21,23 +21,14 @@ mod unvalidated;
 mod words;
 mod writing;
 
+use line::Calls;
+use rows::print_answers;
 use std::io;
 
 fn main(rt: HostRuntime) -> io::Result<()> {
     let alloc = rt.alloc();
     let input = io::read_to_string(alloc, rt.stdin())?;
-    let mut answer = String::new(alloc);
-    let written = answer_lines(&rt, input.as_str(), &mut answer);
-    drop(answer);
+    let printed = print_answers(&rt, alloc, input.as_str(), &Calls { alloc });
     drop(input);
-    written
-}
-
-// Repeats each line with its answer, which is put into the lent text first.
-fn answer_lines(rt: &HostRuntime, input: &str, answer: &mut String) -> io::Result<()> {
-    for line in input.lines() {
-        line::answer(rt.alloc(), line, answer)?;
-        println!(rt; "{line}\t{}", answer.as_str())?;
-    }
-    Ok(())
+    printed
 }

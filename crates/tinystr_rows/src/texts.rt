@@ -3,8 +3,8 @@
 ghost use Rattle.std.specs.Prelude.{◌≤◌};
 
 use crate::argument::Argument;
-use crate::line::Fault;
-use crate::writing::{put_answers, put_ascii_bytes, put_bytes, put_count, put_flag};
+use crate::writing::{put_answers, put_ascii_bytes, put_bytes};
+use rows::{Stop, put};
 use std::convert::AsStr;
 use tinystr::{TinyAsciiStr, to_ascii_byte_array};
 
@@ -12,24 +12,24 @@ pub fn answer<const N: usize>(
     call: &str,
     arguments: &[Argument<'_>],
     out: &mut String,
-) -> Result<(), Fault>
+) -> Result<(), Stop>
     requires { N ≤ 16 }
 {
     match arguments {
         [] => constant::<N>(call, out),
         [text] => answer_text(call, text.small::<N>()?, out),
-        _ => Err(Fault::NotUnderstood),
+        _ => Err(Stop::Unknown),
     }
 }
 
-fn constant<const N: usize>(call: &str, out: &mut String) -> Result<(), Fault>
+fn constant<const N: usize>(call: &str, out: &mut String) -> Result<(), Stop>
     requires { N ≤ 16 }
 {
     match call {
         "EMPTY" => put_bytes(out, TinyAsciiStr::<N>::EMPTY.as_utf8()),
         "NICHE_BIT_PATTERN" => put_bytes(out, &TinyAsciiStr::<N>::NICHE_BIT_PATTERN),
         "UND" if N == 3 => put_bytes(out, TinyAsciiStr::<3>::UND.as_utf8()),
-        _ => Err(Fault::NotUnderstood),
+        _ => Err(Stop::Unknown),
     }
 }
 
@@ -37,12 +37,12 @@ fn answer_text<const N: usize>(
     call: &str,
     text: TinyAsciiStr<N>,
     out: &mut String,
-) -> Result<(), Fault>
+) -> Result<(), Stop>
     requires { N ≤ 16 }
 {
     match call {
-        "len" => put_count(out, text.len()),
-        "is_empty" => put_flag(out, text.is_empty()),
+        "len" => put(out, &text.len()),
+        "is_empty" => put(out, &text.is_empty()),
         "as_str" => put_bytes(out, text.as_str().as_bytes()),
         "AsStr::as_str" => put_bytes(out, AsStr::as_str(&text).as_bytes()),
         "as_utf8" => put_bytes(out, text.as_utf8()),
@@ -62,7 +62,7 @@ fn answer_case<const N: usize>(
     call: &str,
     text: TinyAsciiStr<N>,
     out: &mut String,
-) -> Result<(), Fault>
+) -> Result<(), Stop>
     requires { N ≤ 16 }
 {
     match call.strip_suffix(".to_bytes") {
@@ -71,12 +71,12 @@ fn answer_case<const N: usize>(
     }
 }
 
-fn changed<const N: usize>(change: &str, text: TinyAsciiStr<N>) -> Result<TinyAsciiStr<N>, Fault> {
+fn changed<const N: usize>(change: &str, text: TinyAsciiStr<N>) -> Result<TinyAsciiStr<N>, Stop> {
     match change {
         "to_ascii_lowercase" => Ok(text.to_ascii_lowercase()),
         "to_ascii_uppercase" => Ok(text.to_ascii_uppercase()),
         "to_ascii_titlecase" => Ok(text.to_ascii_titlecase()),
-        _ => Err(Fault::NotUnderstood),
+        _ => Err(Stop::Unknown),
     }
 }
 

@@ -3,15 +3,15 @@
 ghost use Rattle.std.specs.Prelude.{◌≤◌};
 
 use crate::argument::Argument;
-use crate::line::Fault;
 use crate::writing::{put_bytes, put_read, put_unvalidated, put_verdict};
+use rows::Stop;
 use tinystr::UnvalidatedTinyAsciiStr;
 
 pub fn answer<const N: usize>(
     call: &str,
     arguments: &[Argument<'_>],
     out: &mut String,
-) -> Result<(), Fault>
+) -> Result<(), Stop>
     requires { N ≤ 16 }
 {
     match arguments {
@@ -19,7 +19,7 @@ pub fn answer<const N: usize>(
             put_bytes(out, &UnvalidatedTinyAsciiStr::<N>::default().to_bytes())
         }
         [argument] => answer_bytes::<N>(call, argument, out),
-        _ => Err(Fault::NotUnderstood),
+        _ => Err(Stop::Unknown),
     }
 }
 
@@ -28,7 +28,7 @@ fn answer_bytes<const N: usize>(
     call: &str,
     argument: &Argument<'_>,
     out: &mut String,
-) -> Result<(), Fault>
+) -> Result<(), Stop>
     requires { N ≤ 16 }
 {
     let bytes = argument.bytes.as_slice();
@@ -46,7 +46,7 @@ fn answer_bytes<const N: usize>(
     }
 }
 
-fn value_of<const N: usize>(argument: &Argument<'_>) -> Result<UnvalidatedTinyAsciiStr<N>, Fault> {
+fn value_of<const N: usize>(argument: &Argument<'_>) -> Result<UnvalidatedTinyAsciiStr<N>, Stop> {
     let bytes = argument.array::<N>()?;
     Ok(UnvalidatedTinyAsciiStr::<N>::from_utf8_unchecked(bytes))
 }
@@ -56,14 +56,14 @@ fn answer_text<const N: usize>(
     call: &str,
     argument: &Argument<'_>,
     out: &mut String,
-) -> Result<(), Fault>
+) -> Result<(), Stop>
     requires { N ≤ 16 }
 {
     let text = argument.small::<N>()?;
     let all = match call {
         "from" => UnvalidatedTinyAsciiStr::<N>::from(text),
         "to_unvalidated" => text.to_unvalidated(),
-        _ => return Err(Fault::NotUnderstood),
+        _ => return Err(Stop::Unknown),
     };
     put_bytes(out, &all.to_bytes())
 }

@@ -2,9 +2,8 @@
 
 ghost use Rattle.std.specs.Prelude.{◌≤◌, ◌<◌};
 
-use crate::line::Fault;
 use crate::texts::answers;
-use crate::writing::put_count;
+use rows::{Stop, put};
 use tinystr::TinyAsciiStr;
 
 /// The bytes beside and at the ends of the classes, and the ends of a text's bytes.
@@ -14,20 +13,20 @@ const EDGES: [u8; 14] = [1, 47, 48, 57, 58, 64, 65, 90, 91, 96, 97, 122, 123, 12
 const FILLERS: [u8; 3] = [b'm', b'M', b'5'];
 
 /// How many texts at N answer as the loops do; the first that does not ends the count. The condition is that N is at most 16.
-pub fn answer<const N: usize>(out: &mut String) -> Result<(), Fault>
+pub fn answer<const N: usize>(out: &mut String) -> Result<(), Stop>
     requires { N ≤ 16 }
 {
     if !is_alike::<N>(&[])? {
-        return Err(Fault::NotUnderstood);
+        return Err(Stop::Unknown);
     }
     let mut count = 1usize;
     for length in 0..N + 1 {
         count = count.saturating_add(alike_at_length::<N>(length)?);
     }
-    put_count(out, count)
+    put(out, &count)
 }
 
-fn alike_at_length<const N: usize>(length: usize) -> Result<usize, Fault>
+fn alike_at_length<const N: usize>(length: usize) -> Result<usize, Stop>
     requires size { N ≤ 16 }
     requires within { length ≤ N }
 {
@@ -40,7 +39,7 @@ fn alike_at_length<const N: usize>(length: usize) -> Result<usize, Fault>
     Ok(count)
 }
 
-fn alike_at_place<const N: usize>(length: usize, place: usize, edge: u8) -> Result<usize, Fault>
+fn alike_at_place<const N: usize>(length: usize, place: usize, edge: u8) -> Result<usize, Stop>
     requires size { N ≤ 16 }
     requires within { length ≤ N }
     requires place { place < length }
@@ -50,7 +49,7 @@ fn alike_at_place<const N: usize>(length: usize, place: usize, edge: u8) -> Resu
         let mut bytes = [filler; 16];
         bytes[place] = edge;
         if !is_alike::<N>(&bytes[..length])? {
-            return Err(Fault::NotUnderstood);
+            return Err(Stop::Unknown);
         }
         count = count.saturating_add(1);
     }
@@ -58,11 +57,11 @@ fn alike_at_place<const N: usize>(length: usize, place: usize, edge: u8) -> Resu
 }
 
 /// Whether the calls of a text answer as loops over its bytes do.
-fn is_alike<const N: usize>(bytes: &[u8]) -> Result<bool, Fault>
+fn is_alike<const N: usize>(bytes: &[u8]) -> Result<bool, Stop>
     requires { N ≤ 16 }
 {
     let Ok(text) = TinyAsciiStr::<N>::try_from_utf8(bytes) else {
-        return Err(Fault::NotUnderstood);
+        return Err(Stop::Unknown);
     };
     Ok(
         text.len() == bytes.len()

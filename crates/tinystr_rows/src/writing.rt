@@ -1,12 +1,12 @@
 //! How answers are written.
 
-use crate::line::Fault;
+use rows::{Stop, put_debug, put_text};
 use std::alloc::AllocError;
 use std::fmt::Debug;
 use tinystr::{AsciiByte, TinyAsciiStr, UnvalidatedTinyAsciiStr};
 
 /// Writes bytes between quotes: a NUL as `\0`, another byte that does not show as `\xFF`.
-pub fn put_bytes(out: &mut String, bytes: &[u8]) -> Result<(), Fault> {
+pub fn put_bytes(out: &mut String, bytes: &[u8]) -> Result<(), Stop> {
     out.push('"')?;
     for byte in bytes {
         put_byte(out, *byte)?;
@@ -16,7 +16,7 @@ pub fn put_bytes(out: &mut String, bytes: &[u8]) -> Result<(), Fault> {
 }
 
 /// Writes ASCII bytes as `put_bytes` does.
-pub fn put_ascii_bytes(out: &mut String, bytes: &[AsciiByte]) -> Result<(), Fault> {
+pub fn put_ascii_bytes(out: &mut String, bytes: &[AsciiByte]) -> Result<(), Stop> {
     out.push('"')?;
     for byte in bytes {
         put_byte(out, byte.value())?;
@@ -37,10 +37,10 @@ fn put_byte(out: &mut String, byte: u8) -> Result<(), AllocError> {
 pub fn put_read<const N: usize, E: Debug + Drop>(
     out: &mut String,
     read: Result<TinyAsciiStr<N>, E>,
-) -> Result<(), Fault> {
+) -> Result<(), Stop> {
     match read {
         Ok(text) => put_bytes(out, text.as_utf8()),
-        Err(error) => put_error(out, &error),
+        Err(error) => put_debug(out, &error),
     }
 }
 
@@ -48,43 +48,23 @@ pub fn put_read<const N: usize, E: Debug + Drop>(
 pub fn put_unvalidated<const N: usize, E: Debug + Drop>(
     out: &mut String,
     read: Result<UnvalidatedTinyAsciiStr<N>, E>,
-) -> Result<(), Fault> {
+) -> Result<(), Stop> {
     match read {
         Ok(all) => put_bytes(out, &all.to_bytes()),
-        Err(error) => put_error(out, &error),
+        Err(error) => put_debug(out, &error),
     }
 }
 
 /// Writes `ok`, or the error.
-pub fn put_verdict<E: Debug + Drop>(out: &mut String, verdict: Result<(), E>) -> Result<(), Fault> {
+pub fn put_verdict<E: Debug + Drop>(out: &mut String, verdict: Result<(), E>) -> Result<(), Stop> {
     match verdict {
-        Ok(()) => {
-            out.push_str("ok")?;
-            Ok(())
-        }
-        Err(error) => put_error(out, &error),
+        Ok(()) => put_text(out, "ok"),
+        Err(error) => put_debug(out, &error),
     }
 }
 
-fn put_error<E: Debug>(out: &mut String, error: &E) -> Result<(), Fault> {
-    write!(out, "{error:?}")?;
-    Ok(())
-}
-
-/// Writes `true` or `false`.
-pub fn put_flag(out: &mut String, flag: bool) -> Result<(), Fault> {
-    write!(out, "{flag}")?;
-    Ok(())
-}
-
-/// Writes a number.
-pub fn put_count(out: &mut String, count: usize) -> Result<(), Fault> {
-    write!(out, "{count}")?;
-    Ok(())
-}
-
 /// Writes a `T` for each answer that holds, and an `F` for each that does not.
-pub fn put_answers(out: &mut String, answers: [bool; 9]) -> Result<(), Fault> {
+pub fn put_answers(out: &mut String, answers: [bool; 9]) -> Result<(), Stop> {
     for holds in answers {
         out.push(if holds { 'T' } else { 'F' })?;
     }
