@@ -266,7 +266,7 @@ int32_t legumeyet_book_answer(legumeyet_book *book, const uint8_t *line, size_t 
 /*
  * Writes what an answer of these calls means, in English: of LEGUMEYET_TAG `no locale tag`.
  *
- * Answers 0; LEGUMEYET_OPTION, where `error` is none of the numbers above; LEGUMEYET_TOO_SMALL.
+ * Answers 0; LEGUMEYET_OPTION, where `error` is 0, or none of the numbers above; LEGUMEYET_TOO_SMALL.
  */
 int32_t legumeyet_error_text(int32_t error, uint8_t *out, size_t room, size_t *length);
 

@@ -1,2 +1,3 @@
+mod KnownValues
 pub mod LaidLemmas
 pub mod LaidTextLemmas
