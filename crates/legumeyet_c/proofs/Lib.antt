@@ -1,0 +1,6 @@
+pub mod AsBox
+pub mod OpeningLemmas
+pub mod OwnTables
+pub mod PointerValues
+pub mod PuttingLemmas
+pub mod Sent

@@ -1,0 +1,25 @@
+use Rattle.std.proofs.Common.{w16, w64}
+use Rattle.std.proofs.lemmas.Int.{to_z-of_z}
+use Rattle.legumeyet_c.specs.Choices.{choices_of}
+use Rattle.legumeyet_c.specs.Numbers.{IsScaled, IsScaledFault}
+use Rattle.legumeyet_c.specs.Views.{decimal_open}
+use Rattle.legumeyet_c.proofs.PuttingLemmas.{other_fault, put_by, scaled_fault_other, value_fault, value_says}
+use Rattle.legumeyet_c.proofs.decimal_formatter.format_i64.Goals as goal
+
+pub write_behind-requires : goal.write_behind-requires
+write_behind-requires c =
+    let mantissa = to_z-of_z w64 c.args.mantissa c.ranges.mantissa in
+    let exponent = to_z-of_z w16 c.args.exponent c.ranges.exponent in
+    other_fault c.number_of_i64-number.result (simp (mantissa, exponent) at c.number_of_i64-number.ensures.fault)
+    (λ error caused. scaled_fault_other (choices_of c.args.options.now) c.args.mantissa c.args.exponent error caused)
+
+pub returns-clause-told : goal.returns-clause-told
+returns-clause-told c =
+    let mantissa = to_z-of_z w64 c.args.mantissa c.ranges.mantissa in
+    let exponent = to_z-of_z w16 c.args.exponent c.ranges.exponent in
+    let open_tables = decimal_open c.args.formatter.now in
+    let choices = choices_of c.args.options.now in
+    put_by _ _ _ _ _
+    (value_says open_tables choices (IsScaled c.args.mantissa c.args.exponent) c.number_of_i64-number.result (simp (mantissa, exponent) at c.number_of_i64-number.ensures.value))
+    (value_fault open_tables choices (IsScaledFault c.args.mantissa c.args.exponent) c.number_of_i64-number.result (simp (mantissa, exponent) at c.number_of_i64-number.ensures.fault))
+    c.write_behind.ensures.told

@@ -1,0 +1,10 @@
+pub mod CallErrors
+pub mod Choices
+pub mod Information
+pub mod Kinds
+pub mod Numbers
+pub mod Opening
+pub mod Owned
+pub mod Putting
+pub mod Views
+pub mod Writing

@@ -1,0 +1,68 @@
+-- What a call that opens a handle leaves in it, and why it is refused.
+-- Defined in include/legumeyet.h, docs/books.md, "Faults", and docs/formatters.md, "Choosing tables".
+-- Cited by the exports that open and close.
+use Rattle.std.specs.Prelude.{◌≡◌, ◌⊎◌, ℕ, List, Option, Some, None, Result, Ok, Err, IsOk, IfErr, IsUtf8}
+use Rattle.icu_decimal.specs.PlainText.{Tables}
+use Rattle.icu_decimal.specs.declared.options.GroupingStrategy.{GroupingStrategy}
+use Rattle.serde_json.specs.Data.{Data}
+use Rattle.locale_numbers.specs.Book.{BookTables, IsBook}
+use Rattle.locale_numbers.specs.BookRefusal.{IsRefused}
+use Rattle.locale_numbers.specs.Json.{Reads}
+use Rattle.locale_numbers.specs.TagFormatters.{plain_for}
+use Rattle.locale_numbers.specs.declared.BookError.{BookError}
+use Rattle.locale_numbers.specs.declared.FormatterError.TheVariants as formatter
+use Rattle.legumeyet_c.specs.declared.call_error.CallError.{CallError}
+use Rattle.legumeyet_c.specs.declared.call_error.CallError.TheVariants.{Memory, Closed, UnknownOption, Tag, Table, Book}
+
+-- what was found is open; after a fault the handle is as it was
+pub record IsOpening {T : Type 0} (is_found : T → Type 0) (fault : CallError → Type 0) (before after : Option T) (outcome : Result (Unit {0}) CallError) : Type 0 where
+  pub opened : IsOk outcome → (x : T) × is_found x × (after ≡ Some x)
+  pub cause : IfErr outcome fault
+  pub same : IfErr outcome (λ error. after ≡ before)
+
+-- ---- books
+
+-- the bytes are this book in JSON
+pub record SaysBook (json : List ℕ) (book : BookTables) : Type 0 where
+  pub value : Data
+  pub reads : Reads json value
+  pub is_book : IsBook value book
+
+-- the fault of the bytes; out of memory is one of any
+pub record IsBookFault (json : List ℕ) (error : CallError) : Type 0 where
+  pub fault : BookError
+  pub refused : IsRefused json fault
+  pub told : error ≡ Book fault
+
+-- ---- formatters of plain numbers
+
+-- the tables that a book has for a tag, with the strategy that is asked for
+pub record IsDecimalFor (book : BookTables) (tag : List ℕ) (strategy : GroupingStrategy) (tables : Tables) : Type 0 where
+  pub found : Tables
+  pub is_found : plain_for book tag ≡ Ok found
+  pub is : tables ≡ record found { strategy = strategy }
+
+abbrev pub FindsDecimal : Option BookTables → Option GroupingStrategy → List ℕ → Tables → Type 0
+FindsDecimal None strategy tag tables = ⊥
+FindsDecimal (Some book) None tag tables = ⊥
+FindsDecimal (Some book) (Some strategy) tag tables = IsDecimalFor book tag strategy tables
+
+-- a book that is open has no formatter for a tag
+abbrev pub IsTagFault : BookTables → List ℕ → CallError → Type 0
+IsTagFault book tag Tag = ¬ (IsUtf8 tag) ⊎ (plain_for book tag ≡ Err formatter.Tag)
+IsTagFault book tag Table = plain_for book tag ≡ Err formatter.Table
+IsTagFault book tag Memory = Unit {0}
+IsTagFault book tag _ = ⊥
+
+-- a closed book comes first, then an unknown grouping
+abbrev pub IsDecimalFault : Option BookTables → Option GroupingStrategy → List ℕ → CallError → Type 0
+IsDecimalFault None strategy tag error = error ≡ Closed
+IsDecimalFault (Some book) None tag error = error ≡ UnknownOption
+IsDecimalFault (Some book) (Some strategy) tag error = IsTagFault book tag error
+
+-- ---- closing
+
+-- a handle that was closed already is told so
+abbrev pub IsClosing : {T : Type 0} → Option T → Result (Unit {0}) CallError → Type 0
+IsClosing None outcome = outcome ≡ Err Closed
+IsClosing (Some x) outcome = outcome ≡ Ok tt

@@ -1,0 +1,269 @@
+//! Formatters of plain numbers: `legumeyet_decimal_formatter_open`, `_close`, `_format` and `_format_i64`.
+
+ghost use Rattle.std.specs.Prelude.{◌≡◌, ◌≢◌, Ok, Some, None, IfOk, IfErr};
+ghost use Rattle.fixed_decimal.specs.SignedText.{ReadsSigned};
+ghost use Rattle.icu_decimal.specs.HeldTables.{tables_of};
+ghost use Rattle.locale_numbers.specs.TagFormatters.{plain_for};
+ghost use Rattle.legumeyet_c.specs.Choices.{choices_of, grouping_of};
+ghost use Rattle.legumeyet_c.specs.Numbers.{IsNumberFault, IsScaled, IsScaledFault};
+ghost use Rattle.legumeyet_c.specs.Opening.{FindsDecimal, IsClosing, IsDecimalFault, IsDecimalFor, IsOpening, IsTagFault};
+ghost use Rattle.legumeyet_c.specs.Putting.{Answers, IsPut};
+ghost use Rattle.legumeyet_c.specs.Views.{book_open, decimal_open};
+ghost use Rattle.legumeyet_c.specs.Writing.{IsValueFault, IsWritingFault, WritesDecimal, WritesValue};
+
+use crate::call_error::{CallError, answer};
+use crate::choices::{Options, grouping_by};
+use crate::content::{Content, book_of, decimal_of};
+use crate::decimal_tables::DecimalTables;
+use crate::handles::{BookHandle, DecimalHandle};
+use crate::numbers::{number_of_i64, number_of_text};
+use crate::putting::put;
+use fixed_decimal::Decimal;
+use icu_decimal::DecimalFormatter;
+use icu_decimal::options::GroupingStrategy;
+use locale_numbers::{Book, FormatterError};
+use std::alloc::Global;
+
+// The formatter that a book has for a tag.
+fn formatter_for<'b>(
+    alloc: Global,
+    book: &'b Book,
+    tag: &[u8],
+) -> Result<DecimalFormatter<'b>, CallError>
+    ensures value { IfOk result (λ formatter. plain_for book.now tag.now ≡ Ok (tables_of formatter)) }
+    ensures fault { IfErr result (λ error. IsTagFault book.now tag.now error) }
+{
+    let Ok(tag) = str::from_utf8(tag) else {
+        return Err(CallError::Tag);
+    };
+    match book.formatter(alloc, tag) {
+        Ok(formatter) => Ok(formatter),
+        Err(FormatterError::Tag) => Err(CallError::Tag),
+        Err(FormatterError::Table) => Err(CallError::Table),
+        Err(FormatterError::Memory) => Err(CallError::Memory),
+    }
+}
+
+// The tables that a book has for a tag, in a copy of their own.
+fn tables_for(
+    alloc: Global,
+    book: &Book,
+    tag: &[u8],
+    strategy: GroupingStrategy,
+) -> Result<DecimalTables, CallError>
+    ensures value { IfOk result (λ tables. IsDecimalFor book.now tag.now strategy tables) }
+    ensures fault { IfErr result (λ error. IsTagFault book.now tag.now error) }
+{
+    let formatter = formatter_for(alloc, book, tag)?;
+    match DecimalTables::of(&formatter, strategy) {
+        Ok(tables) => Ok(tables),
+        Err(_) => Err(CallError::Memory),
+    }
+}
+
+// The tables of a grouping and a tag, of the book behind a handle, which stays as it is.
+fn tables_behind(
+    alloc: Global,
+    book: &mut BookHandle,
+    tag: &[u8],
+    grouping: u32,
+) -> Result<DecimalTables, CallError>
+    ensures same { book_open book.new ≡ book_open book.old }
+    ensures value { IfOk result (λ tables. FindsDecimal (book_open book.old) (grouping_of grouping) tag.now tables) }
+    ensures fault { IfErr result (λ error. IsDecimalFault (book_open book.old) (grouping_of grouping) tag.now error) }
+{
+    let Some(content) = book.handle.take(alloc) else {
+        return Err(CallError::Closed);
+    };
+    let found = match grouping_by(grouping) {
+        Some(strategy) => tables_for(alloc, book_of(&content), tag, strategy),
+        None => Err(CallError::UnknownOption),
+    };
+    book.handle.put(alloc, content);
+    found
+}
+
+// Puts tables behind a handle, and closes what it had open.
+fn put_tables(
+    alloc: Global,
+    handle: &mut DecimalHandle,
+    tables: DecimalTables,
+) -> Result<(), CallError>
+    ensures { IsOpening (λ opened. opened ≡ tables) (λ error. error ≡ CallError.Memory) (decimal_open handle.old) (decimal_open handle.new) result }
+{
+    match Box::new(alloc, Content::Decimal(tables)) {
+        Ok(content) => {
+            handle.handle.put(alloc, content);
+            Ok(())
+        }
+        Err(_) => Err(CallError::Memory),
+    }
+}
+
+// Writes a number, where there is one, by tables.
+fn write_number(
+    tables: &DecimalTables,
+    number: &Result<Decimal, CallError>,
+    out: &mut [u8],
+    length: &mut usize,
+) -> Result<(), CallError>
+    requires { IfErr number.now (λ error. error ≢ CallError.TooSmall) }
+    ensures { IsPut (WritesValue (Some tables.now) number.now) (IsValueFault (Some tables.now) number.now) out.old out.new length.old length.new result }
+{
+    match number {
+        Ok(value) => put(&tables.formatter().format(value), out, length),
+        Err(error) => Err(*error),
+    }
+}
+
+// Writes a number, where there is one, by the formatter behind a handle, which stays as it is.
+fn write_behind(
+    alloc: Global,
+    formatter: &mut DecimalHandle,
+    number: &Result<Decimal, CallError>,
+    out: &mut [u8],
+    length: &mut usize,
+) -> Result<(), CallError>
+    requires { IfErr number.now (λ error. error ≢ CallError.TooSmall) }
+    ensures same { decimal_open formatter.new ≡ decimal_open formatter.old }
+    ensures told { IsPut (WritesValue (decimal_open formatter.old) number.now) (IsValueFault (decimal_open formatter.old) number.now) out.old out.new length.old length.new result }
+{
+    let Some(content) = formatter.handle.take(alloc) else {
+        return Err(CallError::Closed);
+    };
+    let written = write_number(decimal_of(&content), number, out, length);
+    formatter.handle.put(alloc, content);
+    written
+}
+
+// Writes the number that a text spells.
+fn format(
+    alloc: Global,
+    formatter: &mut DecimalHandle,
+    number: &[u8],
+    options: &Options,
+    out: &mut [u8],
+    length: &mut usize,
+) -> Result<(), CallError>
+    ensures same { decimal_open formatter.new ≡ decimal_open formatter.old }
+    ensures told { IsPut (WritesDecimal (decimal_open formatter.old) (choices_of options.now) (ReadsSigned number.now)) (IsWritingFault (decimal_open formatter.old) (choices_of options.now) (IsNumberFault number.now)) out.old out.new length.old length.new result }
+{
+    let number = number_of_text(alloc, number, options);
+    write_behind(alloc, formatter, &number, out, length)
+}
+
+// Writes an integer times a power of ten.
+fn format_i64(
+    alloc: Global,
+    formatter: &mut DecimalHandle,
+    mantissa: i64,
+    exponent: i16,
+    options: &Options,
+    out: &mut [u8],
+    length: &mut usize,
+) -> Result<(), CallError>
+    ensures same { decimal_open formatter.new ≡ decimal_open formatter.old }
+    ensures told { IsPut (WritesDecimal (decimal_open formatter.old) (choices_of options.now) (IsScaled mantissa exponent)) (IsWritingFault (decimal_open formatter.old) (choices_of options.now) (IsScaledFault mantissa exponent)) out.old out.new length.old length.new result }
+{
+    let number = number_of_i64(alloc, mantissa, exponent, options);
+    write_behind(alloc, formatter, &number, out, length)
+}
+
+// Opens a formatter.
+fn open(
+    alloc: Global,
+    book: &mut BookHandle,
+    tag: &[u8],
+    grouping: u32,
+    formatter: &mut DecimalHandle,
+) -> Result<(), CallError>
+    ensures same { book_open book.new ≡ book_open book.old }
+    ensures told { IsOpening (FindsDecimal (book_open book.old) (grouping_of grouping) tag.now) (IsDecimalFault (book_open book.old) (grouping_of grouping) tag.now) (decimal_open formatter.old) (decimal_open formatter.new) result }
+{
+    match tables_behind(alloc, book, tag, grouping) {
+        Ok(tables) => put_tables(alloc, formatter, tables),
+        Err(error) => Err(error),
+    }
+}
+
+// Closes a formatter.
+fn close(alloc: Global, formatter: &mut DecimalHandle) -> Result<(), CallError>
+    ensures closed { decimal_open formatter.new ≡ None }
+    ensures told { IsClosing (decimal_open formatter.old) result }
+{
+    match formatter.handle.take(alloc) {
+        Some(_) => Ok(()),
+        None => Err(CallError::Closed),
+    }
+}
+
+/// Opens the formatter of plain numbers for a locale tag: that of `en` writes -1234.5 as `-1,234.5`. It has its own copy of the tables.
+/// What the handle had open is closed, where the call answers 0, and else the handle is as it was; the book stays open.
+///
+/// Answers 0; 2, the book is closed; 4, the grouping is above 3; 5, the text is no locale tag; 6, the book has no symbols or no
+/// digits for it; 1, out of memory, also in place of the last two.
+#[unsafe(no_mangle)]
+pub extern "C" fn legumeyet_decimal_formatter_open(
+    alloc: Global,
+    book: &mut BookHandle,
+    tag: &[u8],
+    grouping: u32,
+    formatter: &mut DecimalHandle,
+) -> i32
+    ensures same { book_open book.new ≡ book_open book.old }
+    ensures told { Answers (IsOpening (FindsDecimal (book_open book.old) (grouping_of grouping) tag.now) (IsDecimalFault (book_open book.old) (grouping_of grouping) tag.now) (decimal_open formatter.old) (decimal_open formatter.new)) result }
+{
+    answer(open(alloc, book, tag, grouping, formatter))
+}
+
+/// Closes a formatter, and lets go of its memory.
+///
+/// Answers 0; 2, where it was closed already.
+#[unsafe(no_mangle)]
+pub extern "C" fn legumeyet_decimal_formatter_close(
+    alloc: Global,
+    formatter: &mut DecimalHandle,
+) -> i32
+    ensures closed { decimal_open formatter.new ≡ None }
+    ensures told { Answers (IsClosing (decimal_open formatter.old)) result }
+{
+    answer(close(alloc, formatter))
+}
+
+/// Writes a decimal number that is given as text: `-987654.321` as `-987,654.321` in English.
+///
+/// Answers 0; 2, the handle is closed; 4, an option is unknown; 7, the text is no decimal number; 8, one with a digit beyond the
+/// magnitudes -32768 to 32767; 1, out of memory, which a number of eight digits at most never takes; 3, the text needs more room.
+#[unsafe(no_mangle)]
+pub extern "C" fn legumeyet_decimal_formatter_format(
+    alloc: Global,
+    formatter: &mut DecimalHandle,
+    number: &[u8],
+    options: &Options,
+    out: &mut [u8],
+    length: &mut usize,
+) -> i32
+    ensures same { decimal_open formatter.new ≡ decimal_open formatter.old }
+    ensures told { Answers (IsPut (WritesDecimal (decimal_open formatter.old) (choices_of options.now) (ReadsSigned number.now)) (IsWritingFault (decimal_open formatter.old) (choices_of options.now) (IsNumberFault number.now)) out.old out.new length.old length.new) result }
+{
+    answer(format(alloc, formatter, number, options, out, length))
+}
+
+/// Writes the number `mantissa` times ten to the power `exponent`: -123456 and -2 as `-1,234.56` in English, and 500 and -2 as `5.00`.
+///
+/// Answers as `legumeyet_decimal_formatter_format`, but for 7; 8, where the first digit would stand above magnitude 32767.
+#[unsafe(no_mangle)]
+pub extern "C" fn legumeyet_decimal_formatter_format_i64(
+    alloc: Global,
+    formatter: &mut DecimalHandle,
+    mantissa: i64,
+    exponent: i16,
+    options: &Options,
+    out: &mut [u8],
+    length: &mut usize,
+) -> i32
+    ensures same { decimal_open formatter.new ≡ decimal_open formatter.old }
+    ensures told { Answers (IsPut (WritesDecimal (decimal_open formatter.old) (choices_of options.now) (IsScaled mantissa exponent)) (IsWritingFault (decimal_open formatter.old) (choices_of options.now) (IsScaledFault mantissa exponent)) out.old out.new length.old length.new) result }
+{
+    answer(format_i64(alloc, formatter, mantissa, exponent, options, out, length))
+}

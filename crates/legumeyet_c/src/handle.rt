@@ -1,0 +1,122 @@
+// What stands behind each handle of C: a pointer to its content, or nothing.
+
+ghost use Rattle.std.specs.Prelude.{◌≡◌, Option, Some, None, option_map, is_some, true};
+ghost use Rattle.legumeyet_c.specs.declared.content.Content.{Content};
+
+use crate::content::Content;
+use crate::unboxed::Unboxed;
+use std::alloc::Global;
+use std::marker::Model;
+
+/// A pointer to a content, which it owns, or to nothing.
+#[repr(C)]
+pub struct Pointer {
+    at: *mut (),
+    pub ghost value: { Option Content },
+}
+
+impl Model for Pointer {
+    ghost use Rattle.legumeyet_c.specs.Owned.{owned};
+    ghost use Rattle.legumeyet_c.specs.contracts.content.Content.{the_row};
+
+    ghost also_owns = { λ p. owned the_row p.at p.value };
+}
+
+impl Pointer {
+    // To nothing.
+    fn empty() -> Pointer
+        ensures { result.value ≡ None }
+    {
+        Pointer {
+            at: std::ptr::null_mut(),
+        }
+    }
+
+    // To the content of a box.
+    fn to(content: Unboxed<Content, Global>) -> Pointer
+        ensures { result.value ≡ Some content.value }
+    {
+        let Unboxed { at, alloc: _ } = content;
+        Pointer { at: at as *mut () }
+    }
+
+    // The box again.
+    fn into_unboxed(self, alloc: Global) -> Unboxed<Content, Global>
+        requires { is_some self.value ≡ true }
+        ensures { self.value ≡ Some result.value }
+    {
+        let Pointer { at } = self;
+        Unboxed {
+            at: at as *mut Content,
+            alloc,
+        }
+    }
+
+    // Lets go of a pointer to nothing.
+    fn forget(self)
+        requires { self.value ≡ None }
+    {
+        let Pointer { at: _ } = self;
+    }
+}
+
+/// A handle, open or closed. Zeroed memory is a closed one.
+#[repr(C)]
+pub struct Handle {
+    pointer: Pointer,
+    is_open: bool,
+    ghost told: { is_open ≡ is_some pointer.value },
+}
+
+// An open handle.
+fn opened(content: Box<Content>) -> Handle
+    ensures { result.pointer.value ≡ Some content.value }
+{
+    Handle {
+        pointer: Pointer::to(Unboxed::open(content)),
+        is_open: true,
+    }
+}
+
+// A closed handle.
+fn closed() -> Handle
+    ensures { result.pointer.value ≡ None }
+{
+    Handle {
+        pointer: Pointer::empty(),
+        is_open: false,
+    }
+}
+
+// What a handle had open.
+fn content_of(handle: Handle, alloc: Global) -> Option<Box<Content>>
+    ensures { option_map (λ content. content.value) result ≡ handle.pointer.value }
+{
+    let Handle { pointer, is_open } = handle;
+    if is_open {
+        let content = pointer.into_unboxed(alloc);
+        Some(content.shut())
+    } else {
+        pointer.forget();
+        None
+    }
+}
+
+impl Handle {
+    /// Takes the content out, and leaves the handle closed.
+    pub(crate) fn take(&mut self, alloc: Global) -> Option<Box<Content>>
+        ensures value { option_map (λ content. content.value) result ≡ self.old.pointer.value }
+        ensures closed { self.new.pointer.value ≡ None }
+    {
+        content_of(std::mem::replace(self, closed()), alloc)
+    }
+
+    /// Puts a content in, and lets go of what was there.
+    pub(crate) fn put(&mut self, alloc: Global, content: Box<Content>)
+        ensures { self.new.pointer.value ≡ Some content.value }
+    {
+        let _ = content_of(std::mem::replace(self, opened(content)), alloc);
+    }
+}
+
+unsafe impl Send for Pointer {}

@@ -1,0 +1,23 @@
+//! The C API: books and formatters behind handles, and texts in bytes of the caller's. `include/legumeyet.h` says what each call does.
+//!
+//! ```c
+//! legumeyet_book_open(json, json_length, &book);
+//! legumeyet_decimal_formatter_open(&book, (const uint8_t *)"en", 2, LEGUMEYET_GROUPING_AUTO, &english);
+//! legumeyet_decimal_formatter_format(&english, (const uint8_t *)"-987654.321", 11, &options, out, sizeof out, &length);
+//! ```
+
+#![tactic(auto)]
+
+pub mod book;
+mod call_error;
+mod choices;
+mod content;
+pub mod crossing;
+pub mod decimal_formatter;
+mod decimal_tables;
+mod handle;
+mod handles;
+pub mod information;
+mod numbers;
+mod putting;
+mod unboxed;
