@@ -1,0 +1,124 @@
+/*
+ * Writes what the calls of formatters say to the request lines of standard input, under the book of a file: a line each, the beginning
+ * of its answer, or `-` where no call does what the line asks for.
+ *
+ * usage: lines BOOK < LINES > ANSWERS
+ */
+#include <legumeyet.h>
+#include <stdio.h>
+#include <stdlib.h>
+#include <string.h>
+
+enum { ROOM = 1 << 16, NO_CALL = -1 };
+
+/* A text, as the calls take it. */
+typedef struct {
+    const uint8_t *at;
+    size_t length;
+} piece;
+
+typedef struct {
+    piece tag, form, grouping, sign, rounding, number;
+} request;
+
+/* The words of fields, in the order of their numbers. */
+static const char *const GROUPINGS[] = {"auto", "never", "always", "min2", NULL};
+static const char *const SIGNS[] = {"keep", "auto", "never", "always", "except-zero", "negative", NULL};
+static const char *const MODES[] = {"",           "expand",    "trunc",      "ceil",      "floor", "half-expand",
+                                    "half-trunc", "half-ceil", "half-floor", "half-even", NULL};
+
+static int is_word(piece text, const char *word) { return text.length == strlen(word) && memcmp(text.at, word, text.length) == 0; }
+
+/* The number of a word, or that of the words where it is none of them. */
+static uint32_t number_of(piece text, const char *const words[]) {
+    uint32_t number = 0;
+    while (words[number] != NULL && !is_word(text, words[number])) number++;
+    return number;
+}
+
+/* Cuts what stands before the mark off a text, which keeps what stands behind it. */
+static piece cut(piece *text, char mark) {
+    const uint8_t *end = text->length == 0 ? NULL : memchr(text->at, mark, text->length);
+    piece front = {text->at, end == NULL ? text->length : (size_t)(end - text->at)};
+    size_t step = front.length + (end != NULL);
+    text->at += step;
+    text->length -= step;
+    return front;
+}
+
+/* The fields of a line. */
+static request request_of(piece line) {
+    request found;
+    found.tag = cut(&line, '\t');
+    found.form = cut(&line, '\t');
+    found.grouping = cut(&line, '\t');
+    found.sign = cut(&line, '\t');
+    found.rounding = cut(&line, '\t');
+    found.number = line;
+    return found;
+}
+
+/* The options that a request's fields name; the field of a rounding is `-` or as `-2,half-even,1`. Whether there are such options. */
+static int are_options(const request *asked, legumeyet_options *options) {
+    piece rest = asked->rounding, position = cut(&rest, ','), mode = cut(&rest, ',');
+    options->sign = number_of(asked->sign, SIGNS);
+    options->rounding = number_of(mode, MODES);
+    options->position = (int16_t)strtol((const char *)position.at, NULL, 10);
+    return mode.length == 0 || is_word(rest, "1");
+}
+
+/* The text for a request by the calls of a formatter: an error of theirs, or NO_CALL where they can't say what is asked. */
+static int32_t by_formatter(legumeyet_book *book, const request *asked, uint8_t *out, size_t *length) {
+    legumeyet_decimal_formatter plain = {0};
+    legumeyet_options options = {0};
+    uint32_t grouping = number_of(asked->grouping, GROUPINGS);
+    int is_plain = is_word(asked->form, "plain");
+    int32_t error = NO_CALL;
+    if (!are_options(asked, &options)) return NO_CALL;
+    if (is_plain) error = legumeyet_decimal_formatter_open(book, asked->tag.at, asked->tag.length, grouping, &plain);
+    if (error == 0 && is_plain)
+        error = legumeyet_decimal_formatter_format(&plain, asked->number.at, asked->number.length, &options, out, ROOM, length);
+    legumeyet_decimal_formatter_close(&plain);
+    return error;
+}
+
+/* The word of an answer that an error stands for. */
+static const char *word_of(int32_t error) {
+    switch (error) {
+    case LEGUMEYET_TAG: return "tag";
+    case LEGUMEYET_TABLE: return "table";
+    case LEGUMEYET_NUMBER: return "number";
+    case LEGUMEYET_LIMIT: return "limit";
+    default: return "no word";
+    }
+}
+
+/* Writes what the calls of a formatter say to a line. */
+static void answer_line(legumeyet_book *book, piece line) {
+    static uint8_t text[ROOM];
+    size_t length = 0;
+    request asked = request_of(line);
+    int32_t error = by_formatter(book, &asked, text, &length);
+    if (error == NO_CALL)
+        putchar('-');
+    else if (error != 0)
+        printf("err\t%s", word_of(error));
+    else
+        printf("ok\t%.*s", (int)length, (const char *)text);
+    putchar('\n');
+}
+
+int main(int count, char **words) {
+    static uint8_t json[1 << 22];
+    static char line[ROOM];
+    legumeyet_book book = {0};
+    FILE *file = count == 2 ? fopen(words[1], "rb") : NULL;
+    int32_t error = file == NULL ? NO_CALL : legumeyet_book_open(json, fread(json, 1, sizeof json, file), &book);
+    if (file != NULL) fclose(file);
+    while (error == 0 && fgets(line, sizeof line, stdin) != NULL) {
+        piece given = {(const uint8_t *)line, strcspn(line, "\n")};
+        answer_line(&book, given);
+    }
+    legumeyet_book_close(&book);
+    return error == 0 ? 0 : 1;
+}

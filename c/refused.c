@@ -1,0 +1,64 @@
+/*
+ * Makes each kind of call, and a call that memory is refused once more: tools/try_c runs it with each request for memory refused in
+ * turn. A call is then well or answers LEGUMEYET_MEMORY, and the second one is well. It prints how many were refused; the status
+ * is 1 where another number came or memory is lost. Lost memory is seen where malloc keeps no blocks for a thread:
+ * GLIBC_TUNABLES=glibc.malloc.tcache_count=0.
+ */
+#include <legumeyet.h>
+#include <malloc.h>
+#include <stdio.h>
+#include <stdlib.h>
+#include <string.h>
+
+#define TEXT(text) (const uint8_t *)(text), strlen(text)
+#define TWICE(call) (is_refused(call) ? expect_well(call) : (void)0)
+
+static const char BOOK[] = "[[[\"en\",\"\",\"latn\",\"-\",\"\",\"+\",\"\",\".\",\",\",3,3,1]],[[\"latn\",\"0123456789\"]],"
+                           "[[\"en\",[[\"one\",\"i = 1\"]]]],[[\"en\",\"\",[[3,3,[[\"one\",[\"\",\" k\"]],[\"other\",[\"\",\" ks\"]]]]],null]],[]]";
+
+static int refused, wrong;
+
+static int is_refused(int32_t error) {
+    if (error != LEGUMEYET_OK && error != LEGUMEYET_MEMORY) wrong = 1;
+    refused += error == LEGUMEYET_MEMORY;
+    return error == LEGUMEYET_MEMORY;
+}
+
+static void expect_well(int32_t error) { wrong = wrong || error != LEGUMEYET_OK; }
+
+static void expect_text(const uint8_t *out, size_t length, const char *text) {
+    if (length == strlen(text) && memcmp(out, text, length) == 0) return;
+    printf("%.*s, and not %s\n", (int)length, (const char *)out, text);
+    wrong = 1;
+}
+
+static void call_all(void) {
+    static const char DIGITS[] = "-98765432109876543210.5";
+    static const legumeyet_options ROUNDED = {LEGUMEYET_SIGN_AUTO, LEGUMEYET_ROUND_HALF_EVEN, 0};
+    legumeyet_book book = {0};
+    legumeyet_decimal_formatter plain = {0};
+    uint8_t out[64];
+    size_t length = 0;
+    TWICE(legumeyet_book_open(TEXT(BOOK), &book));
+    TWICE(legumeyet_decimal_formatter_open(&book, TEXT("en-a-aa-b-bb-u-ca-gregory-nu-latn-x-y"), 0, &plain));
+    TWICE(legumeyet_decimal_formatter_format(&plain, TEXT(DIGITS), &ROUNDED, out, sizeof out, &length));
+    expect_text(out, length, "-98,765,432,109,876,543,210");
+    TWICE(legumeyet_decimal_formatter_format_i64(&plain, -123456789012345678, -3, &ROUNDED, out, sizeof out, &length));
+    expect_text(out, length, "-123,456,789,012,346");
+    expect_well(legumeyet_decimal_formatter_close(&plain));
+    expect_well(legumeyet_book_close(&book));
+}
+
+int main(void) {
+    void *volatile first = malloc(1), *volatile second = malloc(1);
+    size_t before, after;
+    free(first); /* by these malloc has what it takes for itself, though one of them be refused */
+    free(second);
+    before = mallinfo2().uordblks;
+    call_all();
+    after = mallinfo2().uordblks;
+    if (after != before) printf("%zu bytes are lost\n", after - before);
+    if (wrong) printf("a call answered otherwise\n");
+    printf("%d refused\n", refused);
+    return wrong || after != before;
+}

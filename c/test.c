@@ -1,0 +1,189 @@
+/*
+ * Calls each function of legumeyet.h well and badly, and prints what it answers otherwise than it should. The status is 1 where
+ * something does.
+ */
+#include <legumeyet.h>
+#include <stdio.h>
+#include <stdlib.h>
+#include <string.h>
+
+#define TEXT(text) (const uint8_t *)(text), strlen(text)
+#define NOTHING NULL, 0
+
+enum { ROOM = 64, LONG = 40000 };
+
+static const char BOOK[] =
+    "[[[\"en\",\"\",\"latn\",\"-\",\"\",\"+\",\"\",\".\",\",\",3,3,1],[\"bad\",\"\",\"latn\",\"\",\"\",\"+\",\"\",\".\",\",\",3,3,1]],"
+    "[[\"latn\",\"0123456789\"]],[[\"en\",[]]],[[\"en\",\"\",[[3,3,[[\"other\",[\"\",\"K\"]]]],[6,6,[[\"other\",[\"\",\"M\"]]]]],null]],[]]";
+
+/* A book for each of its errors; the first is of bytes that are no text. */
+static const struct {
+    int32_t error;
+    const char *json;
+} REFUSED[] = {
+    {LEGUMEYET_BOOK_JSON, "[\"\xff\"]"},
+    {LEGUMEYET_BOOK_JSON, "[1"},
+    {LEGUMEYET_BOOK_JSON, ""},
+    {LEGUMEYET_BOOK_SHAPE, "[]"},
+    {LEGUMEYET_BOOK_TAG, "[[],[],[[\"e\",[]]],[],[]]"},
+    {LEGUMEYET_BOOK_SYSTEM, "[[],[[\"LATN\",\"0123456789\"]],[],[],[]]"},
+    {LEGUMEYET_BOOK_TEXT, "[[],[],[],[[\"en\",\"\",[[3,3,[[\"other\",[\"\\t\",\"K\"]]]]],null]],[]]"},
+    {LEGUMEYET_BOOK_DIGITS, "[[],[[\"latn\",\"012345678\"]],[],[],[]]"},
+    {LEGUMEYET_BOOK_CONDITION, "[[],[],[[\"en\",[[\"one\",\"i is 1\"]]]],[],[]]"},
+    {LEGUMEYET_BOOK_TYPES, "[[],[],[],[[\"en\",\"\",[[6,6,[[\"other\",[\"\",\"M\"]]]],[3,3,[[\"other\",[\"\",\"K\"]]]]],null]],[]]"},
+    {LEGUMEYET_BOOK_EXPONENTS, "[[],[],[],[],[[\"en\",\"\",[[3,3,[[\"other\",[\"\",\"K\"]]]],[6,2,[[\"other\",[\"\",\"M\"]]]]],null]]]"},
+    {LEGUMEYET_BOOK_DUPLICATE, "[[],[],[[\"en\",[]],[\"EN\",[]]],[],[]]"},
+    {LEGUMEYET_BOOK_CYCLE, "[[],[],[],[],[],[[\"en\",\"en\"]]]"},
+};
+
+static legumeyet_book book, closed_book;
+static legumeyet_decimal_formatter english, closed;
+static const legumeyet_options AS_GIVEN = {0, 0, 0};
+static uint8_t out[ROOM];
+static size_t length;
+static int wrong;
+
+static void expect(const char *what, int64_t got, int64_t wanted) {
+    if (got == wanted) return;
+    printf("%s: %lld, and not %lld\n", what, (long long)got, (long long)wanted);
+    wrong++;
+}
+
+/* The call was well and wrote this text, and nothing behind it. */
+static void expect_text(const char *what, int32_t error, const char *text) {
+    size_t wanted = strlen(text);
+    expect(what, error, LEGUMEYET_OK);
+    expect(what, (int64_t)length, (int64_t)wanted);
+    expect(text, memcmp(out, text, wanted), 0);
+    expect("the byte behind", out[wanted], '.');
+    memset(out, '.', sizeof out);
+    length = 77;
+}
+
+/* The call was refused and wrote nothing. */
+static void expect_error(const char *what, int32_t error, int32_t wanted) {
+    expect(what, error, wanted);
+    expect("the length of a refused call", (int64_t)length, 77);
+    expect("the bytes of a refused call", out[0], '.');
+}
+
+static int32_t format(const char *number, legumeyet_options options) {
+    return legumeyet_decimal_formatter_format(&english, TEXT(number), &options, out, sizeof out, &length);
+}
+
+static int32_t format_i64(int64_t mantissa, int16_t exponent) {
+    return legumeyet_decimal_formatter_format_i64(&english, mantissa, exponent, &AS_GIVEN, out, sizeof out, &length);
+}
+
+static legumeyet_options options_of(uint32_t sign, uint32_t rounding, int16_t position) {
+    legumeyet_options options = {sign, rounding, position};
+    return options;
+}
+
+static void books(void) {
+    size_t row;
+    for (row = 0; row < sizeof REFUSED / sizeof REFUSED[0]; row++) {
+        expect(REFUSED[row].json, legumeyet_book_open(TEXT(REFUSED[row].json), &closed_book), REFUSED[row].error);
+        expect("a refused book stays closed", legumeyet_book_close(&closed_book), LEGUMEYET_CLOSED);
+    }
+    expect("a book", legumeyet_book_open(TEXT(BOOK), &book), LEGUMEYET_OK);
+    expect("over an open book", legumeyet_book_open(TEXT(BOOK), &book), LEGUMEYET_OK);
+    expect("a refused one over it", legumeyet_book_open(TEXT("[]"), &book), LEGUMEYET_BOOK_SHAPE);
+}
+
+static void opens(void) {
+    char long_tag[LONG];
+    memset(long_tag, 'a', sizeof long_tag);
+    expect("a tag", legumeyet_decimal_formatter_open(&book, TEXT("e"), 0, &english), LEGUMEYET_TAG);
+    expect("no tag", legumeyet_decimal_formatter_open(&book, TEXT(""), 0, &english), LEGUMEYET_TAG);
+    expect("bytes", legumeyet_decimal_formatter_open(&book, TEXT("\xff\xfe"), 0, &english), LEGUMEYET_TAG);
+    expect("a long tag", legumeyet_decimal_formatter_open(&book, (uint8_t *)long_tag, LONG, 0, &english), LEGUMEYET_TAG);
+    expect("no table", legumeyet_decimal_formatter_open(&book, TEXT("xx"), 0, &english), LEGUMEYET_TABLE);
+    expect("grouping 4", legumeyet_decimal_formatter_open(&book, TEXT("en"), 4, &english), LEGUMEYET_OPTION);
+    expect("of a closed book", legumeyet_decimal_formatter_open(&closed_book, TEXT("en"), 0, &english), LEGUMEYET_CLOSED);
+    expect("it stayed closed", legumeyet_decimal_formatter_close(&english), LEGUMEYET_CLOSED);
+    expect("plain", legumeyet_decimal_formatter_open(&book, TEXT("en"), 0, &english), LEGUMEYET_OK);
+    expect("over an open one", legumeyet_decimal_formatter_open(&book, TEXT("en"), 0, &english), LEGUMEYET_OK);
+}
+
+static void formats(void) {
+    static char digits[LONG];
+    static uint8_t wide[2 * LONG];
+    size_t needed = 0;
+    memset(digits, '9', sizeof digits);
+    expect_text("plain", format("-987654.321", AS_GIVEN), "-987,654.321");
+    expect_text("rounded", format("9.65", options_of(LEGUMEYET_SIGN_ALWAYS, LEGUMEYET_ROUND_HALF_EVEN, -1)), "+9.6");
+    expect_text("integer", format_i64(-123456, -2), "-1,234.56");
+    expect_text("integer", format_i64(5, 3), "5,000");
+    expect_text("the least integer", format_i64(INT64_MIN, 0), "-9,223,372,036,854,775,808");
+    expect_text("zero", format_i64(0, 0), "0");
+    expect_error("no number", format("5.", AS_GIVEN), LEGUMEYET_NUMBER);
+    expect_error("no text", format("\xff", AS_GIVEN), LEGUMEYET_NUMBER);
+    expect_error("empty", format("", AS_GIVEN), LEGUMEYET_NUMBER);
+    expect_error("sign 6", format("1", options_of(6, 0, 0)), LEGUMEYET_OPTION);
+    expect_error("rounding 10", format("1", options_of(0, 10, 0)), LEGUMEYET_OPTION);
+    expect_error("an exponent", format("1e40000", AS_GIVEN), LEGUMEYET_LIMIT);
+    expect_error("an exponent of an integer", format_i64(10, INT16_MAX), LEGUMEYET_LIMIT);
+    expect("40,000 digits", legumeyet_decimal_formatter_format(&english, (uint8_t *)digits, LONG, &AS_GIVEN, wide, sizeof wide, &needed),
+           LEGUMEYET_LIMIT);
+    expect("30,000 digits", legumeyet_decimal_formatter_format(&english, (uint8_t *)digits, 30000, &AS_GIVEN, wide, sizeof wide, &needed),
+           LEGUMEYET_OK);
+    expect("30,000 digits", (int64_t)needed, 39999);
+}
+
+static void rooms(void) {
+    static const char WHOLE[] = "-1,234.5";
+    size_t room;
+    for (room = 0; room <= 9; room++) {
+        int32_t error = legumeyet_decimal_formatter_format(&english, TEXT("-1234.5"), &AS_GIVEN, out, room, &length);
+        expect("the room", error, room < 8 ? LEGUMEYET_TOO_SMALL : LEGUMEYET_OK);
+        expect("the length", (int64_t)length, 8);
+        expect("the front", memcmp(out, WHOLE, room < 8 ? room : 8), 0);
+        expect("the byte behind", out[room < 8 ? room : 8], '.');
+        memset(out, '.', sizeof out);
+        length = 77;
+    }
+}
+
+/* What the header does not promise: null with a length of 0, and a room that there is not, do no harm. */
+static void unpromised(void) {
+    expect("a book", legumeyet_book_open(NOTHING, &closed_book), LEGUMEYET_BOOK_JSON);
+    expect("a tag", legumeyet_decimal_formatter_open(&book, NOTHING, 0, &closed), LEGUMEYET_TAG);
+    expect_error("a number", legumeyet_decimal_formatter_format(&english, NOTHING, &AS_GIVEN, out, ROOM, &length), LEGUMEYET_NUMBER);
+    expect("no room", legumeyet_decimal_formatter_format(&english, TEXT("1"), &AS_GIVEN, NOTHING, &length), LEGUMEYET_TOO_SMALL);
+    expect_text("the greatest room", legumeyet_decimal_formatter_format(&english, TEXT("1"), &AS_GIVEN, out, SIZE_MAX, &length), "1");
+}
+
+static void closes(void) {
+    expect("the book before its formatters", legumeyet_book_close(&book), LEGUMEYET_OK);
+    expect("the book again", legumeyet_book_close(&book), LEGUMEYET_CLOSED);
+    expect_text("after its book", format("1234", AS_GIVEN), "1,234");
+    expect("plain", legumeyet_decimal_formatter_close(&english), LEGUMEYET_OK);
+    expect("plain again", legumeyet_decimal_formatter_close(&english), LEGUMEYET_CLOSED);
+    expect_error("format", format("1", AS_GIVEN), LEGUMEYET_CLOSED);
+    expect_error("integer", format_i64(1, 0), LEGUMEYET_CLOSED);
+}
+
+static void texts(void) {
+    int32_t error;
+    expect("version", legumeyet_version(), LEGUMEYET_VERSION);
+    expect_text("a text", legumeyet_error_text(LEGUMEYET_TAG, out, ROOM, &length), "no locale tag");
+    for (error = -1; error < 200; error++) {
+        int is_known = (error >= LEGUMEYET_MEMORY && error <= LEGUMEYET_NOT_WRITTEN) || (error >= LEGUMEYET_BOOK_JSON && error <= LEGUMEYET_BOOK_CYCLE);
+        expect("a number's text", legumeyet_error_text(error, out, ROOM, &length), is_known ? LEGUMEYET_OK : LEGUMEYET_OPTION);
+    }
+    expect("no room", legumeyet_error_text(LEGUMEYET_TAG, out, 0, &length), LEGUMEYET_TOO_SMALL);
+}
+
+int main(void) {
+    memset(out, '.', sizeof out);
+    length = 77;
+    books();
+    opens();
+    formats();
+    rooms();
+    unpromised();
+    closes();
+    texts();
+    return wrong == 0 ? 0 : 1;
+}

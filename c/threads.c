@@ -1,0 +1,62 @@
+/*
+ * Uses handles in threads, for a tool that looks for races: a formatter that is opened here, and used and closed in another
+ * thread; two formatters of one book, both used at once; and a book that another thread opens formatters of. The status is 1
+ * where a text is wrong.
+ */
+#include <legumeyet.h>
+#include <pthread.h>
+#include <string.h>
+
+#define TEXT(text) (const uint8_t *)(text), strlen(text)
+
+enum { TURNS = 200 };
+
+static const char BOOK[] = "[[[\"en\",\"\",\"latn\",\"-\",\"\",\"+\",\"\",\".\",\",\",3,3,1],[\"de\",\"\",\"latn\",\"-\",\"\",\"+\",\"\",\",\",\".\",3,3,1]],"
+                           "[[\"latn\",\"0123456789\"]],[],[],[]]";
+
+/* What a thread is given: a formatter, or a book and the tag that it opens one for. */
+typedef struct {
+    legumeyet_book *book;
+    const char *tag;
+    legumeyet_decimal_formatter formatter;
+    const char *wanted;
+    int is_right;
+} work;
+
+/* Whether the formatter writes the number so. */
+static int is_written(legumeyet_decimal_formatter *formatter, const char *wanted) {
+    static const legumeyet_options AS_GIVEN = {0, 0, 0};
+    uint8_t out[64];
+    size_t length;
+    return legumeyet_decimal_formatter_format(formatter, TEXT("-987654321.25"), &AS_GIVEN, out, sizeof out, &length) == 0 &&
+           length == strlen(wanted) && memcmp(out, wanted, length) == 0;
+}
+
+/* Opens what is not open, uses it, and closes it. */
+static void *do_work(void *given) {
+    work *it = given;
+    int turn;
+    it->is_right = it->book == NULL || legumeyet_decimal_formatter_open(it->book, TEXT(it->tag), 0, &it->formatter) == 0;
+    for (turn = 0; turn < TURNS; turn++) it->is_right = it->is_right && is_written(&it->formatter, it->wanted);
+    it->is_right = it->is_right && legumeyet_decimal_formatter_close(&it->formatter) == 0;
+    return NULL;
+}
+
+int main(void) {
+    legumeyet_book book = {0};
+    work works[3] = {
+        {NULL, NULL, {0}, "-987,654,321.25", 0},
+        {NULL, NULL, {0}, "-987.654.321,25", 0},
+        {NULL, "en", {0}, "-987,654,321.25", 0},
+    };
+    pthread_t threads[3];
+    int at, is_right = legumeyet_book_open(TEXT(BOOK), &book) == 0 &&
+                       legumeyet_decimal_formatter_open(&book, TEXT("en"), 0, &works[0].formatter) == 0 &&
+                       legumeyet_decimal_formatter_open(&book, TEXT("de"), 0, &works[1].formatter) == 0;
+    works[2].book = &book;
+    for (at = 0; at < 3; at++)
+        if (pthread_create(&threads[at], NULL, do_work, &works[at]) != 0) return 2;
+    for (at = 0; at < 3; at++) is_right = pthread_join(threads[at], NULL) == 0 && works[at].is_right && is_right;
+    is_right = legumeyet_book_close(&book) == 0 && is_right;
+    return is_right ? 0 : 1;
+}
