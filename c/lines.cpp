@@ -1,0 +1,87 @@
+// Writes what the calls of formatters say to the request lines of standard input, under the book of a file, as c/lines.c does in C.
+//
+// usage: lines BOOK < LINES > ANSWERS
+#include <legumeyet.hpp>
+
+#include <algorithm>
+#include <fstream>
+#include <iostream>
+#include <iterator>
+#include <string>
+#include <vector>
+
+using legumeyet::Book;
+using Words = std::vector<std::string>;
+
+// The words of fields, in the order of their numbers.
+static const Words GROUPINGS{"auto", "never", "always", "min2"};
+static const Words SIGNS{"keep", "auto", "never", "always", "except-zero", "negative"};
+static const Words MODES{"-",           "expand",     "trunc",     "ceil",       "floor",
+                         "half-expand", "half-trunc", "half-ceil", "half-floor", "half-even"};
+
+static uint32_t number_of(const std::string &word, const Words &words) {
+    return static_cast<uint32_t>(std::find(words.begin(), words.end(), word) - words.begin());
+}
+
+// The pieces of a text between the marks.
+static Words pieces(const std::string &text, char mark) {
+    Words found(1);
+    for (char it : text) {
+        if (it == mark)
+            found.emplace_back();
+        else
+            found.back() += it;
+    }
+    return found;
+}
+
+// The word of an answer that an error stands for.
+static std::string word_of(int32_t error) {
+    switch (error) {
+    case LEGUMEYET_TAG: return "tag";
+    case LEGUMEYET_TABLE: return "table";
+    case LEGUMEYET_NUMBER: return "number";
+    case LEGUMEYET_LIMIT: return "limit";
+    default: return "no word";
+    }
+}
+
+// The text for the fields of a request by the call of a formatter.
+static std::string text_for(Book &book, const Words &fields, const legumeyet_options &options) {
+    const uint32_t grouping = number_of(fields[2], GROUPINGS);
+    return legumeyet::DecimalFormatter(book, fields[0], grouping).format(fields[5], options);
+}
+
+// What the call of a formatter says to a request, as the beginning of an answer; empty where none says what is asked.
+static std::string by_formatter(Book &book, const std::string &line) {
+    const auto fields = pieces(line, '\t'), rounding = pieces(fields[4], ',');
+    const bool is_known = fields[1] == "plain", is_rounded = rounding.size() == 3;
+    if (!is_known || (is_rounded && rounding[2] != "1")) return "";
+    legumeyet_options options{number_of(fields[3], SIGNS), number_of(rounding[is_rounded], MODES), 0};
+    if (is_rounded) options.position = static_cast<int16_t>(std::stoi(rounding[0]));
+    try {
+        return "ok\t" + text_for(book, fields, options);
+    } catch (const legumeyet::Error &error) {
+        return "err\t" + word_of(error.number);
+    }
+}
+
+static int answer_lines(const char *path) {
+    std::ifstream file(path, std::ios::binary);
+    const std::string json{std::istreambuf_iterator<char>(file), {}};
+    Book book(json);
+    for (std::string line; std::getline(std::cin, line);) {
+        const std::string front = by_formatter(book, line);
+        std::cout << (front.empty() ? "-" : front) << '\n';
+    }
+    return 0;
+}
+
+int main(int count, char **words) {
+    try {
+        return count == 2 ? answer_lines(words[1]) : 1;
+    } catch (const legumeyet::Error &error) {
+        std::cerr << "error " << error.number << ": " << error.what() << '\n';
+        return 1;
+    }
+}

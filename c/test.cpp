@@ -1,0 +1,57 @@
+// Calls each function of legumeyet.hpp well and badly. The status is 1 where one does otherwise than it should, and a line says which.
+#include <legumeyet.hpp>
+
+#include <iostream>
+
+using legumeyet::Book, legumeyet::DecimalFormatter;
+
+static const std::string BOOK = R"([[["en","","latn","-","","+","",".",",",3,3,1],["bad","","latn","","","+","",".",",",3,3,1]],
+[["latn","0123456789"]],[["en",[]]],[["en","",[[3,3,[["other",["","K"]]]]],null]],[]])";
+
+static int wrong = 0;
+
+static void expect(const std::string &got, const std::string &wanted) {
+    if (got == wanted) return;
+    std::cout << got << ", and not " << wanted << '\n';
+    wrong = 1;
+}
+
+// The call throws the error of this number.
+template <class Call> static void expect_error(int32_t number, Call call) {
+    try {
+        call();
+        std::cout << "no error, and not " << number << '\n';
+    } catch (const legumeyet::Error &error) {
+        if (error.number == number && *error.what() != 0) return;
+        std::cout << error.number << ", and not " << number << '\n';
+    }
+    wrong = 1;
+}
+
+static void formats(DecimalFormatter &english) {
+    const std::string long_number(1000, '1');
+    expect(english.format("-987654.321"), "-987,654.321");
+    expect(english.format(500, -2), "5.00");
+    expect(english.format(-123456, 1), "-1,234,560");
+    expect(english.format("9.65", {LEGUMEYET_SIGN_ALWAYS, LEGUMEYET_ROUND_HALF_EVEN, -1}), "+9.6");
+    expect(std::to_string(english.format(long_number).size()), "1333");
+    expect_error(LEGUMEYET_NUMBER, [&] { english.format("5."); });
+    expect_error(LEGUMEYET_NUMBER, [&] { english.format(std::string_view()); });
+    expect_error(LEGUMEYET_LIMIT, [&] { english.format(std::string(40000, '9')); });
+    expect_error(LEGUMEYET_LIMIT, [&] { english.format(10, INT16_MAX); });
+    expect_error(LEGUMEYET_OPTION, [&] { english.format("1", {6, 0, 0}); });
+}
+
+int main() {
+    Book first(BOOK), book(std::move(first)); // `first` is closed by that
+    DecimalFormatter english(book, "en"), moved = std::move(english);
+    expect_error(LEGUMEYET_CLOSED, [&] { english.format("1"); });
+    expect_error(LEGUMEYET_CLOSED, [&] { DecimalFormatter(first, "en"); });
+    expect_error(LEGUMEYET_BOOK_JSON, [] { Book("[1"); });
+    expect_error(LEGUMEYET_BOOK_JSON, [] { Book(std::string_view{}); });
+    expect_error(LEGUMEYET_TAG, [&] { DecimalFormatter(book, "e"); });
+    expect_error(LEGUMEYET_TABLE, [&] { DecimalFormatter(book, "xx"); });
+    book = Book("[[],[],[],[],[]]");
+    formats(moved);
+    return wrong;
+}
