@@ -1,0 +1,126 @@
+"""Books and formatters."""
+import threading
+from decimal import Decimal
+from types import TracebackType
+from typing import Any, Optional, Type, TypeVar, Union
+
+from ._library import Handle, Options, expect_well, library, written
+from ._options import Grouping, Rounding, Sign
+
+Self = TypeVar("Self", bound="Open")
+Number = Union[Decimal, int, str]
+Text = Union[str, bytes]
+
+
+def encoded(text: Text) -> bytes:
+    """The bytes of a text. A text that is no UTF-8 stays none."""
+    if not isinstance(text, (str, bytes)):
+        raise TypeError(f"a text is a str or bytes, and not {type(text).__name__}")
+    return text if isinstance(text, bytes) else text.encode("utf-8", "surrogatepass")
+
+
+def is_small(number: Number) -> bool:
+    """Whether the library takes the number as an integer of 64 bits."""
+    return isinstance(number, int) and -(2**63) <= number < 2**63
+
+
+def digits_of(number: Number) -> bytes:
+    """The number as the library reads it: with all zeros of a Decimal, unless it is beyond the library's magnitudes."""
+    if isinstance(number, str):
+        return encoded(number)
+    if not isinstance(number, (Decimal, int)):
+        raise TypeError(f"a number is a Decimal, an int or a str, and not {type(number).__name__}")
+    exact = Decimal(number)
+    is_near = exact.is_finite() and -32768 <= exact.as_tuple().exponent <= 32767  # type: ignore[operator]
+    return encoded(f"{exact:f}" if is_near else str(exact).replace("E+", "E"))
+
+
+def options_of(sign: Sign, rounding: Rounding, position: int) -> Options:
+    """The options of a call. Raises a ValueError for one that is none."""
+    if not -32768 <= position <= 32767:
+        raise ValueError("a position is from -32768 to 32767")
+    return Options(Sign(sign), Rounding(rounding), position)
+
+
+class Open:
+    """What is open until it is closed, by `with`, by `close` or when it is no longer used. A call takes it from other threads."""
+
+    _close: Any
+
+    def __init__(self) -> None:
+        self._handle, self._lock = Handle(), threading.Lock()
+
+    def close(self) -> None:
+        """Closes it. What is closed already stays so."""
+        with self._lock:
+            type(self)._close(self._handle)
+
+    def __enter__(self: Self) -> Self:
+        return self
+
+    def __exit__(self, kind: Optional[Type[BaseException]], error: Optional[BaseException], at: Optional[TracebackType]) -> None:
+        self.close()
+
+    def __del__(self) -> None:
+        if hasattr(self, "_lock"):
+            self.close()
+
+    def _written(self, call: Any, *arguments: Any) -> str:
+        """The text that a call on the handle writes."""
+        with self._lock:
+            return written(call, self._handle, *arguments).decode()
+
+
+class Book(Open):
+    """A book of tables, of its JSON text.
+
+    Raises `Error` 101 to 111 where the text is no book, 1 where memory was refused.
+
+    >>> with Book('[[],[["latn","0123456789"]],[],[],[]]') as book:
+    ...     DecimalFormatter(book, "en")
+    Traceback (most recent call last):
+    legumeyet.Error: 6: the book lacks a table for the tag
+    """
+
+    _close = library.legumeyet_book_close
+
+    def __init__(self, json: Text) -> None:
+        super().__init__()
+        given = encoded(json)
+        expect_well(library.legumeyet_book_open(given, len(given), self._handle))
+
+
+class DecimalFormatter(Open):
+    """The formatter of plain numbers for a locale tag. It keeps nothing of the book.
+
+    Raises `Error` 2 where the book is closed, 5 where the text is no locale tag, 6 where the book lacks a table for it, 1 where
+    memory was refused.
+
+    >>> book = Book('[[["de","","latn","-","","+","",",",".",3,3,1]],[["latn","0123456789"]],[],[],[]]')
+    >>> with DecimalFormatter(book, "de") as german:
+    ...     german.format(1234567), german.format(Decimal("0.50")), german.format(Decimal("2E+3"))
+    ('1.234.567', '0,50', '2.000')
+    """
+
+    _close = library.legumeyet_decimal_formatter_close
+
+    def __init__(self, book: Book, tag: Text, grouping: Grouping = Grouping.AUTO) -> None:
+        super().__init__()
+        given = encoded(tag)
+        with book._lock:
+            expect_well(library.legumeyet_decimal_formatter_open(book._handle, given, len(given), Grouping(grouping), self._handle))
+
+    def format(self, number: Number, sign: Sign = Sign.KEEP, rounding: Rounding = Rounding.KEEP, position: int = 0) -> str:
+        """The number's text. It is rounded at the position first: 0 is the ones, -2 the hundredths.
+
+        Raises `Error` 7 where the text is no number, 8 where a digit stands beyond the magnitudes -32768 to 32767, 2 where the
+        formatter is closed, 1 where memory was refused.
+
+        >>> english.format("9.65", Sign.ALWAYS, Rounding.HALF_EVEN, -1)
+        '+9.6'
+        """
+        options = options_of(sign, rounding, position)
+        if is_small(number):
+            return self._written(library.legumeyet_decimal_formatter_format_i64, number, 0, options)
+        given = digits_of(number)
+        return self._written(library.legumeyet_decimal_formatter_format, given, len(given), options)

@@ -1,0 +1,37 @@
+"""The numbers of options and of parts, as legumeyet.h has them."""
+from enum import IntEnum
+
+
+class Grouping(IntEnum):
+    """When grouping separators are written."""
+
+    AUTO = 0
+    NEVER = 1
+    ALWAYS = 2
+    MIN2 = 3
+
+
+class Sign(IntEnum):
+    """Which sign is written; it is chosen by what the rounding left."""
+
+    KEEP = 0
+    AUTO = 1
+    NEVER = 2
+    ALWAYS = 3
+    EXCEPT_ZERO = 4
+    NEGATIVE = 5
+
+
+class Rounding(IntEnum):
+    """Which neighbour a number is rounded to."""
+
+    KEEP = 0
+    EXPAND = 1
+    TRUNC = 2
+    CEIL = 3
+    FLOOR = 4
+    HALF_EXPAND = 5
+    HALF_TRUNC = 6
+    HALF_CEIL = 7
+    HALF_FLOOR = 8
+    HALF_EVEN = 9

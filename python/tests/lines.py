@@ -1,0 +1,50 @@
+"""Writes what formatters say to the request lines of standard input, under the book of a file: a line each, the beginning of its
+answer, or `-` where none does what the line asks for.
+
+usage: python3 lines.py BOOK < LINES > ANSWERS
+"""
+import sys
+
+import legumeyet
+from legumeyet import Book, DecimalFormatter, Grouping, Rounding, Sign
+
+WORDS = {5: "tag", 6: "table", 7: "number", 8: "limit", 9: "range", 11: "unreadable", 12: "not-written"}
+
+
+def option(kind, word):
+    """The option of a word, as EXCEPT_ZERO of `except-zero`."""
+    return kind[word.upper().replace("-", "_")]
+
+
+def text_for(book, fields):
+    """The text for the fields of a request by the call of a formatter. KeyError: none says what is asked."""
+    tag, form, grouping, sign, rounding, number = fields
+    grouping, sign = option(Grouping, grouping), option(Sign, sign)
+    position, mode, increment = rounding.split(",") if rounding != "-" else ("0", "keep", "1")
+    rounding = option(Rounding, mode)
+    if increment != "1":
+        raise KeyError(increment)
+    if form == "plain":
+        return DecimalFormatter(book, tag, grouping).format(number, sign, rounding, int(position))
+    raise KeyError(form)
+
+
+def by_formatter(book, line):
+    """What a formatter answers to a request, as the beginning of an answer; None where none can."""
+    try:
+        return f"ok\t{text_for(book, line.split(chr(9)))}"
+    except legumeyet.Error as error:
+        return f"err\t{WORDS[error.number]}"
+    except KeyError:
+        return None
+
+
+def main(path):
+    """Answers all lines."""
+    with open(path, "rb") as file, Book(file.read()) as book:
+        for line in sys.stdin.buffer:
+            line = line.rstrip(b"\n")
+            sys.stdout.buffer.write(f"{by_formatter(book, line.decode()) or '-'}\n".encode())
+
+
+main(*sys.argv[1:])

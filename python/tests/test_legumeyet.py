@@ -1,0 +1,99 @@
+"""Each call well and badly, and the examples of the docs.
+
+usage: python3 -m unittest discover -s python/tests
+"""
+import doctest
+import gc
+import threading
+import unittest
+from decimal import Decimal
+
+import legumeyet
+from legumeyet import Book, DecimalFormatter, Error, Grouping, Rounding, Sign, _formatters, _library
+
+JSON = """[[["en","","latn","-","","+","",".",",",3,3,1],["ar","","arab","-","","+","","٫","٬",3,3,1],
+["bad","","latn","","","+","",".",",",3,3,1]],[["latn","0123456789"],["arab","٠١٢٣٤٥٦٧٨٩"]],
+[["en",[]]],[["en","",[[3,3,[["other",["","K"]]]]],null]],[]]"""
+
+
+def load_tests(_loader, tests, _pattern):
+    """The tests of this file, and the examples."""
+    names = {"Book": Book, "Error": Error, "english": DecimalFormatter(Book(JSON), "en"), **vars(legumeyet)}
+    for module in (legumeyet, _formatters, _library):
+        tests.addTests(doctest.DocTestSuite(module, extraglobs=names))
+    return tests
+
+
+class Calls(unittest.TestCase):
+    def setUp(self):
+        self.book = Book(JSON)
+        self.english = DecimalFormatter(self.book, "en")
+
+    def refused(self, number, call, *words):
+        """The call raises the error of this number."""
+        with self.assertRaises(Error) as caught:
+            call(*words)
+        self.assertEqual(caught.exception.number, number)
+        self.assertTrue(caught.exception.word)
+
+    def test_numbers(self):
+        for number, text in [
+            (Decimal("-987654.321"), "-987,654.321"), (-1234, "-1,234"), (-(2**63), "-9,223,372,036,854,775,808"),
+            (10**20, "100,000,000,000,000,000,000"), (Decimal("0E-2"), "0.00"), (Decimal("2E+3"), "2,000"), (Decimal("-0"), "-0"),
+            ("+5.0", "+5.0"), (Decimal("1.50"), "1.50"), (True, "1"),
+        ]:
+            self.assertEqual(self.english.format(number), text)
+        self.assertEqual(len(self.english.format(10**30000)), 40001)
+
+    def test_bad_numbers(self):
+        for number in ("5.", "", "\0", "1\udcff", "١", Decimal("NaN"), Decimal("Infinity")):
+            self.refused(7, self.english.format, number)
+        for number in (10**32768, Decimal("1E+999999"), Decimal("1E-99999"), "1e40000", Decimal("0." + "1" * 40000)):
+            self.refused(8, self.english.format, number)
+        for number in (1.5, None, b"1", [1]):
+            self.assertRaises(TypeError, self.english.format, number)
+
+    def test_options(self):
+        self.assertEqual(self.english.format("9.65", Sign.ALWAYS, Rounding.HALF_EVEN, -1), "+9.6")
+        self.assertEqual(DecimalFormatter(self.book, "en", Grouping.NEVER).format(12345), "12345")
+        for words in ((6,), (0, 10), (0, 0, 32768), (2**32,), (-1,)):
+            self.assertRaises(ValueError, self.english.format, 1, *words)
+        self.assertRaises(ValueError, DecimalFormatter, self.book, "en", 4)
+
+    def test_books_and_tags(self):
+        for number, json in ((101, "[1"), (101, ""), (101, b"\xff"), (101, "\udcff"), (102, "[]"), (111, '[[],[],[],[],[],[["en","en"]]]')):
+            self.refused(number, Book, json)
+        for number, tag in ((5, "e"), (5, ""), (5, "\udcff"), (5, "a" * 100000), (6, "xx")):
+            self.refused(number, DecimalFormatter, self.book, tag)
+        self.assertRaises(TypeError, Book, None)
+        self.assertRaises(TypeError, DecimalFormatter, self.book, 1)
+
+    def test_closed(self):
+        self.book.close()
+        self.book.close()
+        self.assertEqual(self.english.format(1), "1")
+        self.refused(2, DecimalFormatter, self.book, "en")
+        self.english.close()
+        self.refused(2, self.english.format, 1)
+
+    def test_error_of_another_version(self):
+        self.assertEqual((Error(99).number, Error(99).word), (99, "an error of another version"))
+
+    def test_threads(self):
+        right = []
+        work = lambda: right.append(all(self.english.format(it) == f"{it:,}" for it in range(0, 500000, 997)))
+        threads = [threading.Thread(target=work) for _ in range(4)]
+        for it in threads:
+            it.start()
+        for it in threads:
+            it.join()
+        self.assertEqual(right, [True] * 4)
+
+    def test_lets_go(self):
+        for _ in range(200):
+            DecimalFormatter(Book(JSON), "en").format(1)
+        gc.collect()
+
+
+if __name__ == "__main__":
+    unittest.main()
