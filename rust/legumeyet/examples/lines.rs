@@ -1,0 +1,100 @@
+//! Writes what formatters say to the request lines of standard input, under the book of a file: a line each, the beginning of its
+//! answer, or `-` where none does what the line asks for.
+//!
+//! usage: lines BOOK < LINES > ANSWERS
+
+use legumeyet::{Book, DecimalFormatter, Error, Grouping, Options, Rounding, Sign};
+use std::error;
+use std::io::{self, BufRead, Write};
+
+fn grouping_of(word: &str) -> Option<Grouping> {
+    Some(match word {
+        "auto" => Grouping::Auto,
+        "never" => Grouping::Never,
+        "always" => Grouping::Always,
+        "min2" => Grouping::Min2,
+        _ => return None,
+    })
+}
+
+fn sign_of(word: &str) -> Option<Sign> {
+    Some(match word {
+        "keep" => Sign::Keep,
+        "auto" => Sign::Auto,
+        "never" => Sign::Never,
+        "always" => Sign::Always,
+        "except-zero" => Sign::ExceptZero,
+        "negative" => Sign::Negative,
+        _ => return None,
+    })
+}
+
+fn mode_of(word: &str) -> Option<Rounding> {
+    Some(match word {
+        "expand" => Rounding::Expand,
+        "trunc" => Rounding::Trunc,
+        "ceil" => Rounding::Ceil,
+        "floor" => Rounding::Floor,
+        "half-expand" => Rounding::HalfExpand,
+        "half-trunc" => Rounding::HalfTrunc,
+        "half-ceil" => Rounding::HalfCeil,
+        "half-floor" => Rounding::HalfFloor,
+        "half-even" => Rounding::HalfEven,
+        _ => return None,
+    })
+}
+
+/// The options of two fields, where a formatter has them.
+fn options_of(sign: &str, rounding: &str) -> Option<Options> {
+    let sign = sign_of(sign)?;
+    if rounding == "-" {
+        return Some(Options { sign, ..Options::default() });
+    }
+    let words: Vec<&str> = rounding.split(',').collect();
+    match words[..] {
+        [position, mode, "1"] => Some(Options { sign, rounding: mode_of(mode)?, position: position.parse().ok()? }),
+        _ => None,
+    }
+}
+
+/// The text for a request by the call of a formatter, where one does what is asked.
+fn text_for(book: &Book, fields: &[&str]) -> Option<Result<String, Error>> {
+    let [tag, form, grouping, sign, rounding, number] = *fields else { return None };
+    let (grouping, options) = (grouping_of(grouping)?, options_of(sign, rounding)?);
+    let plain = || DecimalFormatter::new(book, tag, grouping);
+    match form {
+        "plain" => Some(plain().and_then(|it| it.format(number, &options))),
+        _ => None,
+    }
+}
+
+/// The word of an answer that an error stands for.
+fn word_of(error: Error) -> &'static str {
+    match error {
+        Error::TAG => "tag",
+        Error::TABLE => "table",
+        Error::NUMBER => "number",
+        Error::LIMIT => "limit",
+        _ => "no word",
+    }
+}
+
+/// What a formatter says, as the beginning of an answer.
+fn front_of(said: Result<String, Error>) -> String {
+    match said {
+        Ok(text) => format!("ok\t{text}"),
+        Err(error) => format!("err\t{}", word_of(error)),
+    }
+}
+
+fn main() -> Result<(), Box<dyn error::Error>> {
+    let path = std::env::args_os().nth(1).ok_or("usage: lines BOOK < LINES > ANSWERS")?;
+    let book = Book::from_json(&std::fs::read(path)?)?;
+    let mut out = io::BufWriter::new(io::stdout().lock());
+    for line in io::stdin().lock().split(b'\n') {
+        let line = line?;
+        let fields: Vec<&str> = std::str::from_utf8(&line)?.split('\t').collect();
+        writeln!(out, "{}", text_for(&book, &fields).map_or("-".into(), front_of))?;
+    }
+    Ok(out.flush()?)
+}

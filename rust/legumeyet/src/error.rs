@@ -1,0 +1,77 @@
+use crate::{owned::written, sys};
+use std::fmt;
+
+/// Why a call was refused: its number, as legumeyet.h has it. `Display` says it in English.
+///
+/// ```
+/// let error = legumeyet::Book::from_json(b"[]").err().unwrap();
+/// assert_eq!(error, legumeyet::Error::BOOK_SHAPE);
+/// assert_eq!(error.number(), 102);
+/// ```
+#[derive(Clone, Copy, PartialEq, Eq, Hash)]
+pub struct Error(i32);
+
+impl Error {
+    /// Memory was refused.
+    pub const MEMORY: Error = Error(1);
+    /// The text is no locale tag.
+    pub const TAG: Error = Error(5);
+    /// The book lacks a table for the tag.
+    pub const TABLE: Error = Error(6);
+    /// The text is no decimal number.
+    pub const NUMBER: Error = Error(7);
+    /// A digit of the number stands beyond the magnitudes -32768 to 32767.
+    pub const LIMIT: Error = Error(8);
+    /// The bytes are no JSON.
+    pub const BOOK_JSON: Error = Error(101);
+    /// The value is not five arrays or six, or an entry has not its form.
+    pub const BOOK_SHAPE: Error = Error(102);
+    /// A locale, or the parent of one, is refused.
+    pub const BOOK_TAG: Error = Error(103);
+    /// A name of a numbering system is none.
+    pub const BOOK_SYSTEM: Error = Error(104);
+    /// A tab or a line feed stands in the text of a symbol or a pattern.
+    pub const BOOK_TEXT: Error = Error(105);
+    /// The digits of a system are not ten characters, or a tab or a line feed is among them.
+    pub const BOOK_DIGITS: Error = Error(106);
+    /// The condition of a plural category is none.
+    pub const BOOK_CONDITION: Error = Error(107);
+    /// The types of patterns do not rise.
+    pub const BOOK_TYPES: Error = Error(108);
+    /// An exponent of patterns falls, is above its type, or is too far below it.
+    pub const BOOK_EXPONENTS: Error = Error(109);
+    /// An earlier entry of the array has the same key.
+    pub const BOOK_DUPLICATE: Error = Error(110);
+    /// The parents of a locale lead back to it.
+    pub const BOOK_CYCLE: Error = Error(111);
+
+    /// The number, 1 to 99 of a call, 100 and more of a book.
+    pub fn number(self) -> i32 {
+        self.0
+    }
+
+    /// Nothing where a call answered 0, else its error.
+    pub(crate) fn check(number: i32) -> Result<(), Error> {
+        if number == sys::OK {
+            Ok(())
+        } else {
+            Err(Error(number))
+        }
+    }
+}
+
+impl fmt::Display for Error {
+    fn fmt(&self, out: &mut fmt::Formatter<'_>) -> fmt::Result {
+        // SAFETY: `written` passes memory that is as long as it says.
+        let text = written(|at, room, length| unsafe { sys::legumeyet_error_text(self.0, at, room, length) });
+        out.write_str(text.as_deref().unwrap_or("an error of another version"))
+    }
+}
+
+impl fmt::Debug for Error {
+    fn fmt(&self, out: &mut fmt::Formatter<'_>) -> fmt::Result {
+        write!(out, "Error({}: {self})", self.0)
+    }
+}
+
+impl std::error::Error for Error {}

@@ -1,0 +1,77 @@
+//! Numbers written as the readers of a locale write them, and read back.
+//!
+//! A book of tables gives a formatter for each locale tag:
+//!
+//! ```
+//! use legumeyet::{Book, DecimalFormatter, Grouping, Options};
+//!
+//! let book = Book::from_json(br#"[[["en","","latn","-","","+","",".",",",3,3,1]],[["latn","0123456789"]],[],[],[]]"#)?;
+//! let english = DecimalFormatter::new(&book, "en", Grouping::Auto)?;
+//! assert_eq!(english.format("-987654.321", &Options::default())?, "-987,654.321");
+//! # Ok::<(), legumeyet::Error>(())
+//! ```
+//!
+//! Books and formatters may move to another thread, and are used by one thread at a time:
+//!
+//! ```compile_fail
+//! fn is_shared<T: Sync>() {}
+//! is_shared::<legumeyet::DecimalFormatter>();
+//! ```
+
+mod error;
+mod options;
+mod owned;
+mod sys;
+
+pub use error::Error;
+pub use options::{Grouping, Options, Rounding, Sign};
+
+use owned::{written, Owned};
+
+/// A book of tables.
+pub struct Book(Owned);
+
+impl Book {
+    /// The book that a JSON text is. Refused by one of the `BOOK` errors, or `MEMORY`.
+    pub fn from_json(json: &[u8]) -> Result<Book, Error> {
+        // SAFETY: a slice is memory of its length, and `open` passes a closed handle.
+        Owned::open(sys::legumeyet_book_close, |book| unsafe { sys::legumeyet_book_open(json.as_ptr(), json.len(), book) }).map(Book)
+    }
+}
+
+/// The formatter of plain numbers for a locale tag. It keeps nothing of the book.
+pub struct DecimalFormatter(Owned);
+
+impl DecimalFormatter {
+    /// The formatter of a tag. Refused by `TAG`, `TABLE`, `MEMORY`.
+    pub fn new(book: &Book, tag: &str, grouping: Grouping) -> Result<DecimalFormatter, Error> {
+        // SAFETY: as for `Book::from_json`; no other call has the book's handle.
+        let open =
+            |formatter| unsafe { sys::legumeyet_decimal_formatter_open(book.0.at(), tag.as_ptr(), tag.len(), grouping as u32, formatter) };
+        Owned::open(sys::legumeyet_decimal_formatter_close, open).map(DecimalFormatter)
+    }
+
+    /// The text of a number that is given as text. Refused by `NUMBER`, `LIMIT`, `MEMORY`.
+    pub fn format(&self, number: &str, options: &Options) -> Result<String, Error> {
+        let options = options.numbers();
+        // SAFETY: as for `Book::answer`.
+        written(|out, room, length| unsafe {
+            sys::legumeyet_decimal_formatter_format(self.0.at(), number.as_ptr(), number.len(), &options, out, room, length)
+        })
+    }
+
+    /// The text of the number `mantissa` times ten to the power `exponent`: 500 and -2 are `5.00`. Refused by `LIMIT`, `MEMORY`.
+    pub fn format_i64(&self, mantissa: i64, exponent: i16, options: &Options) -> Result<String, Error> {
+        let options = options.numbers();
+        // SAFETY: as for `Book::answer`.
+        written(|out, room, length| unsafe {
+            sys::legumeyet_decimal_formatter_format_i64(self.0.at(), mantissa, exponent, &options, out, room, length)
+        })
+    }
+}
+
+/// The version of the library.
+pub fn version() -> u32 {
+    // SAFETY: it reads nothing.
+    unsafe { sys::legumeyet_version() }
+}

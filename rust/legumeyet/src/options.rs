@@ -1,0 +1,74 @@
+use crate::sys;
+
+/// When grouping separators are written.
+#[derive(Clone, Copy, Debug, Default, PartialEq, Eq)]
+pub enum Grouping {
+    /// Where the sizes of the locale place them: `1,234,567`.
+    #[default]
+    Auto = 0,
+    /// Nowhere: `1234567`.
+    Never = 1,
+    /// As `Auto`.
+    Always = 2,
+    /// As `Auto`, but only with two digits before the last separator: `1000`, `10,000`. The usual one of compact numbers.
+    Min2 = 3,
+}
+
+/// Which sign is written; it is chosen by what the rounding left.
+#[derive(Clone, Copy, Debug, Default, PartialEq, Eq)]
+pub enum Sign {
+    /// The one of the number as it was given: `+5` stays `+5`.
+    #[default]
+    Keep = 0,
+    /// A minus where the number has one; a plus is left out.
+    Auto = 1,
+    /// None.
+    Never = 2,
+    /// A plus where the number has none.
+    Always = 3,
+    /// None at zero, and else as `Always`.
+    ExceptZero = 4,
+    /// A minus on a number that is not zero, and else none.
+    Negative = 5,
+}
+
+/// Which neighbour a number is rounded to.
+#[derive(Clone, Copy, Debug, Default, PartialEq, Eq)]
+pub enum Rounding {
+    /// It is not rounded.
+    #[default]
+    Keep = 0,
+    /// Away from zero.
+    Expand = 1,
+    /// Towards zero.
+    Trunc = 2,
+    /// Upwards.
+    Ceil = 3,
+    /// Downwards.
+    Floor = 4,
+    /// To the nearest, a tie away from zero.
+    HalfExpand = 5,
+    /// To the nearest, a tie towards zero.
+    HalfTrunc = 6,
+    /// To the nearest, a tie upwards.
+    HalfCeil = 7,
+    /// To the nearest, a tie downwards.
+    HalfFloor = 8,
+    /// To the nearest, a tie to the even one.
+    HalfEven = 9,
+}
+
+/// What is made of a number before it is written: it is rounded, and then its sign is chosen. By default it stays as it is.
+#[derive(Clone, Copy, Debug, Default, PartialEq, Eq)]
+pub struct Options {
+    pub sign: Sign,
+    pub rounding: Rounding,
+    /// The magnitude that is rounded at: 0 the ones, -2 the hundredths.
+    pub position: i16,
+}
+
+impl Options {
+    pub(crate) fn numbers(&self) -> sys::Options {
+        sys::Options { sign: self.sign as u32, rounding: self.rounding as u32, position: self.position }
+    }
+}

@@ -1,0 +1,48 @@
+use crate::{sys, Error};
+use std::cell::UnsafeCell;
+
+/// A handle that is closed when it is dropped. It is not `Sync`: one call at a time has it.
+pub(crate) struct Owned {
+    handle: UnsafeCell<sys::Handle>,
+    close: unsafe extern "C" fn(*mut sys::Handle) -> i32,
+}
+
+// SAFETY: the library lets a handle be used in another thread than the one that opened it.
+unsafe impl Send for Owned {}
+
+impl Owned {
+    /// What a call opens.
+    pub(crate) fn open(
+        close: unsafe extern "C" fn(*mut sys::Handle) -> i32,
+        call: impl FnOnce(*mut sys::Handle) -> i32,
+    ) -> Result<Owned, Error> {
+        let owned = Owned { handle: UnsafeCell::new(sys::Handle::CLOSED), close };
+        Error::check(call(owned.at()))?;
+        Ok(owned)
+    }
+
+    /// The handle, for one call, which calls nothing back.
+    pub(crate) fn at(&self) -> *mut sys::Handle {
+        self.handle.get()
+    }
+}
+
+impl Drop for Owned {
+    fn drop(&mut self) {
+        // SAFETY: the handle is open or closed, and nobody else has it.
+        unsafe { (self.close)(self.at()) };
+    }
+}
+
+/// The text that a call writes, with as much room as it needs: the call is passed memory, its length, and where the text's length goes.
+pub(crate) fn written(mut call: impl FnMut(*mut u8, usize, *mut usize) -> i32) -> Result<String, Error> {
+    let (mut out, mut length) = (vec![0; 64], 0);
+    let mut number = call(out.as_mut_ptr(), out.len(), &mut length);
+    if number == sys::TOO_SMALL {
+        out.resize(length, 0);
+        number = call(out.as_mut_ptr(), out.len(), &mut length);
+    }
+    Error::check(number)?;
+    out.truncate(length);
+    Ok(String::from_utf8(out).expect("the library writes UTF-8"))
+}

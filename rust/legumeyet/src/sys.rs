@@ -1,0 +1,36 @@
+//! The functions of legumeyet.h.
+
+use std::ffi::c_void;
+
+pub const OK: i32 = 0;
+pub const TOO_SMALL: i32 = 3;
+
+/// A book or a formatter: in C each is a type of its own with these fields.
+#[repr(C)]
+pub struct Handle {
+    content: *mut c_void,
+    is_open: bool,
+}
+
+impl Handle {
+    pub const CLOSED: Handle = Handle { content: std::ptr::null_mut(), is_open: false };
+}
+
+#[repr(C)]
+pub struct Options {
+    pub sign: u32,
+    pub rounding: u32,
+    pub position: i16,
+}
+
+#[rustfmt::skip]
+extern "C" {
+    pub fn legumeyet_book_open(json: *const u8, json_length: usize, book: *mut Handle) -> i32;
+    pub fn legumeyet_book_close(book: *mut Handle) -> i32;
+    pub fn legumeyet_decimal_formatter_open(book: *mut Handle, tag: *const u8, tag_length: usize, grouping: u32, formatter: *mut Handle) -> i32;
+    pub fn legumeyet_decimal_formatter_close(formatter: *mut Handle) -> i32;
+    pub fn legumeyet_decimal_formatter_format(formatter: *mut Handle, number: *const u8, number_length: usize, options: *const Options, out: *mut u8, room: usize, length: *mut usize) -> i32;
+    pub fn legumeyet_decimal_formatter_format_i64(formatter: *mut Handle, mantissa: i64, exponent: i16, options: *const Options, out: *mut u8, room: usize, length: *mut usize) -> i32;
+    pub fn legumeyet_error_text(error: i32, out: *mut u8, room: usize, length: *mut usize) -> i32;
+    pub fn legumeyet_version() -> u32;
+}

@@ -1,0 +1,67 @@
+//! Each call well and badly.
+
+use legumeyet::{Book, DecimalFormatter, Error, Grouping, Options, Rounding, Sign};
+use std::thread;
+
+const JSON: &str = r#"[[["en","","latn","-","","+","",".",",",3,3,1],["bad","","latn","","","+","",".",",",3,3,1]],
+[["latn","0123456789"]],[["en",[]]],[["en","",[[3,3,[["other",["","K"]]]]],null]],[]]"#;
+const AS_GIVEN: Options = Options { sign: Sign::Keep, rounding: Rounding::Keep, position: 0 };
+
+fn book() -> Book {
+    Book::from_json(JSON.as_bytes()).unwrap()
+}
+
+fn english() -> DecimalFormatter {
+    DecimalFormatter::new(&book(), "en", Grouping::Auto).unwrap()
+}
+
+#[test]
+fn numbers() {
+    let english = english();
+    let long = "1".repeat(1000);
+    for (number, want) in [("-987654.321", "-987,654.321"), ("+5.0", "+5.0"), ("-0", "-0")] {
+        assert_eq!(english.format(number, &AS_GIVEN).unwrap(), want);
+    }
+    assert_eq!(english.format(&long, &AS_GIVEN).unwrap().len(), 1333);
+    assert_eq!(english.format_i64(i64::MIN, 0, &AS_GIVEN).unwrap(), "-9,223,372,036,854,775,808");
+    assert_eq!(english.format_i64(500, -2, &AS_GIVEN).unwrap(), "5.00");
+    assert_eq!(english.format_i64(-123456, 1, &AS_GIVEN).unwrap(), "-1,234,560");
+    let rounded = Options { sign: Sign::Always, rounding: Rounding::HalfEven, position: -1 };
+    assert_eq!(english.format("9.65", &rounded).unwrap(), "+9.6");
+    for (number, error) in [("5.", Error::NUMBER), ("", Error::NUMBER), ("1\0", Error::NUMBER), ("1e40000", Error::LIMIT)] {
+        assert_eq!(english.format(number, &AS_GIVEN), Err(error), "{number}");
+    }
+    assert_eq!(english.format(&"9".repeat(40000), &AS_GIVEN), Err(Error::LIMIT));
+    assert_eq!(english.format_i64(10, i16::MAX, &AS_GIVEN), Err(Error::LIMIT));
+}
+
+#[test]
+fn books_and_tags() {
+    for (json, error) in [
+        (&b"[1"[..], Error::BOOK_JSON),
+        (b"", Error::BOOK_JSON),
+        (b"\xff", Error::BOOK_JSON),
+        (b"[]", Error::BOOK_SHAPE),
+        (br#"[[],[],[],[],[],[["en","en"]]]"#, Error::BOOK_CYCLE),
+    ] {
+        assert_eq!(Book::from_json(json).err(), Some(error));
+    }
+    for (tag, error) in [("e", Error::TAG), ("", Error::TAG), (&"a".repeat(100_000), Error::TAG), ("xx", Error::TABLE)] {
+        assert_eq!(DecimalFormatter::new(&book(), tag, Grouping::Auto).err(), Some(error));
+    }
+    assert_eq!(Error::TAG.number(), 5);
+    assert_eq!(Error::TAG.to_string(), "no locale tag");
+}
+
+#[test]
+fn threads() {
+    let book = book();
+    let workers: Vec<_> = (0..4)
+        .map(|_| {
+            let formatter = DecimalFormatter::new(&book, "en", Grouping::Auto).unwrap();
+            thread::spawn(move || (0..1000).all(|_| formatter.format("1234", &AS_GIVEN).unwrap() == "1,234"))
+        })
+        .collect();
+    thread::spawn(move || drop(book)).join().unwrap();
+    assert!(workers.into_iter().all(|it| it.join().unwrap()));
+}
