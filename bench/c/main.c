@@ -1,0 +1,155 @@
+/*
+ * Times the calls of legumeyet.h beside those of ICU4C, in turns, and prints the one over the other: below 1 this library is faster.
+ * ICU4C's texts are UTF-16, as its calls for C write them.
+ *
+ * usage: main BOOK [TURNS]
+ */
+#include <legumeyet.h>
+#include <malloc.h>
+#include <stdio.h>
+#include <stdlib.h>
+#include <string.h>
+#include <time.h>
+#include <unicode/unumberformatter.h>
+#include <unicode/ustring.h>
+
+enum { ROOM = 128, DIGITS = 18, CALLS = 20000, HANDLES = 64 };
+
+static legumeyet_book book;
+static legumeyet_decimal_formatter plain;
+static const legumeyet_options AS_GIVEN = {0, 0, 0};
+static UNumberFormatter *icu_plain;
+static UFormattedNumber *icu_result;
+
+/* What is written: the digits, as a text and as an integer. */
+static const char *const NUMBER = "987654321987654321";
+static size_t count;
+static int64_t integer;
+static uint8_t out[ROOM];
+static UChar wide_out[ROOM];
+static size_t length;
+static UErrorCode status;
+
+static void end(const char *what) {
+    fprintf(stderr, "bench: %s\n", what);
+    exit(1);
+}
+
+static void text_here(void) {
+    if (legumeyet_decimal_formatter_format(&plain, (const uint8_t *)NUMBER, count, &AS_GIVEN, out, ROOM, &length) != 0) end("format");
+}
+
+static void text_there(void) {
+    unumf_formatDecimal(icu_plain, NUMBER, (int32_t)count, icu_result, &status);
+    unumf_resultToString(icu_result, wide_out, ROOM, &status);
+}
+
+static void integer_here(void) {
+    if (legumeyet_decimal_formatter_format_i64(&plain, integer, 0, &AS_GIVEN, out, ROOM, &length) != 0) end("format_i64");
+}
+
+static void integer_there(void) {
+    unumf_formatInt(icu_plain, integer, icu_result, &status);
+    unumf_resultToString(icu_result, wide_out, ROOM, &status);
+}
+
+typedef struct {
+    const char *name;
+    void (*here)(void), (*there)(void);
+} row;
+
+static const row ROWS[] = {
+    {"text", text_here, text_there},
+    {"integer", integer_here, integer_there},
+};
+
+enum { KINDS = sizeof ROWS / sizeof ROWS[0] };
+
+static double now(void) {
+    struct timespec it;
+    clock_gettime(CLOCK_PROCESS_CPUTIME_ID, &it);
+    return (double)it.tv_sec * 1e9 + (double)it.tv_nsec;
+}
+
+/* Keeps the least time of a call, in nanoseconds. */
+static void time_of(void (*call)(void), double *least) {
+    double start = now(), spent;
+    int at;
+    for (at = 0; at < CALLS; at++) call();
+    spent = (now() - start) / CALLS;
+    if (*least == 0 || spent < *least) *least = spent;
+}
+
+/* Whether both wrote the same text last. */
+static void expect_same(const char *what) {
+    UChar wide[ROOM];
+    int32_t wide_length = 0;
+    u_strFromUTF8(wide, ROOM, &wide_length, (const char *)out, (int32_t)length, &status);
+    if (u_strncmp(wide, wide_out, wide_length) != 0 || wide_out[wide_length] != 0) end(what);
+}
+
+/* Makes the numbers of a row of the table, and sees that both sides write them alike. */
+static void prepare(size_t digits) {
+    count = digits;
+    integer = strtoll(NUMBER + DIGITS - digits, NULL, 10);
+    text_there();
+    text_here();
+    expect_same("the texts differ");
+    integer_there();
+    integer_here();
+    expect_same("the texts of integers differ");
+    if (U_FAILURE(status)) end(u_errorName(status));
+}
+
+static void open_all(const char *path) {
+    static uint8_t json[1 << 24];
+    FILE *file = fopen(path, "rb");
+    if (file == NULL || legumeyet_book_open(json, fread(json, 1, sizeof json, file), &book) != 0) end("the book can't be opened");
+    fclose(file);
+    if (legumeyet_decimal_formatter_open(&book, (const uint8_t *)"en", 2, LEGUMEYET_GROUPING_AUTO, &plain) != 0) end("plain");
+    icu_plain = unumf_openForSkeletonAndLocale(u"", 0, "en", &status);
+    icu_result = unumf_openResult(&status);
+    if (U_FAILURE(status)) end(u_errorName(status));
+}
+
+/* What a formatter holds, beside its handle. */
+static void print_memory(void) {
+    static legumeyet_decimal_formatter plains[HANDLES];
+    size_t start = mallinfo2().uordblks;
+    int at;
+    for (at = 0; at < HANDLES; at++) legumeyet_decimal_formatter_open(&book, (const uint8_t *)"en", 2, 0, &plains[at]);
+    printf("a formatter holds %zu bytes, a handle %zu\n", (mallinfo2().uordblks - start) / HANDLES, sizeof plain);
+}
+
+int main(int words, char **word) {
+    int turns = words > 2 ? atoi(word[2]) : 15, turn;
+    size_t digits, kind;
+    double sums[KINDS] = {0}, text_sum = 0, integer_sum = 0;
+    if (words < 2) end("usage: main BOOK [TURNS]");
+    open_all(word[1]);
+    printf("digits");
+    for (kind = 0; kind < KINDS; kind++) printf("%9s  ns here", ROWS[kind].name);
+    printf("  integer, text\n");
+    for (digits = 1; digits <= DIGITS; digits++) {
+        double here[KINDS] = {0}, there[KINDS] = {0};
+        prepare(digits);
+        for (turn = 0; turn < turns; turn++)
+            for (kind = 0; kind < KINDS; kind++) {
+                time_of(ROWS[kind].here, &here[kind]);
+                time_of(ROWS[kind].there, &there[kind]);
+            }
+        printf("%6zu", digits);
+        for (kind = 0; kind < KINDS; kind++) {
+            printf("%9.2f%9.0f", here[kind] / there[kind], here[kind]);
+            sums[kind] += here[kind] / there[kind] / DIGITS;
+        }
+        printf("%15.2f\n", here[1] / here[0]);
+        text_sum += here[0];
+        integer_sum += here[1];
+    }
+    printf("mean  ");
+    for (kind = 0; kind < KINDS; kind++) printf("%9.2f         ", sums[kind]);
+    printf("%6.2f\n", integer_sum / text_sum);
+    print_memory();
+    return 0;
+}
