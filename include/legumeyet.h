@@ -2,7 +2,7 @@
  * Legumeyet: numbers written as their readers write them, from C.
  *
  * A book of tables is opened from a JSON text. From a book formatters are opened, one for each locale tag. A formatter writes numbers
- * into bytes of the caller's, and reads such text back:
+ * into bytes of the caller's:
  *
  *     legumeyet_book book = {0};
  *     legumeyet_decimal_formatter english = {0};
@@ -48,12 +48,13 @@ enum {
     LEGUMEYET_OK = 0,           /* all is well */
     LEGUMEYET_MEMORY = 1,       /* memory was refused */
     LEGUMEYET_CLOSED = 2,       /* the handle is closed */
-    LEGUMEYET_TOO_SMALL = 3,    /* the text, or the list of parts, needs more room; how much was written to `length`, to `count` */
+    LEGUMEYET_TOO_SMALL = 3,    /* the text needs more room; how much was written to `length` */
     LEGUMEYET_OPTION = 4,       /* an option is none of its numbers, as a grouping of 4 */
     LEGUMEYET_TAG = 5,          /* the text is no locale tag, as `e` */
     LEGUMEYET_TABLE = 6,        /* the book lacks a table for the tag */
     LEGUMEYET_NUMBER = 7,       /* the text is no decimal number, as `5.` */
     LEGUMEYET_LIMIT = 8,        /* a digit of the number stands beyond the magnitudes -32768 to 32767 */
+    /* Kept for calls that are not there yet: compact text, reading back. */
     LEGUMEYET_RANGE = 9,        /* what the number is shown as in compact form reaches ten to the power 32768 */
     LEGUMEYET_UTF8 = 10,        /* the text is not UTF-8 */
     LEGUMEYET_UNREADABLE = 11,  /* under the formatter's symbols two numbers may have one text */
@@ -80,12 +81,6 @@ enum {
     LEGUMEYET_GROUPING_MIN2 = 3    /* as AUTO, but only with two digits before the last separator: `1000`, `10,000` */
 };
 
-/* How long compact text is. */
-enum {
-    LEGUMEYET_LENGTH_SHORT = 0, /* `1.6K` */
-    LEGUMEYET_LENGTH_LONG = 1   /* `1.6 thousand` */
-};
-
 /* Which sign is written; chosen by what the rounding left. */
 enum {
     LEGUMEYET_SIGN_KEEP = 0,        /* the one of the number as it was given: `+5` stays `+5` */
@@ -110,16 +105,6 @@ enum {
     LEGUMEYET_ROUND_HALF_EVEN = 9    /* to the nearest, a tie to the even one */
 };
 
-/* The kinds of parts. */
-enum {
-    LEGUMEYET_PART_MINUS_SIGN = 1,
-    LEGUMEYET_PART_PLUS_SIGN = 2,
-    LEGUMEYET_PART_INTEGER = 3,  /* the integer digits with their separators */
-    LEGUMEYET_PART_GROUP = 4,    /* a grouping separator, inside an INTEGER */
-    LEGUMEYET_PART_DECIMAL = 5,  /* the decimal separator */
-    LEGUMEYET_PART_FRACTION = 6  /* the fraction digits */
-};
-
 /* A book of tables; see above, "A handle". */
 typedef struct {
     void *content;
@@ -132,25 +117,12 @@ typedef struct {
     bool is_open;
 } legumeyet_decimal_formatter;
 
-/* A formatter of compact numbers: `-1.2K`. */
-typedef struct {
-    void *content;
-    bool is_open;
-} legumeyet_compact_formatter;
-
 /* What is made of a number before it is written: it is rounded, and then its sign is chosen. Zeroed, the number stays as it is. */
 typedef struct {
     uint32_t sign;     /* a LEGUMEYET_SIGN */
     uint32_t rounding; /* a LEGUMEYET_ROUND */
     int16_t position;  /* the magnitude that is rounded at: 0 the ones, -2 the hundredths; of LEGUMEYET_ROUND_KEEP it counts for nothing */
 } legumeyet_options;
-
-/* A part of a text: the bytes from `start` up to `end`. */
-typedef struct {
-    size_t start;
-    size_t end;
-    uint32_t kind; /* a LEGUMEYET_PART */
-} legumeyet_interval;
 
 /*
  * Opens the book that a JSON text is; books/README.md says how such a text is made.
@@ -202,66 +174,6 @@ int32_t legumeyet_decimal_formatter_format(legumeyet_decimal_formatter *formatte
  */
 int32_t legumeyet_decimal_formatter_format_i64(legumeyet_decimal_formatter *formatter, int64_t mantissa, int16_t exponent,
                                                const legumeyet_options *options, uint8_t *out, size_t room, size_t *length);
-
-/*
- * Writes as legumeyet_decimal_formatter_format does, and lists the parts of the text in order of their beginning: of `-1,234.5` the
- * minus sign at 0 to 1, the integer at 1 to 6, the group at 2 to 3, the decimal at 6 to 7 and the fraction at 7 to 8.
- *
- * `count` is how many parts there are. Where they are more than `intervals_room` the call answers LEGUMEYET_TOO_SMALL too, and the
- * first `intervals_room` of them stand at `intervals`; those behind the last part stay as they were.
- *
- * Answers as legumeyet_decimal_formatter_format; LEGUMEYET_MEMORY also for the list.
- */
-int32_t legumeyet_decimal_formatter_format_parts(legumeyet_decimal_formatter *formatter, const uint8_t *number, size_t number_length,
-                                                 const legumeyet_options *options, uint8_t *out, size_t room, size_t *length,
-                                                 legumeyet_interval *intervals, size_t intervals_room, size_t *count);
-
-/*
- * Reads a text back as the one number that the formatter writes so, and writes it as digits: `-1,234.50` of English as `-1234.50`.
- *
- * Answers 0; LEGUMEYET_CLOSED; LEGUMEYET_UTF8; LEGUMEYET_UNREADABLE; LEGUMEYET_NOT_WRITTEN; LEGUMEYET_MEMORY; LEGUMEYET_TOO_SMALL.
- */
-int32_t legumeyet_decimal_formatter_read(legumeyet_decimal_formatter *formatter, const uint8_t *text, size_t text_length, uint8_t *out,
-                                         size_t room, size_t *length);
-
-/*
- * Opens the formatter of compact numbers for a locale tag: the short one of `en` writes 15127 as `15K`.
- *
- * It has its own copy of the tables. What `formatter` had open is closed, where the call answers 0. ICU4X's grouping of compact numbers
- * is LEGUMEYET_GROUPING_MIN2.
- *
- * Answers as legumeyet_decimal_formatter_open: LEGUMEYET_OPTION also of `text_length`, a LEGUMEYET_LENGTH; LEGUMEYET_TABLE also where the
- * book has no plural rules or no patterns of that length for the tag.
- */
-int32_t legumeyet_compact_formatter_open(legumeyet_book *book, const uint8_t *tag, size_t tag_length, uint32_t text_length,
-                                         uint32_t grouping, legumeyet_compact_formatter *formatter);
-
-/* Closes a formatter. Answers 0; LEGUMEYET_CLOSED, where it was closed already. */
-int32_t legumeyet_compact_formatter_close(legumeyet_compact_formatter *formatter);
-
-/*
- * Writes a decimal number that is given as text: `-1172700` as `-1.2M` in English, in short form.
- *
- * Answers as legumeyet_decimal_formatter_format; LEGUMEYET_RANGE before LEGUMEYET_MEMORY.
- */
-int32_t legumeyet_compact_formatter_format(legumeyet_compact_formatter *formatter, const uint8_t *number, size_t number_length,
-                                           const legumeyet_options *options, uint8_t *out, size_t room, size_t *length);
-
-/*
- * Writes the number `mantissa` times ten to the power `exponent`: 1650 and 0 as `1.6K` in English, in short form.
- *
- * Answers as legumeyet_compact_formatter_format, but for LEGUMEYET_NUMBER.
- */
-int32_t legumeyet_compact_formatter_format_i64(legumeyet_compact_formatter *formatter, int64_t mantissa, int16_t exponent,
-                                               const legumeyet_options *options, uint8_t *out, size_t room, size_t *length);
-
-/*
- * Answers a request line, as docs/requests.md has it, without its line feed: `en`, `plain`, `auto`, `keep`, `-`, `-987654.321` with tabs
- * between by `ok`, a tab and `-987,654.321`. A line that is refused is answered by `err`, a tab and a word, and the call by 0.
- *
- * Answers 0; LEGUMEYET_CLOSED; LEGUMEYET_MEMORY; LEGUMEYET_TOO_SMALL.
- */
-int32_t legumeyet_book_answer(legumeyet_book *book, const uint8_t *line, size_t line_length, uint8_t *out, size_t room, size_t *length);
 
 /*
  * Writes what an answer of these calls means, in English: of LEGUMEYET_TAG `no locale tag`.
