@@ -7,21 +7,23 @@ ghost use Rattle.fixed_decimal_digits.specs.Packed.{halves, packed, shifted};
 
 use crate::digits::INLINE;
 use smallvec::SmallVec;
-use std::alloc::Global;
 
-// The lowest bytes of a word, so many, the highest of them first. No memory is taken.
-pub fn bytes_of_word(alloc: Global, word: u32, count: usize) -> SmallVec<u8, INLINE>
-    requires { count ≤ 4 }
-    ensures items { result.items ≡ word_bytes word count }
-    ensures capacity { result.capacity ≡ 4 }
+// Puts the lowest bytes of a word, so many, the highest of them first, in place of those that are there. The memory stays, and none
+// is taken.
+pub fn assign_bytes(kept: &mut SmallVec<u8, INLINE>, word: u32, count: usize)
+    requires few { count ≤ 4 }
+    requires inline { 4 ≤ kept.old.capacity }
+    ensures items { kept.new.items ≡ word_bytes word count }
+    ensures capacity { kept.old.capacity ≤ kept.new.capacity }
 {
     let bytes = word.to_be_bytes();
+    kept.clear();
     match count {
-        0 => SmallVec::new(alloc),
-        1 => SmallVec::from_buf_and_len(alloc, [bytes[3], 0, 0, 0], 1),
-        2 => SmallVec::from_buf_and_len(alloc, [bytes[2], bytes[3], 0, 0], 2),
-        3 => SmallVec::from_buf_and_len(alloc, [bytes[1], bytes[2], bytes[3], 0], 3),
-        _ => SmallVec::from_buf(alloc, bytes),
+        0 => {}
+        1 => kept.push_reserved(bytes[3]),
+        2 => push_bytes(kept, &[bytes[2], bytes[3]]),
+        3 => push_bytes(kept, &[bytes[1], bytes[2], bytes[3]]),
+        _ => push_bytes(kept, &bytes),
     }
 }
 

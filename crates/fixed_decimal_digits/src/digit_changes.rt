@@ -1,9 +1,13 @@
 // Digits put behind a list of them, and taken away from either end.
-ghost use Rattle.std.specs.Prelude.{◌≡◌, ◌+◌, ◌%◌, ◌<◌, ◌≤◌, [], ◌∷◌, ◌++◌, length, take, drop, map, IsOk, OnOk, OnErr};
+ghost use Rattle.std.specs.Prelude.{◌≡◌, ◌+◌, ◌%◌, ◌^◌, ◌<◌, ◌≤◌, [], ◌∷◌, ◌++◌, length, take, drop, map, IsOk, OnOk, OnErr};
 ghost use Rattle.std.specs.Char.{digit_value};
+ghost use Rattle.std.specs.Int.Digits.{AllBelowBase};
 ghost use Rattle.fixed_decimal_digits.specs.DigitText.{AreDigits};
+ghost use Rattle.fixed_decimal_digits.specs.DigitWord.{word_digits};
 
-use crate::digit_bytes::{bytes_of_block, drop_bytes, push_bytes, set_byte, shift_half};
+use crate::digit_bytes::{
+    assign_bytes, bytes_of_block, drop_bytes, push_bytes, set_byte, shift_half,
+};
 use crate::digits::{BLOCK, Digits};
 use std::alloc::AllocError;
 
@@ -36,6 +40,31 @@ impl Digits {
         };
         let bytes = count / 2 + count % 2;
         self.kept.reserve(bytes - self.kept.len())
+    }
+
+    // Makes room for so many digits in all, those that are there among them.
+    pub(crate) fn make_room(&mut self, count: usize) -> Result<(), AllocError>
+        ensures ok { OnOk result (count ≤ self.new.capacity) }
+        ensures err { OnErr result (self.new ≡ self.old) }
+        ensures room { OnErr result (self.old.capacity < count) }
+    {
+        let more = count.saturating_sub(self.len());
+        self.reserve(more)
+    }
+
+    // Puts the lowest digits of a word, so many, four bits each, in place of those that are there. The memory stays, and none is taken.
+    pub(crate) fn assign_word(&mut self, word: u32, count: usize)
+        requires few { count ≤ 8 }
+        requires fits { word < 16 ^ count }
+        requires tens { AllBelowBase 10 (word_digits word count) }
+        ensures items { self.new.items ≡ word_digits word count }
+    {
+        if count % 2 == 0 {
+            assign_bytes(&mut self.kept, word, count / 2);
+        } else {
+            assign_bytes(&mut self.kept, word * 16, count / 2 + 1);
+        }
+        self.count = count;
     }
 
     // Adds a digit behind an even count: it begins a byte.

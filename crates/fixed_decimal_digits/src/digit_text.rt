@@ -1,12 +1,12 @@
 // The digits of a text.
-ghost use Rattle.std.specs.Prelude.{◌≡◌, ◌+◌, ◌-◌, ◌%◌, ◌^◌, ◌<◌, ◌≤◌, ◌++◌, length, map, take, IfOk, OnErr, IsTrue};
+ghost use Rattle.std.specs.Prelude.{◌≡◌, ◌+◌, ◌-◌, ◌%◌, ◌^◌, ◌<◌, ◌≤◌, ◌++◌, length, map, take, OnOk, OnErr, IsTrue};
 ghost use Rattle.std.specs.Char.{digit_value};
 ghost use Rattle.std.specs.Str.Parse.{digits_value_after};
 ghost use Rattle.fixed_decimal_digits.specs.DigitText.{AreDigits};
 
 use crate::digit_bytes::digit_of;
 use crate::digits::{BLOCK, Digits};
-use std::alloc::{AllocError, Global};
+use std::alloc::AllocError;
 
 // So many digits fit in a word, and need no memory.
 const INLINE_DIGITS: usize = 8;
@@ -103,44 +103,48 @@ fn word_after(word: u32, text: &[u8]) -> u32
     after
 }
 
-// The digits that two texts spell one behind the other, at most eight. No memory is taken.
-fn few_digits(alloc: Global, whole: &[u8], rest: &[u8]) -> Digits
+// Puts the digits that two texts spell one behind the other, at most eight, in place of those that are there. No memory is taken.
+fn assign_few(digits: &mut Digits, whole: &[u8], rest: &[u8])
     requires whole_digits { AreDigits whole.now }
     requires rest_digits { AreDigits rest.now }
     requires few { length whole.now + length rest.now ≤ 8 }
-    ensures { result.items ≡ map digit_value (whole.now ++ rest.now) }
+    ensures { digits.new.items ≡ map digit_value (whole.now ++ rest.now) }
 {
     let word = word_after(word_after(0, whole), rest);
-    Digits::of_word(alloc, word, whole.len() + rest.len())
+    digits.assign_word(word, whole.len() + rest.len());
 }
 
-// The digits that two texts spell one behind the other, more than eight.
-fn many_digits(alloc: Global, whole: &[u8], rest: &[u8]) -> Result<Digits, AllocError>
+// Puts the digits that two texts spell one behind the other, however many, in place of those that are there.
+fn assign_many(digits: &mut Digits, whole: &[u8], rest: &[u8]) -> Result<(), AllocError>
     requires whole_digits { AreDigits whole.now }
     requires rest_digits { AreDigits rest.now }
     requires count { length whole.now + length rest.now < 2 ^ 64 }
-    ensures items { IfOk result (λ d. d.items ≡ map digit_value (whole.now ++ rest.now)) }
-    ensures room { OnErr result (8 < length whole.now + length rest.now) }
+    ensures items { OnOk result (digits.new.items ≡ map digit_value (whole.now ++ rest.now)) }
+    ensures err { OnErr result (digits.new ≡ digits.old) }
+    ensures room { OnErr result (digits.old.capacity < length whole.now + length rest.now) }
 {
-    let mut digits = Digits::with_room(alloc, whole.len() + rest.len())?;
-    push_text(&mut digits, whole);
-    push_text(&mut digits, rest);
-    Ok(digits)
+    digits.make_room(whole.len() + rest.len())?;
+    digits.clear();
+    push_text(digits, whole);
+    push_text(digits, rest);
+    Ok(())
 }
 
-/// The digits that two texts spell one behind the other: 9, 0, 5 of `90` and `5`.
+/// Puts the digits that two texts spell one behind the other in place of those that are there: 9, 0, 5 of `90` and `5`.
 ///
-/// The condition is that each byte is a digit. Memory is taken where there are more than eight; it is refused (`AllocError`) only
-/// there.
-pub fn digits_of_texts(alloc: Global, whole: &[u8], rest: &[u8]) -> Result<Digits, AllocError>
+/// The condition is that each byte is a digit. The memory that the digits have is used again; more is taken where it has no room
+/// for these, and where that is refused (`AllocError`) the digits are as before.
+pub fn assign_texts(digits: &mut Digits, whole: &[u8], rest: &[u8]) -> Result<(), AllocError>
     requires whole_digits { AreDigits whole.now }
     requires rest_digits { AreDigits rest.now }
     requires count { length whole.now + length rest.now < 2 ^ 64 }
-    ensures items { IfOk result (λ d. d.items ≡ map digit_value (whole.now ++ rest.now)) }
-    ensures room { OnErr result (8 < length whole.now + length rest.now) }
+    ensures items { OnOk result (digits.new.items ≡ map digit_value (whole.now ++ rest.now)) }
+    ensures err { OnErr result (digits.new ≡ digits.old) }
+    ensures room { OnErr result (digits.old.capacity < length whole.now + length rest.now) }
 {
     if whole.len() + rest.len() <= INLINE_DIGITS {
-        return Ok(few_digits(alloc, whole, rest));
+        assign_few(digits, whole, rest);
+        return Ok(());
     }
-    many_digits(alloc, whole, rest)
+    assign_many(digits, whole, rest)
 }

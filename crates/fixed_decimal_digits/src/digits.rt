@@ -1,11 +1,9 @@
 // The digits of a number: this file, `digit_changes.rt` and `digit_run.rt` alone know how they lie in memory.
-ghost use Rattle.std.specs.Prelude.{◌≡◌, ◌==◌, ◌+◌, ◌%◌, ◌^◌, ◌<◌, ◌≤◌, ◌↔◌, [], length, slice_index, take, drop, map, IsTrue, IfOk, OnErr};
+ghost use Rattle.std.specs.Prelude.{◌≡◌, ◌==◌, ◌+◌, ◌%◌, ◌<◌, ◌≤◌, ◌↔◌, [], length, slice_index, take, drop, map, IsTrue, IfOk, OnErr};
 ghost use Rattle.std.specs.Bool.{Decides};
-ghost use Rattle.std.specs.Int.Digits.{AllBelowBase};
-ghost use Rattle.fixed_decimal_digits.specs.DigitWord.{word_digits};
 ghost use Rattle.fixed_decimal_digits.specs.DigitText.{character};
 
-use crate::digit_bytes::{bytes_of_word, digits_between, digits_within, text_of_block};
+use crate::digit_bytes::{digits_between, digits_within, text_of_block};
 use smallvec::SmallVec;
 use std::alloc::{AllocError, Global};
 use std::marker::Model;
@@ -63,21 +61,6 @@ impl Digits {
         let mut digits = Digits::new(alloc);
         digits.reserve(count)?;
         Ok(digits)
-    }
-
-    // The lowest digits of a word, so many, four bits each. No memory is taken.
-    pub(crate) fn of_word(alloc: Global, word: u32, count: usize) -> Digits
-        requires few { count ≤ 8 }
-        requires fits { word < 16 ^ count }
-        requires tens { AllBelowBase 10 (word_digits word count) }
-        ensures items { result.items ≡ word_digits word count }
-    {
-        let kept = if count % 2 == 0 {
-            bytes_of_word(alloc, word, count / 2)
-        } else {
-            bytes_of_word(alloc, word * 16, count / 2 + 1)
-        };
-        Digits { kept, count }
     }
 
     /// How many digits there are: 3 of 9, 0, 5. It takes no memory.

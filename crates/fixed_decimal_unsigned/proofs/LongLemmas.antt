@@ -1,18 +1,18 @@
 -- Counts of more than eight digits: where memory for digits may be wanted.
 use Rattle.std.proofs.Common.{◌≡◌, ℕ, suc, ◌+◌, ◌-◌, ◌*◌, ◌/◌, ◌%◌, ◌^◌, ◌<◌, ◌≤◌, List, [], ◌∷◌, ◌++◌, length, length-append, get_or, Result, Ok, Err, IsOk, OnErr, refl, sym, ap, ◌∙◌, subst, arith, ⊎_elim, zero, w32, map, drop, lit≤, add-one, drop-cons}
-use Rattle.std.proofs.Math.Nat.{div-add-mod', mul-div_cancel, mul-le-mul_right, mul_assoc, mod-one, eq-zero-or-pos, pow-suc, pow-le-pow_right}
+use Rattle.std.proofs.Math.Nat.{div-add-mod', mul-div_cancel, mul-le-mul_right, mul-lt-mul_of_pos_right, mul-mod_left, mul_assoc, mod-one, eq-zero-or-pos, pow-suc, pow-le-pow_right}
 use Rattle.std.proofs.lemmas.Bool.{cases_lt}
 use Rattle.std.specs.Char.{digit_value}
 use Rattle.std.specs.Int.Digits.{number_from_digits, AllBelowBase}
 use Rattle.fixed_decimal_unsigned.specs.NumberText.{spelled}
-use Rattle.fixed_decimal_unsigned.specs.Range.{IsLong}
+use Rattle.fixed_decimal_unsigned.specs.Range.{HoldsDigits, IsLong}
 use Rattle.fixed_decimal_digits.specs.DigitList.{count_of}
 use Rattle.fixed_decimal_unsigned.specs.Stored.{IsStored}
 use Rattle.fixed_decimal_digits.proofs.TenLemmas.{tens_positive, tens_apart, tens_split, digit_under}
 use Rattle.fixed_decimal_unsigned.proofs.MantissaLemmas.{spelled_from}
 use Rattle.fixed_decimal_unsigned.proofs.RangeLemmas.{holds_length, trimmed_of}
 use Rattle.std.proofs.lemmas.List.{append_assoc, append-nil, drop_all, length_push, map-append}
-use Rattle.std.proofs.lemmas.Int.Digits.{digits_value_is}
+use Rattle.std.proofs.lemmas.Int.Digits.{digits_value_is, number_lt}
 use Rattle.std.specs.Int.{to_be_bytes}
 use Rattle.std.specs.Str.Parse.{digits_value_after}
 
@@ -25,18 +25,34 @@ last_above n e count low h last whole =
     let none : count / 10 ^ e % 10 ≡ 0 = ap (λ x. x / 10 ^ e % 10) (sym multiple) ∙ digit_under (count / 10 ^ low) low e under in
     absurd (omega arith)) (λ over. over) (cases_lt e low)
 
-pub long_count : (n e count : ℕ) → count ≡ n * 10 ^ e → 0 < n % 10 → 10 ^ 8 ≤ n → IsLong count
-long_count n e count h last many = λ low holds.
+-- a number of at least so many digits that does not end in 0 is held by no fewer places than these and one more
+more_count : (places n e count : ℕ) → count ≡ n * 10 ^ e → 0 < n % 10 → 10 ^ places ≤ n → (low : ℕ) → ¬ (HoldsDigits count low places)
+more_count places n e count h last many = λ low holds.
     let at : low ≤ e = last_above n e count low h last holds.whole in
-    let reach : 10 ^ 8 * 10 ^ e ≤ n * 10 ^ e = mul-le-mul_right (10 ^ e) many in
-    let split : 10 ^ (8 + e) ≡ 10 ^ 8 * 10 ^ e = tens_split 8 e (8 + e) refl in
-    let up : 10 ^ (low + 8) ≤ 10 ^ (8 + e) = tens_apart (low + 8) (8 + e) (omega arith) in
+    let reach : 10 ^ places * 10 ^ e ≤ n * 10 ^ e = mul-le-mul_right (10 ^ e) many in
+    let split : 10 ^ (places + e) ≡ 10 ^ places * 10 ^ e = tens_split places e (places + e) refl in
+    let up : 10 ^ (low + places) ≤ 10 ^ (places + e) = tens_apart (low + places) (places + e) (omega arith) in
     let below = holds.below in
     absurd (omega arith)
+
+pub long_count : (n e count : ℕ) → count ≡ n * 10 ^ e → 0 < n % 10 → 10 ^ 8 ≤ n → IsLong count
+long_count n e count h last many = more_count 8 n e count h last many
 
 -- of a number as it is kept
 pub long_kept : (ds : List ℕ) (top low high : ℕ) → IsStored ds top low high → 8 < length ds → IsLong (count_of ds top)
 long_kept ds top low high s many = λ place holds. let few = holds_length ds top place 8 (trimmed_of ds top low high s) holds in absurd (omega arith)
+
+-- and its digits are held by so many places as they are
+pub kept_holds : (ds : List ℕ) (top low high : ℕ) → IsStored ds top low high → HoldsDigits (count_of ds top) (top + 1 - length ds) (length ds)
+kept_holds ds top low high s =
+    let e = top + 1 - length ds in
+    let n = number_from_digits 10 ds in
+    let swap : length ds + e ≡ e + length ds = omega arith in
+    let split : 10 ^ (e + length ds) ≡ 10 ^ length ds * 10 ^ e = tens_split (length ds) e (e + length ds) swap in
+    record {
+      whole = mul-mod_left n (10 ^ e);
+      below = subst (λ m. n * 10 ^ e < m) (sym split) (mul-lt-mul_of_pos_right (number_lt 10 ds s.tens) (tens_positive e));
+    }
 
 -- a whole number of at most eight digits is not long
 pub not_long : (n : ℕ) → n < 10 ^ 8 → ¬ (IsLong n)
@@ -54,19 +70,21 @@ text_reaches (c ∷ cs) some first =
     let least : 1 * 10 ^ length cs ≤ (0 * 10 + digit_value c) * 10 ^ length cs = mul-le-mul_right (10 ^ length cs) (omega arith) in
     subst (λ n. 10 ^ n ≤ spelled (c ∷ cs)) (sym e) (omega (arith, spelled_from (0 * 10 + digit_value c) cs, least))
 
-pub long_gathered : (whole rest : List ℕ) → (0 < length whole → 0 < digit_value (get_or whole 0 0)) → (length whole ≡ 0 → 0 < length rest → 0 < digit_value (get_or rest 0 0))
-    → 8 < length whole + length rest → 10 ^ 8 ≤ spelled (whole ++ rest)
-long_gathered [] rest first behind many =
-    let reach = text_reaches rest (omega arith) (behind refl (omega arith)) in let up = tens_apart 8 (length rest - 1) (omega arith) in omega arith
-long_gathered (c ∷ cs) rest first behind many =
+pub more_gathered : (places : ℕ) (whole rest : List ℕ) → (0 < length whole → 0 < digit_value (get_or whole 0 0)) → (length whole ≡ 0 → 0 < length rest → 0 < digit_value (get_or rest 0 0))
+    → places < length whole + length rest → 10 ^ places ≤ spelled (whole ++ rest)
+more_gathered places [] rest first behind many =
+    let reach = text_reaches rest (omega arith) (behind refl (omega arith)) in let up = tens_apart places (length rest - 1) (omega arith) in omega arith
+more_gathered places (c ∷ cs) rest first behind many =
     let long : length (cs ++ rest) ≡ length cs + length rest = length-append cs rest in
-    let reach = text_reaches (c ∷ (cs ++ rest)) (omega arith) (first (omega arith)) in let up = tens_apart 8 (length (c ∷ (cs ++ rest)) - 1) (omega arith) in omega arith
+    let reach = text_reaches (c ∷ (cs ++ rest)) (omega arith) (first (omega arith)) in let up = tens_apart places (length (c ∷ (cs ++ rest)) - 1) (omega arith) in omega arith
 
--- a mantissa of more than eight digits, the zeros at its end taken away
-pub long_mantissa : (kept zeros count mantissa e : ℕ) → mantissa ≡ kept * 10 ^ zeros → (0 < count → 0 < kept % 10) → (count ≡ 0 → kept ≡ 0) → 10 ^ 8 ≤ kept → IsLong (mantissa * 10 ^ e)
-long_mantissa kept zeros count mantissa e h last none many =
+-- a mantissa of more than so many digits, the zeros at its end taken away
+pub more_mantissa : (places kept zeros count mantissa e : ℕ) → mantissa ≡ kept * 10 ^ zeros → (0 < count → 0 < kept % 10) → (count ≡ 0 → kept ≡ 0) → 10 ^ places ≤ kept
+    → (low : ℕ) → ¬ (HoldsDigits (mantissa * 10 ^ e) low places)
+more_mantissa places kept zeros count mantissa e h last none many =
+    let least = tens_positive places in
     let some : 0 < count = ⊎_elim (λ z. let empty = none z in absurd (omega arith)) (λ p. p) (eq-zero-or-pos count) in
-    long_count kept (zeros + e) (mantissa * 10 ^ e)
+    more_count places kept (zeros + e) (mantissa * 10 ^ e)
     (ap (λ x. x * 10 ^ e) h ∙ mul_assoc kept (10 ^ zeros) (10 ^ e) ∙ ap (λ x. kept * x) (sym (tens_split zeros e (zeros + e) refl)))
     (last some) many
 

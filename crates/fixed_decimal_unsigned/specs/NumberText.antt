@@ -1,11 +1,11 @@
 -- Which text spells which number, where the number is beyond the limits, and the text that a number prints.
 -- Defined in docs/numbers.md, "The text".
--- Cited by `try_from_str` and `try_from_utf8`, by the printed text, and by the laws that join them.
+-- Cited by `try_from_str`, `try_from_utf8` and `assign_from_utf8`, by the printed text, and by the laws that join them.
 use Rattle.std.specs.Prelude.{◌≡◌, ℕ, ◌+◌, ◌-◌, ◌*◌, ◌^◌, ◌<◌, ◌≤◌, ◌==◌, ◌||◌, ◌⊎◌, min, max, Bool, true, false, cond, List, [], ◌∷◌, ◌++◌, length, map}
 use Rattle.std.specs.Str.Parse.{digits_value}
 pub use Rattle.fixed_decimal_digits.specs.DigitText.{digit_zero, character, AreDigits}
 use Rattle.fixed_decimal_unsigned.specs.Number.{Number, whole_digits, fraction_digits}
-use Rattle.fixed_decimal_unsigned.specs.Range.{IsLong}
+use Rattle.fixed_decimal_unsigned.specs.Range.{IsLong, IsLonger}
 
 -- the characters that a text may hold beside digits
 abbrev pub point : ℕ
@@ -112,6 +112,12 @@ pub record ReadsLong (text : List ℕ) : Type 0 where
   pub number : Number
   pub reads : Reads text number
   pub long : IsLong number.count
+
+-- the text spells a number of more digits than a count has
+pub record ReadsLonger (text : List ℕ) (other : ℕ) : Type 0 where
+  pub number : Number
+  pub reads : Reads text number
+  pub longer : IsLonger other number.count
 
 -- no parts make the text
 abbrev pub IsNoText : List ℕ → Type 0

@@ -36,6 +36,13 @@ pub record HoldsDigits (count low places : ℕ) : Type 0 where
 abbrev pub IsLong : ℕ → Type 0
 IsLong count = (low : ℕ) → ¬ (HoldsDigits count low 8)
 
+-- from the first to the last digit that is not zero a count has more digits than another, which so many places hold
+pub record IsLonger (other count : ℕ) : Type 0 where
+  pub low : ℕ
+  pub places : ℕ
+  pub holds : HoldsDigits other low places
+  pub more : (at : ℕ) → ¬ (HoldsDigits count at places)
+
 -- the last digit that is not zero stands right above a place, and the first at least eight above it: to write a multiple of 25 there may take memory
 pub record MayGrowAt (place count : ℕ) : Type 0 where
   pub first : 10 ^ (place + 8) ≤ count

@@ -1,15 +1,17 @@
 // Reading a text: the range that its digits and its exponent name, and the digits kept.
-ghost use Rattle.std.specs.Prelude.{◌≡◌, ◌+◌, ◌-◌, ◌*◌, ◌^◌, ◌%◌, ◌<◌, ◌≤◌, ◌==◌, ◌++◌, ◌||◌, min, max, cond, length, slice_index, IfOk, IfSome, IfNone, OnOk, OnErr, IsErrOf};
+ghost use Rattle.std.specs.Prelude.{ℕ, ◌≡◌, ◌+◌, ◌-◌, ◌*◌, ◌^◌, ◌%◌, ◌<◌, ◌≤◌, ◌==◌, ◌++◌, ◌||◌, min, max, cond, length, slice_index, IfOk, IfSome, IfNone, OnOk, OnErr, IsErrOf};
 ghost use Rattle.std.specs.Int.Digits.{number_from_digits, AllBelowBase};
 ghost use Rattle.std.specs.Char.{digit_value};
-ghost use Rattle.fixed_decimal_unsigned.specs.NumberText.{AreDigits, spelled, AreEndsIn, IsWithin, number_of, Reads, ReadsLong, IsBeyond, IsNoText};
+ghost use Rattle.fixed_decimal_unsigned.specs.NumberText.{AreDigits, spelled, AreEndsIn, IsWithin, number_of, Reads, ReadsLong, ReadsLonger, IsBeyond, IsNoText};
 ghost use Rattle.fixed_decimal_unsigned.specs.BorrowedParts.{parts_of};
-ghost use Rattle.fixed_decimal_unsigned.specs.Range.{IsLong};
+ghost use Rattle.fixed_decimal_unsigned.specs.Range.{HoldsDigits, IsLong};
+ghost use Rattle.fixed_decimal_unsigned.specs.Stored.{IsStored};
+ghost use Rattle.fixed_decimal_digits.specs.DigitList.{count_of};
 
 use crate::error::ParseError;
 use crate::text_parts::TextParts;
 use crate::unsigned_decimal::UnsignedDecimal;
-use fixed_decimal_digits::{Digits, ONES, digit_of, digits_of_texts};
+use fixed_decimal_digits::{Digits, ONES, assign_texts, digit_of};
 use std::alloc::{AllocError, Global};
 
 // No exponent in range reaches this; a larger one is read as this.
@@ -138,21 +140,24 @@ fn without_leading_zeros<'a>(integer: &'a [u8], fraction: &'a [u8]) -> (&'a [u8]
     }
 }
 
-// The digits that two texts spell one behind the other.
-fn gathered(alloc: Global, integer: &[u8], fraction: &[u8]) -> Result<Digits, AllocError>
+// Puts the digits that two texts spell one behind the other in place of those that are there.
+fn gather(digits: &mut Digits, integer: &[u8], fraction: &[u8]) -> Result<(), AllocError>
     requires integer_digits { AreDigits integer.now }
     requires fraction_digits { AreDigits fraction.now }
     requires integer_short { length integer.now ≤ 65536 }
     requires fraction_short { length fraction.now ≤ 65536 }
-    ensures value { IfOk result (λ d. number_from_digits 10 d.items ≡ spelled (integer.now ++ fraction.now)) }
-    ensures tens { IfOk result (λ d. AllBelowBase 10 d.items) }
-    ensures first { IfOk result (λ d. 0 < length d.items → 0 < slice_index d.items 0) }
-    ensures length { IfOk result (λ d. length d.items ≤ length integer.now + length fraction.now) }
+    ensures value { OnOk result (number_from_digits 10 digits.new.items ≡ spelled (integer.now ++ fraction.now)) }
+    ensures tens { OnOk result (AllBelowBase 10 digits.new.items) }
+    ensures first { OnOk result (0 < length digits.new.items → 0 < slice_index digits.new.items 0) }
+    ensures length { OnOk result (length digits.new.items ≤ length integer.now + length fraction.now) }
+    ensures err { OnErr result (digits.new ≡ digits.old) }
     ensures room { OnErr result (10 ^ 8 ≤ spelled (integer.now ++ fraction.now)) }
+    ensures kept { OnErr result (10 ^ length digits.old.items ≤ spelled (integer.now ++ fraction.now)) }
 {
+    let _room = digits.len();
     let (whole, rest) = without_leading_zeros(integer, fraction);
-    let digits = digits_of_texts(alloc, whole, rest)?;
-    Ok(digits)
+    assign_texts(digits, whole, rest)?;
+    Ok(())
 }
 
 // How far an exponent moves a mantissa up and down; that of zero does not move it.
@@ -168,6 +173,37 @@ fn moves_of(is_zero: bool, negative: bool, exponent: &[u8]) -> (usize, usize)
     if negative { (0, number) } else { (number, 0) }
 }
 
+// The place of the first digit kept, and those of the lowest and the highest digit shown.
+#[derive(Clone, Copy)]
+pub struct Places {
+    pub top: u16,
+    pub low: u16,
+    pub high: u16,
+}
+
+// The places of digits of which the last stands so many places above the end of their mantissa.
+fn places_of(digits: &Digits, zeros: usize, ends: Ends) -> Places
+    requires tens { AllBelowBase 10 digits.now.items }
+    requires first { 0 < length digits.now.items → 0 < slice_index digits.now.items 0 }
+    requires last { 0 < length digits.now.items → 0 < number_from_digits 10 digits.now.items % 10 }
+    requires room { ends.last + zeros + length digits.now.items ≤ ends.first + 1 }
+    ensures stored { IsStored digits.now.items result.top result.low result.high }
+    ensures count { count_of digits.now.items result.top ≡ number_from_digits 10 digits.now.items * 10 ^ (ends.last + zeros) }
+    ensures low { result.low ≡ min 32768 ends.last }
+    ensures high { result.high ≡ max 32768 ends.first }
+{
+    let top = if digits.is_empty() {
+        ONES
+    } else {
+        (ends.last as usize + zeros + digits.len() - 1) as u16
+    };
+    Places {
+        top,
+        low: ends.last.min(ONES),
+        high: ends.first.max(ONES),
+    }
+}
+
 // The number of digits of which the last stands so many places above the end of its mantissa.
 pub fn assembled(digits: Digits, zeros: usize, ends: Ends) -> UnsignedDecimal
     requires tens { AllBelowBase 10 digits.items }
@@ -178,16 +214,12 @@ pub fn assembled(digits: Digits, zeros: usize, ends: Ends) -> UnsignedDecimal
     ensures low { result.low ≡ min 32768 ends.last }
     ensures high { result.high ≡ max 32768 ends.first }
 {
-    let top = if digits.is_empty() {
-        ONES
-    } else {
-        (ends.last as usize + zeros + digits.len() - 1) as u16
-    };
+    let places = places_of(&digits, zeros, ends);
     UnsignedDecimal {
         digits,
-        top,
-        low: ends.last.min(ONES),
-        high: ends.first.max(ONES),
+        top: places.top,
+        low: places.low,
+        high: places.high,
     }
 }
 
@@ -198,18 +230,21 @@ fn is_none(integer: &[u8], fraction: &[u8]) -> bool
     integer.is_empty() && fraction.is_empty()
 }
 
-// The number of a text's parts.
-fn number_from(alloc: Global, parts: &TextParts<'_>) -> Result<UnsignedDecimal, ParseError>
+// Puts the digits of a text's parts in place of those that are there, and answers their places.
+fn read_parts(digits: &mut Digits, parts: &TextParts<'_>) -> Result<Places, ParseError>
     requires integer { AreDigits parts.now.integer.now }
     requires fraction { AreDigits parts.now.fraction.now }
     requires exponent { AreDigits parts.now.exponent.now }
     requires some { 0 < length parts.now.integer.now + length parts.now.fraction.now }
     ensures within { OnOk result (IsWithin (parts_of parts.now)) }
-    ensures value { IfOk result (λ v. v ≡ number_of (parts_of parts.now)) }
+    ensures stored { IfOk result (λ p. IsStored digits.new.items p.top p.low p.high) }
+    ensures value { IfOk result (λ p. record { count = count_of digits.new.items p.top; low = p.low; high = p.high } ≡ number_of (parts_of parts.now)) }
+    ensures err { OnErr result (digits.new ≡ digits.old) }
     ensures limit { IsErrOf result ParseError.Limit → ¬ (IsWithin (parts_of parts.now)) }
     ensures syntax { ¬ (IsErrOf result ParseError.Syntax) }
     ensures memory_within { IsErrOf result ParseError.Memory → IsWithin (parts_of parts.now) }
     ensures memory { IsErrOf result ParseError.Memory → IsLong (number_of (parts_of parts.now)).count }
+    ensures kept { IsErrOf result ParseError.Memory → (low : ℕ) → ¬ (HoldsDigits (number_of (parts_of parts.now)).count low (length digits.old.items)) }
 {
     let (integer, fraction) = without_mantissa_zeros(parts.integer, parts.fraction);
     let (up, down) = moves_of(is_none(integer, fraction), parts.negative, parts.exponent);
@@ -217,8 +252,8 @@ fn number_from(alloc: Global, parts: &TextParts<'_>) -> Result<UnsignedDecimal, 
         return Err(ParseError::Limit);
     };
     let zeros = parts.integer.len() + parts.fraction.len() - integer.len() - fraction.len();
-    let digits = gathered(alloc, integer, fraction)?;
-    Ok(assembled(digits, zeros, ends))
+    gather(digits, integer, fraction)?;
+    Ok(places_of(digits, zeros, ends))
 }
 
 impl UnsignedDecimal {
@@ -233,10 +268,38 @@ impl UnsignedDecimal {
         ensures memory { IsErrOf result ParseError.Memory → ReadsLong code_units.now }
         ensures value { IfOk result (λ v. Reads code_units.now v) }
     {
+        let mut number = UnsignedDecimal::zero(alloc);
+        match number.assign_from_utf8(code_units) {
+            Ok(()) => Ok(number),
+            Err(refused) => Err(refused),
+        }
+    }
+
+    /// Puts the number that a text spells in place of this one: `12.30` in place of 5.
+    ///
+    /// The refusals are those of `try_from_utf8`, and then the number is as before. The memory that the number has is used again:
+    /// more is taken only where the text spells a number of more than eight digits, from the first to the last one that is not
+    /// zero, and of more than any number that this one has been.
+    pub fn assign_from_utf8(&mut self, code_units: &[u8]) -> Result<(), ParseError>
+        ensures syntax { IsErrOf result ParseError.Syntax → IsNoText code_units.now }
+        ensures limit { IsErrOf result ParseError.Limit → IsBeyond code_units.now }
+        ensures memory { IsErrOf result ParseError.Memory → ReadsLong code_units.now }
+        ensures value { OnOk result (Reads code_units.now self.new) }
+        ensures err { OnErr result (self.new ≡ self.old) }
+        ensures room { IsErrOf result ParseError.Memory → ReadsLonger code_units.now self.old.count }
+    {
         let Some(parts) = TextParts::of(code_units) else {
             return Err(ParseError::Syntax);
         };
-        number_from(alloc, &parts)
+        match read_parts(&mut self.digits, &parts) {
+            Ok(places) => {
+                self.top = places.top;
+                self.low = places.low;
+                self.high = places.high;
+                Ok(())
+            }
+            Err(refused) => Err(refused),
+        }
     }
 
     /// The number that a text spells, and the refusals, as `try_from_utf8` has them of its bytes: `12.30` is
