@@ -1,8 +1,8 @@
 -- A text has one sign, since no number's text begins with one.
 use Rattle.std.proofs.Common.{◌≡◌, ℕ, List, [], ◌∷◌, ◌++◌, ◌⊎◌, refl, sym, ◌∙◌, subst, inl, inr, arith}
-use Rattle.fixed_decimal_unsigned.specs.NumberText.{minus, Spells, ReadsLong, IsNoText}
+use Rattle.fixed_decimal_unsigned.specs.NumberText.{minus, Spells, ReadsLong, ReadsLonger, IsNoText}
 use Rattle.fixed_decimal_unsigned.proofs.TextPartsLemmas.{no_sign, cons_head, cons_tail}
-use Rattle.fixed_decimal.specs.SignedText.{plus, sign_text, ReadsLongSigned, IsNoSignedText, StartsNoSign}
+use Rattle.fixed_decimal.specs.SignedText.{plus, sign_text, ReadsLongSigned, ReadsLongerSigned, IsNoSignedText, StartsNoSign}
 use Rattle.fixed_decimal.specs.declared.sign.Sign.{Sign}
 use Rattle.fixed_decimal.specs.declared.sign.Sign.TheVariants.{None, Negative, Positive}
 
@@ -31,4 +31,11 @@ long_signed text rest sign e h = record {
   number = record { sign = sign; absolute = h.number };
   reads = record { rest = rest; whole = e; reads = h.reads };
   long = h.long;
+}
+
+pub longer_signed : (text rest : List ℕ) (sign : Sign) (other : ℕ) → text ≡ sign_text sign ++ rest → ReadsLonger rest other → ReadsLongerSigned text other
+longer_signed text rest sign other e h = record {
+  number = record { sign = sign; absolute = h.number };
+  reads = record { rest = rest; whole = e; reads = h.reads };
+  longer = h.longer;
 }

@@ -1,10 +1,10 @@
 -- Which text spells which number with its sign: an unsigned number's text, with a plus or a minus before it or none.
 -- Defined in docs/numbers.md, "The text".
--- Cited by `try_from_str` and `try_from_utf8` of `Decimal`, by `run_calls`, and by the printed text.
+-- Cited by `try_from_str`, `try_from_utf8` and `assign_from_utf8` of `Decimal`, by `run_calls`, and by the printed text.
 use Rattle.std.specs.Prelude.{◌≡◌, ℕ, List, [], ◌∷◌, ◌++◌}
 use Rattle.fixed_decimal_unsigned.specs.Number.{Number}
 use Rattle.fixed_decimal_unsigned.specs.NumberText.{minus, Reads, IsBeyond, IsNoText, text_of}
-use Rattle.fixed_decimal_unsigned.specs.Range.{IsLong}
+use Rattle.fixed_decimal_unsigned.specs.Range.{IsLong, IsLonger}
 use Rattle.fixed_decimal.specs.SignedValue.{SignedValue}
 use Rattle.fixed_decimal.specs.declared.sign.Sign.{Sign}
 use Rattle.fixed_decimal.specs.declared.sign.Sign.TheVariants.{None, Negative, Positive}
@@ -37,6 +37,12 @@ pub record ReadsLongSigned (text : List ℕ) : Type 0 where
   pub number : SignedValue Number
   pub reads : ReadsSigned text number
   pub long : IsLong number.absolute.count
+
+-- the text spells a number of more digits than a count has
+pub record ReadsLongerSigned (text : List ℕ) (other : ℕ) : Type 0 where
+  pub number : SignedValue Number
+  pub reads : ReadsSigned text number
+  pub longer : IsLonger other number.absolute.count
 
 -- what stands behind a sign, or behind none, is no number's text
 abbrev pub IsNoSignedText : List ℕ → Type 0

@@ -1,9 +1,9 @@
-ghost use Rattle.std.specs.Prelude.{◌≡◌, ◌++◌, IfOk, IsErrOf, OnErr};
+ghost use Rattle.std.specs.Prelude.{◌≡◌, ◌++◌, IfOk, IsErrOf, OnErr, OnOk};
 ghost use Rattle.fixed_decimal_unsigned.specs.Number.{IsNumber};
 ghost use Rattle.fixed_decimal_unsigned.specs.Range.{IsLong};
 ghost use Rattle.fixed_decimal_unsigned.specs.Shifts.{plain_zero};
 ghost use Rattle.fixed_decimal.specs.WholeNumbers.{IsWhole};
-ghost use Rattle.fixed_decimal.specs.SignedText.{sign_text, ReadsSigned, ReadsLongSigned, IsBeyondSigned, IsNoSignedText, StartsNoSign};
+ghost use Rattle.fixed_decimal.specs.SignedText.{sign_text, ReadsSigned, ReadsLongSigned, ReadsLongerSigned, IsBeyondSigned, IsNoSignedText, StartsNoSign};
 
 use crate::sign::Sign;
 use crate::signed::Signed;
@@ -79,6 +79,30 @@ impl Signed<UnsignedDecimal> {
         let (sign, rest) = split_sign(code_units);
         match UnsignedDecimal::try_from_utf8(alloc, rest) {
             Ok(absolute) => Ok(Signed { sign, absolute }),
+            Err(refused) => Err(refused),
+        }
+    }
+
+    /// Puts the number that a text spells, with its sign, in place of this one: of `5` and the text `-12.30` it makes
+    /// `-12.30`, shown from magnitude 1 down to -2.
+    ///
+    /// The refusals are those of `try_from_utf8`, and the number is then as before. The memory that it has is used again:
+    /// more is taken only where the text spells a number of more than eight digits, from the first to the last one
+    /// that is not zero, and there is no room for so many.
+    pub fn assign_from_utf8(&mut self, code_units: &[u8]) -> Result<(), ParseError>
+        ensures syntax { IsErrOf result ParseError.Syntax → IsNoSignedText code_units.now }
+        ensures limit { IsErrOf result ParseError.Limit → IsBeyondSigned code_units.now }
+        ensures memory { IsErrOf result ParseError.Memory → ReadsLongSigned code_units.now }
+        ensures value { OnOk result (ReadsSigned code_units.now self.new) }
+        ensures err { OnErr result (self.new ≡ self.old) }
+        ensures room { IsErrOf result ParseError.Memory → ReadsLongerSigned code_units.now self.old.absolute.count }
+    {
+        let (sign, rest) = split_sign(code_units);
+        match self.absolute.assign_from_utf8(rest) {
+            Ok(()) => {
+                self.sign = sign;
+                Ok(())
+            }
             Err(refused) => Err(refused),
         }
     }
