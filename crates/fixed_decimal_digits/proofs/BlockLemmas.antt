@@ -27,10 +27,11 @@ byte_more text bytes i b l w e =
     ∙ ap (λ t. take i bytes ++ packed (map digit_value t)) (sym both)
 
 -- no byte is left
-pub bytes_whole : (text bytes : List ℕ) (i : ℕ) → length text ≤ 2 * i → length bytes ≤ i
-    → take i bytes ++ packed (map digit_value (drop (2 * i) text)) ≡ packed (map digit_value text) → bytes ≡ packed (map digit_value text)
+pub bytes_whole : (text bytes : List ℕ) (i : ℕ) → length text ≤ 2 * i → 2 * i ≤ length text
+    → take i bytes ++ packed (map digit_value (drop (2 * i) text)) ≡ packed (map digit_value text) → take (length text / 2) bytes ≡ packed (map digit_value text)
 bytes_whole text bytes i l m e =
-    sym (append-nil bytes) ∙ ap (λ t. t ++ []) (sym (take_all i bytes m))
+    let half : length text / 2 ≡ i = omega arith in
+    ap (λ n. take n bytes) half ∙ sym (append-nil (take i bytes))
     ∙ ap (λ t. take i bytes ++ packed (map digit_value t)) (sym (drop_all (2 * i) text l)) ∙ e
 
 -- digits behind an even count
@@ -48,28 +49,6 @@ block_pushed bytes new es count n p tens even size e =
     kept_so new (ds ++ es) (count + n) (below_joined ds es p.tens tens)
     (e ∙ ap (λ b. b ++ packed es) p.packed_are ∙ sym (packed_joined (count / 2) ds es (omega (arith, p.all))))
     (omega (arith, length-append ds es, p.all, size))
-
--- the digits of a text that are left
-pub two_left : (ds text : List ℕ) (i d e : ℕ) → i + 1 < length text → d ≡ digit_value (get_or text i 0) → e ≡ digit_value (get_or text (i + 1) 0)
-    → (ds ++ d ∷ e ∷ []) ++ map digit_value (drop (i + 2) text) ≡ ds ++ map digit_value (drop i text)
-two_left ds text i d e l f g =
-    let next : i + 2 ≡ i + 1 + 1 = omega arith in
-    let rest = map digit_value (drop (i + 1 + 1) text) in
-    ap (λ n. (ds ++ d ∷ e ∷ []) ++ map digit_value (drop n text)) next
-    ∙ append_assoc ds (d ∷ e ∷ []) rest
-    ∙ (λ k. ds ++ f k ∷ g k ∷ rest)
-    ∙ ap (λ t. ds ++ digit_value (get_or text i 0) ∷ map digit_value t) (sym (drop_more text (i + 1) 0 l))
-    ∙ ap (λ t. ds ++ map digit_value t) (sym (drop_more text i 0 (omega arith)))
-
-pub one_left : (ds text : List ℕ) (i d : ℕ) → i < length text → length text ≤ i + 1 → d ≡ digit_value (get_or text i 0)
-    → ds ++ d ∷ [] ≡ ds ++ map digit_value (drop i text)
-one_left ds text i d l m f =
-    ap (λ c. ds ++ c ∷ []) f
-    ∙ ap (λ t. ds ++ digit_value (get_or text i 0) ∷ map digit_value t) (sym (drop_all (i + 1) text m))
-    ∙ ap (λ t. ds ++ map digit_value t) (sym (drop_more text i 0 l))
-
-pub none_left : (ds text : List ℕ) (i : ℕ) → length text ≤ i → ds ≡ ds ++ map digit_value (drop i text)
-none_left ds text i m = sym (append-nil ds) ∙ ap (λ t. ds ++ map digit_value t) (sym (drop_all i text m))
 
 -- a text of two parts, one pushed behind the other
 pub parts_pushed : (ds front back text : List ℕ) → text ≡ front ++ back → (ds ++ map digit_value front) ++ map digit_value back ≡ ds ++ map digit_value text

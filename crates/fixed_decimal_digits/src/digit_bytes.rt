@@ -1,5 +1,5 @@
 // Changes of the bytes that hold two digits each.
-ghost use Rattle.std.specs.Prelude.{◌≡◌, ◌+◌, ◌<◌, ◌≤◌, ◌++◌, length, map, slice_set, take, drop};
+ghost use Rattle.std.specs.Prelude.{◌≡◌, ◌+◌, ◌/◌, ◌%◌, ◌<◌, ◌≤◌, ◌++◌, length, map, slice_set, take, drop};
 ghost use Rattle.std.specs.Char.{digit_value};
 ghost use Rattle.fixed_decimal_digits.specs.DigitWord.{word_bytes};
 ghost use Rattle.fixed_decimal_digits.specs.DigitText.{AreDigits, character};
@@ -35,16 +35,17 @@ pub fn digit_of(c: u8) -> u8
     c - b'0'
 }
 
-// The bytes that hold the digits of a block of text.
-#[tactic(auto, using(crate::proofs::DigitTextLemmas::digits_at, crate::proofs::BlockLemmas::byte_more, crate::proofs::BlockLemmas::bytes_whole))]
+// The bytes that hold the digits of a text, an even count of them and at most a block, with zeros behind.
+#[tactic(auto, using(crate::proofs::DigitTextLemmas::digits_at, crate::proofs::BlockLemmas::byte_more))]
 pub fn bytes_of_block(text: &[u8]) -> [u8; 32]
     requires text_digits { AreDigits text.now }
-    requires block { length text.now ≡ 64 }
-    ensures { result ≡ packed (map digit_value text.now) }
+    requires block { length text.now ≤ 64 }
+    requires even { length text.now % 2 ≡ 0 }
+    ensures { take (length text.now / 2) result ≡ packed (map digit_value text.now) }
 {
     let mut bytes = [0; 32];
     let mut index = 0;
-    while index < 32 {
+    while index < text.len() / 2 {
         let upper = digit_of(text[2 * index]);
         let lower = digit_of(text[2 * index + 1]);
         bytes[index] = upper * 16 + lower;
@@ -110,6 +111,15 @@ pub fn push_bytes(kept: &mut SmallVec<u8, INLINE>, bytes: &[u8])
     for byte in bytes {
         kept.push_reserved(*byte);
     }
+}
+
+// Adds bytes, for which there is room, behind those that are there, all of them at once.
+pub fn copy_bytes(kept: &mut SmallVec<u8, INLINE>, bytes: &[u8])
+    requires { length kept.old.items + length bytes.now ≤ kept.old.capacity }
+    ensures items { kept.new.items ≡ kept.old.items ++ bytes.now }
+    ensures capacity { kept.old.capacity ≤ kept.new.capacity }
+{
+    kept.extend_from_slice(bytes).unwrap();
 }
 
 // Puts a byte in the place of another.

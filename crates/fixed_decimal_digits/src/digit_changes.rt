@@ -6,9 +6,9 @@ ghost use Rattle.fixed_decimal_digits.specs.DigitText.{AreDigits};
 ghost use Rattle.fixed_decimal_digits.specs.DigitWord.{word_digits};
 
 use crate::digit_bytes::{
-    assign_bytes, bytes_of_block, drop_bytes, push_bytes, set_byte, shift_half,
+    assign_bytes, bytes_of_block, copy_bytes, drop_bytes, set_byte, shift_half,
 };
-use crate::digits::{BLOCK, Digits};
+use crate::digits::Digits;
 use std::alloc::AllocError;
 
 impl Digits {
@@ -107,44 +107,20 @@ impl Digits {
         }
     }
 
-    // Adds two digits behind an even count, in a byte of their own.
-    fn push_both(&mut self, first: u8, second: u8)
-        requires tens { (first < 10) × (second < 10) }
-        requires room { length self.old.items + 2 ≤ self.old.capacity }
-        requires even { length self.old.items % 2 ≡ 0 }
-        ensures items { self.new.items ≡ self.old.items ++ first ∷ second ∷ [] }
-        ensures capacity { self.new.capacity ≡ self.old.capacity }
-    {
-        self.kept.push_reserved(first * 16 + second);
-        self.count += 2;
-    }
-
-    // Adds two digits for which there is room.
-    pub(crate) fn push_two(&mut self, first: u8, second: u8)
-        requires tens { (first < 10) × (second < 10) }
-        requires room { length self.old.items + 2 ≤ self.old.capacity }
-        ensures items { self.new.items ≡ self.old.items ++ first ∷ second ∷ [] }
-        ensures capacity { self.new.capacity ≡ self.old.capacity }
-    {
-        if self.len() % 2 == 0 {
-            self.push_both(first, second);
-        } else {
-            self.push_lower(first);
-            self.push_upper(second);
-        }
-    }
-
-    // Adds the digits of a block of text, for which there is room, behind an even count.
+    // Adds the digits of a text of an even count, at most a block, for which there is room, behind an even count.
     pub(crate) fn push_block(&mut self, text: &[u8])
         requires text_digits { AreDigits text.now }
-        requires block { length text.now ≡ 64 }
-        requires room { length self.old.items + 64 ≤ self.old.capacity }
+        requires block { length text.now ≤ 64 }
+        requires pairs { length text.now % 2 ≡ 0 }
+        requires room { length self.old.items + length text.now ≤ self.old.capacity }
         requires even { length self.old.items % 2 ≡ 0 }
         ensures items { self.new.items ≡ self.old.items ++ map digit_value text.now }
         ensures capacity { self.old.capacity ≤ self.new.capacity }
     {
-        push_bytes(&mut self.kept, &bytes_of_block(text));
-        self.count += BLOCK;
+        let bytes = bytes_of_block(text);
+        let (front, _) = bytes.split_at(text.len() / 2);
+        copy_bytes(&mut self.kept, front);
+        self.count += text.len();
     }
 
     // Keeps an even count of the first digits.

@@ -9,7 +9,7 @@ use crate::digits::{BLOCK, Digits};
 use std::alloc::AllocError;
 
 // So many digits fit in a word, and need no memory.
-const INLINE_DIGITS: usize = 8;
+const WORD_DIGITS: usize = 8;
 
 // Whether each character is a digit.
 fn are_digits(text: &[u8]) -> bool
@@ -22,36 +22,37 @@ fn are_digits(text: &[u8]) -> bool
     all
 }
 
-/// How many characters whole blocks of digits make up that a text begins with: 64 of seventy ones, 0 of `1.5`. It takes no memory.
-pub fn digits_in_blocks(text: &[u8]) -> usize
+/// How many characters whole words of digits make up, eight in each, that a text begins with: 64 of seventy ones, 0 of `1.5`. It
+/// takes no memory.
+pub fn digits_in_words(text: &[u8]) -> usize
     ensures within { result ≤ length text.now }
     ensures digits { AreDigits (take result text.now) }
 {
     let mut count = 0;
-    while text.len() - count >= BLOCK {
-        if !are_digits(&text[count..count + BLOCK]) {
+    while text.len() - count >= WORD_DIGITS {
+        if !are_digits(&text[count..count + WORD_DIGITS]) {
             return count;
         }
-        count += BLOCK;
+        count += WORD_DIGITS;
     }
     count
 }
 
-// Adds the digits of a text, for which there is room, two at a time behind those that are there.
-#[tactic(auto, using(crate::proofs::DigitTextLemmas::digits_at, crate::proofs::BlockLemmas::two_left, crate::proofs::BlockLemmas::one_left, crate::proofs::BlockLemmas::none_left))]
-fn push_pairs(digits: &mut Digits, text: &[u8])
+// Adds the digits of a text, at most a block, for which there is room, behind an even count.
+#[tactic(auto, using(crate::proofs::BlockLemmas::digits_ahead, crate::proofs::BlockLemmas::digits_past, crate::proofs::BlockLemmas::parts_pushed, crate::proofs::BlockLemmas::pushed_length))]
+fn push_few(digits: &mut Digits, text: &[u8])
     requires text_digits { AreDigits text.now }
+    requires few { length text.now ≤ 64 }
     requires room { length digits.old.items + length text.now ≤ digits.old.capacity }
+    requires even { length digits.old.items % 2 ≡ 0 }
     ensures items { digits.new.items ≡ digits.old.items ++ map digit_value text.now }
-    ensures capacity { digits.new.capacity ≡ digits.old.capacity }
+    ensures capacity { digits.old.capacity ≤ digits.new.capacity }
 {
-    let mut at = 0;
-    while at + 1 < text.len() {
-        digits.push_two(digit_of(text[at]), digit_of(text[at + 1]));
-        at += 2;
-    }
-    if at < text.len() {
-        digits.push_reserved(digit_of(text[at]));
+    if text.len() % 2 == 0 {
+        digits.push_block(text);
+    } else if let Some((last, pairs)) = text.split_last() {
+        digits.push_block(pairs);
+        digits.push_reserved(digit_of(*last));
     }
 }
 
@@ -64,12 +65,12 @@ fn push_blocks(digits: &mut Digits, text: &[u8])
     ensures capacity { digits.old.capacity ≤ digits.new.capacity }
 {
     let mut rest = text;
-    while rest.len() >= BLOCK {
+    while rest.len() > BLOCK {
         let (front, back) = rest.split_at(BLOCK);
         digits.push_block(front);
         rest = back;
     }
-    push_pairs(digits, rest);
+    push_few(digits, rest);
 }
 
 // Adds the digits of a text, for which there is room, behind those that are there.
@@ -142,7 +143,7 @@ pub fn assign_texts(digits: &mut Digits, whole: &[u8], rest: &[u8]) -> Result<()
     ensures err { OnErr result (digits.new ≡ digits.old) }
     ensures room { OnErr result (digits.old.capacity < length whole.now + length rest.now) }
 {
-    if whole.len() + rest.len() <= INLINE_DIGITS {
+    if whole.len() + rest.len() <= WORD_DIGITS {
         assign_few(digits, whole, rest);
         return Ok(());
     }

@@ -26,7 +26,7 @@ pub use comparing::is_same_count;
 pub use concatenation::{push_behind, push_zeros, zeros_between};
 pub use cutting::cut_above;
 pub use digit_bytes::digit_of;
-pub use digit_text::{assign_texts, digits_in_blocks};
+pub use digit_text::{assign_texts, digits_in_words};
 pub use digits::{BLOCK, Digits};
 pub use integers::{push_number, strip_zeros};
 pub use modes::{RoundingIncrement, UnsignedRoundingMode};

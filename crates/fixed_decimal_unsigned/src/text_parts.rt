@@ -4,7 +4,7 @@ ghost use Rattle.fixed_decimal_unsigned.specs.NumberText.{AreDigits, behind_poin
 ghost use Rattle.fixed_decimal_unsigned.specs.TextParts.{StartsNoDigit, StartsNoPoint, IsNoFraction, IsNoExponent, StartsNoMinus, IsMark};
 ghost use Rattle.fixed_decimal_unsigned.specs.BorrowedParts.{parts_of};
 
-use fixed_decimal_digits::digits_in_blocks;
+use fixed_decimal_digits::digits_in_words;
 
 // The parts of a text, borrowed from it.
 #[derive(Clone, Copy)]
@@ -22,7 +22,7 @@ fn split_digits(text: &[u8]) -> (&[u8], &[u8])
     ensures digits { AreDigits result.0.now }
     ensures rest { StartsNoDigit result.1.now }
 {
-    let mut count = digits_in_blocks(text);
+    let mut count = digits_in_words(text);
     while count < text.len() {
         if !text[count].is_ascii_digit() {
             return (&text[..count], &text[count..]);

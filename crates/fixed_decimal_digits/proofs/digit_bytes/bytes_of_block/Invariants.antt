@@ -5,10 +5,10 @@ use Rattle.fixed_decimal_digits.proofs.digit_bytes.bytes_of_block.Given as goal
 
 abbrev pub invariant-loop-index : goal.invariant-loop-index
 invariant-loop-index l = record {
-  within : l.index ≤ 32;
+  within : 2 * l.index ≤ length l.text;
   size : length l.bytes ≡ 32;
   bytes : take l.index l.bytes ++ packed (map digit_value (drop (2 * l.index) l.text)) ≡ packed (map digit_value l.text);
 }
 
 abbrev pub decreases-loop-index : goal.decreases-loop-index
-decreases-loop-index l = 32 - l.index
+decreases-loop-index l = length l.text - l.index
