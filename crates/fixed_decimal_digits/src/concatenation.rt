@@ -16,15 +16,27 @@ pub fn push_zeros(digits: &mut Digits, count: usize)
     }
 }
 
-// Adds the digits of another list behind the digits.
+// Adds the digits of another list behind the digits, one after another.
 #[tactic(auto, using(std::proofs::lemmas::List::take_more))]
-fn push_all(digits: &mut Digits, other: &Digits)
+fn push_each(digits: &mut Digits, other: &Digits)
     requires { length digits.old.items + length other.now.items ≤ digits.old.capacity }
     ensures items { digits.new.items ≡ digits.old.items ++ other.now.items }
     ensures capacity { digits.new.capacity ≡ digits.old.capacity }
 {
     for index in 0..other.len() {
         digits.push_reserved(other.get(index));
+    }
+}
+
+// Adds the digits of another list behind the digits: behind an even count its bytes at once.
+fn push_all(digits: &mut Digits, other: &Digits)
+    requires { length digits.old.items + length other.now.items ≤ digits.old.capacity }
+    ensures { digits.new.items ≡ digits.old.items ++ other.now.items }
+{
+    if digits.len() % 2 == 0 {
+        digits.push_list(other);
+    } else {
+        push_each(digits, other);
     }
 }
 

@@ -123,6 +123,17 @@ impl Digits {
         self.count += text.len();
     }
 
+    // Adds the digits of another list, for which there is room, behind an even count: its bytes, as they are.
+    pub(crate) fn push_list(&mut self, other: &Digits)
+        requires room { length self.old.items + length other.now.items ≤ self.old.capacity }
+        requires even { length self.old.items % 2 ≡ 0 }
+        ensures items { self.new.items ≡ self.old.items ++ other.now.items }
+        ensures capacity { self.old.capacity ≤ self.new.capacity }
+    {
+        copy_bytes(&mut self.kept, other.kept.as_slice());
+        self.count += other.count;
+    }
+
     // Keeps an even count of the first digits.
     fn keep_even(&mut self, len: usize)
         requires within { len ≤ length self.old.items }

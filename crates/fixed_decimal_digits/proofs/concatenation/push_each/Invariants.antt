@@ -1,5 +1,5 @@
 use Rattle.std.proofs.Common.{◌≡◌, ◌++◌, take}
-use Rattle.fixed_decimal_digits.proofs.concatenation.push_all.Given as goal
+use Rattle.fixed_decimal_digits.proofs.concatenation.push_each.Given as goal
 
 abbrev pub invariant-loop-index : goal.invariant-loop-index
 invariant-loop-index l = record {
