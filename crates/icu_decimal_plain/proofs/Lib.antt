@@ -6,5 +6,6 @@ pub mod KnownValues
 pub mod PartLemmas
 pub mod PieceLemmas
 pub mod PlainTextLemmas
+pub mod RowLemmas
 pub mod SeparatorLemmas
 pub mod TextLemmas

@@ -182,7 +182,7 @@ middles_taken zero middles middle last groups none few =
 
 -- Texts that are UTF-8.
 
-utf8_digits : (table ds : List ℕ) → ((d : ℕ) → d < 10 → IsUtf8 (digit_text table d)) → AllBelowBase 10 ds → IsUtf8 (chained (map (digit_text table) ds))
+pub utf8_digits : (table ds : List ℕ) → ((d : ℕ) → d < 10 → IsUtf8 (digit_text table d)) → AllBelowBase 10 ds → IsUtf8 (chained (map (digit_text table) ds))
 utf8_digits table [] each tens = IsUtf8-nil
 utf8_digits table (d ∷ ds) each tens =
     IsUtf8-append (digit_text table d) (chained (map (digit_text table) ds)) (each d tens.0) (utf8_digits table ds each tens.1)

@@ -137,6 +137,20 @@ impl GroupSizes {
         }
     }
 
+    // How many groups there are, where each has three digits. `None`: there may be others.
+    pub(crate) fn threes(&self) -> Option<usize>
+        ensures { IfSome result (λ groups. self.now ≡ replicate groups 3) }
+    {
+        if self.first > 0 || (self.middle != 3 && self.middles > 0) {
+            return None;
+        }
+        match self.last {
+            0 => Some(self.middles as usize),
+            3 => Some(self.middles as usize + 1),
+            _ => None,
+        }
+    }
+
     // Takes the middle groups that fill a chunk. `None`: a group stands before them, they have too few digits, or no number of
     // them fills a chunk.
     pub(crate) fn next_chunk(&mut self) -> Option<GroupSizes>

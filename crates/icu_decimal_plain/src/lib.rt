@@ -19,6 +19,7 @@ mod formatted_unsigned_decimal;
 pub mod grouper;
 pub mod laws;
 mod piece_tables;
+mod rows;
 mod short_text;
 mod tables;
 mod text_pieces;

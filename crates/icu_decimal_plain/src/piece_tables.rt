@@ -3,16 +3,20 @@
 ghost use Rattle.std.specs.Prelude.{◌≡◌};
 ghost use Rattle.std.specs.Option.{ForSome};
 ghost use Rattle.icu_decimal_plain.specs.Pieces.{HoldSeparators, HoldTable};
+ghost use Rattle.icu_decimal_plain.specs.Rows.{IsRow};
 
+use crate::rows::row_of;
 use crate::text_pieces::{Piece, Separators, pieces_of};
 use icu_decimal_symbols::DecimalSymbols;
 
-// Ten digits, and the text of each as a piece.
+// Ten digits, the text of each as a piece, and the byte of zero where they are single bytes in a row.
 #[derive(Clone, Copy, Debug)]
 pub(crate) struct DigitTable<'b> {
     pub chars: &'b [char; 10],
     pub pieces: [Piece; 10],
+    pub nought: Option<u8>,
     pub ghost held: { HoldTable pieces chars.now },
+    pub ghost in_row: { ForSome nought (λ byte. IsRow byte chars.now) },
 }
 
 impl<'b> DigitTable<'b> {
@@ -23,6 +27,7 @@ impl<'b> DigitTable<'b> {
         DigitTable {
             chars,
             pieces: pieces_of(chars),
+            nought: row_of(chars),
         }
     }
 }

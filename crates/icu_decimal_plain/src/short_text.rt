@@ -17,12 +17,12 @@ use fixed_decimal::{ShownDigits, UnsignedDecimal};
 use std::marker::Model;
 
 // A number that shows more digits is not put together first.
-const FEW: usize = 16;
+const FEW: usize = 47;
 
 // The bytes that a short text may have.
-const ROOM: usize = 64;
+const ROOM: usize = 256;
 
-// A text of at most sixty-four bytes.
+// A text of at most two hundred and fifty-six bytes.
 #[derive(Debug, Drop)]
 pub(crate) struct ShortText {
     bytes: [u8; ROOM],
@@ -36,7 +36,7 @@ impl Model for ShortText {
 
     ghost view = { λ s. take s.len s.bytes };
 
-    ghost invariant = { λ s. (s.len ≤ 64) × ∥ IsUtf8 (take s.len s.bytes) ∥₁ };
+    ghost invariant = { λ s. (s.len ≤ 256) × ∥ IsUtf8 (take s.len s.bytes) ∥₁ };
 }
 
 impl ShortText {
@@ -59,7 +59,7 @@ impl ShortText {
 
     // Adds a piece.
     fn push(&mut self, piece: Piece)
-        requires room { length self.old + 4 ≤ 64 }
+        requires room { length self.old + 4 ≤ 256 }
         requires piece { Holds piece (take piece.len piece.bytes) }
         ensures { self.new ≡ self.old ++ take piece.len piece.bytes }
     {
@@ -73,7 +73,7 @@ impl ShortText {
         count: usize,
         table: &DigitTable<'_>,
     )
-        requires room { length self.old + 4 * count ≤ 64 }
+        requires room { length self.old + 4 * count ≤ 256 }
         requires tens { AllBelowBase 10 digits.old }
         ensures text { self.new ≡ self.old ++ chained (map (digit_text table.now.chars.now) (take count digits.old)) }
         ensures digits { digits.new ≡ drop count digits.old }

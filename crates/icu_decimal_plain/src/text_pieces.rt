@@ -8,6 +8,7 @@ ghost use Rattle.icu_decimal_plain.specs.Pieces.{Holds, HoldTable};
 
 use crate::grouper::GroupSizes;
 use crate::piece_tables::DigitTable;
+use crate::rows::{put_row, put_threes};
 
 // How many digits are put together at once. Groups of one, two, three and four digits fill it.
 pub(crate) const CHUNK: usize = 48;
@@ -90,14 +91,14 @@ pub(crate) fn put_piece<const N: usize>(waiting: &mut [u8; N], len: usize, piece
     len + piece.len as usize
 }
 
-// Puts digits behind so many bytes; the answer is how many there are then.
-fn put_digits(
-    waiting: &mut [u8; CHUNK_BYTES],
+// Puts digits as pieces behind so many bytes; the answer is how many there are then.
+fn put_digit_pieces<const N: usize>(
+    waiting: &mut [u8; N],
     len: usize,
     digits: &[u8],
     table: &DigitTable<'_>,
 ) -> usize
-    requires room { len + 4 * length digits.now ≤ 384 }
+    requires room { len + 4 * length digits.now ≤ N }
     requires tens { AllBelowBase 10 digits.now }
     ensures text { take result waiting.new ≡ take len waiting.old ++ chained (map (digit_text table.now.chars.now) digits.now) }
     ensures room { result ≤ len + 4 * length digits.now }
@@ -111,16 +112,34 @@ fn put_digits(
     len
 }
 
-// Puts groups, each with the separator before it, behind so many bytes; the answer is how many there are then.
-pub(crate) fn put_groups(
-    waiting: &mut [u8; CHUNK_BYTES],
+// Puts digits behind so many bytes; the answer is how many there are then.
+pub(crate) fn put_digits<const N: usize>(
+    waiting: &mut [u8; N],
+    len: usize,
+    digits: &[u8],
+    table: &DigitTable<'_>,
+) -> usize
+    requires room { len + 4 * length digits.now ≤ N }
+    requires tens { AllBelowBase 10 digits.now }
+    ensures text { take result waiting.new ≡ take len waiting.old ++ chained (map (digit_text table.now.chars.now) digits.now) }
+    ensures room { result ≤ len + 4 * length digits.now }
+{
+    if let Some(nought) = table.nought {
+        return put_row(waiting, len, digits, nought);
+    }
+    put_digit_pieces(waiting, len, digits, table)
+}
+
+// Puts groups of any sizes, each with the separator before it, behind so many bytes; the answer is how many there are then.
+fn put_any_groups<const N: usize>(
+    waiting: &mut [u8; N],
     len: usize,
     separator: Piece,
     digits: &[u8],
     sizes: &mut GroupSizes,
     table: &DigitTable<'_>,
 ) -> usize
-    requires room { len + 4 * (length digits.now + length sizes.old) ≤ 384 }
+    requires room { len + 4 * (length digits.now + length sizes.old) ≤ N }
     requires whole { sum sizes.old ≡ length digits.now }
     requires long { length separator.bytes ≡ 4 }
     requires short { separator.len ≤ 4 }
@@ -137,4 +156,31 @@ pub(crate) fn put_groups(
         ahead = behind;
     }
     len
+}
+
+// Puts groups, each with the separator before it, behind so many bytes; the answer is how many there are then.
+pub(crate) fn put_groups<const N: usize>(
+    waiting: &mut [u8; N],
+    len: usize,
+    separator: Piece,
+    digits: &[u8],
+    sizes: &mut GroupSizes,
+    table: &DigitTable<'_>,
+) -> usize
+    requires room { len + 4 * (length digits.now + length sizes.old) ≤ N }
+    requires whole { sum sizes.old ≡ length digits.now }
+    requires long { length separator.bytes ≡ 4 }
+    requires short { separator.len ≤ 4 }
+    requires tens { AllBelowBase 10 digits.now }
+    ensures text { take result waiting.new ≡ take len waiting.old ++ groups_ahead (take separator.len separator.bytes) (digit_text table.now.chars.now) sizes.old digits.now }
+    ensures room { result ≤ len + 4 * (length digits.now + length sizes.old) }
+{
+    if let Some(nought) = table.nought {
+        if let Some(groups) = sizes.threes() {
+            if separator.len == 1 {
+                return put_threes(waiting, len, separator.bytes[0], digits, groups, nought);
+            }
+        }
+    }
+    put_any_groups(waiting, len, separator, digits, sizes, table)
 }

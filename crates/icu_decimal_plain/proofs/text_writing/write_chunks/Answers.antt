@@ -1,5 +1,6 @@
+use Rattle.std.proofs.lemmas.List.{length-take-le}
 use Rattle.std.proofs.lemmas.Str.{IsUtf8-had}
-use Rattle.std.proofs.Common.{◌∙◌, IsUtf8, ap, arith, length, length-drop, subst, sym, take}
+use Rattle.std.proofs.Common.{◌+◌, ◌*◌, ◌≤◌, ◌∙◌, IsUtf8, ap, arith, length, length-drop, subst, sym, take}
 use Rattle.std.specs.Int.Digits.{AllBelowBase}
 use Rattle.writeable.specs.AnnotatedText.{bytes}
 use Rattle.writeable.specs.Taking.{on_err}
@@ -10,9 +11,16 @@ use Rattle.icu_decimal_plain.proofs.PieceLemmas.{chunk_bytes, chunk_past, tens_t
 use Rattle.icu_decimal_plain.proofs.PlainTextLemmas.{tens_dropped}
 use Rattle.icu_decimal_plain.proofs.text_writing.write_chunks.Goals as goal
 
-pub put_groups-len-requires-clause-tens : goal.put_groups-len-requires-clause-tens
-put_groups-len-requires-clause-tens g c =
-    subst (AllBelowBase 10) (sym c.next_digits-chunk.ensures.chunk) (tens_taken 48 c.loop-digits.digits c.loop-digits.invariant.tens)
+pub put_groups-len-requires : goal.put_groups-len-requires
+put_groups-len-requires g c =
+    let was = c.loop-digits.digits in
+    let enough = c.loop-digits-test.true in
+    let len = c.len.ensures in
+    let size = ap length c.next_digits-chunk.ensures.chunk ∙ length-take-le 48 was (omega (arith, enough, len)) in
+    let few = c.in-Some.ensures.few in
+    let room : 0 + 4 * (length c.next_digits-chunk.result + length c.in-Some.groups) ≤ 384 = omega (arith, size, few) in
+    let tens = subst (AllBelowBase 10) (sym c.next_digits-chunk.ensures.chunk) (tens_taken 48 was c.loop-digits.invariant.tens) in
+    (omega arith, (room, (c.in-Some.ensures.whole ∙ sym size, (c.new-piece.ensures.long, (c.new-piece.ensures.short, tens)))))
 
 pub write_waiting-requires-clause-utf8 : goal.write_waiting-requires-clause-utf8
 write_waiting-requires-clause-utf8 g c =

@@ -9,7 +9,7 @@ invariant-loop-left l = record {
   tens : AllBelowBase 10 l.digits;
   digits : drop l.left l.digits ≡ drop l.count l.initial.digits;
   text : l.self ++ chained (map (digit_text l.table.chars.now) (take l.left l.digits)) ≡ l.initial.self ++ chained (map (digit_text l.table.chars.now) (take l.count l.initial.digits));
-  room : length l.self + 4 * l.left ≤ 64;
+  room : length l.self + 4 * l.left ≤ 256;
 }
 
 abbrev pub decreases-loop-left : goal.decreases-loop-left

@@ -2,10 +2,10 @@ use Rattle.std.proofs.Common.{◌≡◌, ◌+◌, ◌*◌, ◌≤◌, ◌++◌, 
 use Rattle.std.specs.Int.Digits.{AllBelowBase}
 use Rattle.icu_decimal_plain.specs.PlainText.{digit_text}
 use Rattle.icu_decimal_plain.specs.LaterGroups.{groups_ahead}
-use Rattle.icu_decimal_plain.proofs.text_pieces.put_groups.Given as goal
+use Rattle.icu_decimal_plain.proofs.text_pieces.put_any_groups.Given as goal
 
 abbrev pub invariant-loop-size : goal.invariant-loop-size
-invariant-loop-size l = record {
+invariant-loop-size g l = record {
   whole : sum l.sizes ≡ length l.ahead;
   tens : AllBelowBase 10 l.ahead;
   text : take l.len l.waiting ++ groups_ahead (take l.separator.len l.separator.bytes) (digit_text l.table.chars.now) l.sizes l.ahead ≡ take l.initial.len l.initial.waiting ++ groups_ahead (take l.separator.len l.separator.bytes) (digit_text l.table.chars.now) l.initial.sizes l.digits;
