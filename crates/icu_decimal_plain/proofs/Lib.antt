@@ -1,3 +1,4 @@
+pub mod DigitChunkLemmas
 pub mod EventPartLemmas
 pub mod GrouperLemmas
 pub mod HintLemmas

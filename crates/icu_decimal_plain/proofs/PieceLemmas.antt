@@ -297,3 +297,12 @@ run_past ns ds count cut =
     let rest = sum_if (count % 48) in
     let all : sum (replicate (count / 48) 48 ++ size_if (count % 48)) ≡ count = omega (arith, whole, chunks, rest) in
     ap (λ sizes. drop (sum sizes) ds) cut ∙ ap (λ m. drop m ds) all
+
+-- all the sizes that the writer holds
+pub held_sum : (first middles middle last : ℕ) → sum (sizes_held first middles middle last) ≡ first + middles * middle + last
+held_sum first middles middle last =
+    let both = sum_by-append (λ x. x) (size_if first) (replicate middles middle ++ size_if last) in
+    let front = sum_if first in
+    let others = chunk_sum (size_if last) middle middles in
+    let behind = sum_if last in
+    omega (arith, both, front, others, behind)

@@ -137,6 +137,23 @@ impl GroupSizes {
         }
     }
 
+    // How many groups there are.
+    pub(crate) fn groups(&self) -> usize
+        ensures value { result ≡ length self.now }
+        ensures bound { result < 65538 }
+    {
+        let first = (self.first > 0) as usize;
+        let last = (self.last > 0) as usize;
+        first + self.middles as usize + last
+    }
+
+    // How many digits they have together.
+    pub(crate) fn digits(&self) -> usize
+        ensures { result ≡ sum self.now }
+    {
+        self.first as usize + self.middles as usize * self.middle as usize + self.last as usize
+    }
+
     // How many groups there are, where each has three digits. `None`: there may be others.
     pub(crate) fn threes(&self) -> Option<usize>
         ensures { IfSome result (λ groups. self.now ≡ replicate groups 3) }

@@ -1,6 +1,6 @@
 //! Short texts: some digits, or a whole number, put together in one place and written by one call of the sink.
 
-ghost use Rattle.std.specs.Prelude.{◌≡◌, ◌+◌, ◌*◌, ◌<◌, ◌≤◌, ◌++◌, [], drop, length, map, take, IfSome};
+ghost use Rattle.std.specs.Prelude.{◌≡◌, ◌+◌, ◌-◌, ◌*◌, ◌<◌, ◌≤◌, ◌++◌, [], drop, length, map, sum, take, IfSome};
 ghost use Rattle.std.specs.Int.Digits.{AllBelowBase};
 ghost use Rattle.fixed_decimal.specs.Number.{fraction_digits, whole_digits};
 ghost use Rattle.icu_decimal_plain.specs.BorrowedTables.{borrowed_tables};
@@ -8,10 +8,11 @@ ghost use Rattle.icu_decimal_plain.specs.LaterGroups.{groups_ahead};
 ghost use Rattle.icu_decimal_plain.specs.Pieces.{Holds};
 ghost use Rattle.icu_decimal_plain.specs.PlainText.{chained, digit_text, fraction_text, unsigned_text, whole_text};
 
+use crate::digit_chunks::few_digits;
 use crate::grouper::GroupSizes;
 use crate::piece_tables::DigitTable;
 use crate::tables::DecimalTables;
-use crate::text_pieces::{Piece, put_piece};
+use crate::text_pieces::{Piece, put_digits, put_groups, put_piece};
 use crate::writing::{digits_shown, fraction_len, highest};
 use fixed_decimal::{ShownDigits, UnsignedDecimal};
 use std::marker::Model;
@@ -88,42 +89,15 @@ impl ShortText {
         }
     }
 
-    // Adds the next digits, so many. `None`: they may not have room.
-    fn push_first(
-        &mut self,
-        digits: &mut ShownDigits<'_>,
-        count: usize,
-        table: &DigitTable<'_>,
-    ) -> Option<()>
-        requires { AllBelowBase 10 digits.old }
-        ensures text { IfSome result (λ _. self.new ≡ self.old ++ chained (map (digit_text table.now.chars.now) (take count digits.old))) }
-        ensures digits { IfSome result (λ _. digits.new ≡ drop count digits.old) }
+    // Adds digits. `None`: they may not have room.
+    fn push_front(&mut self, digits: &[u8], table: &DigitTable<'_>) -> Option<()>
+        requires { AllBelowBase 10 digits.now }
+        ensures { IfSome result (λ _. self.new ≡ self.old ++ chained (map (digit_text table.now.chars.now) digits.now)) }
     {
-        if (ROOM - self.len) / 4 < count {
+        if (ROOM - self.len) / 4 < digits.len() {
             return None;
         }
-        self.push_digits(digits, count, table);
-        Some(())
-    }
-
-    // Adds a piece and the next digits, so many. `None`: they may not have room.
-    fn push_group(
-        &mut self,
-        before: Piece,
-        digits: &mut ShownDigits<'_>,
-        count: usize,
-        table: &DigitTable<'_>,
-    ) -> Option<()>
-        requires before { Holds before (take before.len before.bytes) }
-        requires tens { AllBelowBase 10 digits.old }
-        ensures text { IfSome result (λ _. self.new ≡ self.old ++ (take before.len before.bytes ++ chained (map (digit_text table.now.chars.now) (take count digits.old)))) }
-        ensures digits { IfSome result (λ _. digits.new ≡ drop count digits.old) }
-    {
-        if (ROOM - self.len) / 4 <= count {
-            return None;
-        }
-        self.push(before);
-        self.push_digits(digits, count, table);
+        self.len = put_digits(&mut self.bytes, self.len, digits, table);
         Some(())
     }
 
@@ -131,17 +105,20 @@ impl ShortText {
     fn push_groups(
         &mut self,
         separator: Piece,
-        digits: &mut ShownDigits<'_>,
+        digits: &[u8],
         sizes: &mut GroupSizes,
         table: &DigitTable<'_>,
     ) -> Option<()>
         requires separator { Holds separator (take separator.len separator.bytes) }
-        requires tens { AllBelowBase 10 digits.old }
-        ensures { IfSome result (λ _. self.new ≡ self.old ++ groups_ahead (take separator.len separator.bytes) (digit_text table.now.chars.now) sizes.old digits.old) }
+        requires few { length digits.now ≤ 48 }
+        requires whole { sum sizes.old ≡ length digits.now }
+        requires tens { AllBelowBase 10 digits.now }
+        ensures { IfSome result (λ _. self.new ≡ self.old ++ groups_ahead (take separator.len separator.bytes) (digit_text table.now.chars.now) sizes.old digits.now) }
     {
-        while let Some(size) = sizes.next() {
-            self.push_group(separator, digits, size, table)?;
+        if (ROOM - self.len) / 4 < digits.len() + sizes.groups() {
+            return None;
         }
+        self.len = put_groups(&mut self.bytes, self.len, separator, digits, sizes, table);
         Some(())
     }
 
@@ -152,20 +129,19 @@ impl ShortText {
         separator: Piece,
         number: &UnsignedDecimal,
     ) -> Option<()>
-        requires { Holds separator (borrowed_tables tables.now).symbols.strings.grouping_separator }
+        requires separator { Holds separator (borrowed_tables tables.now).symbols.strings.grouping_separator }
+        requires few { number.now.high - 32767 ≤ 48 }
         ensures { IfSome result (λ _. self.new ≡ self.old ++ whole_text (borrowed_tables tables.now) (whole_digits number.now)) }
     {
         let symbols = tables.symbols.symbols;
         let table = &tables.digits;
-        let mut sizes = GroupSizes::of(
-            highest(number) + 1,
-            tables.strategy,
-            symbols.grouping_sizes,
-        );
+        let count = highest(number) + 1;
+        let mut sizes = GroupSizes::of(count, tables.strategy, symbols.grouping_sizes);
         let mut digits = number.whole_digits();
+        let chunk = few_digits(&mut digits, count as usize);
         let first = sizes.next().unwrap_or(0);
-        self.push_first(&mut digits, first, table)?;
-        self.push_groups(separator, &mut digits, &mut sizes, table)
+        self.push_front(&chunk[..first], table)?;
+        self.push_groups(separator, &chunk[first..count as usize], &mut sizes, table)
     }
 
     // Adds the decimal separator and the fraction digits, where there are any. `None`: they may not have room.
@@ -175,15 +151,21 @@ impl ShortText {
         separator: Piece,
         number: &UnsignedDecimal,
     ) -> Option<()>
-        requires { Holds separator (borrowed_tables tables.now).symbols.strings.decimal_separator }
+        requires separator { Holds separator (borrowed_tables tables.now).symbols.strings.decimal_separator }
+        requires few { 32768 - number.now.low ≤ 48 }
         ensures { IfSome result (λ _. self.new ≡ self.old ++ fraction_text (borrowed_tables tables.now) (fraction_digits number.now)) }
     {
         let count = fraction_len(number) as usize;
         if count == 0 {
             return Some(());
         }
+        if ROOM - self.len < 4 {
+            return None;
+        }
         let mut digits = number.fraction_digits();
-        self.push_group(separator, &mut digits, count, &tables.digits)
+        let chunk = few_digits(&mut digits, count);
+        self.push(separator);
+        self.push_front(&chunk[..count], &tables.digits)
     }
 
     // Adds the text of a number. `None`: it shows more digits than are put together here, or they may not have room.

@@ -9,6 +9,7 @@ ghost use Rattle.icu_decimal_plain.specs.BorrowedTables.{borrowed_tables};
 ghost use Rattle.icu_decimal_plain.specs.PlainText.{chained, digit_text, fraction_text, unsigned_text, whole_text};
 ghost use Rattle.icu_decimal_plain.specs.LaterGroups.{groups_ahead};
 
+use crate::digit_chunks::{few_digits, next_digits};
 use crate::grouper::GroupSizes;
 use crate::piece_tables::DigitTable;
 use crate::short_text::ShortText;
@@ -18,31 +19,6 @@ use crate::writing::{fraction_len, highest, write_digits, write_fraction_digits}
 use fixed_decimal::{ShownDigits, UnsignedDecimal};
 use std::iter::ExactSizeIterator;
 use writeable::{Error, Sink};
-
-// Puts the next sixteen digits into a chunk, from a place on.
-fn put_block(digits: &mut ShownDigits<'_>, chunk: &mut [u8; CHUNK], at: usize)
-    requires within { at + 16 ≤ 48 }
-    requires enough { 16 ≤ length digits.old }
-    ensures chunk { take (at + 16) chunk.new ≡ take at chunk.old ++ take 16 digits.old }
-    ensures digits { digits.new ≡ drop 16 digits.old }
-{
-    let mut block = [0; 16];
-    digits.next_block(&mut block);
-    chunk[at..at + 16].copy_from_slice(&block);
-}
-
-// Takes the digits of a chunk.
-fn next_digits(digits: &mut ShownDigits<'_>) -> [u8; CHUNK]
-    requires { 48 ≤ length digits.old }
-    ensures chunk { result ≡ take 48 digits.old }
-    ensures digits { digits.new ≡ drop 48 digits.old }
-{
-    let mut chunk = [0; CHUNK];
-    put_block(digits, &mut chunk, 0);
-    put_block(digits, &mut chunk, 16);
-    put_block(digits, &mut chunk, 32);
-    chunk
-}
 
 // Writes the first bytes of `waiting`, so many.
 fn write_waiting<S: Sink>(
@@ -131,6 +107,59 @@ fn write_few<S: Sink>(
     Ok(())
 }
 
+// Writes the last groups by one call of the sink, each with the separator before it.
+fn write_last<S: Sink>(
+    separator: &str,
+    digits: &mut ShownDigits<'_>,
+    sizes: &mut GroupSizes,
+    table: &DigitTable<'_>,
+    sink: &mut S,
+) -> Result<(), Error>
+    requires fine { S.refused sink.old ≡ false }
+    requires short { length separator.now ≤ 4 }
+    requires few { length digits.old ≤ 48 }
+    requires room { length digits.old + length sizes.old ≤ 96 }
+    requires whole { sum sizes.old ≡ length digits.old }
+    requires tens { AllBelowBase 10 digits.old }
+    ensures digits { OnOk result (digits.new ≡ drop (sum sizes.old) digits.old) }
+    ensures ok { OnOk result (S.takes sink.old (bytes (groups_ahead separator.now (digit_text table.now.chars.now) sizes.old digits.old)) sink.new) }
+    ensures refused { S.refused sink.new ≡ is_err result }
+    ensures begun { OnErr result (HasBegun S.takes S.lacks_room sink.old (bytes (groups_ahead separator.now (digit_text table.now.chars.now) sizes.old digits.old)) sink.new) }
+{
+    let piece = Piece::new(separator);
+    let count = digits.len();
+    let chunk = few_digits(digits, count);
+    let mut waiting = [0; CHUNK_BYTES];
+    let len = put_groups(&mut waiting, 0, piece, &chunk[..count], sizes, table);
+    write_waiting(&waiting, len, sink)
+}
+
+// Writes groups, each with the separator before it: by one call of the sink where they are the last and have a chunk of digits at
+// most, and else one by one.
+fn write_later<S: Sink>(
+    separator: &str,
+    digits: &mut ShownDigits<'_>,
+    sizes: &mut GroupSizes,
+    table: &DigitTable<'_>,
+    sink: &mut S,
+) -> Result<(), Error>
+    requires fine { S.refused sink.old ≡ false }
+    requires tens { AllBelowBase 10 digits.old }
+    ensures digits { OnOk result (digits.new ≡ drop (sum sizes.old) digits.old) }
+    ensures ok { OnOk result (S.takes sink.old (bytes (groups_ahead separator.now (digit_text table.now.chars.now) sizes.old digits.old)) sink.new) }
+    ensures refused { S.refused sink.new ≡ is_err result }
+    ensures begun { OnErr result (HasBegun S.takes S.lacks_room sink.old (bytes (groups_ahead separator.now (digit_text table.now.chars.now) sizes.old digits.old)) sink.new) }
+{
+    let left = digits.len();
+    if left > CHUNK || left + sizes.groups() > 2 * CHUNK || left != sizes.digits() {
+        return write_few(separator, digits, sizes, table, sink);
+    }
+    if separator.len() > 4 {
+        return write_few(separator, digits, sizes, table, sink);
+    }
+    write_last(separator, digits, sizes, table, sink)
+}
+
 // Writes groups, each with the separator before it.
 fn write_groups<S: Sink>(
     separator: &str,
@@ -149,7 +178,7 @@ fn write_groups<S: Sink>(
     if separator.len() <= 4 && digits.len() >= CHUNK {
         write_chunks(separator, digits, sizes, table, sink)?;
     }
-    write_few(separator, digits, sizes, table, sink)
+    write_later(separator, digits, sizes, table, sink)
 }
 
 // Writes digits without groups.

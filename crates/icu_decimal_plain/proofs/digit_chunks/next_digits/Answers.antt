@@ -1,7 +1,7 @@
 use Rattle.std.proofs.Common.{◌∙◌, [], ap, arith, drop, length, length-drop}
 use Rattle.std.proofs.lemmas.List.{drop-drop}
 use Rattle.icu_decimal_plain.proofs.PieceLemmas.{three_blocks}
-use Rattle.icu_decimal_plain.proofs.text_writing.next_digits.Goals as goal
+use Rattle.icu_decimal_plain.proofs.digit_chunks.next_digits.Goals as goal
 
 pub put_block-requires-2-clause-enough : goal.put_block-requires-2-clause-enough
 put_block-requires-2-clause-enough c =
