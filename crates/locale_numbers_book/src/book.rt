@@ -14,9 +14,8 @@ use crate::json::{Arrays, arrays_of, parents_in, value_of};
 use icu_decimal::plurals::PluralRules;
 use icu_decimal::provider::{CompactPatterns, DataIdentifier, DecimalSymbols};
 use icu_locale_core::DataLocale;
-use indexmap::IndexMap;
 use locale_numbers_parents::Parents;
-use locale_numbers_tables::{BookError, Seed, table_of};
+use locale_numbers_tables::{BookError, Seed, Table, table_of};
 use serde_json::Value;
 use std::alloc::Global;
 use std::marker::Model;
@@ -25,11 +24,11 @@ use tinystr::TinyAsciiStr;
 /// Tables of symbols, of digits, of plural rules and of short and long patterns, and the parents of locales, as a JSON text names
 /// them. `SAMPLE_BOOK` names the symbols of `en`, whose separators are `.` and `,`, and no parents.
 pub struct Book {
-    pub(crate) symbols: IndexMap<DataIdentifier, DecimalSymbols, Seed>,
-    pub(crate) digits: IndexMap<TinyAsciiStr<8>, [char; 10], Seed>,
-    pub(crate) rules: IndexMap<DataLocale, PluralRules, Seed>,
-    pub(crate) short: IndexMap<DataIdentifier, CompactPatterns, Seed>,
-    pub(crate) long: IndexMap<DataIdentifier, CompactPatterns, Seed>,
+    pub(crate) symbols: Table<DataIdentifier, DecimalSymbols>,
+    pub(crate) digits: Table<TinyAsciiStr<8>, [char; 10]>,
+    pub(crate) rules: Table<DataLocale, PluralRules>,
+    pub(crate) short: Table<DataIdentifier, CompactPatterns>,
+    pub(crate) long: Table<DataIdentifier, CompactPatterns>,
     pub(crate) parents: Option<Parents>,
 }
 
@@ -38,7 +37,7 @@ impl Model for Book {
 
     ghost Value = { BookTables };
 
-    ghost view = { λ b. record { symbols = b.symbols.entries; digits = b.digits.entries; rules = b.rules.entries; short = b.short.entries; long = b.long.entries; parents = b.parents } };
+    ghost view = { λ b. record { symbols = b.symbols.map.entries; digits = b.digits.map.entries; rules = b.rules.map.entries; short = b.short.map.entries; long = b.long.map.entries; parents = b.parents } };
 }
 
 // A book is let go by one call, whose proof a user's exits cite: a derived drop would be opened table by table at each of them.

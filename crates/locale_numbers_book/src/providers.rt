@@ -33,7 +33,7 @@ impl DataProvider<DecimalSymbolsV1> for Book {
     ghost table = { symbols_under };
 
     fn load(&self, id: &DataIdentifier) -> Result<&DecimalSymbols, DataError> {
-        found(self.symbols.get(id))
+        found(self.symbols.map.get(id))
     }
 }
 
@@ -50,7 +50,7 @@ impl DataProvider<DecimalDigitsV1> for Book {
         if !id.locale.is_unknown() {
             return Err(DataError::IdentifierNotFound);
         }
-        found(self.digits.get(&id.attributes))
+        found(self.digits.map.get(&id.attributes))
     }
 }
 
@@ -67,7 +67,7 @@ impl DataProvider<PluralsCardinalV1> for Book {
         if !id.attributes.is_empty() {
             return Err(DataError::IdentifierNotFound);
         }
-        found(self.rules.get(&id.locale))
+        found(self.rules.map.get(&id.locale))
     }
 }
 
@@ -81,7 +81,7 @@ impl DataProvider<DecimalCompactShortV1> for Book {
     ghost table = { short_under };
 
     fn load(&self, id: &DataIdentifier) -> Result<&CompactPatterns, DataError> {
-        found(self.short.get(id))
+        found(self.short.map.get(id))
     }
 }
 
@@ -95,7 +95,7 @@ impl DataProvider<DecimalCompactLongV1> for Book {
     ghost table = { long_under };
 
     fn load(&self, id: &DataIdentifier) -> Result<&CompactPatterns, DataError> {
-        found(self.long.get(id))
+        found(self.long.map.get(id))
     }
 }
 

@@ -19,4 +19,5 @@ mod texts;
 pub use entry::Entry;
 pub use error::BookError;
 pub use seed::Seed;
+pub use table::Table;
 pub use tables::table_of;

@@ -8,6 +8,18 @@ use crate::seed::Seed;
 use indexmap::IndexMap;
 use std::hash::Hash;
 
+/// What the entries of an array say, each under its key: of `[["latn","0123456789"]]` the ten digits of `latn`.
+pub struct Table<K: Eq + Hash, V> {
+    pub map: IndexMap<K, V, Seed>,
+}
+
+// A table is let go by one call, whose proof a user's exits cite: a derived drop would be opened column by column at each of them.
+impl<K: Eq + Hash + Drop, V: Drop> Drop for Table<K, V> {
+    fn drop(self) {
+        let Self { map: _map } = self;
+    }
+}
+
 /// Adds a table under a key that is not there yet.
 pub fn add<K: Eq + Hash + Drop, V: Drop>(
     table: &mut IndexMap<K, V, Seed>,

@@ -11,7 +11,7 @@ ghost use Rattle.locale_numbers_tables.specs.Room.{begins_with};
 use crate::BookError;
 use crate::entry::Entry;
 use crate::seed::Seed;
-use crate::table::add;
+use crate::table::{Table, add};
 use indexmap::IndexMap;
 use serde_json::Value;
 use std::alloc::Global;
@@ -64,17 +64,17 @@ pub fn table_of<V: Entry>(
     alloc: Global,
     seed: Seed,
     entries: Vec<Value>,
-) -> Result<IndexMap<V::Key, V, Seed>, BookError>
-    ensures value { IfOk result (λ table. table_in V.Key.eq V.meaning (items_view entries.items) ≡ Some table.entries) }
+) -> Result<Table<V::Key, V>, BookError>
+    ensures value { IfOk result (λ table. table_in V.Key.eq V.meaning (items_view entries.items) ≡ Some table.map.entries) }
     ensures sound { OnOk result (first_fault_behind V.Key.eq V.key_in V.fault_in [] (items_view entries.items) ≡ None) }
     ensures fault { IfErr result (λ fault. IsTold (first_fault_behind V.Key.eq V.key_in V.fault_in [] (items_view entries.items)) fault) }
 
     // A fault of the first entry that is found before memory is asked for is never told as out of memory.
     ensures room { IsErrOf result BookError.Memory → begins_with V.may_grow (items_view entries.items) ≡ true }
 {
-    let mut table: IndexMap<V::Key, V, Seed> = IndexMap::with_hasher(alloc, seed);
-    match fill(alloc, &mut table, entries) {
-        Ok(()) => Ok(table),
+    let mut map: IndexMap<V::Key, V, Seed> = IndexMap::with_hasher(alloc, seed);
+    match fill(alloc, &mut map, entries) {
+        Ok(()) => Ok(Table { map }),
         Err(fault) => Err(fault),
     }
 }
