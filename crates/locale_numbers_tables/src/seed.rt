@@ -7,7 +7,7 @@ ghost use Rattle.std.specs.Hash as fed;
 ghost use Rattle.std.specs.Hash.FoldHasher as folding;
 ghost use Rattle.std.specs.List.{fold};
 
-use sha2::{Digest, Sha256};
+use sha2::{Digest, Sha512};
 use std::hash::{BuildHasher, FoldHasher, Hasher};
 
 /// A hasher that begins with one number of a text and ends with another.
@@ -47,15 +47,20 @@ fn hasher_of(bytes: &[u8]) -> FoldHasher {
 }
 
 impl Seed {
-    /// The seed of a text: the halves of its SHA-256 digest, each as one number. It takes no memory.
-    pub fn of_text(text: &[u8]) -> Self {
-        let digest = Sha256::digest(text);
+    // The seed of a digest: each half is one number.
+    fn of_digest(digest: &[u8]) -> Self {
+        let middle = digest.len() / 2;
         Seed {
             first: SeededHasher {
-                state: hasher_of(&digest[..16]),
-                last: hasher_of(&digest[16..]).finish(),
+                state: hasher_of(&digest[..middle]),
+                last: hasher_of(&digest[middle..]).finish(),
             },
         }
+    }
+
+    /// The seed of a text: the halves of its SHA-512 digest, each as one number. It takes no memory.
+    pub fn of_text(text: &[u8]) -> Self {
+        Seed::of_digest(&Sha512::digest(text)[..])
     }
 }
 
