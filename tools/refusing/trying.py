@@ -52,6 +52,18 @@ class Row(typing.NamedTuple):
     whole: bytes
 
 
+class Change(typing.NamedTuple):
+    """A line of a program of calls that change a receiver, with its answer and the receiver. Its last read stands before the
+    call, which asks for no memory where it is silent."""
+
+    name: str
+    program: str
+    given: bytes
+    whole: bytes
+    receiver: bytes
+    is_silent: bool
+
+
 class Refused(typing.NamedTuple):
     """What is refused: the numbers of these wishes follow one another. `is_end` says whether a run that met them ended as it
     may; beside that it may end right only where `may_be_right`."""
@@ -123,6 +135,11 @@ def ends_by_row(case, ended):
     return any(is_one(case, ended) for is_one in (ends_without_answer, is_of_sink, is_told))
 
 
+def is_kept(case, ended):
+    """Whether a call was refused, and its receiver is as it was."""
+    return (ended.status, ended.output, ended.error) == (0, case.given.rstrip(b"\n") + b"\trefused " + case.receiver + b"\n", b"")
+
+
 WRITE = ends_by(5, b"fault: write\n", is_beginning)
 MEMORY = Refused(("REFUSE_MEMORY",), "memory", ends_by(6, b"fault: memory\n", is_whole_beginning), True)
 OTHERS = (
@@ -184,8 +201,21 @@ def try_row(case):
     return in_turn(case, Refused(("REFUSE_MEMORY",), "memory", ends_by_row, True))
 
 
+def try_change(case):
+    """A call with memory refused from its own first request on: each request in turn, and all. Each leaves the receiver, and
+    one is refused at least; a call that is silent is answered as ever."""
+    free = shim.run_again(case.program, ())
+    gate = free.asked["read"]
+    ended = shim.run_again(case.program, (), REFUSE_MEMORY="all", REFUSE_FROM=gate)
+    is_fine = is_right(case, free) and ended.asked["read"] == gate and (is_right if case.is_silent else is_kept)(case, ended)
+    first = Tried(2, 0, [] if is_fine else [f"{case.name}: {free}, and with all refused {ended}"])
+    if case.is_silent:
+        return first
+    return joined([first, in_turn(case, Refused(("REFUSE_MEMORY",), "memory", is_kept, True), REFUSE_FROM=gate)])
+
+
 def tried(case):
     """What comes of a case."""
     with open("given", "wb") as file:
         file.write(case.given)
-    return {Lines: try_lines, Exact: try_exact, Row: try_row}[type(case)](case)
+    return {Lines: try_lines, Exact: try_exact, Row: try_row, Change: try_change}[type(case)](case)
