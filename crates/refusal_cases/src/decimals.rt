@@ -2,7 +2,7 @@
 
 use crate::case::Case;
 use crate::change::{Argument, Change, Receiver, answer as changed};
-use crate::counted;
+use crate::{counted, in_place};
 use fixed_decimal::{
     ConcatenateError, Decimal, RoundingIncrement, SignedRoundingMode, UnsignedDecimal,
     UnsignedRoundingMode,
@@ -20,7 +20,7 @@ pub fn answer(case: Case<'_>, out: &mut String) -> Result<(), Stop> {
         "UnsignedDecimal::round_with_mode_and_increment" => changed::<Round>(case, out),
         "Decimal::round_with_mode_and_increment" => changed::<SignedRound>(case, out),
         "Decimal::round_counted" => changed::<RoundCounted>(case, out),
-        _ => Err(Stop::Unknown),
+        _ => in_place::answer(case, out),
     }
 }
 

@@ -13,6 +13,8 @@ mod counted;
 mod decimals;
 mod entries;
 mod given;
+mod in_place;
+mod locales;
 mod sets;
 mod sinks;
 
