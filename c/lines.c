@@ -1,6 +1,6 @@
 /*
- * Writes what the calls of formatters say to the request lines of standard input, under the book of a file: a line each, the beginning
- * of its answer, or `-` where no call does what the line asks for.
+ * Writes the answers to the request lines of standard input, under the book of a file. Where the calls of a formatter do what a line
+ * asks for, what they say has to be the answer too: another text stands behind it.
  *
  * usage: lines BOOK < LINES > ANSWERS
  */
@@ -93,18 +93,27 @@ static const char *word_of(int32_t error) {
     }
 }
 
-/* Writes what the calls of a formatter say to a line. */
-static void answer_line(legumeyet_book *book, piece line) {
+/* Writes what the calls of a formatter say to a request, as an answer, and returns its length: 0 where no call does what is asked. */
+static size_t said_to(legumeyet_book *book, const request *asked, char *said) {
     static uint8_t text[ROOM];
     size_t length = 0;
+    int32_t error = by_formatter(book, asked, text, &length);
+    if (error == NO_CALL) return 0;
+    if (error != 0) return (size_t)sprintf(said, "err\t%s", word_of(error));
+    return (size_t)sprintf(said, "ok\t%.*s", (int)length, (const char *)text);
+}
+
+/* Writes the answer to a line, and what is said to it where that differs. */
+static void answer_line(legumeyet_book *book, piece line) {
+    static char said[ROOM + 8];
+    static uint8_t answer[ROOM];
+    size_t length = 0, said_length;
     request asked = request_of(line);
-    int32_t error = by_formatter(book, &asked, text, &length);
-    if (error == NO_CALL)
-        putchar('-');
-    else if (error != 0)
-        printf("err\t%s", word_of(error));
-    else
-        printf("ok\t%.*s", (int)length, (const char *)text);
+    int32_t error = legumeyet_book_answer(book, line.at, line.length, answer, ROOM, &length);
+    if (error != 0) printf("error %d", (int)error);
+    fwrite(answer, 1, length, stdout);
+    said_length = said_to(book, &asked, said);
+    if (said_length != 0 && (said_length != length || memcmp(said, answer, length) != 0)) printf(" but %.*s", (int)said_length, said);
     putchar('\n');
 }
 

@@ -1,4 +1,4 @@
-// Writes what the calls of formatters say to the request lines of standard input, under the book of a file, as c/lines.c does in C.
+// Writes the answers to the request lines of standard input, under the book of a file, as c/lines.c does in C.
 //
 // usage: lines BOOK < LINES > ANSWERS
 #include <legumeyet.hpp>
@@ -52,7 +52,7 @@ static std::string text_for(Book &book, const Words &fields, const legumeyet_opt
     return legumeyet::DecimalFormatter(book, fields[0], grouping).format(fields[5], options);
 }
 
-// What the call of a formatter says to a request, as the beginning of an answer; empty where none says what is asked.
+// What the call of a formatter says to a request, as an answer; empty where none says what is asked.
 static std::string by_formatter(Book &book, const std::string &line) {
     const auto fields = pieces(line, '\t'), rounding = pieces(fields[4], ',');
     const bool is_known = fields[1] == "plain", is_rounded = rounding.size() == 3;
@@ -71,8 +71,8 @@ static int answer_lines(const char *path) {
     const std::string json{std::istreambuf_iterator<char>(file), {}};
     Book book(json);
     for (std::string line; std::getline(std::cin, line);) {
-        const std::string front = by_formatter(book, line);
-        std::cout << (front.empty() ? "-" : front) << '\n';
+        const std::string answer = book.answer(line), said = by_formatter(book, line);
+        std::cout << answer << (said.empty() || said == answer ? "" : " but " + said) << '\n';
     }
     return 0;
 }

@@ -34,12 +34,15 @@ static void expect_text(const uint8_t *out, size_t length, const char *text) {
 
 static void call_all(void) {
     static const char DIGITS[] = "-98765432109876543210.5";
+    static const char LINE[] = "en-a-aa-b-bb-u-ca-gregory-nu-latn-x-y\tplain\tauto\tkeep\t-\t-98765432109876543210.5";
     static const legumeyet_options ROUNDED = {LEGUMEYET_SIGN_AUTO, LEGUMEYET_ROUND_HALF_EVEN, 0};
     legumeyet_book book = {0};
     legumeyet_decimal_formatter plain = {0};
     uint8_t out[64];
     size_t length = 0;
     TWICE(legumeyet_book_open(TEXT(BOOK), &book));
+    TWICE(legumeyet_book_answer(&book, TEXT(LINE), out, sizeof out, &length));
+    expect_text(out, length, "ok\t-98,765,432,109,876,543,210.5");
     TWICE(legumeyet_decimal_formatter_open(&book, TEXT("en-a-aa-b-bb-u-ca-gregory-nu-latn-x-y"), 0, &plain));
     TWICE(legumeyet_decimal_formatter_format(&plain, TEXT(DIGITS), &ROUNDED, out, sizeof out, &length));
     expect_text(out, length, "-98,765,432,109,876,543,210");

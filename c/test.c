@@ -71,6 +71,8 @@ static int32_t format(const char *number, legumeyet_options options) {
     return legumeyet_decimal_formatter_format(&english, TEXT(number), &options, out, sizeof out, &length);
 }
 
+static int32_t answer(const char *line) { return legumeyet_book_answer(&book, TEXT(line), out, sizeof out, &length); }
+
 static int32_t format_i64(int64_t mantissa, int16_t exponent) {
     return legumeyet_decimal_formatter_format_i64(&english, mantissa, exponent, &AS_GIVEN, out, sizeof out, &length);
 }
@@ -131,17 +133,32 @@ static void formats(void) {
     expect("30,000 digits", (int64_t)needed, 39999);
 }
 
+static void answers(void) {
+    expect_text("a line", answer("en\tplain\tauto\tkeep\t-\t-987654.321"), "ok\t-987,654.321");
+    expect_text("a short form", answer("en\tshort\tauto\tkeep\t-\t1650"), "ok\t1.6K\t1.6c3");
+    expect_text("a text", answer("en\tread\tauto\tkeep\t-\t-1,234.50"), "ok\t-1234.50");
+    expect_text("no tag", answer("e\tplain\tauto\tkeep\t-\t1"), "err\ttag");
+    expect_text("no line", answer(""), "err\tshape");
+    expect_text("bytes", answer("\xff"), "err\tshape");
+}
+
+/* A call wrote as much of a text as the room has. */
+static void expect_front(int32_t error, const char *text, size_t room) {
+    size_t whole = strlen(text), front = room < whole ? room : whole;
+    expect(text, error, room < whole ? LEGUMEYET_TOO_SMALL : LEGUMEYET_OK);
+    expect("the length", (int64_t)length, (int64_t)whole);
+    expect("the front", memcmp(out, text, front), 0);
+    expect("the byte behind", out[front], '.');
+    memset(out, '.', sizeof out);
+    length = 77;
+}
+
 static void rooms(void) {
-    static const char WHOLE[] = "-1,234.5";
+    static const char LINE[] = "en\tplain\tauto\tkeep\t-\t-1234.5";
     size_t room;
-    for (room = 0; room <= 9; room++) {
-        int32_t error = legumeyet_decimal_formatter_format(&english, TEXT("-1234.5"), &AS_GIVEN, out, room, &length);
-        expect("the room", error, room < 8 ? LEGUMEYET_TOO_SMALL : LEGUMEYET_OK);
-        expect("the length", (int64_t)length, 8);
-        expect("the front", memcmp(out, WHOLE, room < 8 ? room : 8), 0);
-        expect("the byte behind", out[room < 8 ? room : 8], '.');
-        memset(out, '.', sizeof out);
-        length = 77;
+    for (room = 0; room <= 12; room++) {
+        expect_front(legumeyet_decimal_formatter_format(&english, TEXT("-1234.5"), &AS_GIVEN, out, room, &length), "-1,234.5", room);
+        expect_front(legumeyet_book_answer(&book, TEXT(LINE), out, room, &length), "ok\t-1,234.5", room);
     }
 }
 
@@ -151,12 +168,14 @@ static void unpromised(void) {
     expect("a tag", legumeyet_decimal_formatter_open(&book, NOTHING, 0, &closed), LEGUMEYET_TAG);
     expect_error("a number", legumeyet_decimal_formatter_format(&english, NOTHING, &AS_GIVEN, out, ROOM, &length), LEGUMEYET_NUMBER);
     expect("no room", legumeyet_decimal_formatter_format(&english, TEXT("1"), &AS_GIVEN, NOTHING, &length), LEGUMEYET_TOO_SMALL);
+    expect_text("a line", legumeyet_book_answer(&book, NOTHING, out, ROOM, &length), "err\tshape");
     expect_text("the greatest room", legumeyet_decimal_formatter_format(&english, TEXT("1"), &AS_GIVEN, out, SIZE_MAX, &length), "1");
 }
 
 static void closes(void) {
     expect("the book before its formatters", legumeyet_book_close(&book), LEGUMEYET_OK);
     expect("the book again", legumeyet_book_close(&book), LEGUMEYET_CLOSED);
+    expect_error("a line", answer("en\tplain\tauto\tkeep\t-\t1"), LEGUMEYET_CLOSED);
     expect_text("after its book", format("1234", AS_GIVEN), "1,234");
     expect("plain", legumeyet_decimal_formatter_close(&english), LEGUMEYET_OK);
     expect("plain again", legumeyet_decimal_formatter_close(&english), LEGUMEYET_CLOSED);
@@ -181,6 +200,7 @@ int main(void) {
     books();
     opens();
     formats();
+    answers();
     rooms();
     unpromised();
     closes();

@@ -42,15 +42,25 @@ static void formats(DecimalFormatter &english) {
     expect_error(LEGUMEYET_OPTION, [&] { english.format("1", {6, 0, 0}); });
 }
 
+static void answers(Book &book) {
+    const std::string long_line = "en\tplain\tauto\tkeep\t-\t" + std::string(1000, '1');
+    expect(book.answer("en\tplain\tauto\tkeep\t-\t-987654.321"), "ok\t-987,654.321");
+    expect(book.answer("e\tplain\tauto\tkeep\t-\t1"), "err\ttag");
+    expect(book.answer(std::string_view()), "err\tshape");
+    expect(std::to_string(book.answer(long_line).size()), "1336");
+}
+
 int main() {
     Book first(BOOK), book(std::move(first)); // `first` is closed by that
     DecimalFormatter english(book, "en"), moved = std::move(english);
     expect_error(LEGUMEYET_CLOSED, [&] { english.format("1"); });
     expect_error(LEGUMEYET_CLOSED, [&] { DecimalFormatter(first, "en"); });
+    expect_error(LEGUMEYET_CLOSED, [&] { first.answer(""); });
     expect_error(LEGUMEYET_BOOK_JSON, [] { Book("[1"); });
     expect_error(LEGUMEYET_BOOK_JSON, [] { Book(std::string_view{}); });
     expect_error(LEGUMEYET_TAG, [&] { DecimalFormatter(book, "e"); });
     expect_error(LEGUMEYET_TABLE, [&] { DecimalFormatter(book, "xx"); });
+    answers(book);
     book = Book("[[],[],[],[],[]]");
     formats(moved);
     return wrong;

@@ -141,6 +141,14 @@ int32_t legumeyet_book_open(const uint8_t *json, size_t json_length, legumeyet_b
 int32_t legumeyet_book_close(legumeyet_book *book);
 
 /*
+ * Answers a request line, as docs/requests.md has it, without its line feed: `en`, `plain`, `auto`, `keep`, `-`, `-987654.321` with tabs
+ * between by `ok`, a tab and `-987,654.321`. A line that is refused is answered by `err`, a tab and a word, and the call by 0.
+ *
+ * Answers 0; LEGUMEYET_CLOSED; LEGUMEYET_MEMORY; LEGUMEYET_TOO_SMALL.
+ */
+int32_t legumeyet_book_answer(legumeyet_book *book, const uint8_t *line, size_t line_length, uint8_t *out, size_t room, size_t *length);
+
+/*
  * Opens the formatter of plain numbers for a locale tag: that of `en` writes -1234.5 as `-1,234.5`, that of `ar-EG` as `-١٬٢٣٤٫٥`.
  *
  * It has its own copy of the tables. What `formatter` had open is closed, where the call answers 0.

@@ -80,6 +80,11 @@ class Book : inner::Owned<legumeyet_book, legumeyet_book_close> {
 
   public:
     explicit Book(std::string_view json) { inner::expect_well(legumeyet_book_open(inner::bytes(json), json.size(), &handle)); }
+
+    // The answer to a request line, without its line feed: `ok`, a tab and a text, or `err`, a tab and a word.
+    std::string answer(std::string_view line) {
+        return inner::written([&](auto... out) { return legumeyet_book_answer(&handle, inner::bytes(line), line.size(), out...); });
+    }
 };
 
 // The formatter of plain numbers for a locale tag. It keeps nothing of the book.

@@ -89,6 +89,17 @@ class Book(Open):
         given = encoded(json)
         expect_well(library.legumeyet_book_open(given, len(given), self._handle))
 
+    def answer(self, line: Text) -> str:
+        """The answer to a request line, without its line feed: `ok`, a tab and a text, or `err`, a tab and a word.
+
+        Raises `Error` 2 where the book is closed, 1 where memory was refused.
+
+        >>> book.answer("en\\tplain\\tauto\\tkeep\\t-\\t-987654.321")
+        'ok\\t-987,654.321'
+        """
+        given = encoded(line)
+        return self._written(library.legumeyet_book_answer, given, len(given))
+
 
 class DecimalFormatter(Open):
     """The formatter of plain numbers for a locale tag. It keeps nothing of the book.

@@ -1,5 +1,5 @@
-"""Writes what formatters say to the request lines of standard input, under the book of a file: a line each, the beginning of its
-answer, or `-` where none does what the line asks for.
+"""Writes the answers to the request lines of standard input, under the book of a file. Where a formatter does what a line asks for,
+what it says has to be the answer too: another text stands behind it.
 
 usage: python3 lines.py BOOK < LINES > ANSWERS
 """
@@ -30,7 +30,7 @@ def text_for(book, fields):
 
 
 def by_formatter(book, line):
-    """What a formatter answers to a request, as the beginning of an answer; None where none can."""
+    """What a formatter says to a request, as an answer; None where none can."""
     try:
         return f"ok\t{text_for(book, line.split(chr(9)))}"
     except legumeyet.Error as error:
@@ -44,7 +44,8 @@ def main(path):
     with open(path, "rb") as file, Book(file.read()) as book:
         for line in sys.stdin.buffer:
             line = line.rstrip(b"\n")
-            sys.stdout.buffer.write(f"{by_formatter(book, line.decode()) or '-'}\n".encode())
+            answer, said = book.answer(line), by_formatter(book, line.decode())
+            sys.stdout.buffer.write(f"{answer}{'' if said in (None, answer) else f' but {said}'}\n".encode())
 
 
 main(*sys.argv[1:])

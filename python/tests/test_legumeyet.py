@@ -18,7 +18,8 @@ JSON = """[[["en","","latn","-","","+","",".",",",3,3,1],["ar","","arab","-","",
 
 def load_tests(_loader, tests, _pattern):
     """The tests of this file, and the examples."""
-    names = {"Book": Book, "Error": Error, "english": DecimalFormatter(Book(JSON), "en"), **vars(legumeyet)}
+    book = Book(JSON)
+    names = {"Book": Book, "Error": Error, "book": book, "english": DecimalFormatter(book, "en"), **vars(legumeyet)}
     for module in (legumeyet, _formatters, _library):
         tests.addTests(doctest.DocTestSuite(module, extraglobs=names))
     return tests
@@ -53,6 +54,15 @@ class Calls(unittest.TestCase):
         for number in (1.5, None, b"1", [1]):
             self.assertRaises(TypeError, self.english.format, number)
 
+    def test_answers(self):
+        line = "en\tplain\tauto\tkeep\t-\t"
+        self.assertEqual(self.book.answer(f"{line}-987654.321"), "ok\t-987,654.321")
+        self.assertEqual(self.book.answer(f"{line}-987654.321".encode()), "ok\t-987,654.321")
+        self.assertEqual(len(self.book.answer(f"{line}{10**1000}")), 1337)
+        for asked, word in (("", "shape"), (b"\xff", "shape"), ("\udcff", "shape"), (f"{line}5.", "number")):
+            self.assertEqual(self.book.answer(asked), f"err\t{word}")
+        self.assertRaises(TypeError, self.book.answer, 1)
+
     def test_options(self):
         self.assertEqual(self.english.format("9.65", Sign.ALWAYS, Rounding.HALF_EVEN, -1), "+9.6")
         self.assertEqual(DecimalFormatter(self.book, "en", Grouping.NEVER).format(12345), "12345")
@@ -73,6 +83,7 @@ class Calls(unittest.TestCase):
         self.book.close()
         self.assertEqual(self.english.format(1), "1")
         self.refused(2, DecimalFormatter, self.book, "en")
+        self.refused(2, self.book.answer, "")
         self.english.close()
         self.refused(2, self.english.format, 1)
 

@@ -1,6 +1,5 @@
 pub mod AsBox
 pub mod OpeningLemmas
-pub mod OwnTables
 pub mod PointerValues
 pub mod PuttingLemmas
 pub mod Sent

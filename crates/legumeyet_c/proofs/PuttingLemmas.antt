@@ -4,6 +4,8 @@ use Rattle.std.proofs.Math.Nat.{lt_of_not-le}
 use Rattle.fixed_decimal.specs.Number.{Number}
 use Rattle.fixed_decimal.specs.SignedValue.{SignedValue}
 use Rattle.icu_decimal.specs.PlainText.{Tables, decimal_text}
+use Rattle.locale_numbers.specs.Book.{BookTables}
+use Rattle.legumeyet_c.specs.Answering.{IsAnswerFault}
 use Rattle.legumeyet_c.specs.Choices.{Changes}
 use Rattle.legumeyet_c.specs.Numbers.{Gives, IsChanged, IsChangeFault, IsNumberFault, IsScaledFault}
 use Rattle.legumeyet_c.specs.Putting.{IsPut, IsWhole, IsCut, IsUntouched}
@@ -97,6 +99,11 @@ pub scaled_fault_other : (choices : Option Choices) (mantissa exponent : ℤ) (e
 scaled_fault_other None mantissa exponent error is = λ same. absurd (cc (is, same))
 scaled_fault_other (Some choices) mantissa exponent error caused =
     λ same. subst (λ (e : CallError). IsScaledFault mantissa exponent e) same caused
+
+-- nor of a line
+pub answer_fault_other : (book : Option BookTables) (error : CallError) → IsAnswerFault book error → error ≢ TooSmall
+answer_fault_other None error is = λ same. absurd (cc (is, same))
+answer_fault_other (Some book) error is = λ same. absurd (cc (is, same))
 
 -- the same of an outcome
 pub other_fault : {T : Type 0} {fault : CallError → Type 0} (outcome : Result T CallError) → IfErr outcome fault

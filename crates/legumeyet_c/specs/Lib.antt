@@ -1,3 +1,4 @@
+pub mod Answering
 pub mod CallErrors
 pub mod Choices
 pub mod Information

@@ -8,6 +8,7 @@
 
 #![tactic(auto)]
 
+pub mod answering;
 pub mod book;
 mod call_error;
 mod choices;

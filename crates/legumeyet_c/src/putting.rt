@@ -6,7 +6,7 @@ ghost use Rattle.legumeyet_c.specs.Putting.{IsPut};
 
 use crate::call_error::CallError;
 use writeable::Writeable;
-use writeable_bytes::write_to_slice;
+use writeable_bytes::{copy_to_slice, write_to_slice};
 
 /// Writes the text of a value to the front of the bytes, and tells its length. `TooSmall`: the text is longer than the bytes.
 pub(crate) fn put<T: Writeable>(
@@ -17,6 +17,22 @@ pub(crate) fn put<T: Writeable>(
     ensures { IsPut (λ text. text ≡ text_of (T.events value.now)) (λ error. ⊥) out.old out.new length.old length.new result }
 {
     match write_to_slice(value, out) {
+        Ok(written) => {
+            *length = written;
+            Ok(())
+        }
+        Err(error) => {
+            *length = error.needed;
+            Err(CallError::TooSmall)
+        }
+    }
+}
+
+/// Copies a text to the front of the bytes, and tells its length. `TooSmall`: it is longer than the bytes.
+pub(crate) fn put_bytes(text: &[u8], out: &mut [u8], length: &mut usize) -> Result<(), CallError>
+    ensures { IsPut (λ said. said ≡ text.now) (λ error. ⊥) out.old out.new length.old length.new result }
+{
+    match copy_to_slice(text, out) {
         Ok(written) => {
             *length = written;
             Ok(())

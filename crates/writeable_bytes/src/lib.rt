@@ -11,4 +11,4 @@ mod slice_writing;
 
 pub use bytes_sink::BytesSink;
 pub use error::TooSmall;
-pub use slice_writing::write_to_slice;
+pub use slice_writing::{copy_to_slice, write_to_slice};

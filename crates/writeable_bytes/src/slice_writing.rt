@@ -6,6 +6,7 @@ ghost use Rattle.writeable_bytes.specs.Laid.{laid_from};
 
 use crate::bytes_sink::BytesSink;
 use crate::error::TooSmall;
+use crate::laying::lay;
 use writeable::Writeable;
 
 /// Writes the text of a value to the front of bytes, and answers its length: `a,b` to `....` leaves `a,b.` and answers 3.
@@ -30,6 +31,28 @@ pub fn write_to_slice<T: Writeable>(value: &T, out: &mut [u8]) -> Result<usize, 
             }
         }
         None => Err(TooSmall { needed: usize::MAX }),
+    }
+}
+
+/// Copies a text to the front of bytes, and answers its length: `a,b` to `....` leaves `a,b.` and answers 3.
+///
+/// Bytes behind the text stay as they were. `TooSmall`: the text is longer than the bytes, which are then its first ones; it says how
+/// many the text needs, as 3 of `a,b` to two bytes. It takes no memory.
+#[tactic(auto, using(crate::proofs::LaidLemmas::laid_whole, crate::proofs::LaidLemmas::laid_cut))]
+pub fn copy_to_slice(text: &[u8], out: &mut [u8]) -> Result<usize, TooSmall>
+    ensures succeeds { IsOk result ↔ (length text.now ≤ length out.old) }
+    ensures needed { IfErr result (λ error. error.needed ≡ length text.now) }
+    ensures value { IfOk result (λ written. written ≡ length text.now) }
+    ensures text { OnOk result (out.new ≡ text.now ++ drop (length text.now) out.old) }
+    ensures err { OnErr result (out.new ≡ take (length out.old) text.now) }
+{
+    let length = text.len();
+    let room = out.len();
+    lay(out, 0, text);
+    if length <= room {
+        Ok(length)
+    } else {
+        Err(TooSmall { needed: length })
     }
 }
 

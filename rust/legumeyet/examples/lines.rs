@@ -1,5 +1,5 @@
-//! Writes what formatters say to the request lines of standard input, under the book of a file: a line each, the beginning of its
-//! answer, or `-` where none does what the line asks for.
+//! Writes the answers to the request lines of standard input, under the book of a file. Where a formatter does what a line asks for,
+//! what it says has to be the answer too: another text stands behind it.
 //!
 //! usage: lines BOOK < LINES > ANSWERS
 
@@ -79,8 +79,8 @@ fn word_of(error: Error) -> &'static str {
     }
 }
 
-/// What a formatter says, as the beginning of an answer.
-fn front_of(said: Result<String, Error>) -> String {
+/// What a formatter says, as an answer.
+fn answer_of(said: Result<String, Error>) -> String {
     match said {
         Ok(text) => format!("ok\t{text}"),
         Err(error) => format!("err\t{}", word_of(error)),
@@ -94,7 +94,11 @@ fn main() -> Result<(), Box<dyn error::Error>> {
     for line in io::stdin().lock().split(b'\n') {
         let line = line?;
         let fields: Vec<&str> = std::str::from_utf8(&line)?.split('\t').collect();
-        writeln!(out, "{}", text_for(&book, &fields).map_or("-".into(), front_of))?;
+        let (answer, said) = (book.answer(&line)?, text_for(&book, &fields).map(answer_of));
+        match said {
+            Some(said) if said != answer => writeln!(out, "{answer} but {said}")?,
+            _ => writeln!(out, "{answer}")?,
+        }
     }
     Ok(out.flush()?)
 }

@@ -37,6 +37,12 @@ impl Book {
         // SAFETY: a slice is memory of its length, and `open` passes a closed handle.
         Owned::open(sys::legumeyet_book_close, |book| unsafe { sys::legumeyet_book_open(json.as_ptr(), json.len(), book) }).map(Book)
     }
+
+    /// The answer to a request line, without its line feed: `ok`, a tab and a text, or `err`, a tab and a word. Refused by `MEMORY`.
+    pub fn answer(&self, line: &[u8]) -> Result<String, Error> {
+        // SAFETY: a slice is memory of its length, and no other call has the handle.
+        written(|out, room, length| unsafe { sys::legumeyet_book_answer(self.0.at(), line.as_ptr(), line.len(), out, room, length) })
+    }
 }
 
 /// The formatter of plain numbers for a locale tag. It keeps nothing of the book.

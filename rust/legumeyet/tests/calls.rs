@@ -36,6 +36,16 @@ fn numbers() {
 }
 
 #[test]
+fn answers() {
+    let (book, line) = (book(), "en\tplain\tauto\tkeep\t-\t");
+    assert_eq!(book.answer(format!("{line}-987654.321").as_bytes()).unwrap(), "ok\t-987,654.321");
+    assert_eq!(book.answer(format!("{line}{}", "1".repeat(1000)).as_bytes()).unwrap().len(), 1336);
+    for (asked, word) in [(&b""[..], "shape"), (b"\xff", "shape"), (b"e\tplain\tauto\tkeep\t-\t1", "tag")] {
+        assert_eq!(book.answer(asked).unwrap(), format!("err\t{word}"));
+    }
+}
+
+#[test]
 fn books_and_tags() {
     for (json, error) in [
         (&b"[1"[..], Error::BOOK_JSON),

@@ -1,0 +1,74 @@
+//! Answers to request lines: `legumeyet_book_answer`.
+
+ghost use Rattle.std.specs.Prelude.{◌≡◌, IfOk, IfErr};
+ghost use Rattle.locale_numbers.specs.Answer.{answer_of};
+ghost use Rattle.legumeyet_c.specs.Answering.{IsAnswerFault, SaysAnswer};
+ghost use Rattle.legumeyet_c.specs.Putting.{Answers, IsPut};
+ghost use Rattle.legumeyet_c.specs.Views.{book_open};
+
+use crate::call_error::{CallError, answer};
+use crate::content::book_of;
+use crate::handles::BookHandle;
+use crate::putting::put_bytes;
+use locale_numbers::Book;
+use std::alloc::Global;
+
+// The answer of a book to a line.
+fn line_answer(alloc: Global, book: &Book, line: &[u8]) -> Result<Vec<u8>, CallError>
+    ensures value { IfOk result (λ text. text.items ≡ answer_of book.now line.now) }
+    ensures fault { IfErr result (λ error. error ≡ CallError.Memory) }
+{
+    match locale_numbers::answer(alloc, book, line) {
+        Ok(text) => Ok(text),
+        Err(_) => Err(CallError::Memory),
+    }
+}
+
+// The answer of the book behind a handle, which stays as it is.
+fn answer_behind(alloc: Global, book: &mut BookHandle, line: &[u8]) -> Result<Vec<u8>, CallError>
+    ensures same { book_open book.new ≡ book_open book.old }
+    ensures value { IfOk result (λ text. SaysAnswer (book_open book.old) line.now text.items) }
+    ensures fault { IfErr result (λ error. IsAnswerFault (book_open book.old) error) }
+{
+    let Some(content) = book.handle.take(alloc) else {
+        return Err(CallError::Closed);
+    };
+    let found = line_answer(alloc, book_of(&content), line);
+    book.handle.put(alloc, content);
+    found
+}
+
+// Writes the answer of the book behind a handle.
+fn answer_line(
+    alloc: Global,
+    book: &mut BookHandle,
+    line: &[u8],
+    out: &mut [u8],
+    length: &mut usize,
+) -> Result<(), CallError>
+    ensures same { book_open book.new ≡ book_open book.old }
+    ensures told { IsPut (SaysAnswer (book_open book.old) line.now) (IsAnswerFault (book_open book.old)) out.old out.new length.old length.new result }
+{
+    match answer_behind(alloc, book, line) {
+        Ok(text) => put_bytes(text.as_slice(), out, length),
+        Err(error) => Err(error),
+    }
+}
+
+/// Answers a request line, without its line feed: `en`, `plain`, `auto`, `keep`, `-`, `-987654.321` with tabs between by `ok`, a tab
+/// and `-987,654.321`. A line that is refused is answered too, by `err`, a tab and a word.
+///
+/// Answers 0; 2, the book is closed; 1, out of memory; 3, the answer needs more room.
+#[unsafe(no_mangle)]
+pub extern "C" fn legumeyet_book_answer(
+    alloc: Global,
+    book: &mut BookHandle,
+    line: &[u8],
+    out: &mut [u8],
+    length: &mut usize,
+) -> i32
+    ensures same { book_open book.new ≡ book_open book.old }
+    ensures told { Answers (IsPut (SaysAnswer (book_open book.old) line.now) (IsAnswerFault (book_open book.old)) out.old out.new length.old length.new) result }
+{
+    answer(answer_line(alloc, book, line, out, length))
+}
