@@ -72,12 +72,13 @@ static int32_t by_formatter(legumeyet_book *book, const request *asked, uint8_t 
     legumeyet_decimal_formatter plain = {0};
     legumeyet_options options = {0};
     uint32_t grouping = number_of(asked->grouping, GROUPINGS);
-    int is_plain = is_word(asked->form, "plain");
+    int is_plain = is_word(asked->form, "plain"), is_read = is_word(asked->form, "read");
     int32_t error = NO_CALL;
     if (!are_options(asked, &options)) return NO_CALL;
-    if (is_plain) error = legumeyet_decimal_formatter_open(book, asked->tag.at, asked->tag.length, grouping, &plain);
+    if (is_plain || is_read) error = legumeyet_decimal_formatter_open(book, asked->tag.at, asked->tag.length, grouping, &plain);
     if (error == 0 && is_plain)
         error = legumeyet_decimal_formatter_format(&plain, asked->number.at, asked->number.length, &options, out, ROOM, length);
+    if (error == 0 && is_read) error = legumeyet_decimal_formatter_read(&plain, asked->number.at, asked->number.length, out, ROOM, length);
     legumeyet_decimal_formatter_close(&plain);
     return error;
 }
@@ -89,6 +90,8 @@ static const char *word_of(int32_t error) {
     case LEGUMEYET_TABLE: return "table";
     case LEGUMEYET_NUMBER: return "number";
     case LEGUMEYET_LIMIT: return "limit";
+    case LEGUMEYET_UNREADABLE: return "unreadable";
+    case LEGUMEYET_NOT_WRITTEN: return "not-written";
     default: return "no word";
     }
 }

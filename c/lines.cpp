@@ -42,20 +42,22 @@ static std::string word_of(int32_t error) {
     case LEGUMEYET_TABLE: return "table";
     case LEGUMEYET_NUMBER: return "number";
     case LEGUMEYET_LIMIT: return "limit";
+    case LEGUMEYET_UNREADABLE: return "unreadable";
+    case LEGUMEYET_NOT_WRITTEN: return "not-written";
     default: return "no word";
     }
 }
 
 // The text for the fields of a request by the call of a formatter.
 static std::string text_for(Book &book, const Words &fields, const legumeyet_options &options) {
-    const uint32_t grouping = number_of(fields[2], GROUPINGS);
-    return legumeyet::DecimalFormatter(book, fields[0], grouping).format(fields[5], options);
+    legumeyet::DecimalFormatter plain(book, fields[0], number_of(fields[2], GROUPINGS));
+    return fields[1] == "read" ? plain.read(fields[5]) : plain.format(fields[5], options);
 }
 
 // What the call of a formatter says to a request, as an answer; empty where none says what is asked.
 static std::string by_formatter(Book &book, const std::string &line) {
     const auto fields = pieces(line, '\t'), rounding = pieces(fields[4], ',');
-    const bool is_known = fields[1] == "plain", is_rounded = rounding.size() == 3;
+    const bool is_known = fields[1] == "plain" || fields[1] == "read", is_rounded = rounding.size() == 3;
     if (!is_known || (is_rounded && rounding[2] != "1")) return "";
     legumeyet_options options{number_of(fields[3], SIGNS), number_of(rounding[is_rounded], MODES), 0};
     if (is_rounded) options.position = static_cast<int16_t>(std::stoi(rounding[0]));

@@ -48,6 +48,8 @@ static void call_all(void) {
     expect_text(out, length, "-98,765,432,109,876,543,210");
     TWICE(legumeyet_decimal_formatter_format_i64(&plain, -123456789012345678, -3, &ROUNDED, out, sizeof out, &length));
     expect_text(out, length, "-123,456,789,012,346");
+    TWICE(legumeyet_decimal_formatter_read(&plain, TEXT("-123,456,789.50"), out, sizeof out, &length));
+    expect_text(out, length, "-123456789.50");
     expect_well(legumeyet_decimal_formatter_close(&plain));
     expect_well(legumeyet_book_close(&book));
 }

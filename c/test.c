@@ -37,7 +37,7 @@ static const struct {
 };
 
 static legumeyet_book book, closed_book;
-static legumeyet_decimal_formatter english, closed;
+static legumeyet_decimal_formatter english, unreadable, closed;
 static const legumeyet_options AS_GIVEN = {0, 0, 0};
 static uint8_t out[ROOM];
 static size_t length;
@@ -69,6 +69,10 @@ static void expect_error(const char *what, int32_t error, int32_t wanted) {
 
 static int32_t format(const char *number, legumeyet_options options) {
     return legumeyet_decimal_formatter_format(&english, TEXT(number), &options, out, sizeof out, &length);
+}
+
+static int32_t read_back(legumeyet_decimal_formatter *formatter, const char *text) {
+    return legumeyet_decimal_formatter_read(formatter, TEXT(text), out, sizeof out, &length);
 }
 
 static int32_t answer(const char *line) { return legumeyet_book_answer(&book, TEXT(line), out, sizeof out, &length); }
@@ -133,6 +137,27 @@ static void formats(void) {
     expect("30,000 digits", (int64_t)needed, 39999);
 }
 
+static void reads(void) {
+    static uint8_t wide[2 * LONG], digits[2 * LONG];
+    size_t needed = 0;
+    expect_text("a text", read_back(&english, "-1,234.50"), "-1234.50");
+    expect_text("a plus", read_back(&english, "+5"), "+5");
+    expect_text("nine digits", read_back(&english, "987,654,321.0"), "987654321.0");
+    expect_error("another group", read_back(&english, "98,7654"), LEGUMEYET_NOT_WRITTEN);
+    expect_error("no text", read_back(&english, ""), LEGUMEYET_NOT_WRITTEN);
+    expect_error("bytes", read_back(&english, "\xff"), LEGUMEYET_UTF8);
+    expect("symbols alike", legumeyet_decimal_formatter_open(&book, TEXT("bad"), 0, &unreadable), LEGUMEYET_OK);
+    expect_error("symbols alike", read_back(&unreadable, "1"), LEGUMEYET_UNREADABLE);
+    expect_error("symbols alike, bytes", read_back(&unreadable, "\xff"), LEGUMEYET_UTF8);
+    expect("symbols alike", legumeyet_decimal_formatter_close(&unreadable), LEGUMEYET_OK);
+    memset(wide, '9', sizeof wide);
+    expect("40,000 digits", legumeyet_decimal_formatter_read(&english, wide, LONG, digits, sizeof digits, &needed), LEGUMEYET_NOT_WRITTEN);
+    expect("30,000 digits", legumeyet_decimal_formatter_format(&english, wide, 30000, &AS_GIVEN, digits, sizeof digits, &needed),
+           LEGUMEYET_OK);
+    expect("30,000 digits", legumeyet_decimal_formatter_read(&english, digits, needed, wide, sizeof wide, &needed), LEGUMEYET_OK);
+    expect("30,000 digits", (int64_t)needed, 30000);
+}
+
 static void answers(void) {
     expect_text("a line", answer("en\tplain\tauto\tkeep\t-\t-987654.321"), "ok\t-987,654.321");
     expect_text("a short form", answer("en\tshort\tauto\tkeep\t-\t1650"), "ok\t1.6K\t1.6c3");
@@ -158,6 +183,7 @@ static void rooms(void) {
     size_t room;
     for (room = 0; room <= 12; room++) {
         expect_front(legumeyet_decimal_formatter_format(&english, TEXT("-1234.5"), &AS_GIVEN, out, room, &length), "-1,234.5", room);
+        expect_front(legumeyet_decimal_formatter_read(&english, TEXT("-1,234.5"), out, room, &length), "-1234.5", room);
         expect_front(legumeyet_book_answer(&book, TEXT(LINE), out, room, &length), "ok\t-1,234.5", room);
     }
 }
@@ -167,6 +193,7 @@ static void unpromised(void) {
     expect("a book", legumeyet_book_open(NOTHING, &closed_book), LEGUMEYET_BOOK_JSON);
     expect("a tag", legumeyet_decimal_formatter_open(&book, NOTHING, 0, &closed), LEGUMEYET_TAG);
     expect_error("a number", legumeyet_decimal_formatter_format(&english, NOTHING, &AS_GIVEN, out, ROOM, &length), LEGUMEYET_NUMBER);
+    expect_error("a text", legumeyet_decimal_formatter_read(&english, NOTHING, out, ROOM, &length), LEGUMEYET_NOT_WRITTEN);
     expect("no room", legumeyet_decimal_formatter_format(&english, TEXT("1"), &AS_GIVEN, NOTHING, &length), LEGUMEYET_TOO_SMALL);
     expect_text("a line", legumeyet_book_answer(&book, NOTHING, out, ROOM, &length), "err\tshape");
     expect_text("the greatest room", legumeyet_decimal_formatter_format(&english, TEXT("1"), &AS_GIVEN, out, SIZE_MAX, &length), "1");
@@ -181,6 +208,7 @@ static void closes(void) {
     expect("plain again", legumeyet_decimal_formatter_close(&english), LEGUMEYET_CLOSED);
     expect_error("format", format("1", AS_GIVEN), LEGUMEYET_CLOSED);
     expect_error("integer", format_i64(1, 0), LEGUMEYET_CLOSED);
+    expect_error("read", read_back(&english, "1"), LEGUMEYET_CLOSED);
 }
 
 static void texts(void) {
@@ -200,6 +228,7 @@ int main(void) {
     books();
     opens();
     formats();
+    reads();
     answers();
     rooms();
     unpromised();

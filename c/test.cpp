@@ -42,6 +42,16 @@ static void formats(DecimalFormatter &english) {
     expect_error(LEGUMEYET_OPTION, [&] { english.format("1", {6, 0, 0}); });
 }
 
+static void reads(Book &book, DecimalFormatter &english) {
+    const std::string long_number(1000, '1');
+    expect(english.read("-1,234.50"), "-1234.50");
+    expect(english.read(english.format(long_number)), long_number);
+    expect_error(LEGUMEYET_NOT_WRITTEN, [&] { english.read("98,7654"); });
+    expect_error(LEGUMEYET_NOT_WRITTEN, [&] { english.read(std::string_view()); });
+    expect_error(LEGUMEYET_UTF8, [&] { english.read("\xff"); });
+    expect_error(LEGUMEYET_UNREADABLE, [&] { DecimalFormatter(book, "bad").read("1"); });
+}
+
 static void answers(Book &book) {
     const std::string long_line = "en\tplain\tauto\tkeep\t-\t" + std::string(1000, '1');
     expect(book.answer("en\tplain\tauto\tkeep\t-\t-987654.321"), "ok\t-987,654.321");
@@ -54,6 +64,7 @@ int main() {
     Book first(BOOK), book(std::move(first)); // `first` is closed by that
     DecimalFormatter english(book, "en"), moved = std::move(english);
     expect_error(LEGUMEYET_CLOSED, [&] { english.format("1"); });
+    expect_error(LEGUMEYET_CLOSED, [&] { english.read("1"); });
     expect_error(LEGUMEYET_CLOSED, [&] { DecimalFormatter(first, "en"); });
     expect_error(LEGUMEYET_CLOSED, [&] { first.answer(""); });
     expect_error(LEGUMEYET_BOOK_JSON, [] { Book("[1"); });
@@ -61,6 +72,7 @@ int main() {
     expect_error(LEGUMEYET_TAG, [&] { DecimalFormatter(book, "e"); });
     expect_error(LEGUMEYET_TABLE, [&] { DecimalFormatter(book, "xx"); });
     answers(book);
+    reads(book, moved);
     book = Book("[[],[],[],[],[]]");
     formats(moved);
     return wrong;

@@ -54,8 +54,7 @@ enum {
     LEGUMEYET_TABLE = 6,        /* the book lacks a table for the tag */
     LEGUMEYET_NUMBER = 7,       /* the text is no decimal number, as `5.` */
     LEGUMEYET_LIMIT = 8,        /* a digit of the number stands beyond the magnitudes -32768 to 32767 */
-    /* Kept for calls that are not there yet: compact text, reading back. */
-    LEGUMEYET_RANGE = 9,        /* what the number is shown as in compact form reaches ten to the power 32768 */
+    LEGUMEYET_RANGE = 9,        /* what the number is shown as in compact form reaches ten to the power 32768; no call answers it yet */
     LEGUMEYET_UTF8 = 10,        /* the text is not UTF-8 */
     LEGUMEYET_UNREADABLE = 11,  /* under the formatter's symbols two numbers may have one text */
     LEGUMEYET_NOT_WRITTEN = 12, /* the formatter writes no number so, as `98,7654` in English */
@@ -182,6 +181,15 @@ int32_t legumeyet_decimal_formatter_format(legumeyet_decimal_formatter *formatte
  */
 int32_t legumeyet_decimal_formatter_format_i64(legumeyet_decimal_formatter *formatter, int64_t mantissa, int16_t exponent,
                                                const legumeyet_options *options, uint8_t *out, size_t room, size_t *length);
+
+/*
+ * Reads a text back as the one number that the formatter writes so, and writes it as digits: `-1,234.50` of English as `-1234.50`.
+ *
+ * Answers 0; LEGUMEYET_CLOSED; LEGUMEYET_UTF8; LEGUMEYET_UNREADABLE; LEGUMEYET_NOT_WRITTEN; LEGUMEYET_MEMORY, which a text with eight
+ * digits at most never takes; LEGUMEYET_TOO_SMALL.
+ */
+int32_t legumeyet_decimal_formatter_read(legumeyet_decimal_formatter *formatter, const uint8_t *text, size_t text_length, uint8_t *out,
+                                         size_t room, size_t *length);
 
 /*
  * Writes what an answer of these calls means, in English: of LEGUMEYET_TAG `no locale tag`.

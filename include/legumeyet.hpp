@@ -105,6 +105,12 @@ class DecimalFormatter : inner::Owned<legumeyet_decimal_formatter, legumeyet_dec
         return inner::written(
             [&](auto... out) { return legumeyet_decimal_formatter_format_i64(&handle, mantissa, exponent, &options, out...); });
     }
+
+    // The number that is written so, as digits: `-1234.50` of `-1,234.50` in English.
+    std::string read(std::string_view text) {
+        return inner::written(
+            [&](auto... out) { return legumeyet_decimal_formatter_read(&handle, inner::bytes(text), text.size(), out...); });
+    }
 };
 
 } // namespace legumeyet

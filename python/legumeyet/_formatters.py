@@ -135,3 +135,18 @@ class DecimalFormatter(Open):
             return self._written(library.legumeyet_decimal_formatter_format_i64, number, 0, options)
         given = digits_of(number)
         return self._written(library.legumeyet_decimal_formatter_format, given, len(given), options)
+
+    def read(self, text: Text) -> Decimal:
+        """The number that is written so, with all digits that are shown.
+
+        Raises `Error` 10 where the text is no UTF-8, 11 where two numbers may have one text under the symbols, 12 where no number is
+        written so, 2 where the formatter is closed, 1 where memory was refused.
+
+        >>> english.read("-1,234.50")
+        Decimal('-1234.50')
+        >>> english.read("98,7654")
+        Traceback (most recent call last):
+        legumeyet.Error: 12: no number is written so
+        """
+        given = encoded(text)
+        return Decimal(self._written(library.legumeyet_decimal_formatter_read, given, len(given)))

@@ -53,6 +53,7 @@ def load() -> ctypes.CDLL:
         "decimal_formatter_close": [handle],
         "decimal_formatter_format": [handle, *given, options, *written],
         "decimal_formatter_format_i64": [handle, *integer, options, *written],
+        "decimal_formatter_read": [handle, *given, *written],
         "error_text": [ctypes.c_int32, *written],
         "version": [],
     }.items():

@@ -4,6 +4,7 @@ what it says has to be the answer too: another text stands behind it.
 usage: python3 lines.py BOOK < LINES > ANSWERS
 """
 import sys
+from decimal import Decimal
 
 import legumeyet
 from legumeyet import Book, DecimalFormatter, Grouping, Rounding, Sign
@@ -17,7 +18,7 @@ def option(kind, word):
 
 
 def text_for(book, fields):
-    """The text for the fields of a request by the call of a formatter. KeyError: none says what is asked."""
+    """The text for the fields of a request by the call of a formatter, or the number that is read. KeyError: none says what is asked."""
     tag, form, grouping, sign, rounding, number = fields
     grouping, sign = option(Grouping, grouping), option(Sign, sign)
     position, mode, increment = rounding.split(",") if rounding != "-" else ("0", "keep", "1")
@@ -26,17 +27,27 @@ def text_for(book, fields):
         raise KeyError(increment)
     if form == "plain":
         return DecimalFormatter(book, tag, grouping).format(number, sign, rounding, int(position))
+    if form == "read":
+        return DecimalFormatter(book, tag, grouping).read(number)
     raise KeyError(form)
 
 
 def by_formatter(book, line):
-    """What a formatter says to a request, as an answer; None where none can."""
+    """What a formatter says to a request, as an answer, or the number that it reads; None where none can."""
     try:
-        return f"ok\t{text_for(book, line.split(chr(9)))}"
+        text = text_for(book, line.split(chr(9)))
+        return text if isinstance(text, Decimal) else f"ok\t{text}"
     except legumeyet.Error as error:
         return f"err\t{WORDS[error.number]}"
     except KeyError:
         return None
+
+
+def is_said(answer, said):
+    """Whether a formatter says nothing else than the answer. Of what is read a Decimal keeps neither a plus nor zeros in front."""
+    if isinstance(said, Decimal):
+        return answer.startswith("ok\t") and Decimal(answer[3:]).as_tuple() == said.as_tuple()
+    return said in (None, answer)
 
 
 def main(path):
@@ -45,7 +56,7 @@ def main(path):
         for line in sys.stdin.buffer:
             line = line.rstrip(b"\n")
             answer, said = book.answer(line), by_formatter(book, line.decode())
-            sys.stdout.buffer.write(f"{answer}{'' if said in (None, answer) else f' but {said}'}\n".encode())
+            sys.stdout.buffer.write(f"{answer}{'' if is_said(answer, said) else f' but {said}'}\n".encode())
 
 
 main(*sys.argv[1:])

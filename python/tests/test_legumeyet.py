@@ -54,6 +54,20 @@ class Calls(unittest.TestCase):
         for number in (1.5, None, b"1", [1]):
             self.assertRaises(TypeError, self.english.format, number)
 
+    def test_reads(self):
+        for text, number in [("-987,654.321", "-987654.321"), ("1.50", "1.50"), ("-0", "-0"), ("0.00", "0.00"), (b"1,234", "1234")]:
+            self.assertEqual(str(self.english.read(text)), number)
+        long = 10**1000 + 7
+        self.assertEqual(self.english.read(f"{long:,}"), long)
+        arabic = DecimalFormatter(self.book, "ar")
+        self.assertEqual(arabic.read("-١٬٢٣٤٫٥"), Decimal("-1234.5"))
+        for text in ("98,7654", "1234", "", "x", "1,234 ", "٣"):
+            self.refused(12, self.english.read, text)
+        for text in (b"\xff", "\udcff"):
+            self.refused(10, self.english.read, text)
+        self.refused(11, DecimalFormatter(self.book, "bad").read, "1")
+        self.assertRaises(TypeError, self.english.read, 1)
+
     def test_answers(self):
         line = "en\tplain\tauto\tkeep\t-\t"
         self.assertEqual(self.book.answer(f"{line}-987654.321"), "ok\t-987,654.321")
@@ -86,6 +100,7 @@ class Calls(unittest.TestCase):
         self.refused(2, self.book.answer, "")
         self.english.close()
         self.refused(2, self.english.format, 1)
+        self.refused(2, self.english.read, "1")
 
     def test_error_of_another_version(self):
         self.assertEqual((Error(99).number, Error(99).word), (99, "an error of another version"))

@@ -9,6 +9,7 @@ use Rattle.legumeyet_c.specs.Answering.{IsAnswerFault}
 use Rattle.legumeyet_c.specs.Choices.{Changes}
 use Rattle.legumeyet_c.specs.Numbers.{Gives, IsChanged, IsChangeFault, IsNumberFault, IsScaledFault}
 use Rattle.legumeyet_c.specs.Putting.{IsPut, IsWhole, IsCut, IsUntouched}
+use Rattle.legumeyet_c.specs.Reading.{IsReadFault, IsUnread}
 use Rattle.legumeyet_c.specs.Writing.{IsValueFault, IsWritingFault, WritesDecimal, WritesValue}
 use Rattle.legumeyet_c.specs.declared.choices.Choices.{Choices}
 use Rattle.legumeyet_c.specs.declared.call_error.CallError.{CallError}
@@ -104,6 +105,11 @@ scaled_fault_other (Some choices) mantissa exponent error caused =
 pub answer_fault_other : (book : Option BookTables) (error : CallError) → IsAnswerFault book error → error ≢ TooSmall
 answer_fault_other None error is = λ same. absurd (cc (is, same))
 answer_fault_other (Some book) error is = λ same. absurd (cc (is, same))
+
+-- nor of a text that is read back
+pub read_fault_other : (open_tables : Option Tables) (text : List ℕ) (error : CallError) → IsReadFault open_tables text error → error ≢ TooSmall
+read_fault_other None text error is = λ same. absurd (cc (is, same))
+read_fault_other (Some tables) text error caused = λ same. subst (λ (e : CallError). IsUnread tables text e) same caused
 
 -- the same of an outcome
 pub other_fault : {T : Type 0} {fault : CallError → Type 0} (outcome : Result T CallError) → IfErr outcome fault

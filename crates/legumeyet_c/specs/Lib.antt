@@ -7,5 +7,6 @@ pub mod Numbers
 pub mod Opening
 pub mod Owned
 pub mod Putting
+pub mod Reading
 pub mod Views
 pub mod Writing

@@ -21,4 +21,5 @@ mod handles;
 pub mod information;
 mod numbers;
 mod putting;
+pub mod reading;
 mod unboxed;

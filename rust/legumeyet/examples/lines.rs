@@ -64,6 +64,7 @@ fn text_for(book: &Book, fields: &[&str]) -> Option<Result<String, Error>> {
     let plain = || DecimalFormatter::new(book, tag, grouping);
     match form {
         "plain" => Some(plain().and_then(|it| it.format(number, &options))),
+        "read" => Some(plain().and_then(|it| it.read(number))),
         _ => None,
     }
 }
@@ -75,6 +76,8 @@ fn word_of(error: Error) -> &'static str {
         Error::TABLE => "table",
         Error::NUMBER => "number",
         Error::LIMIT => "limit",
+        Error::UNREADABLE => "unreadable",
+        Error::NOT_WRITTEN => "not-written",
         _ => "no word",
     }
 }

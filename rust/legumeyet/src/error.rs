@@ -22,6 +22,10 @@ impl Error {
     pub const NUMBER: Error = Error(7);
     /// A digit of the number stands beyond the magnitudes -32768 to 32767.
     pub const LIMIT: Error = Error(8);
+    /// Two numbers may have one text under the symbols.
+    pub const UNREADABLE: Error = Error(11);
+    /// No number is written so.
+    pub const NOT_WRITTEN: Error = Error(12);
     /// The bytes are no JSON.
     pub const BOOK_JSON: Error = Error(101);
     /// The value is not five arrays or six, or an entry has not its form.

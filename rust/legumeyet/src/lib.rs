@@ -74,6 +74,14 @@ impl DecimalFormatter {
             sys::legumeyet_decimal_formatter_format_i64(self.0.at(), mantissa, exponent, &options, out, room, length)
         })
     }
+
+    /// The number that is written so, as digits: `-1,234.50` is `-1234.50` in English. Refused by `UNREADABLE`, `NOT_WRITTEN`, `MEMORY`.
+    pub fn read(&self, text: &str) -> Result<String, Error> {
+        // SAFETY: as for `Book::answer`.
+        written(|out, room, length| unsafe {
+            sys::legumeyet_decimal_formatter_read(self.0.at(), text.as_ptr(), text.len(), out, room, length)
+        })
+    }
 }
 
 /// The version of the library.

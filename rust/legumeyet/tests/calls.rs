@@ -36,6 +36,20 @@ fn numbers() {
 }
 
 #[test]
+fn reads() {
+    let (english, long) = (english(), "1".repeat(1000));
+    for (text, number) in [("-1,234.50", "-1234.50"), ("+5", "+5"), ("-0", "-0")] {
+        assert_eq!(english.read(text).unwrap(), number);
+    }
+    assert_eq!(english.read(&english.format(&long, &AS_GIVEN).unwrap()).unwrap(), long);
+    for text in ["98,7654", "1234", "", "1\0", "٣"] {
+        assert_eq!(english.read(text), Err(Error::NOT_WRITTEN), "{text}");
+    }
+    let bad = DecimalFormatter::new(&book(), "bad", Grouping::Auto).unwrap();
+    assert_eq!(bad.read("1"), Err(Error::UNREADABLE));
+}
+
+#[test]
 fn answers() {
     let (book, line) = (book(), "en\tplain\tauto\tkeep\t-\t");
     assert_eq!(book.answer(format!("{line}-987654.321").as_bytes()).unwrap(), "ok\t-987,654.321");
