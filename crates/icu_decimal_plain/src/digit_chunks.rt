@@ -1,9 +1,18 @@
-//! The digits of a number in chunks.
+//! The digits of a number in chunks, and groups that are written by chunks.
 
-ghost use Rattle.std.specs.Prelude.{◌≡◌, ◌+◌, ◌≤◌, ◌++◌, [], drop, length, min, take};
+ghost use Rattle.std.specs.Prelude.{◌≡◌, ℕ, ◌+◌, ◌<◌, ◌≤◌, ◌++◌, [], drop, false, is_err, length, min, sum, take, IsUtf8, OnOk, OnErr};
+ghost use Rattle.std.specs.Int.Digits.{AllBelowBase};
+ghost use Rattle.writeable.specs.AnnotatedText.{bytes};
+ghost use Rattle.writeable.specs.Taking.{HasBegun, IsWriting};
+ghost use Rattle.icu_decimal_plain.specs.PlainText.{digit_text};
+ghost use Rattle.icu_decimal_plain.specs.LaterGroups.{groups_ahead};
 
-use crate::text_pieces::CHUNK;
+use crate::grouper::GroupSizes;
+use crate::piece_tables::DigitTable;
+use crate::text_pieces::{CHUNK, CHUNK_BYTES, Piece, put_groups};
 use fixed_decimal::ShownDigits;
+use std::iter::ExactSizeIterator;
+use writeable::{Error, Sink};
 
 // Puts the next sixteen digits into a chunk, from a place on.
 fn put_block(digits: &mut ShownDigits<'_>, chunk: &mut [u8; CHUNK], at: usize)
@@ -18,7 +27,7 @@ fn put_block(digits: &mut ShownDigits<'_>, chunk: &mut [u8; CHUNK], at: usize)
 }
 
 // Takes the digits of a chunk.
-pub(crate) fn next_digits(digits: &mut ShownDigits<'_>) -> [u8; CHUNK]
+fn next_digits(digits: &mut ShownDigits<'_>) -> [u8; CHUNK]
     requires { 48 ≤ length digits.old }
     ensures chunk { result ≡ take 48 digits.old }
     ensures digits { digits.new ≡ drop 48 digits.old }
@@ -65,4 +74,77 @@ pub(crate) fn few_digits(digits: &mut ShownDigits<'_>, count: usize) -> [u8; CHU
         at += 16;
     }
     chunk
+}
+
+// Writes the first bytes of `waiting`, so many.
+fn write_waiting<S: Sink>(
+    waiting: &[u8; CHUNK_BYTES],
+    len: usize,
+    sink: &mut S,
+) -> Result<(), Error>
+    requires fine { S.refused sink.old ≡ false }
+    requires within { len ≤ 384 }
+    requires utf8 { IsUtf8 (take len waiting.now) }
+    ensures ok { OnOk result (S.takes sink.old (bytes (take len waiting.now)) sink.new) }
+    ensures refused { S.refused sink.new ≡ is_err result }
+    ensures begun { OnErr result (HasBegun S.takes S.lacks_room sink.old (bytes (take len waiting.now)) sink.new) }
+{
+    sink.write_str(unsafe { str::from_utf8_unchecked(&waiting[..len]) })
+}
+
+// Writes groups by chunks, each group with the separator before it, as long as they fill one.
+pub(crate) fn write_chunks<S: Sink>(
+    separator: &str,
+    digits: &mut ShownDigits<'_>,
+    sizes: &mut GroupSizes,
+    table: &DigitTable<'_>,
+    sink: &mut S,
+) -> Result<(), Error>
+    requires fine { S.refused sink.old ≡ false }
+    requires short { length separator.now ≤ 4 }
+    requires tens { AllBelowBase 10 digits.old }
+    ensures tens { OnOk result (AllBelowBase 10 digits.new) }
+    ensures digits { OnOk result (drop (sum sizes.new) digits.new ≡ drop (sum sizes.old) digits.old) }
+    ensures ok { OnOk result (IsWriting S.takes S.refused sink.old (bytes (groups_ahead separator.now (digit_text table.now.chars.now) sizes.old digits.old)) sink.new (bytes (groups_ahead separator.now (digit_text table.now.chars.now) sizes.new digits.new))) }
+    ensures refused { S.refused sink.new ≡ is_err result }
+    ensures begun { OnErr result (HasBegun S.takes S.lacks_room sink.old (bytes (groups_ahead separator.now (digit_text table.now.chars.now) sizes.old digits.old)) sink.new) }
+{
+    let piece = Piece::new(separator);
+    let mut waiting = [0; CHUNK_BYTES];
+    while digits.len() >= CHUNK {
+        let Some(mut groups) = sizes.next_chunk() else {
+            return Ok(());
+        };
+        let chunk = next_digits(digits);
+        let len = put_groups(&mut waiting, 0, piece, &chunk, &mut groups, table);
+        write_waiting(&waiting, len, sink)?;
+    }
+    Ok(())
+}
+
+// Writes the last groups by one call of the sink, each with the separator before it.
+pub(crate) fn write_last<S: Sink>(
+    separator: &str,
+    digits: &mut ShownDigits<'_>,
+    sizes: &mut GroupSizes,
+    table: &DigitTable<'_>,
+    sink: &mut S,
+) -> Result<(), Error>
+    requires fine { S.refused sink.old ≡ false }
+    requires short { length separator.now ≤ 4 }
+    requires few { length digits.old ≤ 48 }
+    requires room { length digits.old + length sizes.old ≤ 96 }
+    requires whole { sum sizes.old ≡ length digits.old }
+    requires tens { AllBelowBase 10 digits.old }
+    ensures digits { OnOk result (digits.new ≡ drop (sum sizes.old) digits.old) }
+    ensures ok { OnOk result (S.takes sink.old (bytes (groups_ahead separator.now (digit_text table.now.chars.now) sizes.old digits.old)) sink.new) }
+    ensures refused { S.refused sink.new ≡ is_err result }
+    ensures begun { OnErr result (HasBegun S.takes S.lacks_room sink.old (bytes (groups_ahead separator.now (digit_text table.now.chars.now) sizes.old digits.old)) sink.new) }
+{
+    let piece = Piece::new(separator);
+    let count = digits.len();
+    let chunk = few_digits(digits, count);
+    let mut waiting = [0; CHUNK_BYTES];
+    let len = put_groups(&mut waiting, 0, piece, &chunk[..count], sizes, table);
+    write_waiting(&waiting, len, sink)
 }

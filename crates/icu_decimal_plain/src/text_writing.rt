@@ -9,62 +9,16 @@ ghost use Rattle.icu_decimal_plain.specs.BorrowedTables.{borrowed_tables};
 ghost use Rattle.icu_decimal_plain.specs.PlainText.{chained, digit_text, fraction_text, unsigned_text, whole_text};
 ghost use Rattle.icu_decimal_plain.specs.LaterGroups.{groups_ahead};
 
-use crate::digit_chunks::{few_digits, next_digits};
+use crate::digit_chunks::{write_chunks, write_last};
 use crate::grouper::GroupSizes;
 use crate::piece_tables::DigitTable;
 use crate::short_text::ShortText;
 use crate::tables::DecimalTables;
-use crate::text_pieces::{CHUNK, CHUNK_BYTES, Piece, put_groups};
+use crate::text_pieces::CHUNK;
 use crate::writing::{fraction_len, highest, write_digits, write_fraction_digits};
 use fixed_decimal::{ShownDigits, UnsignedDecimal};
 use std::iter::ExactSizeIterator;
 use writeable::{Error, Sink};
-
-// Writes the first bytes of `waiting`, so many.
-fn write_waiting<S: Sink>(
-    waiting: &[u8; CHUNK_BYTES],
-    len: usize,
-    sink: &mut S,
-) -> Result<(), Error>
-    requires fine { S.refused sink.old ≡ false }
-    requires within { len ≤ 384 }
-    requires utf8 { IsUtf8 (take len waiting.now) }
-    ensures ok { OnOk result (S.takes sink.old (bytes (take len waiting.now)) sink.new) }
-    ensures refused { S.refused sink.new ≡ is_err result }
-    ensures begun { OnErr result (HasBegun S.takes S.lacks_room sink.old (bytes (take len waiting.now)) sink.new) }
-{
-    sink.write_str(unsafe { str::from_utf8_unchecked(&waiting[..len]) })
-}
-
-// Writes groups by chunks, each group with the separator before it, as long as they fill one.
-fn write_chunks<S: Sink>(
-    separator: &str,
-    digits: &mut ShownDigits<'_>,
-    sizes: &mut GroupSizes,
-    table: &DigitTable<'_>,
-    sink: &mut S,
-) -> Result<(), Error>
-    requires fine { S.refused sink.old ≡ false }
-    requires short { length separator.now ≤ 4 }
-    requires tens { AllBelowBase 10 digits.old }
-    ensures tens { OnOk result (AllBelowBase 10 digits.new) }
-    ensures digits { OnOk result (drop (sum sizes.new) digits.new ≡ drop (sum sizes.old) digits.old) }
-    ensures ok { OnOk result (IsWriting S.takes S.refused sink.old (bytes (groups_ahead separator.now (digit_text table.now.chars.now) sizes.old digits.old)) sink.new (bytes (groups_ahead separator.now (digit_text table.now.chars.now) sizes.new digits.new))) }
-    ensures refused { S.refused sink.new ≡ is_err result }
-    ensures begun { OnErr result (HasBegun S.takes S.lacks_room sink.old (bytes (groups_ahead separator.now (digit_text table.now.chars.now) sizes.old digits.old)) sink.new) }
-{
-    let piece = Piece::new(separator);
-    let mut waiting = [0; CHUNK_BYTES];
-    while digits.len() >= CHUNK {
-        let Some(mut groups) = sizes.next_chunk() else {
-            return Ok(());
-        };
-        let chunk = next_digits(digits);
-        let len = put_groups(&mut waiting, 0, piece, &chunk, &mut groups, table);
-        write_waiting(&waiting, len, sink)?;
-    }
-    Ok(())
-}
 
 // Writes a group with the separator before it.
 #[tactic(auto, using(crate::proofs::PlainTextLemmas::bytes_chained))]
@@ -105,33 +59,6 @@ fn write_few<S: Sink>(
         write_group(separator, digits, size, table, sink)?;
     }
     Ok(())
-}
-
-// Writes the last groups by one call of the sink, each with the separator before it.
-fn write_last<S: Sink>(
-    separator: &str,
-    digits: &mut ShownDigits<'_>,
-    sizes: &mut GroupSizes,
-    table: &DigitTable<'_>,
-    sink: &mut S,
-) -> Result<(), Error>
-    requires fine { S.refused sink.old ≡ false }
-    requires short { length separator.now ≤ 4 }
-    requires few { length digits.old ≤ 48 }
-    requires room { length digits.old + length sizes.old ≤ 96 }
-    requires whole { sum sizes.old ≡ length digits.old }
-    requires tens { AllBelowBase 10 digits.old }
-    ensures digits { OnOk result (digits.new ≡ drop (sum sizes.old) digits.old) }
-    ensures ok { OnOk result (S.takes sink.old (bytes (groups_ahead separator.now (digit_text table.now.chars.now) sizes.old digits.old)) sink.new) }
-    ensures refused { S.refused sink.new ≡ is_err result }
-    ensures begun { OnErr result (HasBegun S.takes S.lacks_room sink.old (bytes (groups_ahead separator.now (digit_text table.now.chars.now) sizes.old digits.old)) sink.new) }
-{
-    let piece = Piece::new(separator);
-    let count = digits.len();
-    let chunk = few_digits(digits, count);
-    let mut waiting = [0; CHUNK_BYTES];
-    let len = put_groups(&mut waiting, 0, piece, &chunk[..count], sizes, table);
-    write_waiting(&waiting, len, sink)
 }
 
 // Writes groups, each with the separator before it: by one call of the sink where they are the last and have a chunk of digits at

@@ -1,4 +1,4 @@
-use Rattle.std.proofs.Common.{◌≡◌, ◌+◌, ◌-◌, ◌++◌, ◌∙◌, ap, append_assoc, arith, drop, length, length-drop, map, refl, subst, sum, sym, take}
+use Rattle.std.proofs.Common.{◌≡◌, ◌+◌, ◌-◌, ◌++◌, ◌∙◌, ap, append_assoc, arith, drop, length, length-drop, map, refl, subst, sym, take}
 use Rattle.std.specs.Int.Digits.{AllBelowBase}
 use Rattle.icu_decimal_plain.specs.Grouper.{group_sizes}
 use Rattle.icu_decimal_plain.specs.BorrowedTables.{borrowed_tables}

@@ -6,7 +6,7 @@ use Rattle.std.specs.Int.Digits.{AllBelowBase}
 use Rattle.icu_decimal_plain.specs.LaterGroups.{groups_ahead}
 use Rattle.icu_decimal_plain.specs.PlainText.{digit_text}
 use Rattle.icu_decimal_plain.proofs.PieceLemmas.{utf8_groups}
-use Rattle.icu_decimal_plain.proofs.text_writing.write_last.Goals as goal
+use Rattle.icu_decimal_plain.proofs.digit_chunks.write_last.Goals as goal
 
 pub put_groups-len-requires : goal.put_groups-len-requires
 put_groups-len-requires g c =

@@ -4,7 +4,7 @@ use Rattle.writeable.specs.AnnotatedText.{bytes}
 use Rattle.writeable.specs.Taking.{IsWriting}
 use Rattle.icu_decimal_plain.specs.LaterGroups.{groups_ahead}
 use Rattle.icu_decimal_plain.specs.PlainText.{digit_text}
-use Rattle.icu_decimal_plain.proofs.text_writing.write_chunks.Given as goal
+use Rattle.icu_decimal_plain.proofs.digit_chunks.write_chunks.Given as goal
 
 abbrev pub invariant-loop-digits : goal.invariant-loop-digits
 invariant-loop-digits g l = record {

@@ -9,7 +9,7 @@ use Rattle.icu_decimal_plain.specs.LaterGroups.{groups_ahead}
 use Rattle.icu_decimal_plain.specs.PlainText.{digit_text}
 use Rattle.icu_decimal_plain.proofs.PieceLemmas.{chunk_bytes, chunk_past, tens_taken, utf8_groups}
 use Rattle.icu_decimal_plain.proofs.PlainTextLemmas.{tens_dropped}
-use Rattle.icu_decimal_plain.proofs.text_writing.write_chunks.Goals as goal
+use Rattle.icu_decimal_plain.proofs.digit_chunks.write_chunks.Goals as goal
 
 pub put_groups-len-requires : goal.put_groups-len-requires
 put_groups-len-requires g c =
