@@ -1,5 +1,5 @@
 -- The parents of a book close no cycle, so its chains end: `specs/Laws.antt`.
-use Rattle.std.proofs.Common.{◌≡◌, Bool, true, false, not, List, [], ◌∷◌, ◌++◌, append_assoc, Option, None, Some, is_some, option_and_then, option_map, unwrap_or, refl, sym, ap, ◌∙◌, subst}
+use Rattle.std.proofs.Common.{◌≡◌, Bool, true, false, not, List, [], ◌∷◌, ◌++◌, append_assoc, Option, None, Some, is_some, option_and_then, option_map, unwrap_or, refl, sym, ◌∙◌, subst}
 use Rattle.serde_json.specs.Data.{Items, no_items, item}
 use Rattle.serde_json.specs.Find.{as_array}
 use Rattle.icu_locale_core.specs.TagPreferences.{DataLocaleMeaning}

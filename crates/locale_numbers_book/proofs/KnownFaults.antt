@@ -11,43 +11,43 @@ use Rattle.locale_numbers_tables.specs.TagReading.{tag_of, data_locale_of}
 
 -- ---- small books
 
-abbrev items : List Data → Items
+abbrev pub items : List Data → Items
 items [] = no_items
 items (d ∷ ds) = item d (items ds)
 
-abbrev list : List Data → Data
+abbrev pub list : List Data → Data
 list ds = array (items ds)
 
-abbrev text : List ℕ → Data
+abbrev pub text : List ℕ → Data
 text bytes = string bytes
 
-abbrev size : ℕ → Data
+abbrev pub size : ℕ → Data
 size n = number (unsigned n)
 
-abbrev book : List Data → List Data → List Data → List Data → List Data → Data
+abbrev pub book : List Data → List Data → List Data → List Data → List Data → Data
 book symbols digits rules short long = list (list symbols ∷ list digits ∷ list rules ∷ list short ∷ list long ∷ [])
 
 -- symbols of a locale, a system and a minus sign; else those of English
-abbrev symbols : List ℕ → List ℕ → List ℕ → Data
+abbrev pub symbols : List ℕ → List ℕ → List ℕ → Data
 symbols locale system minus = list (
     text locale ∷ text system ∷ text (codes "latn") ∷ text minus ∷ text [] ∷ text (codes "+") ∷ text []
     ∷ text (codes ".") ∷ text (codes ",") ∷ size 3 ∷ size 3 ∷ size 1 ∷ [])
 
-abbrev digits : List ℕ → List ℕ → Data
+abbrev pub digits : List ℕ → List ℕ → Data
 digits system ten = list (text system ∷ text ten ∷ [])
 
-abbrev rules : List ℕ → List Data → Data
+abbrev pub rules : List ℕ → List Data → Data
 rules locale conditions = list (text locale ∷ list conditions ∷ [])
 
-abbrev condition : List ℕ → List ℕ → Data
+abbrev pub condition : List ℕ → List ℕ → Data
 condition category said = list (text category ∷ text said ∷ [])
 
 -- a type with an exponent and one pattern
-abbrev type : ℕ → ℕ → List ℕ → List ℕ → Data
+abbrev pub type : ℕ → ℕ → List ℕ → List ℕ → Data
 type log10_type exponent before after =
     list (size log10_type ∷ size exponent ∷ list (list (text (codes "other") ∷ list (text before ∷ text after ∷ []) ∷ []) ∷ []) ∷ [])
 
-abbrev patterns : List ℕ → List Data → Data
+abbrev pub patterns : List ℕ → List Data → Data
 patterns locale types = list (text locale ∷ text [] ∷ list types ∷ null ∷ [])
 
 -- five arrays without entries, and one of parents

@@ -7,3 +7,4 @@ pub mod KnownFaults
 pub mod KnownBooks
 pub mod WantedLemmas
 pub mod FormatterLemmas
+pub mod SampleLemmas

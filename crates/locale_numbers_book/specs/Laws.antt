@@ -1,6 +1,6 @@
 -- Laws of the definitions: which tags and data locales are read, when two keys are one, which tables of patterns are made, when a value
--- is a book, and that its chains of parents end.
--- Defined in docs/books.md, "Tags", "The form", "Parents" and "Faults".
+-- is a book, that its chains of parents end, and which tables the sample book has.
+-- Defined in docs/books.md, "Tags", "The form", "Parents", "Faults" and "The sample book".
 -- Cited by the functions of `laws.rt`.
 use Rattle.std.specs.Prelude.{◌≡◌, ◌↔◌, List, Option, Some}
 use Rattle.std.specs.List.{AllByRecursion}
@@ -16,6 +16,9 @@ use Rattle.icu_decimal.specs.Identifiers.{Identifier}
 use Rattle.icu_decimal.specs.KeptEntries.{CompactTable, IsTable, Patterns, TypePatterns}
 use Rattle.icu_decimal.specs.SmallEntries.{AreSmall}
 use Rattle.locale_numbers_book.specs.Book.{BookTables, IsBook}
+use Rattle.locale_numbers_book.specs.Json.{Reads}
+use Rattle.locale_numbers_book.specs.SampleBook.{sample_tables}
+use Rattle.locale_numbers_book.specs.declared.sample_book.TheConstants.{SAMPLE_BOOK}
 use Rattle.locale_numbers_tables.specs.CompactEntries.{table_made}
 use Rattle.locale_numbers_tables.specs.Keys.{same_key}
 use Rattle.locale_numbers_book.specs.Tables.{parent_under, steps_in}
@@ -58,3 +61,7 @@ BookTablesAreSound = (value : Data) (book : BookTables) → IsBook value book �
 abbrev pub BookChainsEnd : Type 0
 BookChainsEnd = (value : Data) (book : BookTables) → IsBook value book → (locale : DataLocaleMeaning)
     → Follows (parent_under book) locale (walk (parent_under book) (steps_in book.parents) locale)
+
+-- the text of the sample book is a book, and its tables are those that are written out
+abbrev pub SampleBookIsKnown : Type 0
+SampleBookIsKnown = (value : Data) × Reads SAMPLE_BOOK.now value × IsBook value sample_tables

@@ -4,6 +4,7 @@ pub mod Json
 pub mod ParentEntries
 pub mod Form
 pub mod Book
+pub mod SampleBook
 pub mod Refusal
 pub mod BookRoom
 pub mod Tables

@@ -1,5 +1,5 @@
 //! Laws of the definitions, each the contract of a function that does nothing.
-ghost use Rattle.locale_numbers_book.specs.Laws.{TagsAreRead, DataLocalesAreRead, KeysAreOneWhereEqual, TablesAreMade, IsOneBook, BookTablesAreSound, BookChainsEnd};
+ghost use Rattle.locale_numbers_book.specs.Laws.{TagsAreRead, DataLocalesAreRead, KeysAreOneWhereEqual, TablesAreMade, IsOneBook, BookTablesAreSound, BookChainsEnd, SampleBookIsKnown};
 
 /// The function by which a line is answered reads as a tag exactly what means one in the grammar, and as that meaning:
 /// `EN-u-NU-Wxyz` as the language `en` with the system `wxyz`, and `en-` as none.
@@ -40,4 +40,10 @@ pub fn tables_are_sound()
 /// `[[],[],[],[],[],[["en-AU","en-001"]]]`.
 pub fn chains_end()
     ensures { BookChainsEnd }
+{}
+
+/// The sample book is a book with these tables and no others: the symbols of `en` and of `ar-EG`, the digits of `latn`, `arab` and
+/// `thai`, the English plural rules and the English patterns, short and long.
+pub fn sample_book_is_known()
+    ensures { SampleBookIsKnown }
 {}

@@ -1,4 +1,4 @@
-use Rattle.std.proofs.Common.{List, Option, Some, sym, ap, ◌∙◌, subst}
+use Rattle.std.proofs.Common.{List, Option, sym, ap, ◌∙◌, subst}
 use Rattle.icu_locale_core.specs.TagPreferences.{DataLocaleMeaning}
 use Rattle.icu_decimal_chains.specs.Chains.{Follows, walk}
 use Rattle.locale_numbers_parents.specs.Parents.{Entry}
