@@ -9,7 +9,7 @@ use crate::answer_line::push_refusal;
 use crate::exact_answer::push_exact_text;
 use crate::formatters::Formatters;
 use crate::front::{Front, read_front};
-use crate::kept_formatter::FormatterMaker;
+use crate::kept_formatter::MadeFormatter;
 use crate::number_answer::push_text;
 use crate::read_answer::push_reading;
 use crate::refusal::Refusal;
@@ -23,24 +23,24 @@ use std::alloc::{AllocError, Global};
 pub(crate) fn push_behind<'a, F: Formatters<'a>>(
     alloc: Global,
     formatters: &mut F,
-    front: Option<Front>,
+    front: &Option<Front>,
     text: &str,
     out: &mut String,
 ) -> Result<(), AllocError>
     requires ready { F.is_ready formatters.old }
-    requires kind { IfSome front FitsForm }
+    requires kind { IfSome front.now FitsForm }
     ensures text { OnOk result (string_bytes out.new
-        ≡ string_bytes out.old ++ answer_behind (F.book formatters.old) front text.now) }
+        ≡ string_bytes out.old ++ answer_behind (F.book formatters.old) front.now text.now) }
     ensures err { OnErr result (Grows (string_bytes out.old) (string_bytes out.new)) }
     ensures counted { OnOk result ((more : List (Option FormatterKey)) →
-        F.counted_over formatters.old (key_behind front text.now ∷ more) ≡ F.counted_over formatters.new more) }
+        F.counted_over formatters.old (key_behind front.now text.now ∷ more) ≡ F.counted_over formatters.new more) }
     ensures same { F.book formatters.new ≡ F.book formatters.old }
     ensures ready { F.is_ready formatters.new }
 {
     let Some(front) = front else {
         return push_refusal(out, Refusal::Shape);
     };
-    let Some(key) = front.key else {
+    let Some(key) = &front.key else {
         return push_refusal(out, Refusal::Tag);
     };
     match front.form {
@@ -76,7 +76,7 @@ fn push_line<'a, F: Formatters<'a>>(
         return push_refusal(out, Refusal::Shape);
     };
     let front = read_front(alloc, front)?;
-    push_behind(alloc, formatters, front, text, out)
+    push_behind(alloc, formatters, &front, text, out)
 }
 
 /// The answer of `book` to a request line, without a line feed.
@@ -94,7 +94,10 @@ pub fn answer(alloc: Global, book: &Book, line: &[u8]) -> Result<Vec<u8>, AllocE
     ensures text { IfOk result (λ text. text.items ≡ answer_of book.now line.now) }
 {
     let mut out = String::new(alloc);
-    let mut maker = FormatterMaker { tables: book };
-    push_line(alloc, &mut maker, line, &mut out)?;
+    let mut formatters = MadeFormatter {
+        tables: book,
+        made: None,
+    };
+    push_line(alloc, &mut formatters, line, &mut out)?;
     Ok(out.into_bytes())
 }

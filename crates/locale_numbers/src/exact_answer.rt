@@ -60,26 +60,29 @@ fn push_exact(
 fn push_significand<'a, F: Formatters<'a>>(
     formatters: &mut F,
     length: PatternLength,
-    key: Hashed<FormatterKey>,
+    key: &Hashed<FormatterKey>,
     significand: &Decimal,
     exponent: u8,
     out: &mut String,
 ) -> Result<(), AllocError>
     requires ready { F.is_ready formatters.old }
-    requires compact { key.kind ≡ Kind.Compact length }
+    requires compact { key.now.kind ≡ Kind.Compact length }
     ensures text { OnOk result (string_bytes out.new
-        ≡ string_bytes out.old ++ exact_with (found_compact length (F.book formatters.old) key.preferences key.grouping)
+        ≡ string_bytes out.old ++ exact_with (found_compact length (F.book formatters.old) key.now.preferences key.now.grouping)
         (record { significand = significand.now; exponent = exponent })) }
     ensures err { OnErr result (Grows (string_bytes out.old) (string_bytes out.new)) }
     ensures counted { OnOk result ((more : List (Option FormatterKey)) →
-        F.counted_over formatters.old (Some key ∷ more) ≡ F.counted_over formatters.new more) }
+        F.counted_over formatters.old (Some key.now ∷ more) ≡ F.counted_over formatters.new more) }
     ensures same { F.book formatters.new ≡ F.book formatters.old }
     ensures ready { F.is_ready formatters.new }
 {
-    match formatters.formatter(key)? {
-        Some(KeptFormatter::Compact(compact)) => push_exact(&compact, significand, exponent, out),
-        Some(KeptFormatter::Plain(_)) => unreachable!(),
-        None => push_refusal(out, Refusal::Table),
+    let found = formatters.find(key)?;
+    if !found {
+        return push_refusal(out, Refusal::Table);
+    }
+    match formatters.found(key) {
+        KeptFormatter::Compact(compact) => push_exact(compact, significand, exponent, out),
+        KeptFormatter::Plain(_) => unreachable!(),
     }
 }
 
@@ -90,18 +93,18 @@ pub(crate) fn push_exact_text<'a, F: Formatters<'a>>(
     alloc: Global,
     formatters: &mut F,
     length: PatternLength,
-    key: Hashed<FormatterKey>,
+    key: &Hashed<FormatterKey>,
     sign: SignAsked,
     text: &str,
     out: &mut String,
 ) -> Result<(), AllocError>
     requires ready { F.is_ready formatters.old }
-    requires compact { key.kind ≡ Kind.Compact length }
+    requires compact { key.now.kind ≡ Kind.Compact length }
     ensures text { OnOk result (string_bytes out.new
-        ≡ string_bytes out.old ++ exact_to (found_compact length (F.book formatters.old) key.preferences key.grouping) sign (compact_reading_of text.now)) }
+        ≡ string_bytes out.old ++ exact_to (found_compact length (F.book formatters.old) key.now.preferences key.now.grouping) sign (compact_reading_of text.now)) }
     ensures err { OnErr result (Grows (string_bytes out.old) (string_bytes out.new)) }
     ensures counted { OnOk result ((more : List (Option FormatterKey)) →
-        F.counted_over formatters.old (key_exact key (compact_reading_of text.now) ∷ more) ≡ F.counted_over formatters.new more) }
+        F.counted_over formatters.old (key_exact key.now (compact_reading_of text.now) ∷ more) ≡ F.counted_over formatters.new more) }
     ensures same { F.book formatters.new ≡ F.book formatters.old }
     ensures ready { F.is_ready formatters.new }
 {

@@ -1,4 +1,4 @@
-ghost use Rattle.std.specs.Prelude.{◌≡◌, ◌∷◌, ℕ, List, Option, Some, None, IfOk, OnOk, OnErr, MatchOption, false};
+ghost use Rattle.std.specs.Prelude.{◌≡◌, ◌∷◌, ℕ, List, Option, Some, None, IfOk, IsTrue, OnOk, OnErr};
 ghost use Rattle.locale_numbers_book.specs.Book.{BookTables};
 ghost use Rattle.locale_numbers.specs.FormatterKeys.{IsMadeFor, finds};
 ghost use Rattle.locale_numbers.specs.declared.formatter_key.FormatterKey.{FormatterKey};
@@ -19,23 +19,27 @@ pub(crate) trait Formatters<'a> {
     // How many formatters it will have counted once lines with these keys are answered too.
     ghost counted_over: { Self → List (Option FormatterKey) → ℕ };
 
-    // Handing one out may take memory.
+    // Finding one may take memory.
     ghost may_take_memory: { Self → Type 0 };
 
-    /// The formatter of a key; `None` where the book lacks one of its tables. The condition is that it is ready to hand one out.
-    fn formatter(
-        &mut self,
-        key: Hashed<FormatterKey>,
-    ) -> Result<Option<KeptFormatter<'a>>, AllocError>
+    // The formatter that was found last is that of the key.
+    ghost holds: { Self → FormatterKey → Type 0 };
+
+    /// Finds the formatter of a key; `false` where the book lacks one of its tables. The condition is that it is ready to find one.
+    fn find(&mut self, key: &Hashed<FormatterKey>) -> Result<bool, AllocError>
         requires { is_ready self.old }
-        ensures value { IfOk result (λ found. MatchOption found
-            (finds (book self.old) key ≡ false)
-            (λ formatter. IsMadeFor (book self.old) key formatter)) }
+        ensures value { IfOk result (λ found. found ≡ finds (book self.old) key.now) }
+        ensures formatter { IfOk result (λ found. IsTrue found → holds self.new key.now) }
         ensures counted { OnOk result ((more : List (Option FormatterKey)) →
-            counted_over self.old (Some key ∷ more) ≡ counted_over self.new more) }
+            counted_over self.old (Some key.now ∷ more) ≡ counted_over self.new more) }
         ensures same { book self.new ≡ book self.old }
         ensures ready { is_ready self.new }
         ensures room { OnErr result (may_take_memory self.old) };
+
+    /// The formatter of a key. The condition is that it was found last. It takes no memory.
+    fn found(&self, key: &Hashed<FormatterKey>) -> &KeptFormatter<'a>
+        requires { holds self.now key.now }
+        ensures { IsMadeFor (book self.now) key.now result.now };
 
     // A line that asks for none counts none.
     ghost counts_none: { (s : Self) (more : List (Option FormatterKey)) → counted_over s (None ∷ more) ≡ counted_over s more };

@@ -17,7 +17,7 @@ pub(crate) struct Kept<'a, T: Tables> {
 
 impl<'a, T: Tables> Formatters<'a> for Kept<'a, T> {
     ghost use Rattle.std.specs.Prelude.{⊤, refl};
-    ghost use Rattle.locale_numbers_cache.specs.Cached.{IsSound, made_over};
+    ghost use Rattle.locale_numbers_cache.specs.Cached.{IsLatest, IsSound, made_over};
     ghost use Rattle.locale_numbers.specs.FormatterKeys.{IsKeptFor, finds};
 
     ghost book = { λ s. T.book s.maker.tables.now };
@@ -28,15 +28,15 @@ impl<'a, T: Tables> Formatters<'a> for Kept<'a, T> {
 
     ghost may_take_memory = { λ s. ⊤ };
 
-    fn formatter(
-        &mut self,
-        key: Hashed<FormatterKey>,
-    ) -> Result<Option<KeptFormatter<'a>>, AllocError> {
-        if !self.formatters.keep(&self.maker, key)? {
-            return Ok(None);
-        }
+    ghost holds = { λ s key. IsLatest (IsKeptFor (T.book s.maker.tables.now)) key s.formatters };
+
+    fn find(&mut self, key: &Hashed<FormatterKey>) -> Result<bool, AllocError> {
+        self.formatters.keep(&self.maker, key)
+    }
+
+    fn found(&self, _key: &Hashed<FormatterKey>) -> &KeptFormatter<'a> {
         match self.formatters.latest() {
-            Some(kept) => Ok(Some(*kept)),
+            Some(kept) => kept,
             None => unreachable!(),
         }
     }

@@ -129,9 +129,19 @@ impl<'a, T: Tables> Maker<Hashed<FormatterKey>, KeptFormatter<'a>> for Formatter
     }
 }
 
-/// It keeps none: each is made when it is asked for.
-impl<'a, T: Tables> Formatters<'a> for FormatterMaker<'a, T> {
-    ghost use Rattle.std.specs.Prelude.{⊤, refl};
+/// One that keeps the formatter that was found last, and no other.
+#[derive(Drop)]
+pub(crate) struct MadeFormatter<'a, T: Tables> {
+    /// The tables.
+    pub tables: &'a T,
+    /// That formatter, where there is one.
+    pub made: Option<KeptFormatter<'a>>,
+}
+
+/// Each is made when it is asked for.
+impl<'a, T: Tables> Formatters<'a> for MadeFormatter<'a, T> {
+    ghost use Rattle.std.specs.Prelude.{⊤, MatchOption, refl};
+    ghost use Rattle.locale_numbers.specs.FormatterKeys.{IsMadeFor};
 
     ghost book = { λ s. T.book s.tables.now };
 
@@ -141,11 +151,18 @@ impl<'a, T: Tables> Formatters<'a> for FormatterMaker<'a, T> {
 
     ghost may_take_memory = { λ s. ⊥ };
 
-    fn formatter(
-        &mut self,
-        key: Hashed<FormatterKey>,
-    ) -> Result<Option<KeptFormatter<'a>>, AllocError> {
-        Ok(formatter_by(self.tables, key.value(), false))
+    ghost holds = { λ s key. MatchOption s.made ⊥ (λ made. IsMadeFor (T.book s.tables.now) key made) };
+
+    fn find(&mut self, key: &Hashed<FormatterKey>) -> Result<bool, AllocError> {
+        self.made = formatter_by(self.tables, key.value(), false);
+        Ok(self.made.is_some())
+    }
+
+    fn found(&self, _key: &Hashed<FormatterKey>) -> &KeptFormatter<'a> {
+        match &self.made {
+            Some(made) => made,
+            None => unreachable!(),
+        }
     }
 
     ghost counts_none = { λ s more. refl };

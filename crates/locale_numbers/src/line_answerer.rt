@@ -44,7 +44,7 @@ impl<'a, T: Tables> Answerer for LineAnswerer<'a, T> {
         };
         let reader = FrontReader { alloc: self.alloc };
         let front = self.read.key_of(&reader, front)?;
-        push_behind(self.alloc, &mut self.kept, front, text, out)
+        push_behind(self.alloc, &mut self.kept, &front, text, out)
     }
 
     fn made(&self) -> u64 {

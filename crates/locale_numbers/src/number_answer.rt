@@ -72,25 +72,26 @@ fn push_with(
 // Puts a number, as the formatter of a key writes it, behind what `out` holds.
 fn push_number<'a, F: Formatters<'a>>(
     formatters: &mut F,
-    key: Hashed<FormatterKey>,
+    key: &Hashed<FormatterKey>,
     value: &Decimal,
     out: &mut String,
 ) -> Result<(), AllocError>
     requires { F.is_ready formatters.old }
     ensures text { OnOk result (string_bytes out.new
-        ≡ string_bytes out.old ++ answer_of_kind key.kind (F.book formatters.old) key.preferences key.grouping value.now) }
+        ≡ string_bytes out.old ++ answer_of_kind key.now.kind (F.book formatters.old) key.now.preferences key.now.grouping value.now) }
     ensures err { OnErr result (Grows (string_bytes out.old) (string_bytes out.new)) }
-    ensures room { HasRoom out.old (answer_of_kind key.kind (F.book formatters.old) key.preferences key.grouping value.now)
-        → key.kind ≡ Kind.Plain → ¬ (F.may_take_memory formatters.old) → IsOk result }
+    ensures room { HasRoom out.old (answer_of_kind key.now.kind (F.book formatters.old) key.now.preferences key.now.grouping value.now)
+        → key.now.kind ≡ Kind.Plain → ¬ (F.may_take_memory formatters.old) → IsOk result }
     ensures counted { OnOk result ((more : List (Option FormatterKey)) →
-        F.counted_over formatters.old (Some key ∷ more) ≡ F.counted_over formatters.new more) }
+        F.counted_over formatters.old (Some key.now ∷ more) ≡ F.counted_over formatters.new more) }
     ensures same { F.book formatters.new ≡ F.book formatters.old }
     ensures ready { F.is_ready formatters.new }
 {
-    match formatters.formatter(key)? {
-        Some(formatter) => push_with(&formatter, value, out),
-        None => push_refusal(out, Refusal::Table),
+    let found = formatters.find(key)?;
+    if !found {
+        return push_refusal(out, Refusal::Table);
     }
+    push_with(formatters.found(key), value, out)
 }
 
 /// Puts the answer to a number's text, with the formatter of a key, behind what `out` holds.
@@ -99,7 +100,7 @@ fn push_number<'a, F: Formatters<'a>>(
 pub(crate) fn push_text<'a, F: Formatters<'a>>(
     alloc: Global,
     formatters: &mut F,
-    key: Hashed<FormatterKey>,
+    key: &Hashed<FormatterKey>,
     sign: SignAsked,
     rounding: RoundingAsked,
     text: &[u8],
@@ -107,15 +108,15 @@ pub(crate) fn push_text<'a, F: Formatters<'a>>(
 ) -> Result<(), AllocError>
     requires { F.is_ready formatters.old }
     ensures text { OnOk result (string_bytes out.new
-        ≡ string_bytes out.old ++ answer_to (answer_of_kind key.kind (F.book formatters.old) key.preferences key.grouping) sign rounding (reading_of text.now)) }
+        ≡ string_bytes out.old ++ answer_to (answer_of_kind key.now.kind (F.book formatters.old) key.now.preferences key.now.grouping) sign rounding (reading_of text.now)) }
     ensures err { OnErr result (Grows (string_bytes out.old) (string_bytes out.new)) }
 
     // In plain form, where there is room for the answer, and handing out a formatter takes none, only a number of more than
     // eight digits may be out of memory, and a rounding to multiples of 25 that may lengthen one of eight.
-    ensures room { HasRoom out.old (answer_to (answer_of_kind key.kind (F.book formatters.old) key.preferences key.grouping) sign rounding (reading_of text.now))
-        → key.kind ≡ Kind.Plain → ¬ (F.may_take_memory formatters.old) → ¬ (ReadsLongSigned text.now) → ¬ (MayGrowRead rounding (reading_of text.now)) → IsOk result }
+    ensures room { HasRoom out.old (answer_to (answer_of_kind key.now.kind (F.book formatters.old) key.now.preferences key.now.grouping) sign rounding (reading_of text.now))
+        → key.now.kind ≡ Kind.Plain → ¬ (F.may_take_memory formatters.old) → ¬ (ReadsLongSigned text.now) → ¬ (MayGrowRead rounding (reading_of text.now)) → IsOk result }
     ensures counted { OnOk result ((more : List (Option FormatterKey)) →
-        F.counted_over formatters.old (key_text key (reading_of text.now) ∷ more) ≡ F.counted_over formatters.new more) }
+        F.counted_over formatters.old (key_text key.now (reading_of text.now) ∷ more) ≡ F.counted_over formatters.new more) }
     ensures same { F.book formatters.new ≡ F.book formatters.old }
     ensures ready { F.is_ready formatters.new }
 {

@@ -76,29 +76,32 @@ fn push_read(
 pub(crate) fn push_reading<'a, F: Formatters<'a>>(
     alloc: Global,
     formatters: &mut F,
-    key: Hashed<FormatterKey>,
+    key: &Hashed<FormatterKey>,
     text: &str,
     out: &mut String,
 ) -> Result<(), AllocError>
     requires ready { F.is_ready formatters.old }
-    requires plain { key.kind ≡ Kind.Plain }
+    requires plain { key.now.kind ≡ Kind.Plain }
     ensures text { OnOk result (string_bytes out.new
-        ≡ string_bytes out.old ++ read_with (found_in (F.book formatters.old) key.preferences key.grouping) text.now) }
+        ≡ string_bytes out.old ++ read_with (found_in (F.book formatters.old) key.now.preferences key.now.grouping) text.now) }
     ensures err { OnErr result (Grows (string_bytes out.old) (string_bytes out.new)) }
 
     // Where there is room for the answer, and handing out a formatter takes none, only a text of more than eight digits may be
     // out of memory.
-    ensures room { HasRoom out.old (read_with (found_in (F.book formatters.old) key.preferences key.grouping) text.now)
+    ensures room { HasRoom out.old (read_with (found_in (F.book formatters.old) key.now.preferences key.now.grouping) text.now)
         → ¬ (F.may_take_memory formatters.old)
-        → ¬ (HasManyDigitsWith (found_in (F.book formatters.old) key.preferences key.grouping) text.now) → IsOk result }
+        → ¬ (HasManyDigitsWith (found_in (F.book formatters.old) key.now.preferences key.now.grouping) text.now) → IsOk result }
     ensures counted { OnOk result ((more : List (Option FormatterKey)) →
-        F.counted_over formatters.old (Some key ∷ more) ≡ F.counted_over formatters.new more) }
+        F.counted_over formatters.old (Some key.now ∷ more) ≡ F.counted_over formatters.new more) }
     ensures same { F.book formatters.new ≡ F.book formatters.old }
     ensures ready { F.is_ready formatters.new }
 {
-    match formatters.formatter(key)? {
-        Some(KeptFormatter::Plain(plain)) => push_read(alloc, &plain, text, out),
-        Some(KeptFormatter::Compact(_)) => unreachable!(),
-        None => push_refusal(out, Refusal::Table),
+    let found = formatters.find(key)?;
+    if !found {
+        return push_refusal(out, Refusal::Table);
+    }
+    match formatters.found(key) {
+        KeptFormatter::Plain(plain) => push_read(alloc, plain, text, out),
+        KeptFormatter::Compact(_) => unreachable!(),
     }
 }

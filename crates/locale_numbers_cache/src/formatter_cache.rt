@@ -51,28 +51,28 @@ impl<K: CacheKey, F: Drop> FormatterCache<K, F> {
     /// a capacity of 2, after the keys 1, 2, 1 the key 3 pushes out 2. A key for which nothing is made changes nothing. The
     /// condition is that all that is kept is what this maker makes for its key. It fails where it is out of memory, and then the
     /// cache is as before; for a key that is kept, or for which nothing is made, it takes none.
-    pub fn keep<M: Maker<K, F>>(&mut self, maker: &M, key: K) -> Result<bool, AllocError>
+    pub fn keep<M: Maker<K, F>>(&mut self, maker: &M, key: &K) -> Result<bool, AllocError>
         requires { IsSound (M.finds maker.now) (M.is_made maker.now) self.old }
-        ensures succeeds { M.finds maker.now key ≡ false → IsOk result }
-        ensures value { IfOk result (λ found. found ≡ M.finds maker.now key) }
-        ensures latest { IfOk result (λ found. IsTrue found → IsLatest (M.is_made maker.now) key self.new) }
-        ensures recent { OnOk result (recent_of self.new ≡ recent_with K.eq (M.finds maker.now) self.old key) }
-        ensures count { OnOk result (self.new.made ≡ made_over K.eq (M.finds maker.now) self.old (Some key ∷ [])) }
+        ensures succeeds { M.finds maker.now key.now ≡ false → IsOk result }
+        ensures value { IfOk result (λ found. found ≡ M.finds maker.now key.now) }
+        ensures latest { IfOk result (λ found. IsTrue found → IsLatest (M.is_made maker.now) key.now self.new) }
+        ensures recent { OnOk result (recent_of self.new ≡ recent_with K.eq (M.finds maker.now) self.old key.now) }
+        ensures count { OnOk result (self.new.made ≡ made_over K.eq (M.finds maker.now) self.old (Some key.now ∷ [])) }
         ensures ahead { OnOk result ((more : List (Option K)) →
-            made_over K.eq (M.finds maker.now) self.old (Some key ∷ more) ≡ made_over K.eq (M.finds maker.now) self.new more) }
+            made_over K.eq (M.finds maker.now) self.old (Some key.now ∷ more) ≡ made_over K.eq (M.finds maker.now) self.new more) }
         ensures sound { IsSound (M.finds maker.now) (M.is_made maker.now) self.new }
         ensures capacity { self.new.capacity ≡ self.old.capacity }
         ensures same { IfOk result (λ found. found ≡ false → self.new ≡ self.old) }
         ensures err { OnErr result (self.new ≡ self.old) }
-        ensures room { IsTrue (has K.eq key (recent_of self.old)) → IsOk result }
+        ensures room { IsTrue (has K.eq key.now (recent_of self.old)) → IsOk result }
     {
-        if promote(&mut self.kept, &key) {
+        if promote(&mut self.kept, key) {
             return Ok(true);
         }
-        let Some(made) = maker.make(key) else {
+        let Some(made) = maker.make(*key) else {
             return Ok(false);
         };
-        self.kept.put(key, made)?;
+        self.kept.put(*key, made)?;
         self.made = self.made.saturating_add(1);
         Ok(true)
     }

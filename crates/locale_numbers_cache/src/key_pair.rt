@@ -68,11 +68,11 @@ impl<K: Copy> KeyPair<K> {
     {
         if let Some(key) = self.first.known(bytes) {
             self.is_second_last = false;
-            return Ok(key);
+            return Ok(*key);
         }
         if let Some(key) = self.second.known(bytes) {
             self.is_second_last = true;
-            return Ok(key);
+            return Ok(*key);
         }
         let key = reader.read(bytes)?;
         self.keep(bytes, key)?;

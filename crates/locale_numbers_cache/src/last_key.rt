@@ -35,13 +35,13 @@ impl<K: Copy> LastKey<K> {
     }
 
     /// The key of the bytes, where these are the ones that it remembers. It takes no memory.
-    pub fn known(&self, bytes: &[u8]) -> Option<K>
+    pub fn known(&self, bytes: &[u8]) -> Option<&K>
         ensures { MatchOption result
             (remembers bytes.now self.now ≡ false)
-            (λ key. (remembers bytes.now self.now ≡ true) × (self.now ≡ Some (bytes.now, key))) }
+            (λ key. (remembers bytes.now self.now ≡ true) × (self.now ≡ Some (bytes.now, key.now))) }
     {
         if self.bytes.as_slice() == bytes {
-            self.key
+            self.key.as_ref()
         } else {
             None
         }

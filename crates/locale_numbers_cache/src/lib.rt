@@ -4,7 +4,7 @@
 //!
 //! ```text
 //! let mut cache = FormatterCache::new(alloc, 16)?;
-//! if cache.keep(&maker, key)? {
+//! if cache.keep(&maker, &key)? {
 //!     let formatter = cache.latest();      // Some of what the maker makes for the key
 //! }
 //! ```

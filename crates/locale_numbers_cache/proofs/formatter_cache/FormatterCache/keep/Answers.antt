@@ -4,9 +4,9 @@ use Rattle.locale_numbers_cache.proofs.CachedLemmas.{Uses, hit, miss, not_kept, 
 use Rattle.locale_numbers_cache.proofs.formatter_cache.FormatterCache.keep.Given as given
 use Rattle.locale_numbers_cache.proofs.formatter_cache.FormatterCache.keep.Goals as goal
 
-found_here : (g : given.Over) (c : goal.Then-promote g) → Uses g.K.PartialEq.eq (g.M.Maker.finds c.args.maker.now) (g.M.Maker.is_made c.args.maker.now) c.args.key c.args.self.now (cached c.promote.new.kept.entries c.promote.new.kept.cap c.self.inside.made)
+found_here : (g : given.Over) (c : goal.Then-promote g) → Uses g.K.PartialEq.eq (g.M.Maker.finds c.args.maker.now) (g.M.Maker.is_made c.args.maker.now) c.args.key.now c.args.self.now (cached c.promote.new.kept.entries c.promote.new.kept.cap c.self.inside.made)
 found_here g c = let little : c.self.inside.made ≤ most = omega (arith, c.self.ranges.1.0.1) in
-    hit g.K.PartialEq.eq g.met.K.CacheKey.same (g.M.Maker.finds c.args.maker.now) (g.M.Maker.is_made c.args.maker.now) c.args.key c.self.inside.kept c.self.inside.made
+    hit g.K.PartialEq.eq g.met.K.CacheKey.same (g.M.Maker.finds c.args.maker.now) (g.M.Maker.is_made c.args.maker.now) c.args.key.now c.self.inside.kept c.self.inside.made
     c.args.self.now c.promote.new.kept c.promote.result c.self.view_is c.requires c.self.invariant little c.promote.ensures.entries c.promote.ensures.value c.if-promote.true
 
 pub invariant_of-self : goal.invariant_of-self
@@ -33,12 +33,12 @@ returns-then-promote-clause-sound g c = (found_here g c).sound
 -- the maker found nothing
 stays_here : (g : given.Over) (c : goal.In_default g) → cached c.promote.new.kept.entries c.promote.new.kept.cap c.self.inside.made ≡ c.args.self.now
 stays_here g c =
-    ap (λ k. cached k.entries k.cap c.self.inside.made) (not_promoted g.K.PartialEq.eq c.args.key c.self.inside.kept c.promote.new.kept c.promote.result c.promote.ensures.entries c.promote.ensures.value c.if-promote.false)
+    ap (λ k. cached k.entries k.cap c.self.inside.made) (not_promoted g.K.PartialEq.eq c.args.key.now c.self.inside.kept c.promote.new.kept c.promote.result c.promote.ensures.entries c.promote.ensures.value c.if-promote.false)
     ∙ c.self.view_is
 
 pub invariant_of-self-in_default : goal.invariant_of-self-in_default
 invariant_of-self-in_default g c =
-    rw (not_promoted g.K.PartialEq.eq c.args.key c.self.inside.kept c.promote.new.kept c.promote.result c.promote.ensures.entries c.promote.ensures.value c.if-promote.false) c.self.invariant
+    rw (not_promoted g.K.PartialEq.eq c.args.key.now c.self.inside.kept c.promote.new.kept c.promote.result c.promote.ensures.entries c.promote.ensures.value c.if-promote.false) c.self.invariant
 
 pub returns-in_default-clause-recent : goal.returns-in_default-clause-recent
 returns-in_default-clause-recent g c = rw c.in_default.ensures.value (ap recent_of (stays_here g c))
@@ -60,7 +60,7 @@ on_err (Err fault) p = p
 refused_here : (g : given.Over) (c : goal.After-from_residual g) → c.put.new.self ≡ c.self.inside.kept
 refused_here g c =
     c.in_err-put.ensures.err
-    ∙ not_promoted g.K.PartialEq.eq c.args.key c.self.inside.kept c.promote.new.kept c.promote.result c.promote.ensures.entries c.promote.ensures.value c.if-promote.false
+    ∙ not_promoted g.K.PartialEq.eq c.args.key.now c.self.inside.kept c.promote.new.kept c.promote.result c.promote.ensures.entries c.promote.ensures.value c.if-promote.false
 
 pub invariant_of-self-in_err-put : goal.invariant_of-self-in_err-put
 invariant_of-self-in_err-put g c = rw (refused_here g c) c.self.invariant
@@ -75,14 +75,14 @@ returns-in_err-put-clause-err g c = on_err c.from_residual.result (ap (λ k. cac
 
 pub returns-in_err-put-clause-room : goal.returns-in_err-put-clause-room
 returns-in_err-put-clause-room g c = λ there.
-    let gone = not_kept g.K.PartialEq.eq c.args.key c.self.inside.kept c.self.inside.made c.args.self.now c.promote.result c.self.view_is c.promote.ensures.value c.if-promote.false in
+    let gone = not_kept g.K.PartialEq.eq c.args.key.now c.self.inside.kept c.self.inside.made c.args.self.now c.promote.result c.self.view_is c.promote.ensures.value c.if-promote.false in
     absurd (true≢false (sym there ∙ gone))
 
 -- a thing was made, and kept
 made_here : (g : given.Over) (c : goal.After-self-1 g)
-    → Uses g.K.PartialEq.eq (g.M.Maker.finds c.args.maker.now) (g.M.Maker.is_made c.args.maker.now) c.args.key c.args.self.now (cached c.put.new.self.entries c.put.new.self.cap c.saturating_add-self-inside.result)
+    → Uses g.K.PartialEq.eq (g.M.Maker.finds c.args.maker.now) (g.M.Maker.is_made c.args.maker.now) c.args.key.now c.args.self.now (cached c.put.new.self.entries c.put.new.self.cap c.saturating_add-self-inside.result)
 made_here g c = let little : c.self.inside.made ≤ most = omega (arith, c.self.ranges.1.0.1) in
-    miss g.K.PartialEq.eq g.met.K.CacheKey.same (g.M.Maker.finds c.args.maker.now) (g.M.Maker.is_made c.args.maker.now) c.args.key c.self.inside.kept c.self.inside.made
+    miss g.K.PartialEq.eq g.met.K.CacheKey.same (g.M.Maker.finds c.args.maker.now) (g.M.Maker.is_made c.args.maker.now) c.args.key.now c.self.inside.kept c.self.inside.made
     c.args.self.now c.promote.new.kept c.put.new.self c.promote.result c.in-Some.made c.saturating_add-self-inside.result c.self.view_is c.requires c.self.invariant little
     c.promote.ensures.entries c.promote.ensures.value c.if-promote.false c.in-Some.ensures.value c.in_ok-put.ensures.entries c.saturating_add-self-inside.ensures
 
