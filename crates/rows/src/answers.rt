@@ -44,6 +44,33 @@ pub fn put_last_written<T: Writeable + Drop>(out: &mut String, value: T) -> Resu
     done
 }
 
+/// Writes what a refusal displays in the place of a text, and gives why the row then stops: `custom`.
+pub fn refused<E: Display>(out: &mut String, refusal: &E) -> Stop {
+    out.clear();
+    match put(out, refusal) {
+        Ok(()) => Stop::Written,
+        Err(stop) => stop,
+    }
+}
+
+/// Writes a refusal as Rust does in the place of a text, and gives why the row then stops: `InvalidSubtag`.
+pub fn refused_debug<E: Debug>(out: &mut String, refusal: &E) -> Stop {
+    out.clear();
+    match put_debug(out, refusal) {
+        Ok(()) => Stop::Written,
+        Err(stop) => stop,
+    }
+}
+
+/// Writes a text behind the others, with a separator between where there are any: `1996-fonipa`.
+pub fn put_behind(out: &mut String, separator: &str, text: &str) -> Result<(), Stop> {
+    if !out.is_empty() {
+        out.push_str(separator)?;
+    }
+    out.push_str(text)?;
+    Ok(())
+}
+
 /// Puts an item behind those of a list.
 pub fn push<T: Drop>(list: &mut Vec<T>, item: T) -> Result<(), Stop> {
     list.push(item)?;

@@ -11,7 +11,8 @@ mod stop;
 mod table;
 
 pub use answers::{
-    filled, push, put, put_debug, put_last, put_last_written, put_text, put_written,
+    filled, push, put, put_behind, put_debug, put_last, put_last_written, put_text, put_written,
+    refused, refused_debug,
 };
 pub use bounded::{Bounded, put_held, put_in_room};
 pub use escapes::{escaped, unescaped, units};

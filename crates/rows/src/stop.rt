@@ -5,6 +5,8 @@ use std::alloc::{AllocError, AllocFailed};
 pub enum Stop {
     /// A call refused, with this number; the row is answered by `error 1`.
     Refused(u8),
+    /// A call refused, and the words of the refusal were written: they answer the row.
+    Written,
     /// The row names no call, or passes it what it does not take; it is answered by `?`.
     Unknown,
     /// Out of memory, which ends the program.

@@ -10,12 +10,24 @@ pub trait Table {
     fn answer(&self, row: &str, out: &mut String) -> Result<(), Stop>;
 }
 
-// Puts what a row without an answer is answered by in the place of a text.
-fn put_stop(stop: Stop, out: &mut String) -> Result<(), AllocError> {
+// Puts the number of a refusal in the place of a text.
+fn put_number(number: u8, out: &mut String) -> Result<(), AllocError> {
     out.clear();
+    write!(out, "error {number}")
+}
+
+// Puts that a row is not understood in the place of a text.
+fn put_unknown(out: &mut String) -> Result<(), AllocError> {
+    out.clear();
+    out.push('?')
+}
+
+// Puts what a row without an answer is answered by in the place of a text, where it was not written yet.
+fn put_stop(stop: Stop, out: &mut String) -> Result<(), AllocError> {
     match stop {
-        Stop::Refused(number) => write!(out, "error {number}"),
-        Stop::Unknown => out.push('?'),
+        Stop::Refused(number) => put_number(number, out),
+        Stop::Written => Ok(()),
+        Stop::Unknown => put_unknown(out),
         Stop::Memory => Err(AllocError),
     }
 }
