@@ -1,13 +1,14 @@
 //! Answers of the calls of abstract formatters, by a plain one and by a compact one.
 
-use crate::compact::{out_of_range, parts_of};
-use crate::stop::Stop;
+use crate::parts::{put_by, put_range};
+use crate::refusals::parsed;
 use crate::with_unit::WithUnit;
 use fixed_decimal::{Decimal, Sign, UnsignedDecimal};
 use icu_decimal::AbstractFormatter;
 use icu_decimal::plurals::PluralRules;
+use rows::{Stop, put_text};
 use std::alloc::Global;
-use writeable::{TextSink, Writeable};
+use writeable::TextSink;
 
 // What was written, and a text behind it.
 fn with_behind(alloc: Global, is_written: bool, text: &str, behind: &str) -> Result<String, Stop> {
@@ -17,153 +18,134 @@ fn with_behind(alloc: Global, is_written: bool, text: &str, behind: &str) -> Res
     Ok(format!(in alloc; "{text}{behind}")?)
 }
 
-// The text of a number without its sign, and a text behind it; or none where the number is out of range.
+// The text of a number without its sign, and a text behind it.
 fn with_unit<F: AbstractFormatter>(
     alloc: Global,
     formatter: &F,
     number: &UnsignedDecimal,
     unit: &str,
-) -> Result<Option<String>, Stop> {
-    if !formatter.can_write(number) {
-        return Ok(None);
-    }
+) -> Result<String, Stop>
+    requires { F.can_write formatter.now number.now }
+{
     let mut sink = TextSink::new(alloc);
     let is_written = formatter.write_unsigned(number, &mut sink).is_ok();
     let text = with_behind(alloc, is_written, sink.text(), unit);
     drop(sink);
-    Ok(Some(text?))
+    text
 }
 
-// A text between the affixes of a sign.
-fn with_sign<F: AbstractFormatter>(
-    alloc: Global,
+// Writes a text between the affixes of a sign.
+fn put_with_sign<F: AbstractFormatter>(
     formatter: &F,
     text: &str,
     sign: Sign,
-) -> Result<String, Stop> {
-    let mut sink = TextSink::new(alloc);
+    out: &mut String,
+) -> Result<(), Stop> {
+    let mut sink = TextSink::new(*out.allocator());
     let is_written = formatter.write_sign(&text, sign, &mut sink).is_ok();
-    let text = with_behind(alloc, is_written, sink.text(), "");
+    let put = put_text(out, sink.text());
     drop(sink);
-    text
+    if is_written { put } else { Err(Stop::Memory) }
 }
 
-// The number without its sign, a text behind it, and the affixes of the sign round both.
-fn whole<F: AbstractFormatter>(
-    alloc: Global,
+// Writes the number without its sign, a text behind it, and the affixes of the sign round both.
+fn put_whole<F: AbstractFormatter>(
     formatter: &F,
     number: &Decimal,
     unit: &str,
-) -> Result<String, Stop> {
-    match with_unit(alloc, formatter, &number.absolute, unit)? {
-        Some(text) => {
-            let whole = with_sign(alloc, formatter, text.as_str(), number.sign);
-            drop(text);
-            whole
-        }
-        None => out_of_range(alloc),
+    out: &mut String,
+) -> Result<(), Stop> {
+    if !formatter.can_write(&number.absolute) {
+        return put_range(out);
     }
+    let text = with_unit(*out.allocator(), formatter, &number.absolute, unit)?;
+    let put = put_with_sign(formatter, text.as_str(), number.sign, out);
+    drop(text);
+    put
 }
 
-// The category of what is shown for a number.
-fn category<F: AbstractFormatter>(
-    alloc: Global,
+// Writes the category of what is shown for a number.
+fn put_category<F: AbstractFormatter>(
     formatter: &F,
     rules: &PluralRules,
     number: &UnsignedDecimal,
-) -> Result<String, Stop> {
+    out: &mut String,
+) -> Result<(), Stop> {
     if !formatter.can_write(number) {
-        return out_of_range(alloc);
+        return put_range(out);
     }
     let operands = formatter.plural_operands(number)?;
-    Ok(String::from_str(alloc, rules.category_for(&operands).as_str())?)
+    put_text(out, rules.category_for(&operands).as_str())
 }
 
-// A number with a text behind it, between the affixes of its sign.
-fn written<F: AbstractFormatter>(
-    alloc: Global,
+// Writes the number with a unit round it, between the affixes of its sign.
+fn put_formatted<F: AbstractFormatter>(
     formatter: &F,
-    unit: &str,
-    number: &str,
-) -> Result<String, Stop> {
-    let number = Decimal::try_from_str(alloc, number)?;
-    let text = whole(alloc, formatter, &number, unit);
-    drop(number);
-    text
+    call: &str,
+    unit: [&str; 2],
+    number: &Decimal,
+    out: &mut String,
+) -> Result<(), Stop> {
+    if !formatter.can_write(&number.absolute) {
+        return put_range(out);
+    }
+    let value = WithUnit {
+        before: unit[0],
+        value: formatter.format_unsigned(&number.absolute)?,
+        behind: unit[1],
+    };
+    let signed = formatter.format_sign(number.sign, value);
+    let put = put_by(out, call, &signed);
+    drop(signed);
+    put
+}
+
+// The answer of a call that is passed a number.
+fn answer_of_number<F: AbstractFormatter>(
+    formatter: &F,
+    call: &str,
+    texts: &[&str],
+    number: &Decimal,
+    out: &mut String,
+) -> Result<(), Stop> {
+    match texts {
+        [unit] if call == "write_sign" => put_whole(formatter, number, unit, out),
+        [before, behind] if call == "format_sign" || call == "format_sign_parts" => {
+            put_formatted(formatter, call, [before, behind], number, out)
+        }
+        _ => Err(Stop::Unknown),
+    }
 }
 
 // The category of what is shown for the number of a text.
 fn plural<F: AbstractFormatter>(
-    alloc: Global,
     formatter: &F,
     rules: &PluralRules,
     number: &str,
-) -> Result<String, Stop> {
-    let number = UnsignedDecimal::try_from_str(alloc, number)?;
-    let word = category(alloc, formatter, rules, &number);
+    out: &mut String,
+) -> Result<(), Stop> {
+    let number = parsed(UnsignedDecimal::try_from_str(*out.allocator(), number))?;
+    let put = put_category(formatter, rules, &number, out);
     drop(number);
-    word
+    put
 }
 
-// The text of a value, or its parts where the call asks for them.
-fn shown<W: Writeable>(alloc: Global, call: &str, value: &W) -> Result<String, Stop> {
-    match call {
-        "format_sign_parts" => parts_of(alloc, value),
-        _ => Ok(value.write_to_string(alloc)?),
-    }
-}
-
-// The number with a unit round it, between the affixes of its sign.
-fn formatted<F: AbstractFormatter>(
-    alloc: Global,
-    formatter: &F,
-    call: &str,
-    unit: [&str; 2],
-    number: &Decimal,
-) -> Result<String, Stop> {
-    if !formatter.can_write(&number.absolute) {
-        return out_of_range(alloc);
-    }
-    let value = formatter.format_unsigned(&number.absolute)?;
-    let value = WithUnit {
-        before: unit[0],
-        value,
-        behind: unit[1],
-    };
-    let signed = formatter.format_sign(number.sign, value);
-    let answer = shown(alloc, call, &signed);
-    drop(signed);
-    answer
-}
-
-// The same of the number of a text.
-fn between_unit<F: AbstractFormatter>(
-    alloc: Global,
-    formatter: &F,
-    call: &str,
-    unit: [&str; 2],
-    number: &str,
-) -> Result<String, Stop> {
-    let number = Decimal::try_from_str(alloc, number)?;
-    let answer = formatted(alloc, formatter, call, unit, &number);
-    drop(number);
-    answer
-}
-
-/// The answer of a call of any formatter.
+/// The answer of a call of any formatter, whose number is the last that it is passed.
 pub fn answer<F: AbstractFormatter>(
-    alloc: Global,
     formatter: &F,
     rules: &PluralRules,
     call: &str,
     passed: &[&str],
-) -> Result<String, Stop> {
-    match passed {
-        [number] if call == "plural_operands" => plural(alloc, formatter, rules, number),
-        [unit, number] if call == "write_sign" => written(alloc, formatter, unit, number),
-        [before, behind, number] if call == "format_sign" || call == "format_sign_parts" => {
-            between_unit(alloc, formatter, call, [before, behind], number)
-        }
-        _ => Err(Stop::Unknown),
+    out: &mut String,
+) -> Result<(), Stop> {
+    let Some((number, texts)) = passed.split_last() else {
+        return Err(Stop::Unknown);
+    };
+    if call == "plural_operands" && texts.is_empty() {
+        return plural(formatter, rules, number, out);
     }
+    let number = parsed(Decimal::try_from_str(*out.allocator(), number))?;
+    let put = answer_of_number(formatter, call, texts, &number, out);
+    drop(number);
+    put
 }

@@ -1,101 +1,104 @@
 //! Tables and rules that are copied, and tables that are written as JSON and read again.
 
-use crate::plurals::{category_of, rules_of};
-use crate::stop::Stop;
-use crate::tables::{listed, table_of, value_of};
+use crate::plurals::{put_category, rules_of};
+use crate::refusals::made;
+use crate::tables::{put_listed, table_of, value_of};
 use icu_decimal::plurals::PluralRules;
 use icu_decimal::provider::CompactPatterns;
-use serde_json::Value;
-use std::alloc::Global;
-
-// The table that a JSON value says.
-fn table_in(alloc: Global, value: &Value) -> Result<CompactPatterns, Stop> {
-    Ok(CompactPatterns::from_json(alloc, value)?)
-}
+use rows::{Stop, put_text};
+use std::alloc::AllocError;
 
 // The table that a JSON text says.
-fn table_said(alloc: Global, text: &str) -> Result<CompactPatterns, Stop> {
+fn table_said(text: &str, out: &mut String) -> Result<CompactPatterns, Stop> {
+    let alloc = *out.allocator();
     let value = value_of(alloc, text)?;
-    let table = table_in(alloc, &value);
+    let table = CompactPatterns::from_json(alloc, &value);
     drop(value);
-    table
+    made(table, out)
 }
 
 // Whether a JSON text says an equal table.
-fn is_said(alloc: Global, text: &str, table: &CompactPatterns) -> Result<bool, Stop> {
-    let said = table_said(alloc, text)?;
+fn is_said(text: &str, table: &CompactPatterns, out: &mut String) -> Result<bool, Stop> {
+    let said = table_said(text, out)?;
     let is_same = said == *table;
     drop(said);
     Ok(is_same)
 }
 
 // Whether the copy of a table is equal to it.
-fn is_copied(table: &CompactPatterns) -> Result<bool, Stop> {
+fn is_copied(table: &CompactPatterns) -> Result<bool, AllocError> {
     let copy = table.try_clone()?;
     let is_same = copy == *table;
     drop(copy);
     Ok(is_same)
 }
 
-// The JSON text of a table.
-fn text_of(alloc: Global, table: &CompactPatterns) -> Result<String, Stop> {
-    let value = table.to_json(alloc)?;
-    let text = value.to_string(alloc);
-    drop(value);
-    Ok(text?)
-}
-
-// The JSON text of a table, where what it says and the copy of the table are both equal to the table.
-fn written(alloc: Global, table: &CompactPatterns) -> Result<String, Stop> {
-    let text = text_of(alloc, table)?;
-    if is_said(alloc, text.as_str(), table)? && is_copied(table)? {
-        return Ok(text);
+// Writes the JSON text of a table, where what it says and the copy of the table are both equal to the table.
+fn put_same(text: &str, table: &CompactPatterns, out: &mut String) -> Result<(), Stop> {
+    if is_said(text, table, out)? && is_copied(table)? {
+        put_text(out, text)
+    } else {
+        put_text(out, "differs")
     }
-    Ok(String::from_str(alloc, "differs")?)
 }
 
-fn to_json(alloc: Global, table: &str) -> Result<String, Stop> {
-    let table = table_of(alloc, table, None)?;
-    let text = written(alloc, &table);
-    drop(table);
+// The JSON text of a table.
+fn text_of(table: &CompactPatterns, out: &String) -> Result<String, AllocError> {
+    let value = table.to_json(*out.allocator())?;
+    let text = value.to_string(*out.allocator());
+    drop(value);
     text
 }
 
-// The types and the exponents of the table that a JSON text says.
-fn from_json(alloc: Global, text: &str) -> Result<String, Stop> {
-    let table = table_said(alloc, text)?;
-    let kept = listed(alloc, &table);
+fn put_json(table: &CompactPatterns, out: &mut String) -> Result<(), Stop> {
+    let text = text_of(table, out)?;
+    let put = put_same(text.as_str(), table, out);
+    drop(text);
+    put
+}
+
+fn to_json(table: &str, out: &mut String) -> Result<(), Stop> {
+    let table = table_of(table, None, out)?;
+    let put = put_json(&table, out);
     drop(table);
-    kept
+    put
+}
+
+// The types and the exponents of the table that a JSON text says.
+fn from_json(text: &str, out: &mut String) -> Result<(), Stop> {
+    let table = table_said(text, out)?;
+    let put = put_listed(out, &table);
+    drop(table);
+    put
 }
 
 // The category of a number with an exponent, by a copy of these rules.
 fn category_by_copy(
-    alloc: Global,
     rules: &PluralRules,
     number: &str,
     exponent: &str,
-) -> Result<String, Stop> {
-    let copy = rules.try_clone(alloc)?;
-    let category = category_of(alloc, &copy, number, exponent);
+    out: &mut String,
+) -> Result<(), Stop> {
+    let copy = rules.try_clone(*out.allocator())?;
+    let put = put_category(&copy, number, exponent, out);
     drop(copy);
-    category
+    put
 }
 
-fn copied(alloc: Global, rules: &str, number: &str, exponent: &str) -> Result<String, Stop> {
-    let rules = rules_of(alloc, rules)?;
-    let category = category_by_copy(alloc, &rules, number, exponent);
+fn copied(rules: &str, number: &str, exponent: &str, out: &mut String) -> Result<(), Stop> {
+    let rules = rules_of(rules, out)?;
+    let put = category_by_copy(&rules, number, exponent, out);
     drop(rules);
-    category
+    put
 }
 
 /// The answer of a call that copies, writes JSON or reads it.
-pub fn answer(alloc: Global, call: &str, passed: &[&str]) -> Result<String, Stop> {
+pub fn answer(call: &str, passed: &[&str], out: &mut String) -> Result<(), Stop> {
     match passed {
-        [table] if call == "to_json" => to_json(alloc, table),
-        [text] if call == "from_json" => from_json(alloc, text),
+        [table] if call == "to_json" => to_json(table, out),
+        [text] if call == "from_json" => from_json(text, out),
         [rules, number, exponent] if call == "category_by_copy" => {
-            copied(alloc, rules, number, exponent)
+            copied(rules, number, exponent, out)
         }
         _ => Err(Stop::Unknown),
     }

@@ -1,10 +1,12 @@
 //! Answers of the calls of formatters. What a formatter borrows is made by functions that each own one of its tables and lend it to the
 //! next.
 
+use crate::marks::Marks;
 use crate::plurals::rules_of;
-use crate::stop::Stop;
+use crate::refusals::{made, parsed};
 use crate::tables::{LATIN, OneLocale, table_of};
 use crate::{abstract_formatter, compact};
+use fixed_decimal::Decimal;
 use icu_decimal::options::{
     CompactDecimalFormatterOptions, DecimalFormatterOptions, GroupingStrategy,
 };
@@ -12,10 +14,11 @@ use icu_decimal::plurals::PluralRules;
 use icu_decimal::preferences::{CompactDecimalFormatterPreferences, DecimalFormatterPreferences};
 use icu_decimal::provider::{CompactPatterns, DecimalSymbols};
 use icu_decimal::{CompactDecimalFormatter, DecimalFormatter};
+use rows::{Stop, put_last};
 use std::alloc::Global;
 
-/// A call of a formatter: its name; what the formatter is made of, which is its form, when separators are written, its plural rules and
-/// its table; and what the call is passed.
+/// A call of a formatter: its name; what the formatter is made of, which is its form, when separators are written, its plural rules,
+/// its table, and its symbols and digits where they are not those of English; and what the call is passed.
 #[derive(Clone, Copy)]
 pub struct FormatterCall<'r> {
     pub name: &'r str,
@@ -23,6 +26,7 @@ pub struct FormatterCall<'r> {
     pub grouping: &'r str,
     pub rules: &'r str,
     pub table: &'r str,
+    pub marks: Option<Marks<'r>>,
     pub passed: &'r [&'r str],
 }
 
@@ -38,10 +42,17 @@ pub fn strategy_of(word: &str) -> Result<GroupingStrategy, Stop> {
 }
 
 // The plain formatter of a row.
-fn plain_of<'p>(provider: &'p OneLocale<'_>, grouping: &str) -> Result<DecimalFormatter<'p>, Stop> {
+fn plain_of<'p>(
+    provider: &'p OneLocale<'_>,
+    grouping: &str,
+    out: &mut String,
+) -> Result<DecimalFormatter<'p>, Stop> {
     let preferences = DecimalFormatterPreferences::default();
     let options = DecimalFormatterOptions::from(strategy_of(grouping)?);
-    Ok(DecimalFormatter::try_new_unstable(provider, preferences, options)?)
+    made(
+        DecimalFormatter::try_new_unstable(provider, preferences, options),
+        out,
+    )
 }
 
 // The compact formatter of a row.
@@ -49,87 +60,122 @@ fn compact_of<'p>(
     provider: &'p OneLocale<'_>,
     form: &str,
     grouping: &str,
+    out: &mut String,
 ) -> Result<CompactDecimalFormatter<'p>, Stop> {
     let preferences = CompactDecimalFormatterPreferences::default();
     let options = CompactDecimalFormatterOptions::from(strategy_of(grouping)?);
     match form {
-        "short" => Ok(CompactDecimalFormatter::try_new_short_unstable(
-            provider,
-            preferences,
-            options,
-        )?),
-        "long" => Ok(CompactDecimalFormatter::try_new_long_unstable(
-            provider,
-            preferences,
-            options,
-        )?),
+        "short" => made(
+            CompactDecimalFormatter::try_new_short_unstable(provider, preferences, options),
+            out,
+        ),
+        "long" => made(
+            CompactDecimalFormatter::try_new_long_unstable(provider, preferences, options),
+            out,
+        ),
         _ => Err(Stop::Unknown),
     }
 }
 
-// The answer of a call of a plain formatter.
+// The text of a number by a plain formatter.
+fn put_plain(formatter: &DecimalFormatter<'_>, number: &str, out: &mut String) -> Result<(), Stop> {
+    let number = parsed(Decimal::try_from_str(*out.allocator(), number))?;
+    let text = formatter.format_to_string(*out.allocator(), &number);
+    drop(number);
+    put_last(out, text?)
+}
+
+// The answer of a call of a plain formatter: its own, or one of any formatter.
 fn by_plain(
-    alloc: Global,
     provider: &OneLocale<'_>,
     call: FormatterCall<'_>,
-) -> Result<String, Stop> {
-    let formatter = plain_of(provider, call.grouping)?;
-    abstract_formatter::answer(alloc, &formatter, provider.rules, call.name, call.passed)
+    out: &mut String,
+) -> Result<(), Stop> {
+    let formatter = plain_of(provider, call.grouping, out)?;
+    match call.passed {
+        [number] if call.name == "plain" => put_plain(&formatter, number, out),
+        passed => abstract_formatter::answer(&formatter, provider.rules, call.name, passed, out),
+    }
 }
 
 // The answer of a call of a compact formatter: one of its own, or of any formatter.
 fn by_compact(
-    alloc: Global,
     provider: &OneLocale<'_>,
     call: FormatterCall<'_>,
-) -> Result<String, Stop> {
-    let formatter = compact_of(provider, call.form, call.grouping)?;
+    out: &mut String,
+) -> Result<(), Stop> {
+    let formatter = compact_of(provider, call.form, call.grouping, out)?;
     match call.passed {
         [one] if call.name != "plural_operands" => {
-            compact::answer_of_one(alloc, &formatter, call.name, one)
+            compact::answer_of_one(&formatter, call.name, one, out)
         }
         [one, other] if call.name != "write_sign" => {
-            compact::answer_of_two(alloc, &formatter, call.name, one, other)
+            compact::answer_of_two(&formatter, call.name, one, other, out)
         }
-        passed => abstract_formatter::answer(alloc, &formatter, provider.rules, call.name, passed),
+        passed => abstract_formatter::answer(&formatter, provider.rules, call.name, passed, out),
     }
 }
 
-// The answer of a call over these tables, the symbols of English and Latin digits.
+// The symbols of a call: those of English, or those that its row spells.
+fn symbols_of(alloc: Global, marks: Option<Marks<'_>>) -> Result<DecimalSymbols, Stop> {
+    match marks {
+        Some(marks) => marks.symbols(alloc),
+        None => Ok(DecimalSymbols::new_en_for_testing(alloc)?),
+    }
+}
+
+// The digits of a call: Latin ones, or those that its row spells.
+fn digits_of(marks: Option<Marks<'_>>) -> [char; 10] {
+    match marks {
+        Some(marks) => marks.digits,
+        None => LATIN,
+    }
+}
+
+// The answer of a call over these tables.
+fn over_tables(
+    provider: &OneLocale<'_>,
+    call: FormatterCall<'_>,
+    out: &mut String,
+) -> Result<(), Stop> {
+    if call.form == "plain" {
+        by_plain(provider, call, out)
+    } else {
+        by_compact(provider, call, out)
+    }
+}
+
+// The answer of a call over these rules and patterns, and the symbols and digits of its row.
 fn over_patterns(
-    alloc: Global,
     rules: &PluralRules,
     patterns: &CompactPatterns,
     call: FormatterCall<'_>,
-) -> Result<String, Stop> {
-    let symbols = DecimalSymbols::new_en_for_testing(alloc)?;
+    out: &mut String,
+) -> Result<(), Stop> {
+    let symbols = symbols_of(*out.allocator(), call.marks)?;
     let provider = OneLocale {
         symbols: &symbols,
-        digits: LATIN,
+        digits: digits_of(call.marks),
         rules,
         patterns,
     };
-    let answer = if call.form == "plain" {
-        by_plain(alloc, &provider, call)
-    } else {
-        by_compact(alloc, &provider, call)
-    };
+    let answered = over_tables(&provider, call, out);
     drop(symbols);
-    answer
+    answered
 }
 
 // The answer of a call over these rules and the patterns of its row.
-fn over_rules(alloc: Global, rules: &PluralRules, call: FormatterCall<'_>) -> Result<String, Stop> {
-    let patterns = table_of(alloc, call.table, None)?;
-    let answer = over_patterns(alloc, rules, &patterns, call);
+fn over_rules(rules: &PluralRules, call: FormatterCall<'_>, out: &mut String) -> Result<(), Stop> {
+    let patterns = table_of(call.table, None, out)?;
+    let answered = over_patterns(rules, &patterns, call, out);
     drop(patterns);
-    answer
+    answered
 }
 
 /// The answer of a call of a formatter.
-pub fn answer(alloc: Global, call: FormatterCall<'_>) -> Result<String, Stop> {
-    let rules = rules_of(alloc, call.rules)?;
-    let answer = over_rules(alloc, &rules, call);
+pub fn answer(call: FormatterCall<'_>, out: &mut String) -> Result<(), Stop> {
+    let rules = rules_of(call.rules, out)?;
+    let answered = over_rules(&rules, call, out);
     drop(rules);
-    answer
+    answered
 }

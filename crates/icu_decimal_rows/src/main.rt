@@ -4,22 +4,27 @@
 #![tactic(auto)]
 
 mod abstract_formatter;
+mod calls;
 mod compact;
 mod copies;
 mod formatters;
+mod marks;
+mod parts;
 mod plurals;
 mod preferences;
-mod rows;
+mod refusals;
 mod shown;
-mod stop;
 mod tables;
 mod with_unit;
 
+use calls::Calls;
+use rows::print_answers;
 use std::io;
 
 fn main(rt: HostRuntime) -> io::Result<()> {
     let alloc = rt.alloc();
     let input = io::read_to_string(alloc, rt.stdin())?;
-    let output = rows::answered(alloc, input.as_str())?;
-    rt.print(output.as_str())
+    let printed = print_answers(&rt, alloc, input.as_str(), &Calls { alloc });
+    drop(input);
+    printed
 }

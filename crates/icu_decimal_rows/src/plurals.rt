@@ -1,8 +1,9 @@
 //! Answers of the calls of plural rules.
 
-use crate::stop::{Stop, byte_of};
+use crate::refusals::{made, parsed};
 use fixed_decimal::UnsignedDecimal;
 use icu_decimal::plurals::{PluralCategory, PluralOperands, PluralRules};
+use rows::{Stop, filled, number_of, push, put, put_debug, put_text};
 use std::alloc::Global;
 
 // The category and the condition of a part of rules.
@@ -22,100 +23,89 @@ fn put_rules<'t>(given: &mut Vec<(PluralCategory, &'t str)>, text: &'t str) -> R
         return Ok(());
     }
     for part in text.split(';') {
-        given.push(rule_of(part)?)?;
+        push(given, rule_of(part)?)?;
     }
     Ok(())
-}
-
-// The rules of categories and their conditions.
-fn rules_in(alloc: Global, given: &[(PluralCategory, &str)]) -> Result<PluralRules, Stop> {
-    Ok(PluralRules::new(alloc, given)?)
 }
 
 // The categories of a text, each with its condition.
 fn given_of<'t>(alloc: Global, text: &'t str) -> Result<Vec<(PluralCategory, &'t str)>, Stop> {
     let mut given = Vec::new(alloc);
-    match put_rules(&mut given, text) {
-        Ok(()) => Ok(given),
-        Err(stop) => {
-            drop(given);
-            Err(stop)
-        }
-    }
+    let put = put_rules(&mut given, text);
+    filled(given, put)
 }
 
-/// The rules of a text: parts with semicolons between, each a category, a colon and a condition.
-pub fn rules_of(alloc: Global, text: &str) -> Result<PluralRules, Stop> {
+/// The rules of a text: parts with semicolons between, each a category, a colon and a condition. The words of a refusal are the answer.
+pub fn rules_of(text: &str, out: &mut String) -> Result<PluralRules, Stop> {
+    let alloc = *out.allocator();
     let given = given_of(alloc, text)?;
-    let rules = rules_in(alloc, given.as_slice());
+    let rules = PluralRules::new(alloc, given.as_slice());
     drop(given);
-    rules
+    made(rules, out)
 }
 
 // The operands of a number and an exponent.
 fn operands_of(alloc: Global, number: &str, exponent: &str) -> Result<PluralOperands, Stop> {
-    let exponent = byte_of(exponent)?;
-    let number = UnsignedDecimal::try_from_str(alloc, number)?;
+    let exponent = number_of(exponent)?;
+    let number = parsed(UnsignedDecimal::try_from_str(alloc, number))?;
     let operands = PluralOperands::from_significand_and_exponent(&number, exponent);
     drop(number);
     Ok(operands)
 }
 
-/// The category of a number with an exponent, by these rules.
-pub fn category_of(
-    alloc: Global,
+/// Writes the category of a number with an exponent, by these rules.
+pub fn put_category(
     rules: &PluralRules,
     number: &str,
     exponent: &str,
-) -> Result<String, Stop> {
-    let operands = operands_of(alloc, number, exponent)?;
-    Ok(String::from_str(alloc, rules.category_for(&operands).as_str())?)
+    out: &mut String,
+) -> Result<(), Stop> {
+    let operands = operands_of(*out.allocator(), number, exponent)?;
+    put_text(out, rules.category_for(&operands).as_str())
 }
 
-fn category(alloc: Global, rules: &str, number: &str, exponent: &str) -> Result<String, Stop> {
-    let rules = rules_of(alloc, rules)?;
-    let category = category_of(alloc, &rules, number, exponent);
+fn category(rules: &str, number: &str, exponent: &str, out: &mut String) -> Result<(), Stop> {
+    let rules = rules_of(rules, out)?;
+    let put = put_category(&rules, number, exponent, out);
     drop(rules);
-    category
+    put
 }
 
 // Whether these are rules.
-fn rules(alloc: Global, text: &str) -> Result<String, Stop> {
-    drop(rules_of(alloc, text)?);
-    Ok(String::from_str(alloc, "accepted")?)
+fn rules(text: &str, out: &mut String) -> Result<(), Stop> {
+    drop(rules_of(text, out)?);
+    put_text(out, "accepted")
 }
 
 // The operands of a number with an exponent.
-fn operands(alloc: Global, number: &str, exponent: &str) -> Result<String, Stop> {
-    let operands = operands_of(alloc, number, exponent)?;
-    Ok(format!(in alloc; "{operands:?}")?)
+fn operands(number: &str, exponent: &str, out: &mut String) -> Result<(), Stop> {
+    let operands = operands_of(*out.allocator(), number, exponent)?;
+    put_debug(out, &operands)
 }
 
 // Whether a number with an exponent is this number, shown as it is.
-fn is_exactly(alloc: Global, number: &str, exponent: &str, asked: &str) -> Result<String, Stop> {
-    let operands = operands_of(alloc, number, exponent)?;
-    let asked = asked.parse::<u64>().or(Err(Stop::Unknown))?;
-    Ok(format!(in alloc; "{}", operands.is_exactly(asked))?)
+fn is_exactly(number: &str, exponent: &str, asked: &str, out: &mut String) -> Result<(), Stop> {
+    let operands = operands_of(*out.allocator(), number, exponent)?;
+    put(out, &operands.is_exactly(number_of(asked)?))
 }
 
 // The category that a word names, by its own word.
-fn named(alloc: Global, word: &str) -> Result<String, Stop> {
-    let word = match PluralCategory::get_for_cldr_bytes(word.as_bytes()) {
-        Some(category) => category.as_str(),
-        None => "none",
-    };
-    Ok(String::from_str(alloc, word)?)
+fn named(word: &str, out: &mut String) -> Result<(), Stop> {
+    match PluralCategory::get_for_cldr_bytes(word.as_bytes()) {
+        Some(category) => put_text(out, category.as_str()),
+        None => put_text(out, "none"),
+    }
 }
 
 /// The answer of a call of plural rules.
-pub fn answer(alloc: Global, call: &str, passed: &[&str]) -> Result<String, Stop> {
+pub fn answer(call: &str, passed: &[&str], out: &mut String) -> Result<(), Stop> {
     match passed {
-        [text] if call == "rules" => rules(alloc, text),
-        [word] if call == "get_for_cldr_bytes" => named(alloc, word),
-        [number, exponent] if call == "operands" => operands(alloc, number, exponent),
-        [rules, number, exponent] if call == "category" => category(alloc, rules, number, exponent),
+        [text] if call == "rules" => rules(text, out),
+        [word] if call == "get_for_cldr_bytes" => named(word, out),
+        [number, exponent] if call == "operands" => operands(number, exponent, out),
+        [rules, number, exponent] if call == "category" => category(rules, number, exponent, out),
         [number, exponent, asked] if call == "is_exactly" => {
-            is_exactly(alloc, number, exponent, asked)
+            is_exactly(number, exponent, asked, out)
         }
         _ => Err(Stop::Unknown),
     }

@@ -1,10 +1,12 @@
 //! Answers of the calls of shown values.
 
-use crate::stop::{Stop, byte_of};
+use crate::parts::put_range;
+use crate::refusals::parsed;
 use fixed_decimal::UnsignedDecimal;
 use icu_decimal_shown::{
     CompactEntry, Shown, can_show, exact_entry, exponent_for_magnitude, exponent_in_range, show,
 };
+use rows::{Stop, filled, number_of, push, put, put_text};
 use std::alloc::Global;
 
 // The entry of a part of a text.
@@ -13,8 +15,8 @@ fn entry_of(part: &str) -> Result<CompactEntry, Stop> {
         return Err(Stop::Unknown);
     };
     Ok(CompactEntry {
-        log10_type: byte_of(kind)?,
-        exponent: byte_of(exponent)?,
+        log10_type: number_of(kind)?,
+        exponent: number_of(exponent)?,
     })
 }
 
@@ -24,7 +26,7 @@ fn put_entries(entries: &mut Vec<CompactEntry>, text: &str) -> Result<(), Stop> 
         return Ok(());
     }
     for part in text.split(';') {
-        entries.push(entry_of(part)?)?;
+        push(entries, entry_of(part)?)?;
     }
     Ok(())
 }
@@ -32,107 +34,101 @@ fn put_entries(entries: &mut Vec<CompactEntry>, text: &str) -> Result<(), Stop> 
 // The entries of a text: parts with semicolons between, each a type, a colon and an exponent.
 fn entries_of(alloc: Global, text: &str) -> Result<Vec<CompactEntry>, Stop> {
     let mut entries = Vec::new(alloc);
-    match put_entries(&mut entries, text) {
-        Ok(()) => Ok(entries),
-        Err(stop) => {
-            drop(entries);
-            Err(stop)
-        }
-    }
+    let put = put_entries(&mut entries, text);
+    filled(entries, put)
 }
 
-// The significand, the exponent, and the index of the entry.
-fn spelled(alloc: Global, shown: &Shown) -> Result<String, Stop> {
-    let significand = &shown.significand;
-    let exponent = shown.exponent;
-    match shown.entry {
-        Some(index) => Ok(format!(in alloc; "{significand} {exponent} {index}")?),
-        None => Ok(format!(in alloc; "{significand} {exponent} none")?),
+// Writes the significand, the exponent, and the index of the entry.
+fn put_shown(out: &mut String, shown: &Shown) -> Result<(), Stop> {
+    write!(out, "{} {} ", &shown.significand, shown.exponent)?;
+    put_index(out, shown.entry)
+}
+
+// Writes the index of an entry, or that there is none.
+fn put_index(out: &mut String, entry: Option<usize>) -> Result<(), Stop> {
+    match entry {
+        Some(index) => put(out, &index),
+        None => put_text(out, "none"),
     }
 }
 
 // What a number is shown as under these entries.
 fn shown_under(
-    alloc: Global,
     entries: &[CompactEntry],
     number: &UnsignedDecimal,
-) -> Result<String, Stop> {
+    out: &mut String,
+) -> Result<(), Stop> {
     if !can_show(number, entries) {
-        return Ok(String::from_str(alloc, "range")?);
+        return put_range(out);
     }
     let shown = show(number, entries)?;
-    let text = spelled(alloc, &shown);
+    let put = put_shown(out, &shown);
     drop(shown);
-    text
+    put
 }
 
 // What the number of a text is shown as: the significand, the exponent, and the index of the entry.
-fn shown(alloc: Global, entries: &[CompactEntry], number: &str) -> Result<String, Stop> {
-    let number = UnsignedDecimal::try_from_str(alloc, number)?;
-    let text = shown_under(alloc, entries, &number);
+fn shown(entries: &[CompactEntry], number: &str, out: &mut String) -> Result<(), Stop> {
+    let number = parsed(UnsignedDecimal::try_from_str(*out.allocator(), number))?;
+    let put = shown_under(entries, &number, out);
     drop(number);
-    text
+    put
 }
 
 // The index of the entry of an exact form, or how it is refused.
 fn exact_under(
-    alloc: Global,
     entries: &[CompactEntry],
     significand: &UnsignedDecimal,
     exponent: u8,
-) -> Result<String, Stop> {
+    out: &mut String,
+) -> Result<(), Stop> {
     if !exponent_in_range(significand, exponent) {
-        return Ok(String::from_str(alloc, "range")?);
+        return put_range(out);
     }
     match exact_entry(significand, exponent, entries) {
-        Ok(Some(index)) => Ok(format!(in alloc; "{index}")?),
-        Ok(None) => Ok(String::from_str(alloc, "none")?),
-        Err(error) => Ok(format!(in alloc; "{error}")?),
+        Ok(entry) => put_index(out, entry),
+        Err(refusal) => put(out, &refusal),
     }
 }
 
 // The index of the entry of the exact form of a text and an exponent.
 fn exact(
-    alloc: Global,
     entries: &[CompactEntry],
     significand: &str,
     exponent: &str,
-) -> Result<String, Stop> {
-    let exponent = byte_of(exponent)?;
-    let significand = UnsignedDecimal::try_from_str(alloc, significand)?;
-    let text = exact_under(alloc, entries, &significand, exponent);
+    out: &mut String,
+) -> Result<(), Stop> {
+    let exponent = number_of(exponent)?;
+    let significand = parsed(UnsignedDecimal::try_from_str(*out.allocator(), significand))?;
+    let put = exact_under(entries, &significand, exponent, out);
     drop(significand);
-    text
-}
-
-// The exponent of a magnitude.
-fn exponent(alloc: Global, entries: &[CompactEntry], magnitude: &str) -> Result<String, Stop> {
-    let magnitude = magnitude.parse::<i16>().or(Err(Stop::Unknown))?;
-    Ok(format!(in alloc; "{}", exponent_for_magnitude(magnitude, entries))?)
+    put
 }
 
 // The answer of a call over these entries.
 fn answer_under(
-    alloc: Global,
     entries: &[CompactEntry],
     call: &str,
     passed: &[&str],
-) -> Result<String, Stop> {
+    out: &mut String,
+) -> Result<(), Stop> {
     match passed {
-        [number] if call == "show" => shown(alloc, entries, number),
-        [magnitude] if call == "exponent_for_magnitude" => exponent(alloc, entries, magnitude),
-        [significand, power] if call == "exact_entry" => exact(alloc, entries, significand, power),
+        [number] if call == "show" => shown(entries, number, out),
+        [magnitude] if call == "exponent_for_magnitude" => {
+            put(out, &exponent_for_magnitude(number_of(magnitude)?, entries))
+        }
+        [significand, power] if call == "exact_entry" => exact(entries, significand, power, out),
         _ => Err(Stop::Unknown),
     }
 }
 
 /// The answer of a call of shown values.
-pub fn answer(alloc: Global, call: &str, passed: &[&str]) -> Result<String, Stop> {
+pub fn answer(call: &str, passed: &[&str], out: &mut String) -> Result<(), Stop> {
     let Some((entries, passed)) = passed.split_first() else {
         return Err(Stop::Unknown);
     };
-    let entries = entries_of(alloc, entries)?;
-    let answer = answer_under(alloc, entries.as_slice(), call, passed);
+    let entries = entries_of(*out.allocator(), entries)?;
+    let put = answer_under(entries.as_slice(), call, passed, out);
     drop(entries);
-    answer
+    put
 }

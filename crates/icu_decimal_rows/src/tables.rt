@@ -1,6 +1,6 @@
 //! The tables of one locale, as a row spells them.
 
-use crate::stop::{Stop, byte_of};
+use crate::refusals::made;
 use icu_decimal::pattern::Pattern;
 use icu_decimal::plurals::{PluralElements, PluralRules};
 use icu_decimal::provider::{
@@ -9,6 +9,7 @@ use icu_decimal::provider::{
     PluralsCardinalV1,
 };
 use icu_locale_core::DataLocale;
+use rows::{Stop, filled, number_of};
 use serde_json::Value;
 use std::alloc::{AllocError, Global};
 use std::collections::BTreeMap;
@@ -98,22 +99,21 @@ pub fn value_of(alloc: Global, text: &str) -> Result<Value, Stop> {
     }
 }
 
-// The patterns of slots.
-fn elements_in(alloc: Global, slots: &Value) -> Result<PluralElements<Pattern>, Stop> {
-    Ok(PluralElements::from_json(alloc, slots)?)
+// The patterns of a JSON text of slots.
+fn elements_of(slots: &str, out: &mut String) -> Result<PluralElements<Pattern>, Stop> {
+    let alloc = *out.allocator();
+    let slots = value_of(alloc, slots)?;
+    let elements = PluralElements::from_json(alloc, &slots);
+    drop(slots);
+    made(elements, out)
 }
 
-// The patterns of a JSON text of slots.
-fn elements_of(alloc: Global, slots: &str) -> Result<PluralElements<Pattern>, Stop> {
-    let slots = value_of(alloc, slots)?;
-    let elements = elements_in(alloc, &slots);
-    drop(slots);
-    elements
-}
+// The types of a table, each with its exponent and its patterns.
+type Types = BTreeMap<u8, (u8, PluralElements<Pattern>)>;
 
 // Puts a type with its exponent and its patterns to the others.
 fn put(
-    types: &mut BTreeMap<u8, (u8, PluralElements<Pattern>)>,
+    types: &mut Types,
     log10_type: u8,
     exponent: u8,
     patterns: PluralElements<Pattern>,
@@ -132,100 +132,84 @@ fn part_of(part: &str) -> Result<(u8, u8, &str), Stop> {
     let Some((exponent, slots)) = behind.split_once(':') else {
         return Err(Stop::Unknown);
     };
-    Ok((byte_of(kind)?, byte_of(exponent)?, slots))
+    Ok((number_of(kind)?, number_of(exponent)?, slots))
 }
 
 // Puts the type of a part to the others.
-fn put_part(
-    alloc: Global,
-    types: &mut BTreeMap<u8, (u8, PluralElements<Pattern>)>,
-    part: &str,
-) -> Result<(), Stop> {
+fn put_part(types: &mut Types, part: &str, out: &mut String) -> Result<(), Stop> {
     let (log10_type, exponent, slots) = part_of(part)?;
-    let patterns = elements_of(alloc, slots)?;
+    let patterns = elements_of(slots, out)?;
     Ok(put(types, log10_type, exponent, patterns)?)
 }
 
 // Puts the types of a text to the others.
-fn put_all(
-    alloc: Global,
-    types: &mut BTreeMap<u8, (u8, PluralElements<Pattern>)>,
-    text: &str,
-) -> Result<(), Stop> {
+fn put_all(types: &mut Types, text: &str, out: &mut String) -> Result<(), Stop> {
     if text.is_empty() {
         return Ok(());
     }
     for part in text.split(';') {
-        put_part(alloc, types, part)?;
+        put_part(types, part, out)?;
     }
     Ok(())
 }
 
 // The types of a text, each with its exponent and its patterns.
-fn types_of(
-    alloc: Global,
-    text: &str,
-) -> Result<BTreeMap<u8, (u8, PluralElements<Pattern>)>, Stop> {
-    let mut types = BTreeMap::new(alloc);
-    match put_all(alloc, &mut types, text) {
-        Ok(()) => Ok(types),
-        Err(stop) => {
-            drop(types);
-            Err(stop)
-        }
-    }
+fn types_of(text: &str, out: &mut String) -> Result<Types, Stop> {
+    let mut types = BTreeMap::new(*out.allocator());
+    let put = put_all(&mut types, text, out);
+    filled(types, put)
 }
 
 /// The table of a text: parts with semicolons between, each a type, an exponent and slots in JSON, with colons between; `zero` are the
-/// patterns of smaller numbers.
+/// patterns of smaller numbers. The words of a refusal are the answer.
 pub fn table_of(
-    alloc: Global,
     text: &str,
     zero: Option<&PluralElements<Pattern>>,
+    out: &mut String,
 ) -> Result<CompactPatterns, Stop> {
-    let types = types_of(alloc, text)?;
-    Ok(CompactPatterns::new(alloc, types, zero)?)
+    let types = types_of(text, out)?;
+    let table = CompactPatterns::new(*out.allocator(), types, zero);
+    made(table, out)
 }
 
-/// The types and the exponents of a table, with semicolons between.
-pub fn listed(alloc: Global, table: &CompactPatterns) -> Result<String, Stop> {
-    let mut text = String::new(alloc);
+/// Writes the types and the exponents of a table, with semicolons between.
+pub fn put_listed(out: &mut String, table: &CompactPatterns) -> Result<(), Stop> {
     for entry in table.entries() {
-        if !text.is_empty() {
-            text.push(';')?;
+        if !out.is_empty() {
+            out.push(';')?;
         }
-        write!(text, "{}:{}", entry.log10_type, entry.exponent)?;
+        write!(out, "{}:{}", entry.log10_type, entry.exponent)?;
     }
-    Ok(text)
+    Ok(())
 }
 
-// The types and the exponents that the table of a text keeps.
-fn kept_over(
-    alloc: Global,
+// Writes the types and the exponents that the table of a text keeps.
+fn put_kept_over(
     zero: Option<&PluralElements<Pattern>>,
     table: &str,
-) -> Result<String, Stop> {
-    let table = table_of(alloc, table, zero)?;
-    let kept = listed(alloc, &table);
+    out: &mut String,
+) -> Result<(), Stop> {
+    let table = table_of(table, zero, out)?;
+    let put = put_listed(out, &table);
     drop(table);
-    kept
+    put
 }
 
-// The types and the exponents that a table keeps, where `zero` are the slots of smaller numbers, or empty.
-fn kept(alloc: Global, zero: &str, table: &str) -> Result<String, Stop> {
+// Writes the types and the exponents that a table keeps, where `zero` are the slots of smaller numbers, or empty.
+fn put_kept(zero: &str, table: &str, out: &mut String) -> Result<(), Stop> {
     if zero.is_empty() {
-        return kept_over(alloc, None, table);
+        return put_kept_over(None, table, out);
     }
-    let zero = elements_of(alloc, zero)?;
-    let kept = kept_over(alloc, Some(&zero), table);
+    let zero = elements_of(zero, out)?;
+    let put = put_kept_over(Some(&zero), table, out);
     drop(zero);
-    kept
+    put
 }
 
 /// The answer of a call of tables.
-pub fn answer(alloc: Global, passed: &[&str]) -> Result<String, Stop> {
+pub fn answer(passed: &[&str], out: &mut String) -> Result<(), Stop> {
     match passed {
-        [zero, table] => kept(alloc, zero, table),
+        [zero, table] => put_kept(zero, table, out),
         _ => Err(Stop::Unknown),
     }
 }
