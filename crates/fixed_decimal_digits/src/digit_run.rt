@@ -1,5 +1,5 @@
 // Some of the digits of a list, one after another, or sixteen at once.
-ghost use Rattle.std.specs.Prelude.{◌≡◌, ◌+◌, ◌^◌, ◌<◌, ◌≤◌, length, take, drop};
+ghost use Rattle.std.specs.Prelude.{◌≡◌, ◌+◌, ◌^◌, ◌<◌, ◌≤◌, length, min, take, drop};
 ghost use Rattle.std.specs.Iterator.{YieldsFirst, item_count};
 
 use crate::digits::{Digits, STEP};
@@ -60,6 +60,25 @@ impl<'l> DigitRun<'l> {
         self.next += STEP;
         self.left -= STEP;
         digits
+    }
+
+    // Puts the digits that are left, sixteen at most, into the front of a block, and answers how many. What stands behind them
+    // stays.
+    pub fn next_few(&mut self, block: &mut [u8; 16]) -> usize
+        ensures count { result ≡ min 16 (length self.old) }
+        ensures taken { take result block.new ≡ take result self.old }
+        ensures same { drop result block.new ≡ drop result block.old }
+        ensures rest { self.new ≡ drop result self.old }
+    {
+        let mut count = 0;
+        while count < STEP {
+            let Some(digit) = self.next() else {
+                return count;
+            };
+            block[count] = digit;
+            count += 1;
+        }
+        count
     }
 }
 

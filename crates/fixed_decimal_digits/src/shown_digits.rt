@@ -69,10 +69,13 @@ impl<'l> ShownDigits<'l> {
             *block = self.inside.next_sixteen();
             return STEP;
         }
+        if self.zeros_before == 0 && self.zeros_behind == 0 {
+            return self.inside.next_few(block);
+        }
         self.next_few(block)
     }
 
-    // Does what `next_block` does, digit by digit.
+    // Does what `next_block` does, digit by digit, zeros before and behind with them.
     fn next_few(&mut self, block: &mut [u8; 16]) -> usize
         ensures count { result ≡ min 16 (length self.old) }
         ensures taken { take result block.new ≡ take result self.old }
