@@ -17,7 +17,9 @@ pub fn assign_bytes(kept: &mut SmallVec<u8, INLINE>, word: u32, count: usize)
     ensures capacity { kept.old.capacity ≤ kept.new.capacity }
 {
     let bytes = word.to_be_bytes();
-    kept.clear();
+    if !kept.is_empty() {
+        kept.clear();
+    }
     match count {
         0 => {}
         1 => kept.push_reserved(bytes[3]),
