@@ -1,7 +1,7 @@
 -- What the definitions see of the stage of an extension that is being read, and of an extension that was read.
 -- Defined in docs/tags.md, "Stages".
 -- Cited by the functions that step along the pieces of an extension.
-use Rattle.std.specs.Prelude.{◌≡◌}
+use Rattle.std.specs.Prelude.{◌≡◌, Bool, true, false}
 use Rattle.icu_locale_core_grammar.specs.Subtags.{Text, unicode_text, transform_text}
 use Rattle.icu_locale_core_grammar.specs.Meaning as meaning
 use Rattle.icu_locale_core_grammar.specs.TagStages as stages
@@ -40,6 +40,12 @@ abbrev pub HasKey : Text → Part → Type 0
 HasKey key (Unicode u) = Unit {0}
 HasKey key (Transform t) = Unit {0}
 HasKey key (Other own) = own.0 ≡ key
+
+-- an extension that has no rule of its own
+abbrev pub is_other_part : Part → Bool
+is_other_part (Unicode u) = false
+is_other_part (Transform t) = false
+is_other_part (Other own) = true
 
 -- the extensions with one more, of this singleton
 abbrev pub put_extension : Text → Part → ExtensionsValue → ExtensionsValue

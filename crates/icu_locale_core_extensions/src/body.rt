@@ -1,10 +1,11 @@
 //! The pieces behind a singleton, read one at a time.
 
-ghost use Rattle.std.specs.Prelude.{◌≡◌, option_map, IfOk, IfSome};
+ghost use Rattle.std.specs.Prelude.{◌≡◌, false, option_map, IfOk, IfSome, IsOk};
 ghost use Rattle.icu_locale_core_grammar.specs.Subtags.{lower};
 ghost use Rattle.icu_locale_core_grammar.specs.TagStages.{body_after as stage_after, body_ends, opens};
 ghost use Rattle.icu_locale_core_entries.specs.Steps.{IsStep};
-ghost use Rattle.icu_locale_core_extensions.specs.BodyView.{body_view, body_key, part_view, KeepsKey, HasKey};
+ghost use Rattle.icu_locale_core_extensions.specs.BodyView.{body_view, body_key, is_other_part, part_view, KeepsKey, HasKey};
+ghost use Rattle.icu_locale_core_extensions.specs.Room.{body_grows_at, body_keeps};
 
 use crate::head::{AttributesHead, LanguageHead, settled_language};
 use crate::opening::is_letter;
@@ -57,7 +58,8 @@ pub fn opened_body(alloc: Global, singleton: &[u8]) -> Option<BodyStage>
     }
 }
 
-/// The stage after one more piece; a piece that does not fit leaves it as it was. `AllocError` is answered for memory alone.
+/// The stage after one more piece; a piece that does not fit leaves it as it was. `AllocError` is answered for memory alone,
+/// which a first key and a piece that does not fit do not take.
 #[tactic(auto, unfolding(icu_locale_core_grammar::specs::TagStages::body_after))]
 pub fn body_after(
     alloc: Global,
@@ -66,6 +68,7 @@ pub fn body_after(
 ) -> Result<Step<BodyStage>, AllocError>
     ensures step { IfOk result (IsStep stage_after body_view (body_view stage) piece.now) }
     ensures key { IfOk result (KeepsKey (body_key stage)) }
+    ensures room { body_grows_at (body_view stage) piece.now ≡ false → IsOk result }
 {
     match stage {
         BodyStage::InUnicode(stage) => match headed_after::<AttributesHead, unicode::KeyRule>(
@@ -88,10 +91,12 @@ pub fn body_after(
 }
 
 /// The extension that was read; `None` where its last entry needs a value and has none. `AllocError` is answered for memory
-/// alone.
+/// alone, which is taken for a last entry alone.
 pub fn body_finish(alloc: Global, stage: BodyStage) -> Result<Option<Part>, AllocError>
     ensures part { IfOk result (λ part. option_map part_view part ≡ body_ends (body_view stage)) }
     ensures key { IfOk result (λ part. IfSome part (HasKey (body_key stage))) }
+    ensures kind { body_keeps (body_view stage) ≡ false → IfOk result (λ part. IfSome part (λ p. is_other_part p ≡ false)) }
+    ensures room { body_keeps (body_view stage) ≡ false → IsOk result }
 {
     match stage {
         BodyStage::InUnicode(stage) => match headed_finish(alloc, stage)? {

@@ -1,7 +1,7 @@
 //! All extensions of a locale.
 
-ghost use Rattle.std.specs.Prelude.{◌≡◌, ◌↔◌, [], ◌∷◌, ◌++◌, ℕ, List, IsOk, IfOk, IsTrue, OnOk, OnErr};
-ghost use Rattle.icu_locale_core_extensions.specs.BodyView.{HasKey, put_extension};
+ghost use Rattle.std.specs.Prelude.{◌≡◌, ◌↔◌, false, [], ◌∷◌, ◌++◌, ℕ, List, IsOk, IfOk, IsTrue, OnOk, OnErr};
+ghost use Rattle.icu_locale_core_extensions.specs.BodyView.{HasKey, is_other_part, put_extension};
 ghost use Rattle.icu_locale_core_extensions.specs.ExtensionsValue.{nothing, only_unicode, is_empty_extensions};
 
 use crate::body::Part;
@@ -130,10 +130,12 @@ impl Extensions {
     }
 }
 
-/// Puts one more extension that was read to the extensions. `AllocError` is answered for memory alone, and nothing is put then.
+/// Puts one more extension that was read to the extensions. `AllocError` is answered for memory alone, and nothing is put then;
+/// none is taken for `u` and `t`.
 pub fn put_part(extensions: &mut Extensions, part: Part) -> Result<(), AllocError>
     ensures ok { OnOk result ((key : List ℕ) → HasKey key part → extensions.new ≡ put_extension key part extensions.old) }
     ensures err { OnErr result (extensions.new ≡ extensions.old) }
+    ensures room { is_other_part part ≡ false → IsOk result }
 {
     match part {
         Part::Unicode(unicode) => {

@@ -1,3 +1,5 @@
+pub mod FewLemmas
+pub mod KnownValues
 pub mod LocaleTextLemmas
 pub mod NormalizingLemmas
 pub mod OrderLemmas

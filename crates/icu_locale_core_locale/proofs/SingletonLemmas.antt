@@ -12,7 +12,7 @@ and_true : (b : Bool) → (b && true) ≡ b
 and_true true = refl
 and_true false = refl
 
-byte_contained : (b : ℕ) (seen : List ℕ) → contains_text (b ∷ []) (singletons seen) ≡ list_any (λ c. nat_eq c b) seen
+pub byte_contained : (b : ℕ) (seen : List ℕ) → contains_text (b ∷ []) (singletons seen) ≡ list_any (λ c. nat_eq c b) seen
 byte_contained b [] = refl
 byte_contained b (c ∷ cs) = λ i. (and_true (nat_eq b c) ∙ nat_eq_equiv.symm b c) i || byte_contained b cs i
 

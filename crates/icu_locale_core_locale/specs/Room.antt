@@ -1,26 +1,32 @@
 -- Where the reading of a tag may want memory: its variants and extensions alone have no size that is known before.
 -- Defined in docs/tags.md, "Locales as values".
 -- Cited by the readers of whole tags and of data locales.
-use Rattle.std.specs.Prelude.{Bool, true, false, ◌&&◌, ◌||◌, List, [], ◌∷◌, Option, None, Some}
-use Rattle.std.specs.List.{list_any}
-use Rattle.icu_locale_core_grammar.specs.Subtags.{Text, is_language, is_variant, is_singleton}
+use Rattle.std.specs.Prelude.{Bool, false, ◌||◌, List, [], ◌∷◌, Option, None, Some}
+use Rattle.icu_locale_core_grammar.specs.Subtags.{Text, is_private_piece}
 use Rattle.icu_locale_core_grammar.specs.Stepping.{InFront, AtBlock, InBlock, InPrivate}
-use Rattle.icu_locale_core_grammar.specs.TagStages.{TagStage}
+use Rattle.icu_locale_core_grammar.specs.TagStages.{TagStage, tag_after, tag_start}
 use Rattle.icu_locale_core_langid.specs.Room.{grows_at}
+use Rattle.icu_locale_core_extensions.specs.Room.{body_grows_at, body_keeps}
 
--- a variant, or a singleton: one letter or digit, `x` too
-abbrev pub is_kept : Text → Bool
-is_kept p = is_variant p || is_singleton p
+-- the piece is one more variant or private subtag, or wants memory in its extension, or ends one that keeps something
+abbrev pub tag_grows_at : TagStage → Text → Bool
+tag_grows_at (InFront l) p = grows_at l p
+tag_grows_at (AtBlock id seen e k b) p = body_grows_at b p
+tag_grows_at (InBlock id seen e k b) p = body_grows_at b p || body_keeps b
+tag_grows_at (InPrivate id e own) p = is_private_piece p
 
--- the first piece is a language, and a variant or a singleton stands behind it
+-- the tag ends in an extension that keeps something
+abbrev pub tag_keeps : TagStage → Bool
+tag_keeps (InFront l) = false
+tag_keeps (AtBlock id seen e k b) = false
+tag_keeps (InBlock id seen e k b) = body_keeps b
+tag_keeps (InPrivate id e own) = false
+
+-- a step along the pieces may want memory, up to the first piece at fault, or else the end of the tag may
+abbrev pub grows_along : Option TagStage → List Text → Bool
+grows_along None ps = false
+grows_along (Some s) [] = tag_keeps s
+grows_along (Some s) (p ∷ ps) = tag_grows_at s p || grows_along (tag_after s p) ps
+
 abbrev pub tag_may_grow : List Text → Bool
-tag_may_grow [] = false
-tag_may_grow (p ∷ ps) = is_language p && list_any is_kept ps
-
--- the stage is behind a singleton, or the piece at the place is one more variant
-abbrev pub tag_grows_at : TagStage → Option Text → Bool
-tag_grows_at (InFront l) None = false
-tag_grows_at (InFront l) (Some p) = grows_at l p
-tag_grows_at (AtBlock id seen e k b) place = true
-tag_grows_at (InBlock id seen e k b) place = true
-tag_grows_at (InPrivate id e own) place = true
+tag_may_grow ps = grows_along (Some tag_start) ps

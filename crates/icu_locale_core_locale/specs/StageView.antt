@@ -1,7 +1,7 @@
 -- What the definitions see of the stage of a tag that is being read.
 -- Defined in docs/tags.md, "Stages".
 -- Cited by the functions that read whole tags.
-use Rattle.std.specs.Prelude.{◌≡◌, ℕ, Bool, true, false, List, [], ◌∷◌, map, Option, None, Some, if◌then◌else◌}
+use Rattle.std.specs.Prelude.{⊤, ◌≡◌, ◌<◌, ℕ, Bool, true, false, List, [], ◌∷◌, map, length, Option, None, Some, if◌then◌else◌}
 use Rattle.icu_locale_core_grammar.specs.Subtags.{Text, is_private, lower}
 use Rattle.icu_locale_core_grammar.specs.Collections.{contains_text}
 use Rattle.icu_locale_core_grammar.specs.LanguagePart.{LanguageId}
@@ -26,8 +26,15 @@ block_view id seen e b false = AtBlock id (singletons seen) e (body_key b) (body
 
 abbrev pub stage_view : LocaleStage → TagStage
 stage_view (code.InLanguage l) = InFront l
-stage_view (code.InExtension s) = block_view s.id s.seen.items s.extensions.blocks s.body s.filled
+stage_view (code.InExtension s) = block_view s.id s.seen s.extensions.blocks s.body s.filled
 stage_view (code.InPrivate id e own) = InPrivate id e.blocks own
+
+-- there is room for the singleton of the extension that is read
+abbrev pub HasFewBefore : TagStage → Type 0
+HasFewBefore (InFront l) = ⊤
+HasFewBefore (AtBlock id seen e k b) = length seen < 36
+HasFewBefore (InBlock id seen e k b) = length seen < 36
+HasFewBefore (InPrivate id e own) = ⊤
 
 -- what comes behind a part that may end: `x`, or a singleton that has not come yet
 abbrev pub opened_at : LanguageId → List Text → ExtensionMeanings → Text → Option stages.BodyStage → Option TagStage

@@ -1,6 +1,6 @@
 //! Singletons, and those that have come.
 
-ghost use Rattle.std.specs.Prelude.{◌≡◌, [], ◌∷◌};
+ghost use Rattle.std.specs.Prelude.{◌≡◌, ◌<◌, [], ◌∷◌, ◌++◌, length, IsOk, OnOk};
 ghost use Rattle.icu_locale_core_grammar.specs.Subtags.{is_private, lower};
 ghost use Rattle.icu_locale_core_grammar.specs.Collections.{contains_text};
 ghost use Rattle.icu_locale_core_extensions.specs.BodyView.{body_key};
@@ -8,9 +8,53 @@ ghost use Rattle.icu_locale_core_locale.specs.StageView.{singletons};
 
 use icu_locale_core_extensions::{BodyStage, is_letter};
 use smallvec::SmallVec;
+use std::alloc::{AllocError, Global};
+use std::marker::Model;
 
-/// The singletons that have come, each once: at most 36, which need no memory of their own.
-pub(crate) type Singletons = SmallVec<u8, 36>;
+/// The singletons that have come, in lower case: up to 36 need no memory of their own, and there are no more.
+#[derive(Drop)]
+pub struct Singletons {
+    kept: SmallVec<u8, 36>,
+}
+
+impl Model for Singletons {
+    ghost use Rattle.std.specs.Prelude.{ℕ, List, ◌≤◌};
+
+    ghost Value = { List ℕ };
+
+    ghost view = { λ s. s.kept.items };
+
+    ghost invariant = { λ s. 36 ≤ s.kept.capacity };
+}
+
+impl Singletons {
+    // None yet.
+    pub(crate) fn new(alloc: Global) -> Self
+        ensures { result ≡ [] }
+    {
+        Singletons {
+            kept: SmallVec::new(alloc),
+        }
+    }
+
+    // Puts one more behind the others; below 36 no memory is taken.
+    pub(crate) fn push(&mut self, singleton: u8) -> Result<(), AllocError>
+        ensures ok { OnOk result (self.new ≡ self.old ++ singleton ∷ []) }
+        ensures room { length self.old < 36 → IsOk result }
+    {
+        match self.kept.push(singleton) {
+            Ok(()) => Ok(()),
+            Err(_) => Err(AllocError),
+        }
+    }
+
+    // The singletons, in the order in which they came.
+    pub(crate) fn as_slice(&self) -> &[u8]
+        ensures { result.now ≡ self.now }
+    {
+        self.kept.as_slice()
+    }
+}
 
 /// Whether the piece is `x`, in either case.
 pub(crate) fn opens_private(piece: &[u8]) -> bool

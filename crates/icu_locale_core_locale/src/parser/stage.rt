@@ -1,13 +1,15 @@
 //! The stages of a tag that is being read.
 
-ghost use Rattle.std.specs.Prelude.{◌≡◌, ℕ, List, [], false, None, Some, IfOk, IsOk, MatchOption};
+ghost use Rattle.std.specs.Prelude.{◌≡◌, ◌<◌, ℕ, List, [], false, None, Some, length, IfOk, IsOk, MatchOption};
+ghost use Rattle.icu_locale_core_grammar.specs.Subtags.{is_private_piece};
 ghost use Rattle.icu_locale_core_grammar.specs.Stepping.{InFront, InBlock};
 ghost use Rattle.icu_locale_core_grammar.specs.TagStages.{body_after as body_stage_after, language_after as language_stage_after};
 ghost use Rattle.icu_locale_core_grammar.specs.Meaning.{put_part as put_meaning};
-ghost use Rattle.icu_locale_core_extensions.specs.BodyView.{body_key, body_view, part_view, HasKey};
+ghost use Rattle.icu_locale_core_extensions.specs.BodyView.{body_key, body_view, is_other_part, part_view, HasKey};
+ghost use Rattle.icu_locale_core_extensions.specs.Room.{body_keeps};
 ghost use Rattle.icu_locale_core_langid.specs.Room.{grows_at};
-ghost use Rattle.icu_locale_core_locale.specs.Room.{tag_grows_at};
-ghost use Rattle.icu_locale_core_locale.specs.StageView.{singletons, stage_view, block_view, stage_behind, GoesOn, Ends};
+ghost use Rattle.icu_locale_core_locale.specs.Room.{tag_grows_at, tag_keeps};
+ghost use Rattle.icu_locale_core_locale.specs.StageView.{singletons, stage_view, block_view, stage_behind, GoesOn, Ends, HasFewBefore};
 
 use crate::locale::Locale;
 use crate::parser::attempt::Attempt;
@@ -58,7 +60,7 @@ fn stage_after_part(
     extensions: Extensions,
     piece: &[u8],
 ) -> Option<LocaleStage>
-    ensures { MatchOption result (stage_behind id (singletons seen.items) extensions.blocks piece.now ≡ None) (λ s. stage_behind id (singletons seen.items) extensions.blocks piece.now ≡ Some (stage_view s)) }
+    ensures { MatchOption result (stage_behind id (singletons seen) extensions.blocks piece.now ≡ None) (λ s. stage_behind id (singletons seen) extensions.blocks piece.now ≡ Some (stage_view s)) }
 {
     if opens_private(piece) {
         return Some(LocaleStage::InPrivate(id, extensions, Private::new(alloc)));
@@ -122,15 +124,14 @@ fn after_ended(
     body: BodyStage,
     piece: &[u8],
 ) -> Result<Attempt<LocaleStage>, AllocError>
-    ensures { body_stage_after (body_view body) piece.now ≡ None → IfOk result (GoesOn (InBlock id (singletons seen.items) extensions.blocks (body_key body) (body_view body)) piece.now) }
+    ensures step { body_stage_after (body_view body) piece.now ≡ None → IfOk result (GoesOn (InBlock id (singletons seen) extensions.blocks (body_key body) (body_view body)) piece.now) }
+    ensures room { body_keeps (body_view body) ≡ false → length seen < 36 → IsOk result }
 {
     let key = key_of(&body);
     let Some(part) = body_finish(alloc, body)? else {
         return Ok(Attempt::Stops(ParseError::InvalidExtension));
     };
-    let Ok(()) = seen.push(key) else {
-        return Err(AllocError);
-    };
+    seen.push(key)?;
     put_part(&mut extensions, part)?;
     let repeated = is_one_character(piece) && has_come(seen.as_slice(), piece);
     match stage_after_part(alloc, id, seen, extensions, piece) {
@@ -147,7 +148,8 @@ fn after_extension(
     stage: ExtensionStage,
     piece: &[u8],
 ) -> Result<Attempt<LocaleStage>, AllocError>
-    ensures { IfOk result (GoesOn (block_view stage.id stage.seen.items stage.extensions.blocks stage.body stage.filled) piece.now) }
+    ensures step { IfOk result (GoesOn (block_view stage.id stage.seen stage.extensions.blocks stage.body stage.filled) piece.now) }
+    ensures room { tag_grows_at (block_view stage.id stage.seen stage.extensions.blocks stage.body stage.filled) piece.now ≡ false → length stage.seen < 36 → IsOk result }
 {
     let ExtensionStage {
         id,
@@ -182,7 +184,8 @@ fn after_private(
     mut private: Private,
     piece: &[u8],
 ) -> Result<Attempt<LocaleStage>, AllocError>
-    ensures { IfOk result (GoesOn (stage_view (LocaleStage.InPrivate id extensions private)) piece.now) }
+    ensures step { IfOk result (GoesOn (stage_view (LocaleStage.InPrivate id extensions private)) piece.now) }
+    ensures room { is_private_piece piece.now ≡ false → IsOk result }
 {
     match Subtag::try_from_utf8(piece) {
         Ok(subtag) => {
@@ -194,14 +197,14 @@ fn after_private(
 }
 
 /// The stage after one more piece, or the fault there. `AllocError` is answered for memory alone, which is taken for one more
-/// variant and behind a singleton alone.
+/// variant, in an extension and for one that ends, where that has entries or no rule of its own, and for a private subtag.
 pub fn next_stage(
     alloc: Global,
     stage: LocaleStage,
     piece: &[u8],
 ) -> Result<Attempt<LocaleStage>, AllocError>
     ensures step { IfOk result (GoesOn (stage_view stage) piece.now) }
-    ensures room { tag_grows_at (stage_view stage) (Some piece.now) ≡ false → IsOk result }
+    ensures room { tag_grows_at (stage_view stage) piece.now ≡ false → HasFewBefore (stage_view stage) → IsOk result }
 {
     match stage {
         LocaleStage::InLanguage(language) => after_language(alloc, language, piece),
@@ -226,7 +229,8 @@ fn with_last(
     mut extensions: Extensions,
     last: Part,
 ) -> Result<Extensions, AllocError>
-    ensures { IfOk result (λ e. (key : List ℕ) → HasKey key last → e ≡ record { blocks = put_meaning key (part_view last) extensions.blocks; own = [] }) }
+    ensures value { IfOk result (λ e. (key : List ℕ) → HasKey key last → e ≡ record { blocks = put_meaning key (part_view last) extensions.blocks; own = [] }) }
+    ensures room { is_other_part last ≡ false → IsOk result }
 {
     put_part(&mut extensions, last)?;
     Ok(with_private(extensions, Private::new(alloc)))
@@ -239,7 +243,8 @@ fn ended_body(
     extensions: Extensions,
     body: BodyStage,
 ) -> Result<Attempt<Locale>, AllocError>
-    ensures { (seen : List (List ℕ)) → IfOk result (Ends (InBlock id seen extensions.blocks (body_key body) (body_view body))) }
+    ensures ends { (seen : List (List ℕ)) → IfOk result (Ends (InBlock id seen extensions.blocks (body_key body) (body_view body))) }
+    ensures room { body_keeps (body_view body) ≡ false → IsOk result }
 {
     match body_finish(alloc, body)? {
         Some(last) => {
@@ -252,7 +257,8 @@ fn ended_body(
 
 // The locale of an extension that is read last.
 fn ended_extension(alloc: Global, stage: ExtensionStage) -> Result<Attempt<Locale>, AllocError>
-    ensures { IfOk result (Ends (block_view stage.id stage.seen.items stage.extensions.blocks stage.body stage.filled)) }
+    ensures ends { IfOk result (Ends (block_view stage.id stage.seen stage.extensions.blocks stage.body stage.filled)) }
+    ensures room { tag_keeps (block_view stage.id stage.seen stage.extensions.blocks stage.body stage.filled) ≡ false → IsOk result }
 {
     let ExtensionStage {
         id,
@@ -268,11 +274,11 @@ fn ended_extension(alloc: Global, stage: ExtensionStage) -> Result<Attempt<Local
     }
 }
 
-/// The locale that was read, or the fault at the end. `AllocError` is answered for memory alone, which is taken for an extension
-/// alone.
+/// The locale that was read, or the fault at the end. `AllocError` is answered for memory alone, which is taken for a last
+/// extension that has entries or no rule of its own.
 pub fn finished(alloc: Global, stage: LocaleStage) -> Result<Attempt<Locale>, AllocError>
     ensures ends { IfOk result (Ends (stage_view stage)) }
-    ensures room { tag_grows_at (stage_view stage) None ≡ false → IsOk result }
+    ensures room { tag_keeps (stage_view stage) ≡ false → IsOk result }
 {
     match stage {
         LocaleStage::InLanguage(None) => Ok(Attempt::Stops(ParseError::InvalidLanguage)),

@@ -6,6 +6,7 @@ use Rattle.icu_locale_core_grammar.proofs.CallerLemmas.{tag_refused, tag_cut, no
 use Rattle.icu_locale_core_grammar.proofs.TagReader.{tag_reader}
 use Rattle.icu_locale_core_entries.proofs.ReadingLemmas.{reading_goes_on, reading_meant}
 use Rattle.icu_locale_core_locale.specs.StageView.{stage_view}
+use Rattle.icu_locale_core_locale.proofs.FewLemmas.{reached_few}
 use Rattle.icu_locale_core_locale.proofs.RoomLemmas.{no_growth, no_growth_at_end, never_memory}
 use Rattle.icu_locale_core_locale.proofs.parser.parse_locale.Goals as goal
 
@@ -31,7 +32,9 @@ returns-in-Ok-Stops-clause-room c = λ none.
 pub returns-in-Err-clause-room : goal.returns-in-Err-clause-room
 returns-in-Err-clause-room c = λ none memory.
     let so_far = c.loop-piece.invariant in
-    let failed = c.in-Err.ensures.room (no_growth (pieces c.args.code_units.now) so_far.taken _ c.next.new.self (stage_view c.loop-piece.stage) c.in-Some.piece.now so_far.parts c.in-Some.ensures.steps so_far.reached none) in
+    let failed =
+    c.in-Err.ensures.room (no_growth (pieces c.args.code_units.now) so_far.taken _ c.next.new.self (stage_view c.loop-piece.stage) c.in-Some.piece.now so_far.parts c.in-Some.ensures.steps so_far.reached none)
+    (reached_few so_far.taken (stage_view c.loop-piece.stage) so_far.reached) in
     cc
 
 pub returns-in-Ok-Goes-finished-clause-value : goal.returns-in-Ok-Goes-finished-clause-value
@@ -49,5 +52,5 @@ returns-in-Ok-Stops-finished-clause-fault c =
 pub returns-in-Err-finished-clause-room : goal.returns-in-Err-finished-clause-room
 returns-in-Err-finished-clause-room c = λ none memory.
     let so_far = c.loop-piece.invariant in
-    let failed = c.in-Err-finished.ensures.room (no_growth_at_end (pieces c.args.code_units.now) so_far.taken _ (stage_view c.loop-piece.stage) so_far.parts so_far.reached none) in
+    let failed = c.in-Err-finished.ensures.room (no_growth_at_end (pieces c.args.code_units.now) so_far.taken _ (stage_view c.loop-piece.stage) so_far.parts c.in-None.ensures.steps.0 so_far.reached none) in
     cc

@@ -8,6 +8,6 @@ use Rattle.icu_locale_core_locale.proofs.parser.stage.after_identifier.Goals as 
 pub returns-in-Some : goal.returns-in-Some
 returns-in-Some c = λ none.
     language_goes_on c.args.id c.args.piece.now _ none
-    (ap (λ seen. stage_behind c.args.id (singletons seen) no_extensions c.args.piece.now) (sym c.new.ensures.items)
-    ∙ ap (λ (e : ExtensionsValue). stage_behind c.args.id (singletons c.new.result.items) e.blocks c.args.piece.now) (sym c.new-2.ensures)
+    (ap (λ seen. stage_behind c.args.id (singletons seen) no_extensions c.args.piece.now) (sym c.new.ensures)
+    ∙ ap (λ (e : ExtensionsValue). stage_behind c.args.id (singletons c.new.result) e.blocks c.args.piece.now) (sym c.new-2.ensures)
     ∙ c.in-Some.ensures)
