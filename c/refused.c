@@ -39,7 +39,8 @@ static void call_all(void) {
     legumeyet_book book = {0};
     legumeyet_decimal_formatter plain = {0};
     uint8_t out[64];
-    size_t length = 0;
+    legumeyet_interval parts[16];
+    size_t length = 0, count = 0;
     TWICE(legumeyet_book_open(TEXT(BOOK), &book));
     TWICE(legumeyet_book_answer(&book, TEXT(LINE), out, sizeof out, &length));
     expect_text(out, length, "ok\t-98,765,432,109,876,543,210.5");
@@ -48,6 +49,9 @@ static void call_all(void) {
     expect_text(out, length, "-98,765,432,109,876,543,210");
     TWICE(legumeyet_decimal_formatter_format_i64(&plain, -123456789012345678, -3, &ROUNDED, out, sizeof out, &length));
     expect_text(out, length, "-123,456,789,012,346");
+    TWICE(legumeyet_decimal_formatter_format_parts(&plain, TEXT(DIGITS), &ROUNDED, out, sizeof out, &length, parts, 16, &count));
+    expect_text(out, length, "-98,765,432,109,876,543,210");
+    wrong = wrong || count != 8 || parts[7].start != 23;
     TWICE(legumeyet_decimal_formatter_read(&plain, TEXT("-123,456,789.50"), out, sizeof out, &length));
     expect_text(out, length, "-123456789.50");
     expect_well(legumeyet_decimal_formatter_close(&plain));

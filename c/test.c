@@ -158,6 +158,45 @@ static void reads(void) {
     expect("30,000 digits", (int64_t)needed, 30000);
 }
 
+static int32_t format_parts(const char *number, legumeyet_interval *intervals, size_t room, size_t *count) {
+    return legumeyet_decimal_formatter_format_parts(&english, TEXT(number), &AS_GIVEN, out, sizeof out, &length, intervals, room, count);
+}
+
+static int is_same(const legumeyet_interval *one, const legumeyet_interval *other) {
+    return one->start == other->start && one->end == other->end && one->kind == other->kind;
+}
+
+static void parts(void) {
+    static const legumeyet_interval WANTED[] = {
+        {0, 1, LEGUMEYET_PART_MINUS_SIGN}, {1, 6, LEGUMEYET_PART_INTEGER},  {2, 3, LEGUMEYET_PART_GROUP},
+        {6, 7, LEGUMEYET_PART_DECIMAL},    {7, 8, LEGUMEYET_PART_FRACTION},
+    };
+    legumeyet_interval found[7];
+    size_t room, at, count = 77;
+    for (room = 0; room <= 6; room++) {
+        size_t listed = room < 5 ? room : 5;
+        memset(found, 7, sizeof found);
+        expect("the room for parts", format_parts("-1234.5", found, room, &count), room < 5 ? LEGUMEYET_TOO_SMALL : LEGUMEYET_OK);
+        expect("the parts", (int64_t)count, 5);
+        expect_text("the text with its parts", LEGUMEYET_OK, "-1,234.5");
+        for (at = 0; at < listed; at++)
+            expect("a part", is_same(&found[at], &WANTED[at]), 1);
+        expect("the part behind", (int64_t)found[listed].kind, 0x07070707);
+    }
+    count = 77;
+    at = 3;
+    expect("no room", legumeyet_decimal_formatter_format_parts(&english, TEXT("-1234.5"), &AS_GIVEN, out, at, &length, found, 7, &count),
+           LEGUMEYET_TOO_SMALL);
+    expect("the parts", (int64_t)count, 5);
+    expect("the length", (int64_t)length, 8);
+    expect("the front", memcmp(out, "-1,.", 4), 0);
+    memset(out, '.', sizeof out);
+    length = count = 77;
+    expect_error("no number", format_parts("5.", found, 7, &count), LEGUMEYET_NUMBER);
+    expect_error("an exponent", format_parts("1e40000", found, 7, &count), LEGUMEYET_LIMIT);
+    expect("no parts", (int64_t)count, 77);
+}
+
 static void answers(void) {
     expect_text("a line", answer("en\tplain\tauto\tkeep\t-\t-987654.321"), "ok\t-987,654.321");
     expect_text("a short form", answer("en\tshort\tauto\tkeep\t-\t1650"), "ok\t1.6K\t1.6c3");
@@ -200,6 +239,8 @@ static void unpromised(void) {
 }
 
 static void closes(void) {
+    legumeyet_interval none;
+    size_t count = 0;
     expect("the book before its formatters", legumeyet_book_close(&book), LEGUMEYET_OK);
     expect("the book again", legumeyet_book_close(&book), LEGUMEYET_CLOSED);
     expect_error("a line", answer("en\tplain\tauto\tkeep\t-\t1"), LEGUMEYET_CLOSED);
@@ -209,6 +250,7 @@ static void closes(void) {
     expect_error("format", format("1", AS_GIVEN), LEGUMEYET_CLOSED);
     expect_error("integer", format_i64(1, 0), LEGUMEYET_CLOSED);
     expect_error("read", read_back(&english, "1"), LEGUMEYET_CLOSED);
+    expect_error("parts", format_parts("1", &none, 1, &count), LEGUMEYET_CLOSED);
 }
 
 static void texts(void) {
@@ -228,6 +270,7 @@ int main(void) {
     books();
     opens();
     formats();
+    parts();
     reads();
     answers();
     rooms();

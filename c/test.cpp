@@ -42,6 +42,16 @@ static void formats(DecimalFormatter &english) {
     expect_error(LEGUMEYET_OPTION, [&] { english.format("1", {6, 0, 0}); });
 }
 
+static void parts(DecimalFormatter &english) {
+    const auto small = english.format_parts("-1234.5"), large = english.format_parts(std::string(1000, '1'));
+    expect(small.text, "-1,234.5");
+    expect(std::to_string(small.parts.size()), "5");
+    expect(small.text.substr(small.parts[1].start, small.parts[1].end - small.parts[1].start), "1,234");
+    expect(std::to_string(small.parts[4].kind), std::to_string(LEGUMEYET_PART_FRACTION));
+    expect(std::to_string(large.text.size() + large.parts.size()), "1667");
+    expect_error(LEGUMEYET_NUMBER, [&] { english.format_parts("5."); });
+}
+
 static void reads(Book &book, DecimalFormatter &english) {
     const std::string long_number(1000, '1');
     expect(english.read("-1,234.50"), "-1234.50");
@@ -75,5 +85,6 @@ int main() {
     reads(book, moved);
     book = Book("[[],[],[],[],[]]");
     formats(moved);
+    parts(moved);
     return wrong;
 }

@@ -104,6 +104,16 @@ enum {
     LEGUMEYET_ROUND_HALF_EVEN = 9    /* to the nearest, a tie to the even one */
 };
 
+/* The kinds of parts. */
+enum {
+    LEGUMEYET_PART_MINUS_SIGN = 1,
+    LEGUMEYET_PART_PLUS_SIGN = 2,
+    LEGUMEYET_PART_INTEGER = 3,  /* the integer digits with their separators */
+    LEGUMEYET_PART_GROUP = 4,    /* a grouping separator, inside an INTEGER */
+    LEGUMEYET_PART_DECIMAL = 5,  /* the decimal separator */
+    LEGUMEYET_PART_FRACTION = 6  /* the fraction digits */
+};
+
 /* A book of tables; see above, "A handle". */
 typedef struct {
     void *content;
@@ -122,6 +132,13 @@ typedef struct {
     uint32_t rounding; /* a LEGUMEYET_ROUND */
     int16_t position;  /* the magnitude that is rounded at: 0 the ones, -2 the hundredths; of LEGUMEYET_ROUND_KEEP it counts for nothing */
 } legumeyet_options;
+
+/* A part of a text: the bytes from `start` up to `end`. */
+typedef struct {
+    size_t start;
+    size_t end;
+    uint32_t kind; /* a LEGUMEYET_PART */
+} legumeyet_interval;
 
 /*
  * Opens the book that a JSON text is; books/README.md says how such a text is made.
@@ -181,6 +198,20 @@ int32_t legumeyet_decimal_formatter_format(legumeyet_decimal_formatter *formatte
  */
 int32_t legumeyet_decimal_formatter_format_i64(legumeyet_decimal_formatter *formatter, int64_t mantissa, int16_t exponent,
                                                const legumeyet_options *options, uint8_t *out, size_t room, size_t *length);
+
+/*
+ * Writes as legumeyet_decimal_formatter_format does, and lists the parts of the text in order of their beginning: of `-1,234.5` the
+ * minus sign at 0 to 1, the integer at 1 to 6, the group at 2 to 3, the decimal at 6 to 7 and the fraction at 7 to 8.
+ *
+ * `count` is how many parts there are. Where they are more than `intervals_room` the call answers LEGUMEYET_TOO_SMALL too, and the
+ * first `intervals_room` of them stand at `intervals`; those behind the last part stay as they were. Where it answers
+ * LEGUMEYET_TOO_SMALL, `length` and `count` are what both need. Any other error leaves all as it was.
+ *
+ * Answers as legumeyet_decimal_formatter_format; LEGUMEYET_MEMORY of any number.
+ */
+int32_t legumeyet_decimal_formatter_format_parts(legumeyet_decimal_formatter *formatter, const uint8_t *number, size_t number_length,
+                                                 const legumeyet_options *options, uint8_t *out, size_t room, size_t *length,
+                                                 legumeyet_interval *intervals, size_t intervals_room, size_t *count);
 
 /*
  * Reads a text back as the one number that the formatter writes so, and writes it as digits: `-1,234.50` of English as `-1234.50`.

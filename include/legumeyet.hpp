@@ -16,6 +16,7 @@
 #include <string>
 #include <string_view>
 #include <utility>
+#include <vector>
 
 namespace legumeyet {
 
@@ -74,6 +75,12 @@ template <class Call> std::string written(Call call) {
 
 } // namespace inner
 
+// A text, and its parts by bytes: each `kind` is a LEGUMEYET_PART.
+struct Annotated {
+    std::string text;
+    std::vector<legumeyet_interval> parts;
+};
+
 // A book of tables, of its JSON text.
 class Book : inner::Owned<legumeyet_book, legumeyet_book_close> {
     friend class DecimalFormatter;
@@ -104,6 +111,19 @@ class DecimalFormatter : inner::Owned<legumeyet_decimal_formatter, legumeyet_dec
     std::string format(int64_t mantissa, int16_t exponent, const legumeyet_options &options = {}) {
         return inner::written(
             [&](auto... out) { return legumeyet_decimal_formatter_format_i64(&handle, mantissa, exponent, &options, out...); });
+    }
+
+    // The text of `format` with its parts, in order of their beginning.
+    Annotated format_parts(std::string_view number, const legumeyet_options &options = {}) {
+        Annotated found{std::string(), std::vector<legumeyet_interval>(16)};
+        size_t count = 0;
+        found.text = inner::written([&](auto... out) {
+            found.parts.resize(std::max(found.parts.size(), count));
+            return legumeyet_decimal_formatter_format_parts(&handle, inner::bytes(number), number.size(), &options, out...,
+                                                            found.parts.data(), found.parts.size(), &count);
+        });
+        found.parts.resize(count);
+        return found;
     }
 
     // The number that is written so, as digits: `-1234.50` of `-1,234.50` in English.

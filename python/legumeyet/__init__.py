@@ -12,8 +12,8 @@ one thread at a time: a call waits for another thread's.
 """
 from decimal import Decimal
 
-from ._formatters import Book, DecimalFormatter
-from ._options import Grouping, Rounding, Sign
+from ._formatters import Book, DecimalFormatter, Part
+from ._options import Grouping, Kind, Rounding, Sign
 from ._library import Error, version
 
 __all__ = [
@@ -22,6 +22,8 @@ __all__ = [
     "DecimalFormatter",
     "Error",
     "Grouping",
+    "Kind",
+    "Part",
     "Rounding",
     "Sign",
     "version",

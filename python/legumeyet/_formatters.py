@@ -2,14 +2,22 @@
 import threading
 from decimal import Decimal
 from types import TracebackType
-from typing import Any, Optional, Type, TypeVar, Union
+from typing import Any, List, NamedTuple, Optional, Tuple, Type, TypeVar, Union
 
-from ._library import Handle, Options, expect_well, library, written
-from ._options import Grouping, Rounding, Sign
+from ._library import Handle, Options, annotated, expect_well, library, written
+from ._options import Grouping, Kind, Rounding, Sign
 
 Self = TypeVar("Self", bound="Open")
 Number = Union[Decimal, int, str]
 Text = Union[str, bytes]
+
+
+class Part(NamedTuple):
+    """A part of a text: the characters from `start` up to `end`."""
+
+    kind: Kind
+    start: int
+    end: int
 
 
 def encoded(text: Text) -> bytes:
@@ -135,6 +143,21 @@ class DecimalFormatter(Open):
             return self._written(library.legumeyet_decimal_formatter_format_i64, number, 0, options)
         given = digits_of(number)
         return self._written(library.legumeyet_decimal_formatter_format, given, len(given), options)
+
+    def format_parts(
+        self, number: Number, sign: Sign = Sign.KEEP, rounding: Rounding = Rounding.KEEP, position: int = 0
+    ) -> Tuple[str, List[Part]]:
+        """The text of `format`, and its parts in order of their beginning. Raises as `format`.
+
+        >>> text, parts = english.format_parts("-1234.5")
+        >>> [(it.kind.name, text[it.start : it.end]) for it in parts]
+        [('MINUS_SIGN', '-'), ('INTEGER', '1,234'), ('GROUP', ','), ('DECIMAL', '.'), ('FRACTION', '5')]
+        """
+        options, given = options_of(sign, rounding, position), digits_of(number)
+        with self._lock:
+            text, found = annotated(library.legumeyet_decimal_formatter_format_parts, self._handle, given, len(given), options)
+        at = {byte: place for place, byte in enumerate([it for it, value in enumerate(text) if value & 0xC0 != 0x80] + [len(text)])}
+        return text.decode(), [Part(Kind(it.kind), at[it.start], at[it.end]) for it in found]
 
     def read(self, text: Text) -> Decimal:
         """The number that is written so, with all digits that are shown.

@@ -1,11 +1,11 @@
 """The shared library, and its errors."""
 import ctypes
 import os
-from typing import Any, Callable
+from typing import Any, Callable, List, Tuple
 
 NAME = "liblegumeyet.so.1"
 OK, TOO_SMALL = 0, 3
-ROOM = 256
+ROOM, PLACES = 256, 32
 
 
 class Error(ValueError):
@@ -36,6 +36,12 @@ class Options(ctypes.Structure):
     _fields_ = [("sign", ctypes.c_uint32), ("rounding", ctypes.c_uint32), ("position", ctypes.c_int16)]
 
 
+class Interval(ctypes.Structure):
+    """A part of a text, by bytes."""
+
+    _fields_ = [("start", ctypes.c_size_t), ("end", ctypes.c_size_t), ("kind", ctypes.c_uint32)]
+
+
 def load() -> ctypes.CDLL:
     """The library that LEGUMEYET_LIBRARY names, else the one beside this module, else the one that the machine has."""
     beside = os.path.join(os.path.dirname(os.path.abspath(__file__)), NAME)
@@ -53,6 +59,7 @@ def load() -> ctypes.CDLL:
         "decimal_formatter_close": [handle],
         "decimal_formatter_format": [handle, *given, options, *written],
         "decimal_formatter_format_i64": [handle, *integer, options, *written],
+        "decimal_formatter_format_parts": [handle, *given, options, *written, ctypes.POINTER(Interval), size, ctypes.POINTER(size)],
         "decimal_formatter_read": [handle, *given, *written],
         "error_text": [ctypes.c_int32, *written],
         "version": [],
@@ -81,6 +88,18 @@ def written(call: Callable[..., int], *arguments: Any) -> bytes:
             expect_well(number)
             return out.raw[: length.value]
         room = length.value
+
+
+def annotated(call: Callable[..., int], *arguments: Any) -> Tuple[bytes, List[Interval]]:
+    """The text that a call writes, and its parts, with as much room as they need."""
+    room, length, places, count = ROOM, ctypes.c_size_t(), PLACES, ctypes.c_size_t()
+    while True:
+        out, intervals = ctypes.create_string_buffer(room), (Interval * places)()
+        number = call(*arguments, out, room, length, intervals, places, count)
+        if number != TOO_SMALL:
+            expect_well(number)
+            return out.raw[: length.value], list(intervals[: count.value])
+        room, places = max(room, length.value), max(places, count.value)
 
 
 def error_text(number: int) -> str:

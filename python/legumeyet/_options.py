@@ -22,6 +22,17 @@ class Sign(IntEnum):
     NEGATIVE = 5
 
 
+class Kind(IntEnum):
+    """What a part of a text is."""
+
+    MINUS_SIGN = 1
+    PLUS_SIGN = 2
+    INTEGER = 3
+    GROUP = 4
+    DECIMAL = 5
+    FRACTION = 6
+
+
 class Rounding(IntEnum):
     """Which neighbour a number is rounded to."""
 

@@ -68,6 +68,18 @@ class Calls(unittest.TestCase):
         self.refused(11, DecimalFormatter(self.book, "bad").read, "1")
         self.assertRaises(TypeError, self.english.read, 1)
 
+    def test_parts(self):
+        arabic = DecimalFormatter(self.book, "ar")
+        text, parts = arabic.format_parts(Decimal("-1234567.5"))
+        texts = [(it.kind, text[it.start : it.end]) for it in parts]
+        self.assertEqual(texts, [(1, "-"), (3, "١٬٢٣٤٬٥٦٧"), (4, "٬"), (4, "٬"), (5, "٫"), (6, "٥")])
+        self.assertEqual([it.start for it in parts], [0, 1, 2, 6, 10, 11])
+        self.assertEqual(self.english.format_parts("+5"), ("+5", [(2, 0, 1), (3, 1, 2)]))
+        text, parts = self.english.format_parts(10**1000)
+        self.assertEqual((len(text), len(parts)), (1334, 334))
+        self.refused(7, self.english.format_parts, "5.")
+        self.refused(8, self.english.format_parts, "1e40000")
+
     def test_answers(self):
         line = "en\tplain\tauto\tkeep\t-\t"
         self.assertEqual(self.book.answer(f"{line}-987654.321"), "ok\t-987,654.321")
@@ -101,6 +113,7 @@ class Calls(unittest.TestCase):
         self.english.close()
         self.refused(2, self.english.format, 1)
         self.refused(2, self.english.read, "1")
+        self.refused(2, self.english.format_parts, "1")
 
     def test_error_of_another_version(self):
         self.assertEqual((Error(99).number, Error(99).word), (99, "an error of another version"))

@@ -6,6 +6,7 @@ pub mod Kinds
 pub mod Numbers
 pub mod Opening
 pub mod Owned
+pub mod Parts
 pub mod Putting
 pub mod Reading
 pub mod Views

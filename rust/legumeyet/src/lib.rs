@@ -24,7 +24,9 @@ mod owned;
 mod sys;
 
 pub use error::Error;
-pub use options::{Grouping, Options, Rounding, Sign};
+pub use options::{Grouping, Kind, Options, Rounding, Sign};
+
+use std::ops::Range;
 
 use owned::{written, Owned};
 
@@ -73,6 +75,31 @@ impl DecimalFormatter {
         written(|out, room, length| unsafe {
             sys::legumeyet_decimal_formatter_format_i64(self.0.at(), mantissa, exponent, &options, out, room, length)
         })
+    }
+
+    /// The text of `format` with its parts, by bytes, in order of their beginning. Refused as `format`.
+    pub fn format_parts(&self, number: &str, options: &Options) -> Result<(String, Vec<(Kind, Range<usize>)>), Error> {
+        let options = options.numbers();
+        let (mut found, mut count) = (vec![sys::Interval::default(); 16], 0);
+        let text = written(|out, room, length| {
+            found.resize(found.len().max(count), sys::Interval::default());
+            // SAFETY: as for `Book::answer`; `found` has room for as many as it holds.
+            unsafe {
+                sys::legumeyet_decimal_formatter_format_parts(
+                    self.0.at(),
+                    number.as_ptr(),
+                    number.len(),
+                    &options,
+                    out,
+                    room,
+                    length,
+                    found.as_mut_ptr(),
+                    found.len(),
+                    &mut count,
+                )
+            }
+        })?;
+        Ok((text, found[..count].iter().map(|it| (Kind::of(it.kind), it.start..it.end)).collect()))
     }
 
     /// The number that is written so, as digits: `-1,234.50` is `-1234.50` in English. Refused by `UNREADABLE`, `NOT_WRITTEN`, `MEMORY`.

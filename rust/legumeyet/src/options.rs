@@ -32,6 +32,34 @@ pub enum Sign {
     Negative = 5,
 }
 
+/// What a part of a text is.
+#[derive(Clone, Copy, Debug, PartialEq, Eq)]
+pub enum Kind {
+    MinusSign = 1,
+    PlusSign = 2,
+    /// The integer digits with their separators.
+    Integer = 3,
+    /// A grouping separator, inside an `Integer`.
+    Group = 4,
+    /// The decimal separator.
+    Decimal = 5,
+    /// The fraction digits.
+    Fraction = 6,
+}
+
+impl Kind {
+    pub(crate) fn of(number: u32) -> Kind {
+        match number {
+            1 => Kind::MinusSign,
+            2 => Kind::PlusSign,
+            3 => Kind::Integer,
+            4 => Kind::Group,
+            5 => Kind::Decimal,
+            _ => Kind::Fraction,
+        }
+    }
+}
+
 /// Which neighbour a number is rounded to.
 #[derive(Clone, Copy, Debug, Default, PartialEq, Eq)]
 pub enum Rounding {

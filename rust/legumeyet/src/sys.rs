@@ -23,6 +23,14 @@ pub struct Options {
     pub position: i16,
 }
 
+#[repr(C)]
+#[derive(Clone, Copy, Default)]
+pub struct Interval {
+    pub start: usize,
+    pub end: usize,
+    pub kind: u32,
+}
+
 #[rustfmt::skip]
 extern "C" {
     pub fn legumeyet_book_open(json: *const u8, json_length: usize, book: *mut Handle) -> i32;
@@ -32,6 +40,7 @@ extern "C" {
     pub fn legumeyet_decimal_formatter_close(formatter: *mut Handle) -> i32;
     pub fn legumeyet_decimal_formatter_format(formatter: *mut Handle, number: *const u8, number_length: usize, options: *const Options, out: *mut u8, room: usize, length: *mut usize) -> i32;
     pub fn legumeyet_decimal_formatter_format_i64(formatter: *mut Handle, mantissa: i64, exponent: i16, options: *const Options, out: *mut u8, room: usize, length: *mut usize) -> i32;
+    pub fn legumeyet_decimal_formatter_format_parts(formatter: *mut Handle, number: *const u8, number_length: usize, options: *const Options, out: *mut u8, room: usize, length: *mut usize, intervals: *mut Interval, intervals_room: usize, count: *mut usize) -> i32;
     pub fn legumeyet_decimal_formatter_read(formatter: *mut Handle, text: *const u8, text_length: usize, out: *mut u8, room: usize, length: *mut usize) -> i32;
     pub fn legumeyet_error_text(error: i32, out: *mut u8, room: usize, length: *mut usize) -> i32;
     pub fn legumeyet_version() -> u32;

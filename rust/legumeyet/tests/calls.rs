@@ -1,6 +1,6 @@
 //! Each call well and badly.
 
-use legumeyet::{Book, DecimalFormatter, Error, Grouping, Options, Rounding, Sign};
+use legumeyet::{Book, DecimalFormatter, Error, Grouping, Kind, Options, Rounding, Sign};
 use std::thread;
 
 const JSON: &str = r#"[[["en","","latn","-","","+","",".",",",3,3,1],["bad","","latn","","","+","",".",",",3,3,1]],
@@ -47,6 +47,18 @@ fn reads() {
     }
     let bad = DecimalFormatter::new(&book(), "bad", Grouping::Auto).unwrap();
     assert_eq!(bad.read("1"), Err(Error::UNREADABLE));
+}
+
+#[test]
+fn parts() {
+    let english = english();
+    let (text, parts) = english.format_parts("-1234.5", &AS_GIVEN).unwrap();
+    let texts: Vec<_> = parts.iter().map(|(kind, range)| (*kind, &text[range.clone()])).collect();
+    let wanted = [(Kind::MinusSign, "-"), (Kind::Integer, "1,234"), (Kind::Group, ","), (Kind::Decimal, "."), (Kind::Fraction, "5")];
+    assert_eq!(texts, wanted);
+    let (text, parts) = english.format_parts(&"1".repeat(1000), &AS_GIVEN).unwrap();
+    assert_eq!((text.len(), parts.len()), (1333, 334));
+    assert_eq!(english.format_parts("5.", &AS_GIVEN), Err(Error::NUMBER));
 }
 
 #[test]

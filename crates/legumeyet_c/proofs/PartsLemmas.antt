@@ -1,0 +1,109 @@
+-- Outcomes of calls that write a text with its parts, one by the other.
+use Rattle.std.proofs.Common.{◌≡◌, ◌≢◌, ◌≤◌, ◌<◌, ◌↔◌, ◌⊎◌, ℕ, List, length, map, Bool, true, false, IsTrue, Option, Some, None, Result, Ok, Err, IfOk, IfErr, refl, sym, ap, subst, ◌∙◌, inl, inr}
+use Rattle.std.proofs.lemmas.List.{length-map}
+use Rattle.std.proofs.lemmas.Simd.{map-map}
+use Rattle.writeable.specs.AnnotatedText.{AnnotatedText, Interval as PartInterval}
+use Rattle.writeable.specs.ListedParts.{interval_of}
+use Rattle.writeable.specs.declared.part.Part.{Part}
+use Rattle.legumeyet_c.specs.declared.intervals.Interval.{Interval}
+use Rattle.fixed_decimal.specs.Number.{Number}
+use Rattle.fixed_decimal.specs.SignedText.{ReadsSigned}
+use Rattle.fixed_decimal.specs.SignedValue.{SignedValue}
+use Rattle.icu_decimal.specs.PlainText.{Tables}
+use Rattle.legumeyet_c.specs.Numbers.{Gives, IsChangeFault, IsNumberFault}
+use Rattle.legumeyet_c.specs.Parts.{AnnotatesValue, Given, HasRoom, IsAnnotatedFault, IsPartsFault, IsPutInParts, WantsList, WritesParts, as_interval, given, listed_as, over, written_over}
+use Rattle.legumeyet_c.specs.Writing.{IsWritingFault}
+use Rattle.legumeyet_c.specs.declared.choices.Choices.{Choices}
+use Rattle.legumeyet_c.specs.declared.call_error.CallError.{CallError}
+use Rattle.legumeyet_c.specs.declared.call_error.CallError.TheVariants.{Memory, Closed, TooSmall}
+use Rattle.legumeyet_c.proofs.PuttingLemmas.{number_fault_other}
+
+-- the parts that a sink lists, as C has them
+listed_parts : (listed : List (ℕ × ℕ × Part)) (parts : List PartInterval) → map interval_of listed ≡ parts → map listed_as listed ≡ map as_interval parts
+listed_parts listed parts is = sym (map-map as_interval interval_of listed) ∙ ap (λ xs. map as_interval xs) is
+
+-- what was written over each place, as one
+pub written_is : (text : AnnotatedText) (listed : List (ℕ × ℕ × Part)) (bytes new_bytes : List ℕ) (told new_told : ℕ) (places new_places : List Interval) (count new_count : ℕ)
+    → map interval_of listed ≡ text.parts → new_bytes ≡ over text.text bytes → new_told ≡ length text.text → new_places ≡ over (map listed_as listed) places
+    → new_count ≡ length listed → given new_bytes new_told new_places new_count ≡ written_over text (given bytes told places count)
+written_is text listed bytes new_bytes told new_told places new_places count new_count parts laid whole put counted =
+    ap (λ (x : List ℕ). given x new_told new_places new_count) laid
+    ∙ ap (λ (x : ℕ). given (over text.text bytes) x new_places new_count) whole
+    ∙ ap (λ (x : List Interval). given (over text.text bytes) (length text.text) x new_count) (put ∙ ap (λ xs. over xs places) (listed_parts listed text.parts parts))
+    ∙ ap (λ (x : ℕ). given (over text.text bytes) (length text.text) (over (map as_interval text.parts) places) x)
+    (counted ∙ sym (length-map listed interval_of) ∙ ap length parts)
+
+-- a call that is refused before it writes
+pub parts_refused : (says : AnnotatedText → Type 0) (fault : CallError → Type 0) (given : Given) (error : CallError) → error ≢ TooSmall → fault error
+    → IsPutInParts says fault given given (Err error)
+parts_refused says fault given error other cause = record {
+  whole = λ none. absurd (cc none);
+  cut = λ same. absurd (other (cc same));
+  refused = λ _. (cause, refl);
+}
+
+-- both have room
+pub parts_whole : (says : AnnotatedText → Type 0) (fault : CallError → Type 0) (text : AnnotatedText) (before after : Given) → says text → HasRoom text before
+    → after ≡ written_over text before → IsPutInParts says fault before after (Ok tt)
+parts_whole says fault text before after said room is = record {
+  whole = λ _. record { text = text; said = said; room = room; is = is };
+  cut = λ none. absurd (cc none);
+  refused = tt;
+}
+
+-- one has not
+pub parts_cut : (says : AnnotatedText → Type 0) (fault : CallError → Type 0) (text : AnnotatedText) (before after : Given) → says text → ¬ (HasRoom text before)
+    → after ≡ written_over text before → IsPutInParts says fault before after (Err TooSmall)
+parts_cut says fault text before after said room is = record {
+  whole = λ none. absurd (cc none);
+  cut = λ _. record { text = text; said = said; room = room; is = is };
+  refused = λ other. absurd (other refl);
+}
+
+-- what says less, with more faults
+pub parts_by : {says saying : AnnotatedText → Type 0} {fault faulty : CallError → Type 0} (before after : Given) (outcome : Result (Unit {0}) CallError)
+    → ((text : AnnotatedText) → says text → saying text) → ((error : CallError) → fault error → faulty error)
+    → IsPutInParts says fault before after outcome → IsPutInParts saying faulty before after outcome
+parts_by before after (Ok done) text cause put = record {
+  whole = λ ok. let whole = put.whole ok in record { text = whole.text; said = text whole.text whole.said; room = whole.room; is = whole.is };
+  cut = λ none. absurd (cc none);
+  refused = tt;
+}
+parts_by before after (Err error) text cause put = record {
+  whole = λ none. absurd (cc none);
+  cut = λ same. let cut = put.cut same in record { text = cut.text; said = text cut.text cut.said; room = cut.room; is = cut.is };
+  refused = λ other. let untouched = put.refused other in (cause error untouched.0, untouched.1);
+}
+
+-- the text of a number that is there is what is said of the number that was given
+pub annotated_says : (open_tables : Option Tables) (choices : Option Choices) (is_given : SignedValue Number → Type 0) (number : Result (SignedValue Number) CallError)
+    → IfOk number (Gives choices is_given) → (text : AnnotatedText) → AnnotatesValue open_tables number text → WritesParts open_tables choices is_given text
+annotated_says None choices is_given number gives text says = says
+annotated_says (Some tables) choices is_given (Err cause) gives text says = absurd says
+annotated_says (Some tables) choices is_given (Ok value) gives text says = record { value = value; gives = gives; is = says }
+
+-- and why there is none is a fault of the call
+pub annotated_fault : (open_tables : Option Tables) (choices : Option Choices) (given : List ℕ) (number : Result (SignedValue Number) CallError)
+    → IfOk number (Gives choices (ReadsSigned given)) → IfErr number (IsChangeFault choices (IsNumberFault given)) → (error : CallError) → IsAnnotatedFault open_tables number error
+    → IsPartsFault open_tables choices given error
+annotated_fault None choices given number gives caused error is = inl is
+annotated_fault (Some tables) choices given (Err cause) gives caused error is = inl (subst (λ (e : CallError). IsChangeFault choices (IsNumberFault given) e) (sym is) caused)
+annotated_fault (Some tables) choices given (Ok value) gives caused error is =
+    inr (record { text = _; writes = record { value = value; gives = gives; is = refl }; is = is })
+
+-- no such fault is that it is too long
+pub parts_fault_other : (open_tables : Option Tables) (choices : Option Choices) (given : List ℕ) (error : CallError) → IsPartsFault open_tables choices given error → error ≢ TooSmall
+parts_fault_other None choices given error (inl is) = λ same. absurd (cc (is, same))
+parts_fault_other (Some tables) choices given error (inl caused) = number_fault_other choices given error caused
+parts_fault_other open_tables choices given error (inr wants) = let is = wants.is in λ same. absurd (cc (is, same))
+
+-- the same of a result
+pub ok_by : {T : Type 0} {says saying : T → Type 0} (outcome : Result T CallError) → IfOk outcome says → ((x : T) → says x → saying x) → IfOk outcome saying
+ok_by (Ok x) said by = by x said
+ok_by (Err error) said by = tt
+
+-- and of an error
+pub err_by : {T : Type 0} {fault faulty : CallError → Type 0} (outcome : Result T CallError) → IfErr outcome fault → ((error : CallError) → fault error → faulty error)
+    → IfErr outcome faulty
+err_by (Ok x) caused by = tt
+err_by (Err error) caused by = by error caused
