@@ -18,7 +18,7 @@ cp "$top/bench/texts/main.rt.txt" "$made/crates/tinystr_bench/src/main.rt"
 [ $# -gt 0 ] || exit 0
 
 # The second program, in a folder that holds the crates below it and their lines of crates.txt.
-path='tinystr_words tinystr writeable icu_locale_core_grammar icu_locale_core_subtags icu_locale_core_sets icu_locale_core_langid'
+path='tinystr_words tinystr writeable icu_locale_core_grammar icu_locale_core_subtags icu_locale_core_subtag_lists icu_locale_core_langid'
 build() {
     for crate in $path; do
         grep -E "^$crate:" "$1/all.txt"

@@ -31,13 +31,13 @@ pub use Rattle.icu_decimal_symbols.specs.Symbols
 pub use Rattle.icu_decimal_reading.specs.PlainReading
 pub use Rattle.icu_decimal_reading.specs.Readable
 pub use Rattle.icu_decimal_reading.specs.ReadErrors
-pub use Rattle.icu_decimal_shown.specs.Choice as ShownChoice
-pub use Rattle.icu_decimal_shown.specs.Entries
-pub use Rattle.icu_decimal_shown.specs.ExactForms
-pub use Rattle.icu_decimal_shown.specs.Significand
-pub use Rattle.icu_decimal_shown.specs.ShownValue
+pub use Rattle.icu_decimal_compact_value.specs.Choice as ShownChoice
+pub use Rattle.icu_decimal_compact_value.specs.Entries
+pub use Rattle.icu_decimal_compact_value.specs.ExactForms
+pub use Rattle.icu_decimal_compact_value.specs.Significand
+pub use Rattle.icu_decimal_compact_value.specs.ShownValue
 pub use Rattle.icu_decimal_plain.specs.Affixes
-pub use Rattle.icu_decimal_text.specs.FoundTables
+pub use Rattle.icu_decimal_formatter.specs.FoundTables
 pub use Rattle.icu_decimal_plain.specs.Grouper
 pub use Rattle.icu_decimal_plain.specs.PartIntervals
 pub use Rattle.icu_decimal_plain.specs.PlainText
@@ -46,7 +46,7 @@ pub use Rattle.icu_decimal_compact.specs.HeldCompact
 pub use Rattle.icu_decimal_patterns.specs.HeldPattern
 pub use Rattle.icu_decimal_plain.specs.BorrowedTables
 pub use Rattle.icu_decimal_plain.specs.HeldAffixes
-pub use Rattle.icu_decimal_text.specs.HeldTables
+pub use Rattle.icu_decimal_formatter.specs.HeldTables
 -- Equality of symbols, of patterns and of formatted numbers.
 pub use Rattle.icu_decimal_patterns.specs.SameElements
 pub use Rattle.icu_decimal_patterns.specs.SamePattern
@@ -62,12 +62,12 @@ pub use Rattle.icu_decimal_compact.specs.CompactLaws
 pub use Rattle.icu_decimal_patterns.specs.SmallEntries
 pub use Rattle.icu_decimal_patterns.specs.TableLaws
 pub use Rattle.icu_decimal_reading.specs.ReadingLaws
-pub use Rattle.icu_decimal_shown.specs.ExactLaws
-pub use Rattle.icu_decimal_shown.specs.ShownLaws
-pub use Rattle.icu_decimal_shown.specs.UnderTableLaws
+pub use Rattle.icu_decimal_compact_value.specs.ExactLaws
+pub use Rattle.icu_decimal_compact_value.specs.ShownLaws
+pub use Rattle.icu_decimal_compact_value.specs.UnderTableLaws
 pub use Rattle.icu_decimal_provider.specs.Laws
 pub use Rattle.icu_decimal_symbols.specs.SameSymbolsLaws
 pub use Rattle.icu_decimal_plain.specs.GroupLaws
 pub use Rattle.icu_decimal_plain.specs.PartLaws
 pub use Rattle.icu_decimal_plain.specs.TextLaws
-pub use Rattle.icu_decimal_text.specs.FoundLaws
+pub use Rattle.icu_decimal_formatter.specs.FoundLaws

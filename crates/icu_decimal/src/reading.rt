@@ -4,11 +4,11 @@ ghost use Rattle.std.specs.Prelude.{◌≡◌, ◌↔◌, true, false, IfOk, IsE
 ghost use Rattle.icu_decimal_reading.specs.PlainReading.{HasManyDigits, HasNoNumber, IsAnswered, IsPlainText, plain_reading};
 ghost use Rattle.icu_decimal_reading.specs.Readable.{is_readable_by};
 ghost use Rattle.icu_decimal_reading.specs.ReadingLaws.{AreTables};
-ghost use Rattle.icu_decimal_text.specs.HeldTables.{tables_of};
+ghost use Rattle.icu_decimal_formatter.specs.HeldTables.{tables_of};
 
 use fixed_decimal::Decimal;
+use icu_decimal_formatter::DecimalFormatter;
 use icu_decimal_reading::ReadError;
-use icu_decimal_text::DecimalFormatter;
 use std::alloc::Global;
 
 /// Whether texts can be read back under the formatter's symbols: in English they can.

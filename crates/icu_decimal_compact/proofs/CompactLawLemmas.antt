@@ -8,17 +8,17 @@ use Rattle.fixed_decimal.specs.Number.{IsNumber, Number}
 use Rattle.fixed_decimal.specs.Rounding.{count_limit}
 use Rattle.fixed_decimal.specs.SignedValue.{SignedValue}
 use Rattle.icu_decimal_patterns.specs.SmallEntries.{AreSmall}
-use Rattle.icu_decimal_shown.specs.declared.entry.CompactEntry.{CompactEntry}
-use Rattle.icu_decimal_shown.specs.Choice.{CanShow, chosen, entry_at, exact_entry, exponent_of, is_carried, next_at, shown_under}
-use Rattle.icu_decimal_shown.specs.Entries.{Rises}
-use Rattle.icu_decimal_shown.specs.ExactForms.{IsInRange}
-use Rattle.icu_decimal_shown.specs.ExactLaws.{UsesShownEntry}
-use Rattle.icu_decimal_shown.specs.ShownValue.{magnitude, top}
-use Rattle.icu_decimal_shown.specs.Significand.{plain_one}
-use Rattle.icu_decimal_shown.proofs.ExactLemmas.{choice_value, exact_answers, writes_same}
-use Rattle.icu_decimal_shown.proofs.MagnitudeLemmas.{magnitude_some, tens_positive}
-use Rattle.icu_decimal_shown.proofs.ShowLemmas.{cancel_same, carried_exponent, carried_value, tens_sum}
-use Rattle.icu_decimal_shown.proofs.UnderTableLemmas.{exact_form_is_in_range, value_in_range}
+use Rattle.icu_decimal_compact_value.specs.declared.entry.CompactEntry.{CompactEntry}
+use Rattle.icu_decimal_compact_value.specs.Choice.{CanShow, chosen, entry_at, exact_entry, exponent_of, is_carried, next_at, shown_under}
+use Rattle.icu_decimal_compact_value.specs.Entries.{Rises}
+use Rattle.icu_decimal_compact_value.specs.ExactForms.{IsInRange}
+use Rattle.icu_decimal_compact_value.specs.ExactLaws.{UsesShownEntry}
+use Rattle.icu_decimal_compact_value.specs.ShownValue.{magnitude, top}
+use Rattle.icu_decimal_compact_value.specs.Significand.{plain_one}
+use Rattle.icu_decimal_compact_value.proofs.ExactLemmas.{choice_value, exact_answers, writes_same}
+use Rattle.icu_decimal_compact_value.proofs.MagnitudeLemmas.{magnitude_some, tens_positive}
+use Rattle.icu_decimal_compact_value.proofs.ShowLemmas.{cancel_same, carried_exponent, carried_value, tens_sum}
+use Rattle.icu_decimal_compact_value.proofs.UnderTableLemmas.{exact_form_is_in_range, value_in_range}
 use Rattle.icu_decimal_compact.specs.CompactTables.{CompactTables}
 use Rattle.icu_decimal_compact.specs.CompactText.{compact_decimal_text, lowest_place, padded, significand_of, value_shown}
 use Rattle.icu_decimal_compact.specs.ExactText.{exact_text, written_text}

@@ -3,8 +3,8 @@ use Rattle.std.proofs.Common.{◌≡◌, ℕ, Option, None, Some, is_none, optio
 use Rattle.fixed_decimal.specs.Number.{Number}
 use Rattle.fixed_decimal.specs.SignedValue.{SignedValue}
 use Rattle.icu_decimal_plurals.specs.Operands.{operands_of}
-use Rattle.icu_decimal_shown.specs.Choice.{entry_of, exact_entry}
-use Rattle.icu_decimal_shown.specs.Entries.{Rises}
+use Rattle.icu_decimal_compact_value.specs.Choice.{entry_of, exact_entry}
+use Rattle.icu_decimal_compact_value.specs.Entries.{Rises}
 use Rattle.icu_decimal_plain.specs.Affixes.{affixes_of}
 use Rattle.icu_decimal_compact.specs.CompactTables.{CompactTables}
 use Rattle.icu_decimal_compact.specs.ExactText.{exact_formatted, written_under}

@@ -12,7 +12,7 @@ use Rattle.icu_decimal_plurals.specs.declared.category.PluralCategory.TheVariant
 use Rattle.icu_decimal_plurals.specs.declared.operand.Operand.TheVariants as operand
 use Rattle.icu_decimal_plurals.specs.Operands.{operands_of}
 use Rattle.icu_decimal_plurals.specs.Rules.{Rules, category_of}
-use Rattle.icu_decimal_shown.specs.Choice.{chosen}
+use Rattle.icu_decimal_compact_value.specs.Choice.{chosen}
 use Rattle.icu_decimal_symbols.specs.Symbols.{english_symbols}
 use Rattle.icu_decimal_plain.specs.Affixes.{WithSign, affixes_of, decimal_part}
 use Rattle.icu_decimal_plain.specs.PlainText.{PlainNumber}

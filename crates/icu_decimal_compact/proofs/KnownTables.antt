@@ -11,7 +11,7 @@ use Rattle.icu_decimal_plurals.specs.Rules.{Rules}
 use Rattle.icu_decimal_symbols.specs.declared.options.GroupingStrategy.{GroupingStrategy}
 use Rattle.icu_decimal_symbols.specs.declared.options.GroupingStrategy.TheVariants.{Auto, Never}
 use Rattle.icu_decimal_symbols.specs.Symbols.{english_symbols}
-use Rattle.icu_decimal_shown.specs.declared.entry.CompactEntry.{CompactEntry}
+use Rattle.icu_decimal_compact_value.specs.declared.entry.CompactEntry.{CompactEntry}
 use Rattle.icu_decimal_plain.specs.PlainText.{Tables}
 use Rattle.icu_decimal_compact.specs.CompactTables.{CompactTables}
 

@@ -3,11 +3,11 @@ use Rattle.std.proofs.Common.{◌≡◌, ℕ, suc, ◌+◌, ◌-◌, ◌*◌, �
 use Rattle.fixed_decimal.specs.Number.{Number}
 use Rattle.fixed_decimal.specs.SignedValue.{SignedValue}
 use Rattle.icu_decimal_plurals.specs.Operands.{operands_of}
-use Rattle.icu_decimal_shown.specs.declared.entry.CompactEntry.{CompactEntry}
-use Rattle.icu_decimal_shown.specs.Choice.{Choice, entry_at, exponent_of, exponent_place, is_carried_to, next_at, under}
-use Rattle.icu_decimal_shown.specs.ShownValue.{even_count, top, unit_place}
-use Rattle.icu_decimal_shown.specs.Significand.{plain_one}
-use Rattle.icu_decimal_shown.proofs.MagnitudeLemmas.{magnitude_unique, top_unique}
+use Rattle.icu_decimal_compact_value.specs.declared.entry.CompactEntry.{CompactEntry}
+use Rattle.icu_decimal_compact_value.specs.Choice.{Choice, entry_at, exponent_of, exponent_place, is_carried_to, next_at, under}
+use Rattle.icu_decimal_compact_value.specs.ShownValue.{even_count, top, unit_place}
+use Rattle.icu_decimal_compact_value.specs.Significand.{plain_one}
+use Rattle.icu_decimal_compact_value.proofs.MagnitudeLemmas.{magnitude_unique, top_unique}
 use Rattle.icu_decimal_compact.specs.CompactTables.{CompactTables}
 use Rattle.icu_decimal_compact.specs.CompactText.{CompactNumber, compact_of, compact_text, lowest_place, pattern_of}
 use Rattle.icu_decimal_compact.specs.ExactText.{exact_formatted, exact_text, written_text, written_under}

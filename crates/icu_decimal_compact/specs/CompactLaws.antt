@@ -6,12 +6,12 @@ use Rattle.fixed_decimal.specs.CompactText.{IsCompact}
 use Rattle.fixed_decimal.specs.Number.{IsNumber, Number}
 use Rattle.fixed_decimal.specs.SignedValue.{SignedValue}
 use Rattle.icu_decimal_patterns.specs.SmallEntries.{AreSmall}
-use Rattle.icu_decimal_shown.specs.declared.entry.CompactEntry.{CompactEntry}
-use Rattle.icu_decimal_shown.specs.Choice.{CanShow, entry_at, exponent_of, shown_under}
-use Rattle.icu_decimal_shown.specs.Entries.{Rises}
-use Rattle.icu_decimal_shown.specs.ExactForms.{IsInRange}
-use Rattle.icu_decimal_shown.specs.ExactLaws.{UsesShownEntry}
-use Rattle.icu_decimal_shown.specs.ShownValue.{magnitude}
+use Rattle.icu_decimal_compact_value.specs.declared.entry.CompactEntry.{CompactEntry}
+use Rattle.icu_decimal_compact_value.specs.Choice.{CanShow, entry_at, exponent_of, shown_under}
+use Rattle.icu_decimal_compact_value.specs.Entries.{Rises}
+use Rattle.icu_decimal_compact_value.specs.ExactForms.{IsInRange}
+use Rattle.icu_decimal_compact_value.specs.ExactLaws.{UsesShownEntry}
+use Rattle.icu_decimal_compact_value.specs.ShownValue.{magnitude}
 use Rattle.icu_decimal_compact.specs.CompactTables.{CompactTables}
 use Rattle.icu_decimal_compact.specs.CompactText.{compact_decimal_text, significand_of, value_shown}
 use Rattle.icu_decimal_compact.specs.ExactText.{exact_text, written_text}

@@ -11,10 +11,10 @@ use Rattle.icu_decimal_patterns.specs.Elements.{slot_of}
 use Rattle.icu_decimal_patterns.specs.KeptEntries.{CompactTable, Patterns}
 use Rattle.icu_decimal_patterns.specs.Pattern.{PatternText, literal, around}
 use Rattle.icu_decimal_plurals.specs.Operands.{Operands, operands_of}
-use Rattle.icu_decimal_shown.specs.declared.entry.CompactEntry.{CompactEntry}
-use Rattle.icu_decimal_shown.specs.Choice.{chosen, is_carried}
-use Rattle.icu_decimal_shown.specs.ShownValue.{top}
-use Rattle.icu_decimal_shown.specs.Significand.{plain_one}
+use Rattle.icu_decimal_compact_value.specs.declared.entry.CompactEntry.{CompactEntry}
+use Rattle.icu_decimal_compact_value.specs.Choice.{chosen, is_carried}
+use Rattle.icu_decimal_compact_value.specs.ShownValue.{top}
+use Rattle.icu_decimal_compact_value.specs.Significand.{plain_one}
 use Rattle.icu_decimal_plain.specs.Affixes.{WithSign, affixes_of, events_with_sign}
 use Rattle.icu_decimal_plain.specs.PlainText.{PlainNumber, prefix_text, suffix_text, unsigned_text}
 use Rattle.icu_decimal_compact.specs.CompactTables.{CompactTables}

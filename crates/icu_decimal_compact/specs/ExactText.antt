@@ -7,8 +7,8 @@ use Rattle.fixed_decimal.specs.Number.{Number}
 use Rattle.fixed_decimal.specs.SignedValue.{SignedValue}
 use Rattle.icu_decimal_patterns.specs.Pattern.{InPattern, interpolated_events}
 use Rattle.icu_decimal_plurals.specs.Operands.{operands_of}
-use Rattle.icu_decimal_shown.specs.declared.entry.CompactEntry.{CompactEntry}
-use Rattle.icu_decimal_shown.specs.Choice.{exact_entry}
+use Rattle.icu_decimal_compact_value.specs.declared.entry.CompactEntry.{CompactEntry}
+use Rattle.icu_decimal_compact_value.specs.Choice.{exact_entry}
 use Rattle.icu_decimal_plain.specs.Affixes.{WithSign, affixes_of, events_with_sign}
 use Rattle.icu_decimal_plain.specs.PlainText.{PlainNumber, prefix_text, suffix_text, unsigned_events, unsigned_text}
 use Rattle.icu_decimal_compact.specs.CompactTables.{CompactTables}

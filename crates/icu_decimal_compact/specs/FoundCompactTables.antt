@@ -10,7 +10,7 @@ use Rattle.icu_decimal_symbols.specs.declared.options.GroupingStrategy.{Grouping
 use Rattle.icu_decimal_provider.specs.Choice.{first_found}
 use Rattle.icu_decimal_provider.specs.Identifiers.{Identifier, identifiers_along, symbols_identifiers}
 use Rattle.icu_decimal_symbols.specs.Symbols.{Symbols}
-use Rattle.icu_decimal_text.specs.FoundTables.{found_tables}
+use Rattle.icu_decimal_formatter.specs.FoundTables.{found_tables}
 use Rattle.icu_decimal_plain.specs.PlainText.{Tables}
 use Rattle.icu_decimal_compact.specs.CompactTables.{CompactTables}
 

@@ -1,7 +1,7 @@
 -- The tables that a compact formatter borrows.
 -- Defined in docs/compact-text.md, "Compact formatters".
 -- Cited by the calls of `CompactDecimalFormatter`.
-use Rattle.icu_decimal_text.specs.HeldTables.{tables_of}
+use Rattle.icu_decimal_formatter.specs.HeldTables.{tables_of}
 use Rattle.icu_decimal_compact.specs.declared.compact_formatter.CompactDecimalFormatter.{CompactDecimalFormatter}
 use Rattle.icu_decimal_compact.specs.CompactTables.{CompactTables}
 

@@ -8,7 +8,7 @@ ghost use Rattle.fixed_decimal.specs.Number.{place};
 ghost use Rattle.fixed_decimal.specs.Range.{IsLong};
 ghost use Rattle.icu_decimal_patterns.specs.Elements.{slot_of};
 ghost use Rattle.icu_decimal_plurals.specs.Operands.{operands_of};
-ghost use Rattle.icu_decimal_shown.specs.Choice.{CanShow, entry_at, exponent_of};
+ghost use Rattle.icu_decimal_compact_value.specs.Choice.{CanShow, entry_at, exponent_of};
 ghost use Rattle.icu_decimal_compact.specs.CompactText.{compact_decimal_text, compact_formatted, compact_of};
 ghost use Rattle.icu_decimal_compact.specs.FoundCompactTables.{found_compact_tables};
 ghost use Rattle.icu_decimal_compact.specs.HeldCompact.{compact_tables_of};
@@ -17,6 +17,8 @@ ghost use Rattle.icu_decimal_compact.specs.PatternAt.{pattern_at, patterns_besid
 use crate::formatted_compact::FormattedUnsignedCompactDecimal;
 use crate::loading::{load_patterns, load_plain, load_rules};
 use fixed_decimal::{Decimal, UnsignedDecimal};
+use icu_decimal_compact_value::{can_show, exponent_for_magnitude, show};
+use icu_decimal_formatter::DecimalFormatter;
 use icu_decimal_patterns::pattern::Pattern;
 use icu_decimal_patterns::{
     CompactPatterns, DecimalCompactLongV1, DecimalCompactShortV1, PluralElements,
@@ -27,10 +29,8 @@ use icu_decimal_provider::preferences::CompactDecimalFormatterPreferences;
 use icu_decimal_provider::provider::{
     DataProvider, DecimalDigitsV1, DecimalSymbolsV1, ParentProvider,
 };
-use icu_decimal_shown::{can_show, exponent_for_magnitude, show};
 use icu_decimal_symbols::DataError;
 use icu_decimal_symbols::options::CompactDecimalFormatterOptions;
-use icu_decimal_text::DecimalFormatter;
 use std::alloc::{AllocError, Global};
 use writeable::Writeable;
 

@@ -1,6 +1,6 @@
 // Exact forms: a significand and an exponent that the caller chose.
 ghost use Rattle.std.specs.Prelude.{◌≡◌, ◌↔◌, IfErr, IfOk, IsTrue, Some, is_err, is_none};
-ghost use Rattle.icu_decimal_shown.specs.ExactForms.{IsInRange, IsRefused};
+ghost use Rattle.icu_decimal_compact_value.specs.ExactForms.{IsInRange, IsRefused};
 ghost use Rattle.icu_decimal_plain.specs.Affixes.{affixes_of};
 ghost use Rattle.icu_decimal_compact.specs.ExactText.{exact_formatted};
 ghost use Rattle.icu_decimal_compact.specs.HeldCompact.{compact_tables_of};
@@ -8,9 +8,9 @@ ghost use Rattle.icu_decimal_compact.specs.PatternAt.{written_at};
 
 use crate::compact_formatter::CompactDecimalFormatter;
 use fixed_decimal::{Decimal, Sign};
+use icu_decimal_compact_value::{CompactExponentError, exact_entry, exponent_in_range};
 use icu_decimal_patterns::pattern::Interpolated;
 use icu_decimal_plain::{FormattedSign, FormattedUnsignedDecimal};
-use icu_decimal_shown::{CompactExponentError, exact_entry, exponent_in_range};
 
 // A value with the affixes that a formatter has for a sign.
 fn signed<'l, 'b, T>(

@@ -2,14 +2,14 @@
 
 ghost use Rattle.std.specs.Prelude.{◌≡◌, option_map};
 ghost use Rattle.icu_decimal_plurals.specs.Operands.{operands_of};
-ghost use Rattle.icu_decimal_text.specs.HeldTables.{tables_of};
+ghost use Rattle.icu_decimal_formatter.specs.HeldTables.{tables_of};
 
 use crate::text_alone::TextAlone;
 use fixed_decimal::UnsignedDecimal;
+use icu_decimal_formatter::DecimalFormatter;
 use icu_decimal_patterns::pattern::{Interpolated, Pattern};
 use icu_decimal_plain::FormattedUnsignedDecimal;
 use icu_decimal_plurals::PluralOperands;
-use icu_decimal_text::DecimalFormatter;
 use std::fmt;
 use std::marker::Model;
 use writeable::{Error, LengthHint, Sink, Writeable, display};
@@ -32,7 +32,7 @@ impl<'l> Model for FormattedUnsignedCompactDecimal<'l> {
 
     ghost Value = { CompactNumber };
 
-    ghost use Rattle.icu_decimal_text.specs.HeldTables.{tables_of};
+    ghost use Rattle.icu_decimal_formatter.specs.HeldTables.{tables_of};
 
     ghost view = { λ s. record { plain = record { number = s.number; tables = tables_of s.plain.now }; exponent = s.exponent; pattern = option_map (λ p. p.now) s.pattern } };
 }

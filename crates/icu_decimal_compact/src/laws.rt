@@ -2,8 +2,8 @@
 //! formatter is passed, no call is made: each clause is the law.
 ghost use Rattle.std.specs.Prelude.{◌≡◌, ◌<◌};
 ghost use Rattle.icu_decimal_patterns.specs.SmallEntries.{AreSmall, IsSmall};
-ghost use Rattle.icu_decimal_shown.specs.Entries.{Rises};
-ghost use Rattle.icu_decimal_text.specs.HeldTables.{tables_of};
+ghost use Rattle.icu_decimal_compact_value.specs.Entries.{Rises};
+ghost use Rattle.icu_decimal_formatter.specs.HeldTables.{tables_of};
 ghost use Rattle.icu_decimal_plain.specs.PlainText.{decimal_events, decimal_text, formatted, unsigned_text};
 ghost use Rattle.icu_decimal_compact.specs.AbstractLaws.{WritesText, WritesTogether, WritesUnit};
 ghost use Rattle.icu_decimal_compact.specs.CompactLaws.{ShownFormAnswers, ShownFormIsInRange, ShownFormIsShownValue, ShownFormWritesSame, ShownIsCompact, SignificandIsNumber};
@@ -12,8 +12,8 @@ ghost use Rattle.icu_decimal_compact.specs.HeldCompact.{compact_tables_of};
 
 use crate::abstract_formatter::AbstractFormatter;
 use crate::compact_formatter::CompactDecimalFormatter;
-use icu_decimal_shown::CompactEntry;
-use icu_decimal_text::DecimalFormatter;
+use icu_decimal_compact_value::CompactEntry;
+use icu_decimal_formatter::DecimalFormatter;
 
 /// The affixes that `write_sign` writes, round what `write_unsigned` writes for a number without its sign, are what `format`
 /// writes for the number with it, and their text is that of `format_to_string`: of -999500 in English a compact formatter

@@ -3,10 +3,11 @@ ghost use Rattle.std.specs.Prelude.{◌≡◌};
 ghost use Rattle.std.specs.Result.{result_map_both};
 ghost use Rattle.icu_decimal_chains.specs.Chains.{chain};
 ghost use Rattle.icu_decimal_provider.specs.Choice.{first_found};
-ghost use Rattle.icu_decimal_text.specs.FoundTables.{found_tables};
-ghost use Rattle.icu_decimal_text.specs.HeldTables.{tables_of};
+ghost use Rattle.icu_decimal_formatter.specs.FoundTables.{found_tables};
+ghost use Rattle.icu_decimal_formatter.specs.HeldTables.{tables_of};
 ghost use Rattle.icu_decimal_compact.specs.FoundCompactTables.{patterns_identifiers, rules_identifiers};
 
+use icu_decimal_formatter::DecimalFormatter;
 use icu_decimal_plurals::{PluralRules, PluralsCardinalV1};
 use icu_decimal_provider::preferences::{
     CompactDecimalFormatterPreferences, DecimalFormatterPreferences,
@@ -16,7 +17,6 @@ use icu_decimal_provider::provider::{
 };
 use icu_decimal_symbols::options::{CompactDecimalFormatterOptions, DecimalFormatterOptions};
 use icu_decimal_symbols::{DataError, DataMarker};
-use icu_decimal_text::DecimalFormatter;
 
 // The plain formatter of the same preferences and options.
 pub fn load_plain<

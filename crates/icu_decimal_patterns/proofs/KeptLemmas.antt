@@ -9,8 +9,8 @@ use Rattle.std.specs.Option.{option_or}
 use Rattle.std.specs.Ordering.{nat_cmp}
 use Rattle.std.specs.declared.cmp.Ordering.TheVariants.{Less}
 use Rattle.icu_decimal_symbols.specs.declared.error.DataError.{DataError}
-use Rattle.icu_decimal_shown.specs.declared.entry.CompactEntry.{CompactEntry}
-use Rattle.icu_decimal_shown.specs.Entries.{IsEntry, Rises}
+use Rattle.icu_decimal_compact_value.specs.declared.entry.CompactEntry.{CompactEntry}
+use Rattle.icu_decimal_compact_value.specs.Entries.{IsEntry, Rises}
 use Rattle.icu_decimal_patterns.specs.Elements.{without_one}
 use Rattle.icu_decimal_patterns.specs.KeptEntries.{IsFaulty, IsTable, IsTableFault, Keeps, MakesEntries, NeverFalls, Patterns, TypePatterns, entry_in, fault_of, first_fault, of_type, table_of}
 use Rattle.icu_decimal_patterns.specs.KeptSteps.{TypesRise, base_after, kept_of, last_base, repeats}

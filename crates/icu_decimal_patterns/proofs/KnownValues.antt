@@ -5,7 +5,7 @@ use Rattle.writeable.specs.AnnotatedText.{bytes, text_of}
 use Rattle.icu_decimal_plurals.specs.Operands.{Operands}
 use Rattle.icu_decimal_plurals.specs.Rules.{Rules}
 use Rattle.icu_decimal_symbols.specs.declared.error.DataError.{DataError}
-use Rattle.icu_decimal_shown.specs.declared.entry.CompactEntry.{CompactEntry}
+use Rattle.icu_decimal_compact_value.specs.declared.entry.CompactEntry.{CompactEntry}
 use Rattle.icu_decimal_patterns.specs.Elements.{only_other, slot_of, with_explicit_one, with_few}
 use Rattle.icu_decimal_patterns.specs.KeptEntries.{CompactTable, Keeps, NeverFalls, Patterns, TypePatterns, first_fault}
 use Rattle.icu_decimal_patterns.specs.Pattern.{literal, around, pattern_events}

@@ -1,8 +1,8 @@
 -- A table is the table of the types that it holds; types make one table, and a JSON value says one.
 use Rattle.std.proofs.Common.{◌≡◌, ◌≤◌, ℕ, List, [], ◌∷◌, map, length, IsSomeAnd, Option, None, Some, refl, sym, ap, ◌∙◌, subst, inl, inr, arith}
 use Rattle.std.proofs.lemmas.List.{length-map}
-use Rattle.icu_decimal_shown.specs.declared.entry.CompactEntry.{CompactEntry}
-use Rattle.icu_decimal_shown.specs.Entries.{Rises}
+use Rattle.icu_decimal_compact_value.specs.declared.entry.CompactEntry.{CompactEntry}
+use Rattle.icu_decimal_compact_value.specs.Entries.{Rises}
 use Rattle.icu_decimal_patterns.specs.Elements.{without_one}
 use Rattle.icu_decimal_patterns.specs.KeptEntries.{IsOwnTable, IsTable, Keeps, NeverFalls, Patterns, TypePatterns, entry_in, first_fault, table_of, types_held}
 use Rattle.icu_decimal_patterns.specs.KeptSteps.{TypesRise, kept_of}

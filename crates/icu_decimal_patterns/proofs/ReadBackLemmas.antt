@@ -5,8 +5,8 @@ use Rattle.std.specs.Option.{option_or}
 use Rattle.std.specs.Str.{bytes_eq}
 use Rattle.std.proofs.lemmas.Bool.{and_parts}
 use Rattle.std.proofs.lemmas.Bool.Decides.{nat_tests}
-use Rattle.icu_decimal_shown.specs.declared.entry.CompactEntry.{CompactEntry}
-use Rattle.icu_decimal_shown.specs.Entries.{Rises}
+use Rattle.icu_decimal_compact_value.specs.declared.entry.CompactEntry.{CompactEntry}
+use Rattle.icu_decimal_compact_value.specs.Entries.{Rises}
 use Rattle.icu_decimal_patterns.specs.KeptEntries.{CompactTable, IsOwnTable, Patterns, types_held}
 use Rattle.icu_decimal_patterns.specs.SmallEntries.{AreSmall}
 use Rattle.icu_decimal_patterns.specs.Pattern.{PatternText, literal, around}

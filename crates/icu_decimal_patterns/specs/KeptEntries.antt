@@ -4,7 +4,7 @@
 use Rattle.std.specs.Prelude.{◌≡◌, ◌≢◌, ℕ, ◌≤◌, ◌+◌, ◌⊎◌, List, [], ◌∷◌, map, cond, nat_lt, Option, None, Some}
 use Rattle.std.specs.Option.{option_or}
 use Rattle.icu_decimal_symbols.specs.declared.error.DataError.{DataError}
-use Rattle.icu_decimal_shown.specs.declared.entry.CompactEntry.{CompactEntry}
+use Rattle.icu_decimal_compact_value.specs.declared.entry.CompactEntry.{CompactEntry}
 use Rattle.icu_decimal_patterns.specs.Elements.{Elements, without_one}
 use Rattle.icu_decimal_patterns.specs.Pattern.{PatternText}
 

@@ -6,7 +6,7 @@ use Rattle.std.proofs.Common.{◌≡◌, ap, Decides}
 use Rattle.std.specs.Cmp.{IsEquivalence, decided, unsigned_Decides}
 use Rattle.std.specs.Cmp.Lexicographic.{pointwise, pointwise_decides}
 use Rattle.std.proofs.lemmas.Bool.Decides.{Decides-and, Decides-like}
-use Rattle.icu_decimal_shown.specs.declared.entry.CompactEntry.{CompactEntry}
+use Rattle.icu_decimal_compact_value.specs.declared.entry.CompactEntry.{CompactEntry}
 use Rattle.icu_decimal_patterns.specs.KeptEntries.{CompactTable}
 use Rattle.icu_decimal_patterns.specs.SameElements.{same_elements, same_elements_decides}
 use Rattle.icu_decimal_patterns.specs.SamePattern.{same_pattern, same_pattern_decides}

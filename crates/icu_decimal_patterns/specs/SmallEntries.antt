@@ -2,7 +2,7 @@
 -- Defined in docs/compact-text.md, "Entries".
 -- Cited by the private steps of `to_json`, and by the laws of what is shown, sent back.
 use Rattle.std.specs.Prelude.{◌<◌, List, [], ◌∷◌}
-use Rattle.icu_decimal_shown.specs.declared.entry.CompactEntry.{CompactEntry}
+use Rattle.icu_decimal_compact_value.specs.declared.entry.CompactEntry.{CompactEntry}
 
 abbrev pub IsSmall : CompactEntry → Type 0
 IsSmall entry = (entry.log10_type < 256) × (entry.exponent < 256)

@@ -6,7 +6,7 @@ use Rattle.serde_json.specs.Data.{Data, number, unsigned, string, array}
 use Rattle.serde_json.specs.Find.{at, as_array, as_number, as_u64}
 use Rattle.serde_json.specs.View.{items_of}
 use Rattle.icu_decimal_symbols.specs.declared.error.DataError.{DataError}
-use Rattle.icu_decimal_shown.specs.declared.entry.CompactEntry.{CompactEntry}
+use Rattle.icu_decimal_compact_value.specs.declared.entry.CompactEntry.{CompactEntry}
 use Rattle.icu_decimal_patterns.specs.KeptEntries.{CompactTable, IsTable, IsTableFault, Patterns, TypePatterns}
 use Rattle.icu_decimal_patterns.specs.Pattern.{PatternText, literal, around}
 use Rattle.icu_decimal_patterns.specs.SlotsJson.{has_count, listed, slots_of}

@@ -3,7 +3,7 @@
 ghost use Rattle.std.specs.Prelude.{◌≡◌, ◌≢◌, ◌↔◌, ◌<◌, [], IfErr, IfOk, IsErrOf, None, OnErr, Some, length, map, option_map};
 ghost use Rattle.std.specs.List.{slice_get};
 ghost use Rattle.std.specs.Cmp.{partial_equiv_from_equiv};
-ghost use Rattle.icu_decimal_shown.specs.Entries.{Rises};
+ghost use Rattle.icu_decimal_compact_value.specs.Entries.{Rises};
 ghost use Rattle.icu_decimal_patterns.specs.SameTable.{same_table, same_table_equiv};
 ghost use Rattle.icu_decimal_patterns.specs.KeptEntries.{IsFaulty, IsTable, IsTableFault, MakesEntries, NeverFalls, first_fault, of_type, table_of};
 ghost use Rattle.icu_decimal_patterns.specs.KeptSteps.{TypesRise, base_after, base_of, kept_of};
@@ -12,7 +12,7 @@ ghost use Rattle.icu_decimal_symbols.specs.declared.error.DataError.{DataError};
 use crate::elements::PluralElements;
 use crate::kept::{Base, GivenTypes, first_fault, never_falls};
 use crate::pattern::Pattern;
-use icu_decimal_shown::CompactEntry;
+use icu_decimal_compact_value::CompactEntry;
 use icu_decimal_symbols::error::DataError;
 use std::alloc::{AllocError, Global};
 use std::collections::BTreeMap;
@@ -30,7 +30,7 @@ pub struct CompactPatterns {
 
 impl Model for CompactPatterns {
     ghost use Rattle.std.specs.Prelude.{◌≡◌, length};
-    ghost use Rattle.icu_decimal_shown.specs.Entries.{Rises};
+    ghost use Rattle.icu_decimal_compact_value.specs.Entries.{Rises};
     ghost use Rattle.icu_decimal_patterns.specs.KeptEntries.{CompactTable, IsOwnTable};
 
     ghost Value = { CompactTable };

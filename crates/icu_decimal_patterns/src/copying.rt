@@ -7,7 +7,7 @@ ghost use Rattle.icu_decimal_patterns.specs.TextlessElements.{HaveNoText};
 use crate::compact_patterns::CompactPatterns;
 use crate::elements::PluralElements;
 use crate::pattern::Pattern;
-use icu_decimal_shown::CompactEntry;
+use icu_decimal_compact_value::CompactEntry;
 use std::alloc::{AllocError, Global};
 
 // An equal pattern, where there is one.

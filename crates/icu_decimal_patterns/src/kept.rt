@@ -6,7 +6,7 @@ ghost use Rattle.icu_decimal_patterns.specs.KeptSteps.{TypesRise, base_of, kept_
 
 use crate::elements::PluralElements;
 use crate::pattern::Pattern;
-use icu_decimal_shown::CompactEntry;
+use icu_decimal_compact_value::CompactEntry;
 use icu_decimal_symbols::error::DataError;
 use std::collections::BTreeMap;
 

@@ -3,7 +3,7 @@
 use crate::parts::put_range;
 use crate::refusals::parsed;
 use fixed_decimal::UnsignedDecimal;
-use icu_decimal_shown::{
+use icu_decimal_compact_value::{
     CompactEntry, Shown, can_show, exact_entry, exponent_for_magnitude, exponent_in_range, show,
 };
 use rows::{Stop, filled, number_of, push, put, put_text};

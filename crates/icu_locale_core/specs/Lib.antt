@@ -20,8 +20,8 @@ pub use Rattle.icu_locale_core_grammar.specs.TagLaws
 pub use Rattle.icu_locale_core_grammar.specs.PartLaws
 pub use Rattle.icu_locale_core_grammar.specs.OrderLaws
 pub use Rattle.icu_locale_core_grammar.specs.PreferenceLaws
-pub use Rattle.icu_locale_core_sets.specs.Laws as SetLaws
-pub use Rattle.icu_locale_core_entries.specs.Laws as EntryLaws
+pub use Rattle.icu_locale_core_subtag_lists.specs.Laws as SetLaws
+pub use Rattle.icu_locale_core_keywords_fields.specs.Laws as EntryLaws
 pub use Rattle.icu_locale_core_langid.specs.SingleLaws
 pub use Rattle.icu_locale_core_locale.specs.ReadsBack
 pub use Rattle.icu_locale_core_preferences.specs.Laws as HeldPreferenceLaws
@@ -41,14 +41,14 @@ pub use Rattle.icu_locale_core_langid.specs.LanguageText
 pub use Rattle.icu_locale_core_langid.specs.SameLanguage
 pub use Rattle.icu_locale_core_langid.specs.NormalizedText
 -- Sets, values and maps: read, written, ordered, after a change.
-pub use Rattle.icu_locale_core_sets.specs.SubtagSets
-pub use Rattle.icu_locale_core_sets.specs.Reading
-pub use Rattle.icu_locale_core_entries.specs.Values
-pub use Rattle.icu_locale_core_entries.specs.EntryText
-pub use Rattle.icu_locale_core_entries.specs.Orders
-pub use Rattle.icu_locale_core_entries.specs.Lends
-pub use Rattle.icu_locale_core_entries.specs.EntryChanges
-pub use Rattle.icu_locale_core_entries.specs.Retained
+pub use Rattle.icu_locale_core_subtag_lists.specs.SubtagSets
+pub use Rattle.icu_locale_core_subtag_lists.specs.Reading
+pub use Rattle.icu_locale_core_keywords_fields.specs.Values
+pub use Rattle.icu_locale_core_keywords_fields.specs.EntryText
+pub use Rattle.icu_locale_core_keywords_fields.specs.Orders
+pub use Rattle.icu_locale_core_keywords_fields.specs.Lends
+pub use Rattle.icu_locale_core_keywords_fields.specs.EntryChanges
+pub use Rattle.icu_locale_core_keywords_fields.specs.Retained
 -- Keywords with a type of their own.
 pub use Rattle.icu_locale_core_preference_keywords.specs.KeywordWords
 pub use Rattle.icu_locale_core_preference_keywords.specs.TypedKeywords
@@ -63,10 +63,10 @@ pub use Rattle.icu_locale_core_extensions.specs.ExtensionsOrder
 pub use Rattle.icu_locale_core_extensions.specs.ExtensionsText
 pub use Rattle.icu_locale_core_extensions.specs.RetainedByType
 -- Which texts ask a reader for memory.
-pub use Rattle.icu_locale_core_langid.specs.Room as LanguageRoom
-pub use Rattle.icu_locale_core_entries.specs.Room as EntryRoom
-pub use Rattle.icu_locale_core_extensions.specs.Room as ExtensionRoom
-pub use Rattle.icu_locale_core_locale.specs.Room as TagRoom
+pub use Rattle.icu_locale_core_langid.specs.Allocation as LanguageAllocation
+pub use Rattle.icu_locale_core_keywords_fields.specs.Allocation as EntryAllocation
+pub use Rattle.icu_locale_core_extensions.specs.Allocation as ExtensionAllocation
+pub use Rattle.icu_locale_core_locale.specs.Allocation as TagAllocation
 -- Data locales, their text, and what a locale holds of a tag.
 pub use Rattle.icu_locale_core_preferences.specs.DataLocales
 pub use Rattle.icu_locale_core_preferences.specs.DataText

@@ -25,10 +25,10 @@ pub mod grammar {
 pub use icu_locale_core_subtags::laws as subtags;
 
 // Of variants, attributes and private subtags.
-pub use icu_locale_core_sets::laws as sets;
+pub use icu_locale_core_subtag_lists::laws as sets;
 
 // Of keywords, fields and their values.
-pub use icu_locale_core_entries::laws as entries;
+pub use icu_locale_core_keywords_fields::laws as entries;
 
 // Of extensions.
 pub use icu_locale_core_extensions::laws as extensions;

@@ -12,8 +12,8 @@ use Rattle.icu_locale_core_grammar.specs.Meaning as meaning
 use Rattle.icu_locale_core_grammar.specs.NormalText.{inner_pieces, entry_pieces, unicode_pieces, transform_pieces, private_pieces}
 use Rattle.icu_locale_core_grammar.specs.Pieces.{hyphen, hyphened}
 use Rattle.icu_locale_core_grammar.specs.TagStages.{has_none}
-use Rattle.icu_locale_core_sets.proofs.PrintingLemmas.{bytes_joined, no_bytes}
-use Rattle.icu_locale_core_entries.specs.EntryText.{hyphened_entries}
+use Rattle.icu_locale_core_subtag_lists.proofs.PrintingLemmas.{bytes_joined, no_bytes}
+use Rattle.icu_locale_core_keywords_fields.specs.EntryText.{hyphened_entries}
 use Rattle.icu_locale_core_extensions.specs.ExtensionText.{own_pieces, placed}
 use Rattle.icu_locale_core_extensions.specs.ExtensionsValue.{is_empty_unicode, is_empty_transform}
 

@@ -4,4 +4,4 @@ pub mod OpeningLemmas
 pub mod OrderLemmas
 pub mod PlacedLemmas
 pub mod RetainingLemmas
-pub mod RoomLemmas
+pub mod AllocationLemmas

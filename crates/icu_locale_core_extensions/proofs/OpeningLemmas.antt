@@ -9,7 +9,7 @@ use Rattle.icu_locale_core_grammar.specs.Pieces.{pieces}
 use Rattle.icu_locale_core_grammar.specs.Meaning.{MeansOther}
 use Rattle.icu_locale_core_grammar.specs.Collections.{Entry}
 use Rattle.icu_locale_core_grammar.specs.declared.error.ParseError.{ParseError}
-use Rattle.icu_locale_core_sets.specs.Reading.{IsRefused}
+use Rattle.icu_locale_core_subtag_lists.specs.Reading.{IsRefused}
 use Rattle.icu_locale_core_extensions.specs.Opening.{Opens, OpensOther}
 
 same_tail : {A : Type 0} (a b : A) (xs ys : List A) → a ∷ xs ≡ b ∷ ys → xs ≡ ys

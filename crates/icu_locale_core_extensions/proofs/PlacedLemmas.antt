@@ -6,7 +6,7 @@ use Rattle.std.proofs.lemmas.List.Concat.{flat_map-append}
 use Rattle.writeable.specs.AnnotatedText.{Event, bytes}
 use Rattle.writeable.specs.Taking.{IsWriting}
 use Rattle.writeable.proofs.WritingLemmas.{writing_goes_on}
-use Rattle.icu_locale_core_sets.proofs.PrintingLemmas.{bytes_joined}
+use Rattle.icu_locale_core_subtag_lists.proofs.PrintingLemmas.{bytes_joined}
 use Rattle.icu_locale_core_grammar.specs.Subtags.{Text, private_text}
 use Rattle.icu_locale_core_grammar.specs.Collections.{Entry}
 use Rattle.icu_locale_core_grammar.specs.Extensions.{Block, spelled_block}

@@ -7,7 +7,7 @@ use Rattle.icu_locale_core_grammar.specs.Meaning as meaning
 use Rattle.icu_locale_core_grammar.specs.TagStages as stages
 use Rattle.icu_locale_core_subtags.specs.declared.step.Step.{Step}
 use Rattle.icu_locale_core_subtags.specs.declared.step.Step.TheVariants.{Taken, Refused}
-use Rattle.icu_locale_core_entries.specs.HeadedView.{headed_view}
+use Rattle.icu_locale_core_keywords_fields.specs.HeadedView.{headed_view}
 use Rattle.icu_locale_core_extensions.specs.ExtensionsValue.{ExtensionsValue}
 use Rattle.icu_locale_core_extensions.specs.declared.body.BodyStage.{BodyStage}
 use Rattle.icu_locale_core_extensions.specs.declared.body.BodyStage.TheVariants.{InUnicode, InTransform, InOther}

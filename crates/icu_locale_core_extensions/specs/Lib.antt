@@ -1,5 +1,5 @@
 pub mod Opening
-pub mod Room
+pub mod Allocation
 pub mod BodyView
 pub mod OtherSingleton
 pub mod Others

@@ -9,7 +9,7 @@ use Rattle.icu_locale_core_grammar.specs.Subtags.{same_text}
 use Rattle.icu_locale_core_grammar.specs.Collections.{Entry}
 use Rattle.icu_locale_core_grammar.specs.Meaning.{UnicodeMeaning, TransformMeaning}
 use Rattle.icu_locale_core_langid.specs.SameLanguage.{language_fed, same_language}
-use Rattle.icu_locale_core_entries.specs.Orders.{same_entries, same_value}
+use Rattle.icu_locale_core_keywords_fields.specs.Orders.{same_entries, same_value}
 use Rattle.icu_locale_core_extensions.specs.ExtensionsValue.{ExtensionsValue}
 
 -- attributes and keywords

@@ -13,8 +13,8 @@ use Rattle.icu_locale_core_grammar.specs.LanguagePart.{LanguageId}
 use Rattle.icu_locale_core_grammar.specs.Meaning.{UnicodeMeaning, TransformMeaning}
 use Rattle.icu_locale_core_langid.specs.SameLanguage.{same_language}
 use Rattle.icu_locale_core_langid.specs.SameLanguageLaws.{same_equiv, same_decides}
-use Rattle.icu_locale_core_entries.specs.Orders.{same_entries, same_value}
-use Rattle.icu_locale_core_entries.specs.OrderLaws.{entries_equiv, entries_decide}
+use Rattle.icu_locale_core_keywords_fields.specs.Orders.{same_entries, same_value}
+use Rattle.icu_locale_core_keywords_fields.specs.OrderLaws.{entries_equiv, entries_decide}
 use Rattle.icu_locale_core_extensions.specs.ExtensionsValue.{ExtensionsValue}
 use Rattle.icu_locale_core_extensions.specs.SameExtension.{same_unicode, same_transform, same_other, same_extensions, unicode_fed, transform_fed, other_fed, extensions_fed}
 

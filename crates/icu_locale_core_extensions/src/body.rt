@@ -3,9 +3,9 @@
 ghost use Rattle.std.specs.Prelude.{◌≡◌, false, option_map, IfOk, IfSome, IsOk};
 ghost use Rattle.icu_locale_core_grammar.specs.Subtags.{lower};
 ghost use Rattle.icu_locale_core_grammar.specs.TagStages.{body_after as stage_after, body_ends, opens};
-ghost use Rattle.icu_locale_core_entries.specs.Steps.{IsStep};
+ghost use Rattle.icu_locale_core_keywords_fields.specs.Steps.{IsStep};
 ghost use Rattle.icu_locale_core_extensions.specs.BodyView.{body_view, body_key, is_other_part, part_view, KeepsKey, HasKey};
-ghost use Rattle.icu_locale_core_extensions.specs.Room.{body_grows_at, body_keeps};
+ghost use Rattle.icu_locale_core_extensions.specs.Allocation.{body_grows_at, body_keeps};
 
 use crate::head::{AttributesHead, LanguageHead, settled_language};
 use crate::opening::is_letter;
@@ -13,10 +13,10 @@ use crate::other::{Other, other_after};
 use crate::singleton::OtherSingleton;
 use crate::transform::Transform;
 use crate::unicode::Unicode;
-use icu_locale_core_entries::{HeadedStage, Step, headed_after, headed_finish};
+use icu_locale_core_keywords_fields::{HeadedStage, headed_after, headed_finish};
 use icu_locale_core_langid::LanguageStage;
-use icu_locale_core_sets::GrowingSet;
-use icu_locale_core_subtags::{transform, unicode};
+use icu_locale_core_subtag_lists::GrowingSet;
+use icu_locale_core_subtags::{Step, transform, unicode};
 use std::alloc::{AllocError, Global};
 
 /// How far the pieces behind a singleton are read.

@@ -8,7 +8,7 @@ use crate::body::Part;
 use crate::other::{Other, put_other};
 use crate::transform::Transform;
 use crate::unicode::Unicode;
-use icu_locale_core_sets::Private;
+use icu_locale_core_subtag_lists::Private;
 use std::alloc::{AllocError, Global};
 use std::marker::Model;
 

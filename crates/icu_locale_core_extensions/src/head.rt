@@ -3,11 +3,12 @@
 ghost use Rattle.std.specs.Prelude.{◌≡◌};
 ghost use Rattle.icu_locale_core_grammar.specs.Subtags.{is_attribute};
 ghost use Rattle.icu_locale_core_grammar.specs.TagStages.{attributes_after, language_after as language_stage_after};
-ghost use Rattle.icu_locale_core_langid.specs.Room.{grows_at};
+ghost use Rattle.icu_locale_core_langid.specs.Allocation.{grows_at};
 
-use icu_locale_core_entries::{HeadReader, Step};
+use icu_locale_core_keywords_fields::HeadReader;
 use icu_locale_core_langid::{LanguageIdentifier, LanguageStage, language_after};
-use icu_locale_core_sets::GrowingSet;
+use icu_locale_core_subtag_lists::GrowingSet;
+use icu_locale_core_subtags::Step;
 use icu_locale_core_subtags::unicode::{Attribute, AttributeRule};
 use std::alloc::{AllocError, Global};
 

@@ -2,7 +2,7 @@
 
 use crate::block_writing::{Block, length_hint, write_alone};
 use crate::other::Other;
-use icu_locale_core_sets::{Private, write_pieces};
+use icu_locale_core_subtag_lists::{Private, write_pieces};
 use std::fmt;
 use writeable::{Error, LengthHint, Sink, Writeable, display};
 

@@ -1,7 +1,7 @@
 //! Keeping the extensions at whose types a closure answers true.
 
 ghost use Rattle.std.specs.Prelude.{◌≡◌};
-ghost use Rattle.icu_locale_core_entries.specs.Retained.{IsRetained};
+ghost use Rattle.icu_locale_core_keywords_fields.specs.Retained.{IsRetained};
 ghost use Rattle.icu_locale_core_extensions.specs.RetainedByType.{other_type, IsRetainedByType};
 
 use crate::extension_type::ExtensionType;

@@ -7,18 +7,18 @@ ghost use Rattle.icu_locale_core_grammar.specs.Subtags.{is_transform};
 ghost use Rattle.icu_locale_core_grammar.specs.Pieces.{pieces};
 ghost use Rattle.icu_locale_core_grammar.specs.Meaning.{MeansTransform, no_transform};
 ghost use Rattle.icu_locale_core_grammar.specs.PartReaders.{ReadsTransform};
-ghost use Rattle.icu_locale_core_sets.specs.Reading.{IsRefused, begins, begins_behind};
+ghost use Rattle.icu_locale_core_subtag_lists.specs.Reading.{IsRefused, begins, begins_behind};
 ghost use Rattle.icu_locale_core_extensions.specs.ExtensionsValue.{is_empty_transform};
-ghost use Rattle.icu_locale_core_extensions.specs.Room.{begins_transform};
+ghost use Rattle.icu_locale_core_extensions.specs.Allocation.{begins_transform};
 
 use crate::head::{LanguageHead, settled_language};
 use crate::opening::body_behind;
-use icu_locale_core_entries::transform::Fields;
-use icu_locale_core_entries::{HeadedStage, Step, headed_after, headed_finish};
 use icu_locale_core_grammar::ParseError;
+use icu_locale_core_keywords_fields::transform::Fields;
+use icu_locale_core_keywords_fields::{HeadedStage, headed_after, headed_finish};
 use icu_locale_core_langid::{LanguageIdentifier, LanguageStage};
-use icu_locale_core_subtags::SubtagIterator;
 use icu_locale_core_subtags::transform::KeyRule;
+use icu_locale_core_subtags::{Step, SubtagIterator};
 use std::alloc::{AllocError, Global};
 use std::marker::Model;
 

@@ -5,7 +5,7 @@ ghost use Rattle.writeable.specs.AnnotatedText.{bytes};
 ghost use Rattle.writeable.specs.Taking.{HasBegun};
 ghost use Rattle.icu_locale_core_grammar.specs.NormalText.{inner_pieces};
 ghost use Rattle.icu_locale_core_grammar.specs.Pieces.{hyphened};
-ghost use Rattle.icu_locale_core_entries.specs.EntryText.{hyphened_entries};
+ghost use Rattle.icu_locale_core_keywords_fields.specs.EntryText.{hyphened_entries};
 
 use crate::block_writing::{Block, length_hint, write_alone};
 use crate::transform::Transform;

@@ -4,11 +4,11 @@ ghost use Rattle.std.specs.Prelude.{◌≡◌, ◌++◌, false, is_err, flat_map
 ghost use Rattle.writeable.specs.AnnotatedText.{bytes};
 ghost use Rattle.writeable.specs.Taking.{HasBegun};
 ghost use Rattle.icu_locale_core_grammar.specs.Pieces.{hyphened};
-ghost use Rattle.icu_locale_core_entries.specs.EntryText.{hyphened_entries};
+ghost use Rattle.icu_locale_core_keywords_fields.specs.EntryText.{hyphened_entries};
 
 use crate::block_writing::{Block, length_hint, write_alone};
 use crate::unicode::Unicode;
-use icu_locale_core_sets::write_pieces;
+use icu_locale_core_subtag_lists::write_pieces;
 use std::fmt;
 use writeable::{Error, LengthHint, Sink, Writeable, display};
 

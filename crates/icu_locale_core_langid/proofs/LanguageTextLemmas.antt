@@ -12,7 +12,7 @@ use Rattle.icu_locale_core_grammar.proofs.NormalBodies.{pieces_stay, language_me
 use Rattle.icu_locale_core_grammar.proofs.PartPlain.{language_is_plain}
 use Rattle.icu_locale_core_grammar.proofs.PlainPieces.{pieces-joined}
 use Rattle.icu_locale_core_grammar.specs.Pieces.{hyphen, hyphened, pieces}
-use Rattle.icu_locale_core_sets.proofs.PrintingLemmas.{bytes_joined, no_bytes}
+use Rattle.icu_locale_core_subtag_lists.proofs.PrintingLemmas.{bytes_joined, no_bytes}
 use Rattle.icu_locale_core_langid.specs.LanguageText.{language_text, language_events, inner_text, inner_events}
 
 -- ---- an optional piece

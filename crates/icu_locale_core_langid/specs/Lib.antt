@@ -4,7 +4,7 @@ pub mod Modes
 pub mod LanguageText
 pub mod SameLanguage
 pub mod NormalizedText
-pub mod Room
+pub mod Allocation
 pub mod SingleModes
 pub mod SingleLaws
 -- What the readers follow, piece by piece.

@@ -10,7 +10,7 @@ ghost use Rattle.icu_locale_core_langid.specs.LanguageText.{inner_text, inner_ev
 use crate::language_identifier::LanguageIdentifier;
 use crate::laws::identifiers_read_back;
 use crate::writing::{text_length, write_piece};
-use icu_locale_core_sets::write_pieces;
+use icu_locale_core_subtag_lists::write_pieces;
 use icu_locale_core_subtags::{SubtagOf, SubtagRule};
 use writeable::{Error, Sink};
 

@@ -11,7 +11,7 @@ ghost use Rattle.icu_locale_core_grammar.specs.LanguagePart.{MeansLanguage};
 ghost use Rattle.icu_locale_core_grammar.specs.FaultyPiece.{HasFault};
 ghost use Rattle.icu_locale_core_subtags.specs.JsonText.{json_text};
 ghost use Rattle.icu_locale_core_langid.specs.LanguageText.{language_text};
-ghost use Rattle.icu_locale_core_langid.specs.Room.{may_grow};
+ghost use Rattle.icu_locale_core_langid.specs.Allocation.{may_grow};
 
 use crate::language_identifier::LanguageIdentifier;
 use icu_locale_core_grammar::ParseError;

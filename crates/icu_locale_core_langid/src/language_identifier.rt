@@ -4,7 +4,7 @@ ghost use Rattle.std.specs.Prelude.{◌≡◌, ◌↔◌, [], None, Some, codes,
 ghost use Rattle.icu_locale_core_grammar.specs.PreferenceChanges.{unknown_language};
 ghost use Rattle.icu_locale_core_langid.specs.Parts.{with_parts};
 
-use icu_locale_core_sets::Variants;
+use icu_locale_core_subtag_lists::Variants;
 use icu_locale_core_subtags::{Language, Region, Script};
 use std::alloc::{AllocError, Global};
 use std::marker::Model;

@@ -4,7 +4,7 @@ ghost use Rattle.std.specs.Prelude.{◌≡◌, [], None};
 ghost use Rattle.icu_locale_core_langid.specs.Parts.{with_parts};
 
 use crate::language_identifier::LanguageIdentifier;
-use icu_locale_core_sets::GrowingSet;
+use icu_locale_core_subtag_lists::GrowingSet;
 use icu_locale_core_subtags::{Language, Region, Script, VariantRule};
 use std::alloc::Global;
 use std::marker::Model;

@@ -26,4 +26,3 @@ pub use crate::one_variant::{OneVariantParts, one_variant_step};
 pub use crate::parser::{parse_language_identifier, parse_language_identifier_from_iter};
 pub use crate::stepping::language_after;
 pub use crate::writing::write_optional;
-pub use icu_locale_core_subtags::Step;

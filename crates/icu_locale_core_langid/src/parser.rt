@@ -8,7 +8,7 @@ ghost use Rattle.icu_locale_core_grammar.specs.Subtags.{is_variant};
 ghost use Rattle.icu_locale_core_grammar.specs.Pieces.{pieces};
 ghost use Rattle.icu_locale_core_langid.specs.LanguageStep.{StopsBehind, StopsWith};
 ghost use Rattle.icu_locale_core_langid.specs.Modes.{ReadsInMode, HasFaultInMode, may_leave};
-ghost use Rattle.icu_locale_core_langid.specs.Room.{may_grow};
+ghost use Rattle.icu_locale_core_langid.specs.Allocation.{may_grow};
 
 use crate::language_identifier::LanguageIdentifier;
 use crate::language_stage::LanguageStage;

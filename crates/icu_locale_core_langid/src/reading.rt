@@ -6,7 +6,7 @@ ghost use Rattle.icu_locale_core_grammar.specs.declared.error.ParseError.{ParseE
 ghost use Rattle.icu_locale_core_grammar.specs.Pieces.{pieces};
 ghost use Rattle.icu_locale_core_grammar.specs.LanguagePart.{MeansLanguage};
 ghost use Rattle.icu_locale_core_grammar.specs.FaultyPiece.{HasFault};
-ghost use Rattle.icu_locale_core_langid.specs.Room.{may_grow};
+ghost use Rattle.icu_locale_core_langid.specs.Allocation.{may_grow};
 
 use crate::language_identifier::LanguageIdentifier;
 use crate::modes::ParserMode;

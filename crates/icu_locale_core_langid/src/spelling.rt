@@ -10,7 +10,7 @@ ghost use Rattle.icu_locale_core_langid.specs.Spelling.{Takes, SpellsSet, is_amo
 
 use crate::language_identifier::LanguageIdentifier;
 use crate::laws::identifiers_read_back;
-use icu_locale_core_sets::Variants;
+use icu_locale_core_subtag_lists::Variants;
 use icu_locale_core_subtags::{SubtagIterator, SubtagOf, SubtagRule, Variant};
 
 // Whether the next piece is this text but for case; it is then taken.

@@ -4,7 +4,7 @@ ghost use Rattle.std.specs.Prelude.{◌≡◌, false, Some, None, Option, IfOk, 
 ghost use Rattle.icu_locale_core_grammar.specs.Subtags.{title, upper, lower, is_variant};
 ghost use Rattle.icu_locale_core_grammar.specs.TagStages.{fits_script, fits_region, fits_variant, with_piece, language_after as stage_after};
 ghost use Rattle.icu_locale_core_langid.specs.LanguageStep.{PutsPiece};
-ghost use Rattle.icu_locale_core_langid.specs.Room.{grows_at};
+ghost use Rattle.icu_locale_core_langid.specs.Allocation.{grows_at};
 ghost use Rattle.icu_locale_core_subtags.specs.Steps.{IsStep};
 
 use crate::language_stage::LanguageStage;

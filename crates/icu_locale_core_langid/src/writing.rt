@@ -7,7 +7,7 @@ ghost use Rattle.icu_locale_core_grammar.specs.Pieces.{hyphen, hyphened};
 ghost use Rattle.icu_locale_core_langid.specs.LanguageText.{language_text, language_events};
 
 use crate::language_identifier::LanguageIdentifier;
-use icu_locale_core_sets::write_pieces;
+use icu_locale_core_subtag_lists::write_pieces;
 use icu_locale_core_subtags::{SubtagOf, SubtagRule};
 use std::fmt;
 use writeable::{CountSink, Error, LengthHint, Sink, Writeable, display};

@@ -3,7 +3,7 @@ use Rattle.std.proofs.Common.{◌≡◌, true, false, codes, refl}
 use Rattle.icu_locale_core_grammar.specs.Pieces.{pieces}
 use Rattle.icu_locale_core_grammar.specs.Stepping.{headed_after, whole_after}
 use Rattle.icu_locale_core_grammar.specs.TagStages.{with_piece, body_after}
-use Rattle.icu_locale_core_locale.specs.Room.{tag_may_grow}
+use Rattle.icu_locale_core_locale.specs.Allocation.{tag_may_grow}
 
 -- ---- no memory
 

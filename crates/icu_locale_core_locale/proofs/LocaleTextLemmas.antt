@@ -9,7 +9,7 @@ use Rattle.icu_locale_core_grammar.specs.Meaning.{TagMeaning}
 use Rattle.icu_locale_core_grammar.specs.NormalText.{normal_text}
 use Rattle.icu_locale_core_langid.specs.LanguageText.{language_text}
 use Rattle.icu_locale_core_extensions.specs.ExtensionText.{extension_pieces}
-use Rattle.icu_locale_core_sets.proofs.PrintingLemmas.{bytes_joined}
+use Rattle.icu_locale_core_subtag_lists.proofs.PrintingLemmas.{bytes_joined}
 use Rattle.icu_locale_core_locale.specs.LocaleText.{locale_tail, locale_events}
 
 module _ (m : TagMeaning) where

@@ -8,9 +8,9 @@ use Rattle.icu_locale_core_grammar.specs.Meaning.{Part, ExtensionMeanings, put_p
 use Rattle.icu_locale_core_grammar.specs.Stepping.{InFront, InBlock, whole_after, after_front, after_block}
 use Rattle.icu_locale_core_grammar.specs.TagStages.{BodyStage, TagStage, language_after, language_ends, body_after, body_ends, opens, tag_after}
 use Rattle.icu_locale_core_extensions.specs.BodyView.{body_view}
-use Rattle.icu_locale_core_extensions.specs.Room.{body_grows_at, body_keeps}
+use Rattle.icu_locale_core_extensions.specs.Allocation.{body_grows_at, body_keeps}
 use Rattle.icu_locale_core_extensions.specs.declared.body.BodyStage as code
-use Rattle.icu_locale_core_locale.specs.Room.{tag_grows_at, tag_keeps}
+use Rattle.icu_locale_core_locale.specs.Allocation.{tag_grows_at, tag_keeps}
 use Rattle.icu_locale_core_locale.specs.StageView.{HasFewBefore, stage_behind, block_view}
 
 pub language_goes_on : (id : LanguageId) (p : Text) (o : Option TagStage) → language_after (Some id) p ≡ None → stage_behind id [] no_extensions p ≡ o → tag_after (InFront (Some id)) p ≡ o

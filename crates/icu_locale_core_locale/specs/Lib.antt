@@ -4,5 +4,5 @@ pub mod LocaleValue
 pub mod ReadsBack
 pub mod SameLocale
 pub mod SameLocaleLaws
-pub mod Room
+pub mod Allocation
 pub mod StageView

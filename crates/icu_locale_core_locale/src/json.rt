@@ -10,7 +10,7 @@ ghost use Rattle.icu_locale_core_grammar.specs.Meaning.{MeansTag};
 ghost use Rattle.icu_locale_core_grammar.specs.FaultyPiece.{HasFault};
 ghost use Rattle.icu_locale_core_grammar.specs.NormalText.{normal_text};
 ghost use Rattle.icu_locale_core_subtags.specs.JsonText.{json_text};
-ghost use Rattle.icu_locale_core_locale.specs.Room.{tag_may_grow};
+ghost use Rattle.icu_locale_core_locale.specs.Allocation.{tag_may_grow};
 
 use crate::locale::Locale;
 use icu_locale_core_grammar::ParseError;

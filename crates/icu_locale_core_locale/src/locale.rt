@@ -11,7 +11,7 @@ ghost use Rattle.icu_locale_core_langid.specs.Parts.{with_parts};
 ghost use Rattle.icu_locale_core_locale.specs.LocaleValue.{language_alone, unknown_locale};
 ghost use Rattle.icu_locale_core_locale.specs.SameLocale.{extensions_of};
 ghost use Rattle.icu_locale_core_extensions.specs.ExtensionsValue.{nothing};
-ghost use Rattle.icu_locale_core_locale.specs.Room.{tag_may_grow};
+ghost use Rattle.icu_locale_core_locale.specs.Allocation.{tag_may_grow};
 
 use crate::parser::parse_locale;
 use icu_locale_core_extensions::Extensions;

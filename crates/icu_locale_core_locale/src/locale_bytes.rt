@@ -6,7 +6,7 @@ ghost use Rattle.icu_locale_core_grammar.specs.declared.error.ParseError.{ParseE
 ghost use Rattle.icu_locale_core_grammar.specs.Pieces.{pieces};
 ghost use Rattle.icu_locale_core_grammar.specs.Meaning.{TagMeaning, MeansTag};
 ghost use Rattle.icu_locale_core_grammar.specs.FaultyPiece.{HasFault};
-ghost use Rattle.icu_locale_core_locale.specs.Room.{tag_may_grow};
+ghost use Rattle.icu_locale_core_locale.specs.Allocation.{tag_may_grow};
 
 use crate::locale::Locale;
 use crate::parser::parse_locale;

@@ -8,7 +8,7 @@ ghost use Rattle.icu_locale_core_grammar.specs.Meaning.{TagMeaning, MeansTag};
 ghost use Rattle.icu_locale_core_grammar.specs.FaultyPiece.{HasFault};
 ghost use Rattle.icu_locale_core_grammar.specs.NormalText.{normal_text};
 ghost use Rattle.icu_locale_core_langid.specs.NormalizedText.{IsNormalized};
-ghost use Rattle.icu_locale_core_locale.specs.Room.{tag_may_grow};
+ghost use Rattle.icu_locale_core_locale.specs.Allocation.{tag_may_grow};
 
 use crate::locale::Locale;
 use icu_locale_core_grammar::ParseError;

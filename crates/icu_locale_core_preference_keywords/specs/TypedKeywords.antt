@@ -6,7 +6,7 @@ use Rattle.std.specs.List.{find, list_all}
 use Rattle.std.specs.Char.{is_ascii_alphabetic}
 use Rattle.icu_locale_core_grammar.specs.Subtags.{Text, is_true, lower, same_text, true_text}
 use Rattle.icu_locale_core_grammar.specs.TagPreferences.{one_piece, Subdivision, subdivision_of}
-use Rattle.icu_locale_core_entries.specs.Values.{without_true}
+use Rattle.icu_locale_core_keywords_fields.specs.Values.{without_true}
 use Rattle.icu_locale_core_preference_keywords.specs.declared.error.PreferencesParseError.{PreferencesParseError}
 use Rattle.icu_locale_core_preference_keywords.specs.declared.error.PreferencesParseError.TheVariants.{InvalidKeywordValue}
 

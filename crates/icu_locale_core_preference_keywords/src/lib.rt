@@ -4,7 +4,7 @@
 //! values state it ([`PreferenceKey`]). The rules are in docs/tags.md, "Typed keywords" and "Preferences".
 //!
 //! ```rust
-//! use icu_locale_core_entries::unicode::Value;
+//! use icu_locale_core_keywords_fields::unicode::Value;
 //! use icu_locale_core_preference_keywords::FirstDay;
 //!
 //! let first = FirstDay::try_from(&Value::try_from_str(alloc, "mon")?)?;      // FirstDay::Mon

@@ -6,7 +6,7 @@ ghost use Rattle.icu_locale_core_grammar.specs.TagPreferences.{one_piece, subdiv
 ghost use Rattle.icu_locale_core_preference_keywords.specs.TypedKeywords.{stated_subdivision, stated_currency};
 
 use crate::subdivision::SubdivisionId;
-use icu_locale_core_entries::unicode::Value;
+use icu_locale_core_keywords_fields::unicode::Value;
 use icu_locale_core_subtags::Subtag;
 use icu_locale_core_subtags::laws::subtags_are_words;
 use tinystr::TinyAsciiStr;

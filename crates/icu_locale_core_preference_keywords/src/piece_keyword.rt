@@ -6,7 +6,7 @@ ghost use Rattle.icu_locale_core_preference_keywords.specs.TypedKeywords.{IsOwnP
 use crate::error::PreferencesParseError;
 use crate::one_piece::OnePiece;
 use crate::preference_key::PreferenceKey;
-use icu_locale_core_entries::unicode::Value;
+use icu_locale_core_keywords_fields::unicode::Value;
 use icu_locale_core_subtags::unicode::Key;
 use std::alloc::{AllocError, Global};
 use std::fmt;

@@ -4,7 +4,7 @@ ghost use Rattle.std.specs.Prelude.{◌≡◌, [], Option, None, Some, Ok, IfOk,
 ghost use Rattle.icu_locale_core_grammar.specs.Subtags.{same_text};
 
 use crate::error::PreferencesParseError;
-use icu_locale_core_entries::unicode::Value;
+use icu_locale_core_keywords_fields::unicode::Value;
 use icu_locale_core_subtags::unicode::Key;
 use std::alloc::{AllocError, Global};
 

@@ -7,7 +7,7 @@ ghost use Rattle.icu_locale_core_preference_keywords.specs.TypedKeywords.{case_o
 use crate::error::PreferencesParseError;
 use crate::laws::words_state_cases;
 use crate::preference_key::PreferenceKey;
-use icu_locale_core_entries::unicode::Value;
+use icu_locale_core_keywords_fields::unicode::Value;
 use icu_locale_core_subtags::Subtag;
 use icu_locale_core_subtags::unicode::Key;
 use std::alloc::{AllocError, Global};

@@ -7,7 +7,7 @@ use Rattle.icu_locale_core_grammar.specs.Subtags.{Text}
 use Rattle.icu_locale_core_grammar.specs.Pieces.{hyphened}
 use Rattle.icu_locale_core_grammar.specs.NormalText.{block_pieces, unicode_block}
 use Rattle.icu_locale_core_grammar.specs.TagPreferences.{Subdivision, subdivision_text, DataLocaleMeaning}
-use Rattle.icu_locale_core_sets.proofs.PrintingLemmas.{bytes_joined, no_bytes}
+use Rattle.icu_locale_core_subtag_lists.proofs.PrintingLemmas.{bytes_joined, no_bytes}
 use Rattle.icu_locale_core_preferences.specs.DataExtensions.{data_unicode}
 use Rattle.icu_locale_core_preferences.specs.DataText.{data_text, piece_tail, keyword_head, subdivision_tail, data_events, data_length}
 

@@ -27,7 +27,7 @@ use Rattle.icu_locale_core_grammar.proofs.NormalTags.{normal_means, normal_again
 use Rattle.icu_locale_core_grammar.proofs.PreferenceLemmas.{subdivision_spells, one_data_meaning, data_reads_back}
 use Rattle.icu_locale_core_grammar.proofs.PreferenceChangeLemmas.{data_locale_is_itself, preferences_read_back, alike_tags_prefer_alike}
 use Rattle.icu_locale_core_grammar.proofs.DataFaults.{data_never_both}
-use Rattle.icu_locale_core_entries.specs.Values.{without_true}
+use Rattle.icu_locale_core_keywords_fields.specs.Values.{without_true}
 use Rattle.icu_locale_core_preferences.specs.DataText.{data_text}
 use Rattle.icu_locale_core_preferences.specs.HeldTag.{held_entry, held_tag, is_true_subdivision}
 use Rattle.icu_locale_core_preferences.specs.Laws.{IsNormalData, IsReadBack, ReadDataReadsBack, NormalDataReadsBack, PreferencesAreHeld, DataIsHeld, AcceptedTextsPreferAlike, DataLocaleIsOfItsTag, TagsHoldNoTrue}

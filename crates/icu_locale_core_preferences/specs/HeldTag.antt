@@ -6,8 +6,8 @@ use Rattle.icu_locale_core_grammar.specs.Subtags.{Text, is_true}
 use Rattle.icu_locale_core_grammar.specs.Collections.{Entry}
 use Rattle.icu_locale_core_grammar.specs.Meaning.{TagMeaning}
 use Rattle.icu_locale_core_grammar.specs.TagPreferences.{Subdivision, subdivision_text}
-use Rattle.icu_locale_core_entries.specs.EntryChanges.{set_entry}
-use Rattle.icu_locale_core_entries.specs.Values.{without_true}
+use Rattle.icu_locale_core_keywords_fields.specs.EntryChanges.{set_entry}
+use Rattle.icu_locale_core_keywords_fields.specs.Values.{without_true}
 
 abbrev pub held_entry : Entry → Entry
 held_entry e = (e.0, without_true e.1)

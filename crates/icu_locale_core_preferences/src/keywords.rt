@@ -4,7 +4,7 @@ ghost use Rattle.std.specs.Prelude.{◌≡◌, ◌&&◌, is_some, is_none, optio
 ghost use Rattle.icu_locale_core_grammar.specs.Collections.{value_at};
 ghost use Rattle.icu_locale_core_grammar.specs.TagPreferences.{subdivision_key, override_key, keyword_subdivision, preferences_of};
 
-use icu_locale_core_entries::unicode::Keywords;
+use icu_locale_core_keywords_fields::unicode::Keywords;
 use icu_locale_core_locale::Locale;
 use icu_locale_core_preference_keywords::{
     NumberingSystem, PreferenceKey, RegionOverride, RegionalSubdivision, SubdivisionId,

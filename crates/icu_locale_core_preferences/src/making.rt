@@ -8,12 +8,12 @@ ghost use Rattle.icu_locale_core_preferences.specs.HeldTag.{held_entry, held_tag
 use crate::data_locale::DataLocale;
 use crate::keywords::key_of;
 use crate::locale_preferences::LocalePreferences;
-use icu_locale_core_entries::unicode::{Keywords, Value};
 use icu_locale_core_extensions::{Extensions, Transform, Unicode};
+use icu_locale_core_keywords_fields::unicode::{Keywords, Value};
 use icu_locale_core_langid::LanguageIdentifier;
 use icu_locale_core_locale::Locale;
 use icu_locale_core_preference_keywords::{RegionOverride, RegionalSubdivision, SubdivisionId};
-use icu_locale_core_sets::{Attributes, Private, Variants};
+use icu_locale_core_subtag_lists::{Attributes, Private, Variants};
 use icu_locale_core_subtags::Variant;
 use icu_locale_core_subtags::unicode::Key;
 use std::alloc::{AllocError, Global};

@@ -6,14 +6,14 @@ ghost use Rattle.icu_locale_core_grammar.specs.declared.error.ParseError.{ParseE
 ghost use Rattle.icu_locale_core_grammar.specs.Pieces.{pieces};
 ghost use Rattle.icu_locale_core_grammar.specs.TagPreferences.{subdivision_key, subdivision_text, subdivision_entries, locale_preferences_of, language_priority};
 ghost use Rattle.icu_locale_core_grammar.specs.DataTags.{IsDataTag, IsRefusedTag, MeansDataLocale, HasDataFault};
-ghost use Rattle.icu_locale_core_locale.specs.Room.{tag_may_grow};
+ghost use Rattle.icu_locale_core_locale.specs.Allocation.{tag_may_grow};
 ghost use Rattle.icu_locale_core_preferences.specs.DataExtensions.{data_extensions, data_unicode};
 
 use crate::data_locale::DataLocale;
 use crate::keywords::key_of;
-use icu_locale_core_entries::unicode::{Keywords, Value};
 use icu_locale_core_extensions::{Extensions, Unicode};
 use icu_locale_core_grammar::ParseError;
+use icu_locale_core_keywords_fields::unicode::{Keywords, Value};
 use icu_locale_core_locale::Locale;
 use icu_locale_core_preference_keywords::{RegionalSubdivision, SubdivisionId};
 use icu_locale_core_subtags::Subtag;

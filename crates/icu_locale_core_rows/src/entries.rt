@@ -11,7 +11,7 @@ use icu_locale_core::ParseError;
 use icu_locale_core::extensions::transform::Fields;
 use icu_locale_core::extensions::unicode::Keywords;
 use icu_locale_core::subtags::{Subtag, SubtagOf};
-use icu_locale_core_entries::{EntriesOf, EntryKind, ValueOf};
+use icu_locale_core_keywords_fields::{EntriesOf, EntryKind, ValueOf};
 use icu_locale_core_subtags::{transform, unicode};
 use std::alloc::Global;
 use std::cmp::Ordering;

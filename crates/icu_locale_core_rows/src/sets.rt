@@ -8,7 +8,7 @@ use crate::unanswered::{Answer, Unanswered};
 use icu_locale_core::ParseError;
 use icu_locale_core::extensions::unicode::Attributes;
 use icu_locale_core::subtags::{SubtagOf, SubtagRule, Variant, Variants};
-use icu_locale_core_sets::{SubtagSet, pieces_length, write_pieces};
+use icu_locale_core_subtag_lists::{SubtagSet, pieces_length, write_pieces};
 use std::alloc::{AllocError, Global};
 use writeable::{TextSink, Writeable};
 

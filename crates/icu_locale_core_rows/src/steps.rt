@@ -2,11 +2,11 @@
 
 use crate::answers::{debug, last_printed, text, two_texts};
 use crate::unanswered::Answer;
-use icu_locale_core_entries::{
-    EntriesOf, EntryKind, HeadedStage, NoHead, Step, headed_after, headed_finish,
+use icu_locale_core_keywords_fields::{
+    EntriesOf, EntryKind, HeadedStage, NoHead, headed_after, headed_finish,
 };
 use icu_locale_core_langid::{LanguageStage, language_after};
-use icu_locale_core_subtags::SubtagIterator;
+use icu_locale_core_subtags::{Step, SubtagIterator};
 use std::alloc::{AllocError, Global};
 
 /// The language identifier behind the pieces of a text and one more, and whether that one was taken.

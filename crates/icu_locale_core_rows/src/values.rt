@@ -9,7 +9,7 @@ use crate::part::{TagPart, copied, part};
 use crate::unanswered::{Answer, Unanswered};
 use icu_locale_core::ParseError;
 use icu_locale_core::subtags::Subtag;
-use icu_locale_core_entries::{EntryKind, ValueOf};
+use icu_locale_core_keywords_fields::{EntryKind, ValueOf};
 use std::alloc::Global;
 use std::cmp::Ordering;
 

@@ -1,7 +1,7 @@
 -- A call that refuses before it has written leaves what was there; a text that is written behind `ok` is the answer.
 use Rattle.std.proofs.Common.{◌≡◌, ◌≤◌, ◌+◌, List, [], ◌∷◌, ◌++◌, ℕ, codes, length, sym, ap, ◌∙◌, subst, arith, Result, Ok, Err, OnOk, OnErr, IsOk}
 use Rattle.std.proofs.lemmas.List.{append-nil, append_assoc, length-append}
-use Rattle.locale_numbers_engine.specs.Growth.{Grows}
+use Rattle.locale_numbers_lines.specs.Growth.{Grows}
 use Rattle.locale_numbers.specs.AnswerLine.{written}
 use Rattle.locale_numbers.specs.Request.{tab}
 

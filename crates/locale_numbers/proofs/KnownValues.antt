@@ -3,7 +3,7 @@ use Rattle.std.proofs.Common.{◌≡◌, [], ◌∷◌, ◌++◌, codes, ◌*◌
 use Rattle.icu_decimal.specs.declared.error.DataError.{DataError}
 use Rattle.icu_decimal.specs.declared.options.GroupingStrategy.TheVariants.{Min2}
 use Rattle.icu_decimal.specs.PlainReading.{decimal, not_written, unreadable}
-use Rattle.locale_numbers_engine.specs.declared.RunError.TheVariants as run
+use Rattle.locale_numbers_lines.specs.declared.RunError.TheVariants as run
 use Rattle.locale_numbers_book.specs.declared.BookError.TheVariants as book
 use Rattle.locale_numbers.specs.declared.request.Form.TheVariants.{Plain, Read}
 use Rattle.locale_numbers.specs.declared.sign_field.SignAsked.TheVariants.{Keep, Show}

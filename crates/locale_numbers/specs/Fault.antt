@@ -4,7 +4,7 @@
 use Rattle.std.specs.Prelude.{ℕ, List, ◌++◌, codes}
 use Rattle.locale_numbers_book.specs.BookError.{word_of}
 use Rattle.locale_numbers_book.specs.declared.BookError.TheVariants.{Memory}
-use Rattle.locale_numbers_engine.specs.declared.RunError.TheVariants as run
+use Rattle.locale_numbers_lines.specs.declared.RunError.TheVariants as run
 use Rattle.locale_numbers.specs.declared.fault.ProgramFault.{ProgramFault}
 use Rattle.locale_numbers.specs.declared.fault.ProgramFault.TheVariants.{Usage, File, Book, Run}
 

@@ -34,9 +34,9 @@ pub use Rattle.locale_numbers_book.specs.Wanted
 pub use Rattle.locale_numbers_cache.specs.Cached
 pub use Rattle.locale_numbers_cache.specs.Laws as CacheLaws
 pub use Rattle.locale_numbers_cache.specs.Recent
-pub use Rattle.locale_numbers_engine.specs.ByteIo
-pub use Rattle.locale_numbers_engine.specs.Laws as LineLaws
-pub use Rattle.locale_numbers_engine.specs.Lines
-pub use Rattle.locale_numbers_engine.specs.Outcomes
-pub use Rattle.locale_numbers_engine.specs.Run
-pub use Rattle.locale_numbers_engine.specs.Tracking
+pub use Rattle.locale_numbers_lines.specs.ByteIo
+pub use Rattle.locale_numbers_lines.specs.Laws as LineLaws
+pub use Rattle.locale_numbers_lines.specs.Lines
+pub use Rattle.locale_numbers_lines.specs.Outcomes
+pub use Rattle.locale_numbers_lines.specs.Run
+pub use Rattle.locale_numbers_lines.specs.Tracking

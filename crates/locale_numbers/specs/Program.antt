@@ -7,7 +7,7 @@ use Rattle.locale_numbers_book.specs.Json.{Reads}
 use Rattle.locale_numbers_book.specs.Book.{BookTables, IsBook}
 use Rattle.locale_numbers_book.specs.Refusal.{IsRefused}
 use Rattle.locale_numbers_book.specs.declared.BookError.TheVariants as refusal
-use Rattle.locale_numbers_engine.specs.declared.RunError.TheVariants as run
+use Rattle.locale_numbers_lines.specs.declared.RunError.TheVariants as run
 use Rattle.locale_numbers.specs.declared.fault.ProgramFault.{ProgramFault}
 use Rattle.locale_numbers.specs.declared.fault.ProgramFault.TheVariants.{Usage, File, Book, Run}
 

@@ -1,7 +1,7 @@
 // The two kinds of answer.
 ghost use Rattle.std.specs.Prelude.{◌≡◌, ◌++◌, IsOk, OnOk, OnErr, string_bytes};
 ghost use Rattle.writeable.specs.AnnotatedText.{text_of};
-ghost use Rattle.locale_numbers_engine.specs.Growth.{Grows};
+ghost use Rattle.locale_numbers_lines.specs.Growth.{Grows};
 ghost use Rattle.locale_numbers.specs.AnswerLine.{refused, written};
 ghost use Rattle.locale_numbers.specs.AnswerSink.{HasRoom};
 

@@ -2,7 +2,7 @@
 ghost use Rattle.std.specs.Prelude.{◌≡◌, ◌∷◌, ◌++◌, IfOk, OnOk, OnErr, string_bytes};
 ghost use Rattle.writeable.specs.AnnotatedText.{text_of};
 ghost use Rattle.icu_decimal.specs.HeldCompact.{compact_tables_of};
-ghost use Rattle.locale_numbers_engine.specs.Growth.{Grows};
+ghost use Rattle.locale_numbers_lines.specs.Growth.{Grows};
 ghost use Rattle.locale_numbers.specs.AnswerLine.{written};
 ghost use Rattle.locale_numbers.specs.CompactAnswer.{compact_answer};
 ghost use Rattle.locale_numbers.specs.Request.{tab};

@@ -2,7 +2,7 @@
 ghost use Rattle.std.specs.Prelude.{◌≡◌, ◌∷◌, ◌++◌, List, Option, Some, IfOk, OnOk, OnErr, IsErrOf, string_bytes};
 ghost use Rattle.fixed_decimal.specs.CompactText.{ReadsLongCompact};
 ghost use Rattle.icu_decimal.specs.HeldCompact.{compact_tables_of};
-ghost use Rattle.locale_numbers_engine.specs.Growth.{Grows};
+ghost use Rattle.locale_numbers_lines.specs.Growth.{Grows};
 ghost use Rattle.locale_numbers.specs.Answer.{exact_to};
 ghost use Rattle.locale_numbers.specs.CompactAnswer.{exact_answer, exact_with, found_compact};
 ghost use Rattle.locale_numbers.specs.CompactReading.{compact_beyond, compact_nothing, compact_number, compact_reading_of};

@@ -1,7 +1,7 @@
 ghost use Rattle.std.specs.Prelude.{◌≡◌, Some};
 
 use locale_numbers_book::BookError;
-use locale_numbers_engine::RunError;
+use locale_numbers_lines::RunError;
 use std::error::Error;
 use std::fmt;
 

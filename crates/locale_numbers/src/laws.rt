@@ -24,7 +24,7 @@ use locale_numbers_book::laws::tables_are_sound;
 pub use locale_numbers_book::laws::{data_locales_are_read, tags_are_read};
 use locale_numbers_cache::laws::equal_keys_are_one;
 pub use locale_numbers_cache::laws::{last_used_are_kept, unused_keys_miss};
-pub use locale_numbers_engine::laws::{
+pub use locale_numbers_lines::laws::{
     each_input_splits, lines_are_the_pieces, outputs_join, whole_lines_are_the_pieces,
 };
 

@@ -45,7 +45,7 @@ mod words;
 pub use answering::answer;
 pub use fault::ProgramFault;
 pub use locale_numbers_book::{Book, BookError, FormatterError, SAMPLE_BOOK};
-pub use locale_numbers_engine::{
+pub use locale_numbers_lines::{
     ByteReadFault, ByteReader, ByteWriteFault, ByteWriter, Report, RunError, Tracked,
 };
 pub use program_run::program;

@@ -9,7 +9,7 @@ use crate::refusal::Refusal;
 use crate::request::cut_text;
 use crate::tables::Tables;
 use locale_numbers_cache::ReadKeys;
-use locale_numbers_engine::Answerer;
+use locale_numbers_lines::Answerer;
 use std::alloc::{AllocError, Global};
 
 /// Formatters that are kept, and the fronts that were read.

@@ -4,7 +4,7 @@ ghost use Rattle.fixed_decimal.specs.Number.{Number};
 ghost use Rattle.fixed_decimal.specs.SignedText.{ReadsLongSigned};
 ghost use Rattle.icu_decimal.specs.HeldTables.{tables_of};
 ghost use Rattle.icu_decimal.specs.PlainText.{decimal_text};
-ghost use Rattle.locale_numbers_engine.specs.Growth.{Grows};
+ghost use Rattle.locale_numbers_lines.specs.Growth.{Grows};
 ghost use Rattle.locale_numbers.specs.Answer.{written, answer_to};
 ghost use Rattle.locale_numbers.specs.AnswerSink.{HasRoom};
 ghost use Rattle.locale_numbers.specs.Changing.{MayGrowRead};

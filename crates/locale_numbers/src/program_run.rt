@@ -1,7 +1,7 @@
 ghost use Rattle.std.specs.Prelude.{◌≡◌, ◌≤◌, false, true, IfOk, IfErr, OnOk, IsErrOf, IsSome, IsNone};
 ghost use Rattle.std.specs.IoError.{error_kind};
 ghost use Rattle.std.specs.declared.io.ErrorKind.TheVariants.{OutOfMemory};
-ghost use Rattle.locale_numbers_engine.specs.Run.{WritesAll, WritesTold, WritesPart, WritesFirst, CountsLines, CountsMade, MayReadOnceAnswered};
+ghost use Rattle.locale_numbers_lines.specs.Run.{WritesAll, WritesTold, WritesPart, WritesFirst, CountsLines, CountsMade, MayReadOnceAnswered};
 ghost use Rattle.locale_numbers_book.specs.Book.{BookTables};
 ghost use Rattle.locale_numbers.specs.Answer.{answer_of};
 ghost use Rattle.locale_numbers.specs.FormatterKeys.{makes, same_keys};
@@ -14,7 +14,7 @@ use crate::words::Words;
 use icu_decimal::DecimalFormatterPreferences;
 use icu_decimal::options::GroupingStrategy;
 use locale_numbers_book::{Book, BookError, SAMPLE_BOOK, book_from};
-use locale_numbers_engine::{ByteReader, ByteWriter, Report, RunError};
+use locale_numbers_lines::{ByteReader, ByteWriter, Report, RunError};
 use std::alloc::Global;
 use std::io::Read;
 use std::rt::Files;

@@ -3,7 +3,7 @@ ghost use Rattle.std.specs.Prelude.{◌≡◌, ◌∷◌, ◌++◌, List, Option
 ghost use Rattle.fixed_decimal.specs.SignedText.{signed_text_of};
 ghost use Rattle.icu_decimal.specs.HeldTables.{tables_of};
 ghost use Rattle.icu_decimal.specs.PlainReading.{HasManyDigits, IsAnswered, plain_reading};
-ghost use Rattle.locale_numbers_engine.specs.Growth.{Grows};
+ghost use Rattle.locale_numbers_lines.specs.Growth.{Grows};
 ghost use Rattle.locale_numbers.specs.Answer.{found_in};
 ghost use Rattle.locale_numbers.specs.AnswerLine.{written};
 ghost use Rattle.locale_numbers.specs.AnswerSink.{HasRoom};

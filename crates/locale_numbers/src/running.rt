@@ -1,6 +1,6 @@
 ghost use Rattle.std.specs.Prelude.{◌≡◌, ◌≤◌, false, true, IfOk, OnOk, IsErrOf};
-ghost use Rattle.locale_numbers_engine.specs.Outcomes.{ends_in_write};
-ghost use Rattle.locale_numbers_engine.specs.Run.{WritesAll, WritesTold, WritesPart, WritesFirst, CountsLines, CountsMade, MayReadOnceAnswered};
+ghost use Rattle.locale_numbers_lines.specs.Outcomes.{ends_in_write};
+ghost use Rattle.locale_numbers_lines.specs.Run.{WritesAll, WritesTold, WritesPart, WritesFirst, CountsLines, CountsMade, MayReadOnceAnswered};
 ghost use Rattle.locale_numbers.specs.Answer.{answer_of};
 ghost use Rattle.locale_numbers.specs.FormatterKeys.{makes, same_keys};
 
@@ -12,7 +12,7 @@ use crate::tables::Tables;
 use icu_decimal::DecimalFormatterPreferences;
 use icu_decimal::options::GroupingStrategy;
 use locale_numbers_cache::{FormatterCache, ReadKeys};
-use locale_numbers_engine::{ByteReader, ByteWriter, Report, RunError, run_with};
+use locale_numbers_lines::{ByteReader, ByteWriter, Report, RunError, run_with};
 use std::alloc::Global;
 
 /// Answers each line that `reader` gives, in order, onto `writer`, each answer with a line feed.

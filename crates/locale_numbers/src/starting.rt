@@ -1,7 +1,7 @@
 ghost use Rattle.std.specs.Prelude.{◌≡◌, ◌≤◌, ◌⊎◌, ◌↔◌, ℕ, List, false, true, None, Some, Err, map, option_map, string_bytes, IfOk, IfErr, OnOk, IsErrOf};
 ghost use Rattle.std.specs.IoError.{error_kind};
 ghost use Rattle.std.specs.declared.io.ErrorKind.TheVariants.{OutOfMemory};
-ghost use Rattle.locale_numbers_engine.specs.Run.{WritesAll, WritesTold, WritesPart, WritesFirst, MayReadOnceAnswered};
+ghost use Rattle.locale_numbers_lines.specs.Run.{WritesAll, WritesTold, WritesPart, WritesFirst, MayReadOnceAnswered};
 ghost use Rattle.locale_numbers_book.specs.Book.{BookTables};
 ghost use Rattle.locale_numbers.specs.Answer.{answer_of};
 ghost use Rattle.locale_numbers.specs.Program.{Says, OfSomeBook, IsOfWords, MayStart, IsBeforeLines};
@@ -10,7 +10,7 @@ ghost use Rattle.locale_numbers.specs.Words.{words_said};
 use crate::fault::ProgramFault;
 use crate::program_run::program;
 use crate::words::{Words, read_words};
-use locale_numbers_engine::{ByteReader, ByteWriter, RunError};
+use locale_numbers_lines::{ByteReader, ByteWriter, RunError};
 use std::alloc::Global;
 use std::env::{self, Env};
 use std::io::{self, ErrorKind};

@@ -1,4 +1,4 @@
--- A value is one book at most, and what its arrays say of it: `specs/Book.antt` and `specs/Room.antt`.
+-- A value is one book at most, and what its arrays say of it: `specs/Book.antt` and `specs/Allocation.antt`.
 use Rattle.std.proofs.Common.{◌≡◌, Bool, true, ◌||◌, Option, Some, None, [], option_and_then, unwrap_or, refl, sym, ap, ◌∙◌, subst}
 use Rattle.std.specs.Prelude.{Result, Ok, Err, IfErr, IsErrAnd}
 use Rattle.std.specs.Option.{option_or}
@@ -15,7 +15,7 @@ use Rattle.locale_numbers_book.specs.Form.{arrays_fault, book_fault}
 use Rattle.locale_numbers_tables.specs.Keys.{same_data_locale, same_key, table_in}
 use Rattle.locale_numbers_book.specs.ParentEntries.{parent_entry, parents_faults}
 use Rattle.locale_numbers_tables.specs.Telling.{IsTold}
-use Rattle.locale_numbers_book.specs.BookRoom.{arrays_may_grow, book_may_grow}
+use Rattle.locale_numbers_book.specs.BookAllocation.{arrays_may_grow, book_may_grow}
 use Rattle.locale_numbers_tables.specs.RulesEntries.{rules_entry}
 use Rattle.locale_numbers_tables.proofs.FaultLemmas.{told_at, told_first}
 use Rattle.locale_numbers_tables.proofs.TableLemmas.{either, front_true}

@@ -1,10 +1,10 @@
--- Where an entry of parents may want memory: `specs/BookRoom.antt`.
+-- Where an entry of parents may want memory: `specs/BookAllocation.antt`.
 use Rattle.std.proofs.Common.{◌≡◌, Bool, true, false, ◌||◌, ◌&&◌, not, None, Some, List, is_some, refl, ap}
 use Rattle.serde_json.specs.Data.{Data}
 use Rattle.locale_numbers_parents.specs.Parents.{Entry, leads_to, listed_parent}
-use Rattle.locale_numbers_tables.specs.Room.{locale_may_grow}
+use Rattle.locale_numbers_tables.specs.Allocation.{locale_may_grow}
 use Rattle.locale_numbers_tables.proofs.TableLemmas.{either, front_true}
-use Rattle.locale_numbers_book.specs.BookRoom.{parent_may_grow}
+use Rattle.locale_numbers_book.specs.BookAllocation.{parent_may_grow}
 use Rattle.locale_numbers_book.specs.ParentEntries.{has_parent_shape, parent_entry, parent_fault}
 
 -- it has two texts, and asks for memory for a locale of them

@@ -6,7 +6,7 @@ pub mod Form
 pub mod Book
 pub mod SampleBook
 pub mod Refusal
-pub mod BookRoom
+pub mod BookAllocation
 pub mod Tables
 pub mod Laws
 pub mod Arrays

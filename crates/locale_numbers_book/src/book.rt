@@ -7,7 +7,7 @@ ghost use Rattle.locale_numbers_book.specs.Book.{IsBook};
 ghost use Rattle.locale_numbers_book.specs.Form.{arrays_fault, book_fault};
 ghost use Rattle.locale_numbers_book.specs.Json.{Reads};
 ghost use Rattle.locale_numbers_book.specs.Refusal.{IsRefused};
-ghost use Rattle.locale_numbers_book.specs.BookRoom.{arrays_may_grow, book_may_grow};
+ghost use Rattle.locale_numbers_book.specs.BookAllocation.{arrays_may_grow, book_may_grow};
 ghost use Rattle.locale_numbers_tables.specs.Telling.{IsTold};
 
 use crate::json::{Arrays, arrays_of, parents_in, value_of};

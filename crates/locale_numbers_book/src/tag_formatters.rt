@@ -5,7 +5,7 @@ ghost use Rattle.icu_decimal.specs.HeldCompact.{compact_tables_of};
 ghost use Rattle.icu_decimal.specs.HeldTables.{tables_of};
 ghost use Rattle.icu_locale_core.specs.Pieces.{pieces};
 ghost use Rattle.icu_locale_core.specs.SingleVariant.{SingleMeaning, MeansSingle};
-ghost use Rattle.icu_locale_core.specs.TagRoom.{tag_may_grow};
+ghost use Rattle.icu_locale_core.specs.TagAllocation.{tag_may_grow};
 ghost use Rattle.locale_numbers_book.specs.TagFormatters.{compact_for, found_beside, plain_for, short_for, long_for};
 ghost use Rattle.locale_numbers_book.specs.Wanted.{wanted_of};
 ghost use Rattle.locale_numbers_book.specs.declared.formatter_error.FormatterError.{FormatterError};

@@ -5,7 +5,7 @@ ghost use Rattle.icu_locale_core.specs.SingleModes.{single};
 ghost use Rattle.icu_locale_core.specs.SingleVariant.{SingleMeaning, MeansSingle, single_tag};
 ghost use Rattle.icu_locale_core.specs.Subtags.{is_true};
 ghost use Rattle.icu_locale_core.specs.TagPreferences.{preferences_of};
-ghost use Rattle.icu_locale_core.specs.TagRoom.{tag_may_grow};
+ghost use Rattle.icu_locale_core.specs.TagAllocation.{tag_may_grow};
 ghost use Rattle.locale_numbers_book.specs.Wanted.{wanted_of};
 
 use icu_decimal::DecimalFormatterPreferences;

@@ -3,7 +3,7 @@
 -- Cited by `Shouter` only.
 use Rattle.std.specs.Prelude.{ℕ, ◌+◌, min, nat_lt, List, length, map, if◌then◌else◌}
 use Rattle.std.specs.Char.{to_ascii_uppercase}
-use Rattle.locale_numbers_engine.specs.Run.{most}
+use Rattle.locale_numbers_lines.specs.Run.{most}
 
 -- a byte as it is answered
 abbrev pub shouted : ℕ → ℕ

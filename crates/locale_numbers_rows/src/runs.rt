@@ -11,7 +11,7 @@ use crate::row_error::RowError;
 use crate::shouter::Shouter;
 use crate::taking::Taking;
 use locale_numbers::{Book, ByteReader, ByteWriter, Report, RunError, Tracked, run};
-use locale_numbers_engine::run_with;
+use locale_numbers_lines::run_with;
 use std::alloc::Global;
 
 /// A reader of bytes.

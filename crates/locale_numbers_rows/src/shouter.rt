@@ -2,7 +2,7 @@
 ghost use Rattle.std.specs.Prelude.{◌≡◌, ◌<◌, ◌^◌, string_bytes};
 ghost use Rattle.locale_numbers_rows.specs.Shouting.{shout, shouted, answers_after};
 
-use locale_numbers_engine::Answerer;
+use locale_numbers_lines::Answerer;
 use std::alloc::AllocError;
 
 /// Answers in upper case, and counts its answers. Memory runs out for it after some of them, in

@@ -10,7 +10,7 @@ use Rattle.locale_numbers_tables.specs.Entries.{field_at, has_count, is_text_at}
 use Rattle.locale_numbers_tables.specs.Faults.{compact_fault, first_broken, has_locale}
 use Rattle.locale_numbers_tables.specs.Fields.{system_or_none_in}
 use Rattle.locale_numbers_tables.specs.Telling.{IsTold}
-use Rattle.locale_numbers_tables.specs.Room.{compact_may_grow}
+use Rattle.locale_numbers_tables.specs.Allocation.{compact_may_grow}
 use Rattle.locale_numbers_tables.proofs.FaultLemmas.{told_at, told_first}
 
 abbrev whole : Bool → Bool → Bool → Bool → Bool → Bool → Bool → Bool → Bool → Bool → Option BookError

@@ -9,7 +9,7 @@ use Rattle.locale_numbers_tables.specs.CompactEntries.{rows_in, zero_in}
 use Rattle.locale_numbers_tables.specs.Entries.{has_count, field_at, is_text_at}
 use Rattle.locale_numbers_tables.specs.Faults.{compact_fault, digits_fault, has_symbols_shape, rules_fault, symbols_fault}
 use Rattle.locale_numbers_tables.specs.Keys.{table_at}
-use Rattle.locale_numbers_tables.specs.Room.{compact_may_grow, digits_may_grow, locale_may_grow, rules_may_grow, symbols_may_grow}
+use Rattle.locale_numbers_tables.specs.Allocation.{compact_may_grow, digits_may_grow, locale_may_grow, rules_may_grow, symbols_may_grow}
 use Rattle.locale_numbers_tables.specs.RulesEntries.{conditions_in}
 use Rattle.locale_numbers_tables.specs.Telling.{IsTold}
 use Rattle.locale_numbers_tables.proofs.TableLemmas.{either}

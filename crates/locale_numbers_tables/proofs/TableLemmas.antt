@@ -1,4 +1,4 @@
--- One more entry of an array: `specs/Keys.antt` and `specs/Room.antt`.
+-- One more entry of an array: `specs/Keys.antt` and `specs/Allocation.antt`.
 use Rattle.std.proofs.Common.{get_or, drop, drop-cons, add-one, ◌<◌, true≢false, append_assoc, ◌≡◌, if◌then◌else◌, ℕ, ◌+◌, suc, Bool, true, false, ◌&&◌, ◌||◌, not, List, [], ◌∷◌, ◌++◌, length, Option, Some, None, is_some, option_map, refl, sym, ap, ◌∙◌, arith}
 use Rattle.serde_json.specs.Data.{Data, Items}
 use Rattle.serde_json.specs.View.{items_view, view}

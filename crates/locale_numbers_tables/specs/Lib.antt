@@ -8,5 +8,5 @@ pub mod RulesEntries
 pub mod CompactEntries
 pub mod Faults
 pub mod CompactSteps
-pub mod Room
+pub mod Allocation
 pub mod Adding

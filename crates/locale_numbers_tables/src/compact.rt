@@ -10,7 +10,7 @@ ghost use Rattle.locale_numbers_tables.specs.CompactSteps.{has_table_shape, key_
 ghost use Rattle.locale_numbers_tables.specs.Entries.{all_of, field_at, entry_key};
 ghost use Rattle.locale_numbers_tables.specs.Faults.{compact_fault};
 ghost use Rattle.locale_numbers_tables.specs.Telling.{IsTold};
-ghost use Rattle.locale_numbers_tables.specs.Room.{compact_may_grow};
+ghost use Rattle.locale_numbers_tables.specs.Allocation.{compact_may_grow};
 
 use crate::BookError;
 use crate::entry::Entry;
@@ -331,7 +331,7 @@ impl Entry for CompactPatterns {
     ghost use Rattle.locale_numbers_tables.specs.CompactEntries.{compact_entry};
     ghost use Rattle.locale_numbers_tables.specs.Entries.{entry_key};
     ghost use Rattle.locale_numbers_tables.specs.Faults.{compact_fault};
-    ghost use Rattle.locale_numbers_tables.specs.Room.{compact_may_grow};
+    ghost use Rattle.locale_numbers_tables.specs.Allocation.{compact_may_grow};
 
     type Key = DataIdentifier;
 

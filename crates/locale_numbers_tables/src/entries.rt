@@ -5,7 +5,7 @@ ghost use Rattle.icu_decimal.specs.Symbols.{SymbolStrings};
 ghost use Rattle.locale_numbers_tables.specs.Entries.{grouping_sizes_of, symbol_texts, has_count, has_texts, symbols_entry, digits_entry, digits_key, entry_key};
 ghost use Rattle.locale_numbers_tables.specs.Faults.{has_symbols_shape, symbols_fault, has_digits_shape, digits_fault};
 ghost use Rattle.locale_numbers_tables.specs.Telling.{IsTold};
-ghost use Rattle.locale_numbers_tables.specs.Room.{symbols_may_grow, digits_may_grow};
+ghost use Rattle.locale_numbers_tables.specs.Allocation.{symbols_may_grow, digits_may_grow};
 
 use crate::BookError;
 use crate::entry::Entry;
@@ -169,7 +169,7 @@ pub fn digits_entry(
 impl Entry for DecimalSymbols {
     ghost use Rattle.locale_numbers_tables.specs.Entries.{entry_key, symbols_entry};
     ghost use Rattle.locale_numbers_tables.specs.Faults.{symbols_fault};
-    ghost use Rattle.locale_numbers_tables.specs.Room.{symbols_may_grow};
+    ghost use Rattle.locale_numbers_tables.specs.Allocation.{symbols_may_grow};
 
     type Key = DataIdentifier;
 
@@ -193,7 +193,7 @@ impl Entry for DecimalSymbols {
 impl Entry for [char; 10] {
     ghost use Rattle.locale_numbers_tables.specs.Entries.{digits_entry, digits_key};
     ghost use Rattle.locale_numbers_tables.specs.Faults.{digits_fault};
-    ghost use Rattle.locale_numbers_tables.specs.Room.{digits_may_grow};
+    ghost use Rattle.locale_numbers_tables.specs.Allocation.{digits_may_grow};
 
     type Key = TinyAsciiStr<8>;
 

@@ -5,8 +5,8 @@ ghost use Rattle.serde_json.specs.View.{view};
 ghost use Rattle.serde_json.specs.Find.{as_str};
 ghost use Rattle.icu_locale_core.specs.Pieces.{pieces};
 ghost use Rattle.locale_numbers_tables.specs.Entries.{field_at, has_count, is_text_at, text_or_empty};
-ghost use Rattle.icu_locale_core.specs.TagRoom.{tag_may_grow};
-ghost use Rattle.locale_numbers_tables.specs.Room.{locale_may_grow};
+ghost use Rattle.icu_locale_core.specs.TagAllocation.{tag_may_grow};
+ghost use Rattle.locale_numbers_tables.specs.Allocation.{locale_may_grow};
 ghost use Rattle.locale_numbers_tables.specs.TagReading.{data_locale_of};
 ghost use Rattle.locale_numbers_tables.specs.Fields.{is_plain, is_small_letter_or_digit, is_system_name, plain_text_in, system_named, system_in, system_or_none_in, locale_in, size_in, digits_in, ten_characters};
 

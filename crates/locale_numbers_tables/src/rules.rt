@@ -7,7 +7,7 @@ ghost use Rattle.locale_numbers_tables.specs.Entries.{field_at};
 ghost use Rattle.locale_numbers_tables.specs.Faults.{rules_fault};
 ghost use Rattle.locale_numbers_tables.specs.Keys.{table_at, table_in};
 ghost use Rattle.locale_numbers_tables.specs.Telling.{IsTold};
-ghost use Rattle.locale_numbers_tables.specs.Room.{rules_may_grow};
+ghost use Rattle.locale_numbers_tables.specs.Allocation.{rules_may_grow};
 ghost use Rattle.locale_numbers_tables.specs.RulesEntries.{category_in, condition_in, conditions_in, rules_entry, rules_key};
 
 use crate::BookError;
@@ -135,7 +135,7 @@ pub fn rules_entry(alloc: Global, entry: &Value) -> Result<(DataLocale, PluralRu
 
 impl Entry for PluralRules {
     ghost use Rattle.locale_numbers_tables.specs.Faults.{rules_fault};
-    ghost use Rattle.locale_numbers_tables.specs.Room.{rules_may_grow};
+    ghost use Rattle.locale_numbers_tables.specs.Allocation.{rules_may_grow};
     ghost use Rattle.locale_numbers_tables.specs.RulesEntries.{rules_entry, rules_key};
 
     type Key = DataLocale;

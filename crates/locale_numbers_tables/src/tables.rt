@@ -6,7 +6,7 @@ ghost use Rattle.locale_numbers_tables.specs.Adding.{Adds};
 ghost use Rattle.locale_numbers_tables.specs.Faults.{first_fault_behind};
 ghost use Rattle.locale_numbers_tables.specs.Keys.{table_in};
 ghost use Rattle.locale_numbers_tables.specs.Telling.{IsTold};
-ghost use Rattle.locale_numbers_tables.specs.Room.{begins_with};
+ghost use Rattle.locale_numbers_tables.specs.Allocation.{begins_with};
 
 use crate::BookError;
 use crate::entry::Entry;

@@ -6,7 +6,7 @@ use crate::sets::subtag;
 use icu_locale_core::extensions::transform::Fields;
 use icu_locale_core::extensions::unicode::{Keywords, Unicode, Value};
 use icu_locale_core::subtags::{Subtag, SubtagOf};
-use icu_locale_core_entries::{EntriesOf, EntryKind, ValueOf};
+use icu_locale_core_keywords_fields::{EntriesOf, EntryKind, ValueOf};
 use rows::{Stop, put_last};
 use std::alloc::{AllocError, Global};
 

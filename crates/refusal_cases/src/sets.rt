@@ -5,7 +5,7 @@ use crate::change::{Argument, Change, Receiver, answer as changed};
 use icu_locale_core::extensions::private::{Private, Subtag};
 use icu_locale_core::extensions::unicode::Attributes;
 use icu_locale_core::subtags::{SubtagOf, SubtagRule, Variants};
-use icu_locale_core_sets::SubtagSet;
+use icu_locale_core_subtag_lists::SubtagSet;
 use rows::{Stop, filled, put_last};
 use std::alloc::{AllocError, Global};
 

@@ -13,7 +13,7 @@ use super::slots::{has_count, slots_of};
 use crate::borrowed::BorrowedPattern;
 use crate::elements::PluralElements;
 use crate::kept::fault_of;
-use icu_decimal_shown::CompactEntry;
+use icu_decimal_compact_value::CompactEntry;
 use icu_decimal_symbols::error::DataError;
 use serde_json::Value;
 

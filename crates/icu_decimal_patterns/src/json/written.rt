@@ -10,7 +10,7 @@ use crate::borrowed::BorrowedTexts;
 use crate::compact_patterns::CompactPatterns;
 use crate::elements::PluralElements;
 use crate::pattern::Pattern;
-use icu_decimal_shown::CompactEntry;
+use icu_decimal_compact_value::CompactEntry;
 use serde_json::{Value, json};
 use std::alloc::{AllocError, Global};
 

@@ -6,23 +6,21 @@ ghost use Rattle.icu_locale_core_grammar.specs.Stepping.{InFront, InBlock};
 ghost use Rattle.icu_locale_core_grammar.specs.TagStages.{body_after as body_stage_after, language_after as language_stage_after};
 ghost use Rattle.icu_locale_core_grammar.specs.Meaning.{put_part as put_meaning};
 ghost use Rattle.icu_locale_core_extensions.specs.BodyView.{body_key, body_view, is_other_part, part_view, HasKey};
-ghost use Rattle.icu_locale_core_extensions.specs.Room.{body_keeps};
-ghost use Rattle.icu_locale_core_langid.specs.Room.{grows_at};
-ghost use Rattle.icu_locale_core_locale.specs.Room.{tag_grows_at, tag_keeps};
+ghost use Rattle.icu_locale_core_extensions.specs.Allocation.{body_keeps};
+ghost use Rattle.icu_locale_core_langid.specs.Allocation.{grows_at};
+ghost use Rattle.icu_locale_core_locale.specs.Allocation.{tag_grows_at, tag_keeps};
 ghost use Rattle.icu_locale_core_locale.specs.StageView.{singletons, stage_view, block_view, stage_behind, GoesOn, Ends, HasFewBefore};
 
 use crate::locale::Locale;
 use crate::parser::attempt::Attempt;
 use crate::parser::singletons::{Singletons, has_come, key_of, opens_private};
-use icu_locale_core_entries::Step;
 use icu_locale_core_extensions::{
     BodyStage, Extensions, Part, body_after, body_finish, is_one_character, opened_body, put_part,
 };
 use icu_locale_core_grammar::ParseError;
-use icu_locale_core_langid::{
-    LanguageIdentifier, LanguageStage, Step as LanguageStep, language_after,
-};
-use icu_locale_core_sets::Private;
+use icu_locale_core_langid::{LanguageIdentifier, LanguageStage, language_after};
+use icu_locale_core_subtag_lists::Private;
+use icu_locale_core_subtags::Step;
 use icu_locale_core_subtags::private::Subtag;
 use std::alloc::{AllocError, Global};
 
@@ -108,9 +106,9 @@ fn after_language(
     ensures room { grows_at language piece.now ≡ false → IsOk result }
 {
     match language_after(alloc, language, piece)? {
-        LanguageStep::Taken(next) => Ok(Attempt::Goes(LocaleStage::InLanguage(next))),
-        LanguageStep::Refused(None) => Ok(Attempt::Stops(ParseError::InvalidLanguage)),
-        LanguageStep::Refused(Some(id)) => Ok(after_identifier(alloc, id.settled(), piece)),
+        Step::Taken(next) => Ok(Attempt::Goes(LocaleStage::InLanguage(next))),
+        Step::Refused(None) => Ok(Attempt::Stops(ParseError::InvalidLanguage)),
+        Step::Refused(Some(id)) => Ok(after_identifier(alloc, id.settled(), piece)),
     }
 }
 

@@ -8,7 +8,7 @@ ghost use Rattle.icu_locale_core_preference_keywords.specs.WordLaws.{case_first_
 use crate::error::PreferencesParseError;
 use crate::preference_key::PreferenceKey;
 use crate::word_keyword::WordKeyword;
-use icu_locale_core_entries::unicode::Value;
+use icu_locale_core_keywords_fields::unicode::Value;
 
 /// Which case is sorted first, key `kf`: `upper`, `lower` or `false`.
 ///

@@ -10,7 +10,7 @@ use crate::error::PreferencesParseError;
 use crate::piece_keyword::{PieceKey, PieceKeyword};
 use crate::preference_key::PreferenceKey;
 use crate::word_keyword::WordKeyword;
-use icu_locale_core_entries::unicode::Value;
+use icu_locale_core_keywords_fields::unicode::Value;
 use icu_locale_core_subtags::unicode::Key;
 use tinystr::TinyAsciiStr;
 

@@ -8,7 +8,7 @@ ghost use Rattle.icu_locale_core_preference_keywords.specs.WordLaws.{line_break_
 use crate::error::PreferencesParseError;
 use crate::preference_key::PreferenceKey;
 use crate::word_keyword::WordKeyword;
-use icu_locale_core_entries::unicode::Value;
+use icu_locale_core_keywords_fields::unicode::Value;
 
 /// How strictly lines are broken, key `lb`: `strict`, `normal` or `loose`.
 ///

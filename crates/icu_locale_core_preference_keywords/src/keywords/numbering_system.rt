@@ -1,7 +1,7 @@
 //! The numbering system.
 
 ghost use Rattle.std.specs.Prelude.{◌≡◌, [], ◌∷◌};
-ghost use Rattle.icu_locale_core_entries.specs.Values.{without_true};
+ghost use Rattle.icu_locale_core_keywords_fields.specs.Values.{without_true};
 ghost use Rattle.icu_locale_core_grammar.specs.Subtags.{is_true};
 ghost use Rattle.icu_locale_core_grammar.specs.TagPreferences.{numbering_key, one_piece};
 ghost use Rattle.icu_locale_core_preference_keywords.specs.TypedKeywords.{IsReading};

@@ -6,9 +6,9 @@ ghost use Rattle.locale_numbers_tables.specs.declared.BookError.TheVariants.{Sha
 ghost use Rattle.locale_numbers_tables.specs.Entries.{all_of};
 ghost use Rattle.locale_numbers_tables.specs.Faults.{first_broken};
 ghost use Rattle.locale_numbers_book.specs.ParentEntries.{AddsParent, has_parent_shape, parent_entry, parent_fault, parents_faults};
-ghost use Rattle.locale_numbers_tables.specs.Room.{begins_with, locale_may_grow};
+ghost use Rattle.locale_numbers_tables.specs.Allocation.{begins_with, locale_may_grow};
 ghost use Rattle.locale_numbers_tables.specs.Telling.{IsTold};
-ghost use Rattle.locale_numbers_book.specs.BookRoom.{parent_may_grow};
+ghost use Rattle.locale_numbers_book.specs.BookAllocation.{parent_may_grow};
 
 use icu_locale_core::DataLocale;
 use locale_numbers_parents::{ParentFault, Parents};

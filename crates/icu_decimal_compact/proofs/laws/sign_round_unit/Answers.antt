@@ -1,7 +1,7 @@
 use Rattle.std.specs.Prelude.{List, ℕ}
 use Rattle.writeable.proofs.AnnotatedTextLemmas.{text_of_bytes}
 use Rattle.icu_decimal_plain.specs.Affixes.{affixes_of}
-use Rattle.icu_decimal_text.specs.HeldTables.{tables_of}
+use Rattle.icu_decimal_formatter.specs.HeldTables.{tables_of}
 use Rattle.icu_decimal_plain.specs.PlainText.{PlainNumber, unsigned_events, unsigned_text}
 use Rattle.icu_decimal_plain.proofs.TextLemmas.{unsigned_is_text}
 use Rattle.writeable.specs.AnnotatedText.{bytes}

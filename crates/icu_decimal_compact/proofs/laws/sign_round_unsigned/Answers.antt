@@ -1,4 +1,4 @@
-use Rattle.icu_decimal_text.specs.HeldTables.{tables_of}
+use Rattle.icu_decimal_formatter.specs.HeldTables.{tables_of}
 use Rattle.icu_decimal_plain.proofs.TextLemmas.{decimal_is_text}
 use Rattle.icu_decimal_compact.specs.HeldCompact.{compact_tables_of}
 use Rattle.icu_decimal_compact.proofs.CompactTextLemmas.{compact_is_text}

@@ -1,7 +1,7 @@
 use Rattle.std.proofs.Common.{ap, ◌∙◌}
 use Rattle.icu_decimal_chains.specs.Chains.{chain}
 use Rattle.icu_decimal_symbols.specs.declared.options.DecimalFormatterOptions.{DecimalFormatterOptions}
-use Rattle.icu_decimal_text.specs.FoundTables.{found_tables}
+use Rattle.icu_decimal_formatter.specs.FoundTables.{found_tables}
 use Rattle.icu_decimal_compact.proofs.loading.load_plain.Goals as goal
 
 pub returns : goal.returns

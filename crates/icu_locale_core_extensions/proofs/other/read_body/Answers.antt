@@ -2,8 +2,8 @@ use Rattle.std.proofs.Common.{◌≡◌, true, false, [], sym, refl, ◌∙◌, 
 use Rattle.icu_locale_core_grammar.specs.Subtags.{is_other_piece}
 use Rattle.icu_locale_core_grammar.specs.TagStages.{other_after}
 use Rattle.icu_locale_core_grammar.proofs.BodyReaders.{other_reader}
-use Rattle.icu_locale_core_entries.proofs.ReadingLemmas.{reading_goes_on, reading_meant, reading_refused}
-use Rattle.icu_locale_core_extensions.proofs.RoomLemmas.{nothing_grows, other_passes}
+use Rattle.icu_locale_core_keywords_fields.proofs.ReadingLemmas.{reading_goes_on, reading_meant, reading_refused}
+use Rattle.icu_locale_core_extensions.proofs.AllocationLemmas.{nothing_grows, other_passes}
 use Rattle.icu_locale_core_extensions.proofs.other.read_body.Goals as goal
 
 pub loop-piece-preserved : goal.loop-piece-preserved

@@ -1,6 +1,6 @@
 use Rattle.std.proofs.Common.{◌≡◌, []}
 use Rattle.icu_locale_core_grammar.specs.TagStages.{other_after}
-use Rattle.icu_locale_core_entries.proofs.ReadingLemmas.{IsReading}
+use Rattle.icu_locale_core_keywords_fields.proofs.ReadingLemmas.{IsReading}
 use Rattle.icu_locale_core_extensions.proofs.other.read_body.Given as goal
 
 abbrev pub invariant-loop-piece : goal.invariant-loop-piece

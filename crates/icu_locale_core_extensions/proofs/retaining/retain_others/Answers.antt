@@ -1,5 +1,5 @@
 use Rattle.std.proofs.Common.{of_calls, arith, Bool, true, false, subst}
-use Rattle.icu_locale_core_entries.proofs.RetainLemmas.{retaining_begins, retaining_keeps, retaining_drops}
+use Rattle.icu_locale_core_keywords_fields.proofs.RetainLemmas.{retaining_begins, retaining_keeps, retaining_drops}
 use Rattle.icu_locale_core_extensions.specs.declared.extension_type.ExtensionType.{ExtensionType}
 use Rattle.icu_locale_core_extensions.proofs.retaining.retain_others.Goals as goal
 

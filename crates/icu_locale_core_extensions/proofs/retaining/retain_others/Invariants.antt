@@ -1,5 +1,5 @@
 use Rattle.std.proofs.Common.{◌-◌, vec_len}
-use Rattle.icu_locale_core_entries.proofs.RetainLemmas.{IsRetaining}
+use Rattle.icu_locale_core_keywords_fields.proofs.RetainLemmas.{IsRetaining}
 use Rattle.icu_locale_core_extensions.specs.RetainedByType.{other_type}
 use Rattle.icu_locale_core_extensions.proofs.retaining.retain_others.Given as goal
 

@@ -3,11 +3,11 @@ use Rattle.icu_locale_core_grammar.specs.Subtags.{is_field_key}
 use Rattle.icu_locale_core_grammar.specs.Stepping.{InHead}
 use Rattle.icu_locale_core_grammar.specs.TagStages.{transform_after}
 use Rattle.icu_locale_core_grammar.proofs.BodyReaders.{transform_reader}
-use Rattle.icu_locale_core_entries.proofs.ReadingLemmas.{reading_goes_on, reading_meant, reading_refused, reading_cut}
-use Rattle.icu_locale_core_entries.specs.Room.{grows_at, keeps_last}
-use Rattle.icu_locale_core_langid.specs.Room as language
-use Rattle.icu_locale_core_extensions.specs.Room.{begins_transform}
-use Rattle.icu_locale_core_extensions.proofs.RoomLemmas.{nothing_grows, nothing_kept, transform_passes}
+use Rattle.icu_locale_core_keywords_fields.proofs.ReadingLemmas.{reading_goes_on, reading_meant, reading_refused, reading_cut}
+use Rattle.icu_locale_core_keywords_fields.specs.Allocation.{grows_at, keeps_last}
+use Rattle.icu_locale_core_langid.specs.Allocation as language
+use Rattle.icu_locale_core_extensions.specs.Allocation.{begins_transform}
+use Rattle.icu_locale_core_extensions.proofs.AllocationLemmas.{nothing_grows, nothing_kept, transform_passes}
 use Rattle.icu_locale_core_extensions.proofs.transform.read_body.Goals as goal
 
 pub loop-piece-preserved : goal.loop-piece-preserved

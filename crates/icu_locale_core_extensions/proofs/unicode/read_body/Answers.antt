@@ -3,10 +3,10 @@ use Rattle.icu_locale_core_grammar.specs.Subtags.{is_attribute, is_key}
 use Rattle.icu_locale_core_grammar.specs.Stepping.{InHead}
 use Rattle.icu_locale_core_grammar.specs.TagStages.{unicode_after}
 use Rattle.icu_locale_core_grammar.proofs.BodyReaders.{unicode_reader}
-use Rattle.icu_locale_core_entries.proofs.ReadingLemmas.{reading_goes_on, reading_meant, reading_refused, reading_cut}
-use Rattle.icu_locale_core_entries.specs.Room.{grows_at, keeps_last}
-use Rattle.icu_locale_core_extensions.specs.Room.{begins_unicode}
-use Rattle.icu_locale_core_extensions.proofs.RoomLemmas.{nothing_grows, nothing_kept, unicode_passes, no_attribute}
+use Rattle.icu_locale_core_keywords_fields.proofs.ReadingLemmas.{reading_goes_on, reading_meant, reading_refused, reading_cut}
+use Rattle.icu_locale_core_keywords_fields.specs.Allocation.{grows_at, keeps_last}
+use Rattle.icu_locale_core_extensions.specs.Allocation.{begins_unicode}
+use Rattle.icu_locale_core_extensions.proofs.AllocationLemmas.{nothing_grows, nothing_kept, unicode_passes, no_attribute}
 use Rattle.icu_locale_core_extensions.proofs.unicode.read_body.Goals as goal
 
 pub loop-piece-preserved : goal.loop-piece-preserved

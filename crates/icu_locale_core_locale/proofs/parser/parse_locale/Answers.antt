@@ -4,10 +4,10 @@ use Rattle.icu_locale_core_grammar.specs.Meaning.{MeansTag}
 use Rattle.icu_locale_core_grammar.specs.Pieces.{pieces}
 use Rattle.icu_locale_core_grammar.proofs.CallerLemmas.{tag_refused, tag_cut, none_left}
 use Rattle.icu_locale_core_grammar.proofs.TagReader.{tag_reader}
-use Rattle.icu_locale_core_entries.proofs.ReadingLemmas.{reading_goes_on, reading_meant}
+use Rattle.icu_locale_core_keywords_fields.proofs.ReadingLemmas.{reading_goes_on, reading_meant}
 use Rattle.icu_locale_core_locale.specs.StageView.{stage_view}
 use Rattle.icu_locale_core_locale.proofs.FewLemmas.{reached_few}
-use Rattle.icu_locale_core_locale.proofs.RoomLemmas.{no_growth, no_growth_at_end, never_memory}
+use Rattle.icu_locale_core_locale.proofs.AllocationLemmas.{no_growth, no_growth_at_end, never_memory}
 use Rattle.icu_locale_core_locale.proofs.parser.parse_locale.Goals as goal
 
 pub loop-piece-preserved : goal.loop-piece-preserved

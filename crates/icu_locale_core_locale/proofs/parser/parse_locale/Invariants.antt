@@ -1,6 +1,6 @@
 use Rattle.icu_locale_core_grammar.specs.Pieces.{pieces}
 use Rattle.icu_locale_core_grammar.specs.TagStages.{tag_after, tag_start}
-use Rattle.icu_locale_core_entries.proofs.ReadingLemmas.{IsReading}
+use Rattle.icu_locale_core_keywords_fields.proofs.ReadingLemmas.{IsReading}
 use Rattle.icu_locale_core_locale.specs.StageView.{stage_view}
 use Rattle.icu_locale_core_locale.proofs.parser.parse_locale.Given as goal
 

@@ -1,6 +1,6 @@
 use Rattle.std.proofs.Common.{◌≡◌, Err}
 use Rattle.std.specs.Prelude.{IsErrOf}
-use Rattle.locale_numbers_engine.specs.declared.run_error.RunError.{RunError}
+use Rattle.locale_numbers_lines.specs.declared.run_error.RunError.{RunError}
 use Rattle.locale_numbers.specs.declared.fault.ProgramFault.{ProgramFault}
 use Rattle.locale_numbers.proofs.program_run.report.Goals as goal
 

@@ -1,5 +1,5 @@
 use Rattle.std.proofs.Common.{rules, IfOk}
-use Rattle.locale_numbers_engine.specs.Run.{CountsMade}
+use Rattle.locale_numbers_lines.specs.Run.{CountsMade}
 use Rattle.locale_numbers.specs.FormatterKeys.{makes}
 use Rattle.locale_numbers.specs.Front.{front_of}
 use Rattle.locale_numbers.specs.contracts.formatter_key.FormatterKeyPartialEq.TheImpl as keys

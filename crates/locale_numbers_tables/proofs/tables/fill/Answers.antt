@@ -3,7 +3,7 @@ use Rattle.std.specs.Vec.Iter.{into_iter_items}
 use Rattle.serde_json.specs.Data.{item}
 use Rattle.serde_json.specs.View.{items_view, view}
 use Rattle.locale_numbers_tables.specs.Entries.{all_of}
-use Rattle.locale_numbers_tables.specs.Room.{begins_with}
+use Rattle.locale_numbers_tables.specs.Allocation.{begins_with}
 use Rattle.locale_numbers_tables.proofs.AddLemmas.{faults_behind, one_more_said, passed, still_once}
 use Rattle.locale_numbers_tables.proofs.tables.fill.Goals as goal
 

@@ -4,7 +4,7 @@ use Rattle.serde_json.specs.View.{items_view}
 use Rattle.locale_numbers_tables.specs.Entries.{all_of}
 use Rattle.locale_numbers_tables.specs.Faults.{first_fault_behind}
 use Rattle.locale_numbers_tables.specs.Keys.{has_no_key_twice}
-use Rattle.locale_numbers_tables.specs.Room.{begins_with}
+use Rattle.locale_numbers_tables.specs.Allocation.{begins_with}
 use Rattle.locale_numbers_tables.proofs.tables.fill.Given as goal
 
 abbrev pub invariant-loop-entry : goal.invariant-loop-entry

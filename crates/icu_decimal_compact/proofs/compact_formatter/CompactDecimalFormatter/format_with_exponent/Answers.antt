@@ -1,8 +1,8 @@
 use Rattle.std.proofs.Common.{◌≡◌, ◌∙◌, Some, ap, subst, sym}
 use Rattle.fixed_decimal.specs.Number.{Number}
 use Rattle.fixed_decimal.specs.SignedValue.{SignedValue}
-use Rattle.icu_decimal_shown.specs.Choice.{entry_of, exact_entry}
-use Rattle.icu_decimal_shown.specs.Entries.{Rises}
+use Rattle.icu_decimal_compact_value.specs.Choice.{entry_of, exact_entry}
+use Rattle.icu_decimal_compact_value.specs.Entries.{Rises}
 use Rattle.icu_decimal_compact.specs.HeldCompact.{compact_tables_of}
 use Rattle.icu_decimal_compact.proofs.ExactLemmas.{exact_is}
 use Rattle.icu_decimal_compact.proofs.compact_formatter.CompactDecimalFormatter.format_with_exponent.Goals as goal

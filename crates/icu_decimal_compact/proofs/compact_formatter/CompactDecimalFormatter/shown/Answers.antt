@@ -1,7 +1,7 @@
 use Rattle.std.proofs.Common.{◌∙◌, ap, subst}
-use Rattle.icu_decimal_text.specs.HeldTables.{tables_of}
-use Rattle.icu_decimal_shown.specs.Entries.{Rises}
-use Rattle.icu_decimal_shown.specs.Significand.{Shows}
+use Rattle.icu_decimal_formatter.specs.HeldTables.{tables_of}
+use Rattle.icu_decimal_compact_value.specs.Entries.{Rises}
+use Rattle.icu_decimal_compact_value.specs.Significand.{Shows}
 use Rattle.icu_decimal_compact.specs.HeldCompact.{compact_tables_of}
 use Rattle.icu_decimal_compact.proofs.ShownLemmas.{made_of, shown_is}
 use Rattle.icu_decimal_compact.proofs.compact_formatter.CompactDecimalFormatter.shown.Goals as goal

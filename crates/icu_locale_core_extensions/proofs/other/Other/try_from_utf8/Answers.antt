@@ -2,7 +2,7 @@ use Rattle.std.proofs.Common.{refl, inr}
 use Rattle.std.proofs.lemmas.Result.{IfOk-weaker}
 use Rattle.icu_locale_core_grammar.specs.Subtags.{is_other, is_other_piece}
 use Rattle.icu_locale_core_grammar.specs.Pieces.{pieces}
-use Rattle.icu_locale_core_extensions.proofs.RoomLemmas.{begins_body}
+use Rattle.icu_locale_core_extensions.proofs.AllocationLemmas.{begins_body}
 use Rattle.icu_locale_core_extensions.proofs.OpeningLemmas.{read_other, opened_other, refused_other, each_error}
 use Rattle.icu_locale_core_extensions.proofs.other.Other.try_from_utf8.Goals as goal
 

@@ -3,7 +3,7 @@ use Rattle.std.proofs.lemmas.Result.{on_ok_weaker}
 use Rattle.icu_locale_core_grammar.specs.Subtags.{Text}
 use Rattle.icu_locale_core_grammar.specs.Collections.{set_of}
 use Rattle.icu_locale_core_grammar.specs.Meaning.{UnicodeMeaning}
-use Rattle.icu_locale_core_sets.proofs.JoiningLemmas.{none_joined}
+use Rattle.icu_locale_core_subtag_lists.proofs.JoiningLemmas.{none_joined}
 use Rattle.icu_locale_core_extensions.proofs.unicode.Unicode.extend.Goals as goal
 
 -- no attribute is taken in

@@ -2,8 +2,8 @@ use Rattle.std.proofs.Common.{refl, inr}
 use Rattle.icu_locale_core_grammar.specs.Meaning.{MeansUnicode}
 use Rattle.icu_locale_core_grammar.specs.Pieces.{pieces}
 use Rattle.icu_locale_core_grammar.specs.Subtags.{unicode_text, is_unicode}
-use Rattle.icu_locale_core_extensions.specs.Room.{begins_unicode}
-use Rattle.icu_locale_core_extensions.proofs.RoomLemmas.{begins_body}
+use Rattle.icu_locale_core_extensions.specs.Allocation.{begins_unicode}
+use Rattle.icu_locale_core_extensions.proofs.AllocationLemmas.{begins_body}
 use Rattle.icu_locale_core_extensions.proofs.OpeningLemmas.{opened, refused_behind, each_error}
 use Rattle.icu_locale_core_extensions.proofs.unicode.Unicode.try_from_utf8.Goals as goal
 

@@ -1,5 +1,5 @@
 use Rattle.std.proofs.Common.{ap, ◌∙◌}
-use Rattle.icu_locale_core_extensions.specs.Room.{body_keeps}
+use Rattle.icu_locale_core_extensions.specs.Allocation.{body_keeps}
 use Rattle.icu_locale_core_locale.proofs.StageLemmas.{body_small, end_small}
 use Rattle.icu_locale_core_locale.proofs.parser.stage.after_extension.Goals as goal
 

@@ -1,4 +1,4 @@
-use Rattle.icu_locale_core_entries.proofs.ValueLemmas.{told_true}
+use Rattle.icu_locale_core_keywords_fields.proofs.ValueLemmas.{told_true}
 use Rattle.icu_locale_core_preference_keywords.proofs.keywords.numbering_system.is_left_out.Goals as goal
 
 pub returns : goal.returns

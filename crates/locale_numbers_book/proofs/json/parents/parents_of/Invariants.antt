@@ -3,8 +3,8 @@ use Rattle.std.specs.Vec.Iter.{into_iter_items}
 use Rattle.serde_json.specs.View.{items_view}
 use Rattle.locale_numbers_tables.specs.Entries.{all_of}
 use Rattle.locale_numbers_book.specs.ParentEntries.{parent_entry, parents_faults}
-use Rattle.locale_numbers_tables.specs.Room.{begins_with}
-use Rattle.locale_numbers_book.specs.BookRoom.{parent_may_grow}
+use Rattle.locale_numbers_tables.specs.Allocation.{begins_with}
+use Rattle.locale_numbers_book.specs.BookAllocation.{parent_may_grow}
 use Rattle.locale_numbers_book.proofs.json.parents.parents_of.Given as goal
 
 abbrev pub invariant-loop-entry : goal.invariant-loop-entry

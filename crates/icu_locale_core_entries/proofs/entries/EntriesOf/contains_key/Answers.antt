@@ -1,6 +1,0 @@
-use Rattle.std.proofs.Common.{◌∙◌}
-use Rattle.icu_locale_core_entries.proofs.PlaceLemmas.{holds_key}
-use Rattle.icu_locale_core_entries.proofs.entries.EntriesOf.contains_key.Goals as goal
-
-pub returns : goal.returns
-returns g c = c.is_ok.ensures.value ∙ holds_key c.args.key.now c.args.self.now c.place_of.result c.place_of.ensures

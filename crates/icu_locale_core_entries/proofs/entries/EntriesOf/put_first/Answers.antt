@@ -1,6 +1,0 @@
-use Rattle.std.proofs.Common.{sym}
-use Rattle.icu_locale_core_entries.proofs.PlaceLemmas.{put_found}
-use Rattle.icu_locale_core_entries.proofs.entries.EntriesOf.put_first.Goals as goal
-
-pub returns-in-Ok-clause-ok : goal.returns-in-Ok-clause-ok
-returns-in-Ok-clause-ok g c = let found = c.in-Ok.ensures in sym (put_found _ _ _ found _)

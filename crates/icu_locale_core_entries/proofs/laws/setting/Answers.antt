@@ -1,5 +1,0 @@
-use Rattle.icu_locale_core_entries.proofs.LawLemmas.{setting_sets_one}
-use Rattle.icu_locale_core_entries.proofs.laws.setting.Goals as goal
-
-pub returns : goal.returns
-returns c = setting_sets_one

@@ -1,5 +1,0 @@
-use Rattle.icu_locale_core_entries.proofs.LawLemmas.{values_read_back}
-use Rattle.icu_locale_core_entries.proofs.laws.values_read_back.Goals as goal
-
-pub returns : goal.returns
-returns c = values_read_back

@@ -1,5 +1,0 @@
-use Rattle.icu_locale_core_entries.proofs.RisingLemmas.{Rises-retained}
-use Rattle.icu_locale_core_entries.proofs.retaining.EntriesOf+transform+KeyRule.retain_by_key.Goals as goal
-
-pub invariant_of-self : goal.invariant_of-self
-invariant_of-self g c = Rises-retained c.retain_pairs.ensures c.self.invariant

@@ -1,5 +1,0 @@
-use Rattle.icu_locale_core_entries.proofs.ValueLemmas.{told_true}
-use Rattle.icu_locale_core_entries.proofs.value.is_true_word.Goals as goal
-
-pub returns : goal.returns
-returns c = told_true c.as_str.result.now c.args.subtag.now c.eq.result c.eq.ensures c.as_str.ensures c.subtags_are_words.ensures.normal

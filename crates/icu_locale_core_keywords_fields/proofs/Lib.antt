@@ -1,0 +1,13 @@
+pub mod PlaceLemmas
+pub mod RisingLemmas
+pub mod SearchLemmas
+pub mod StepLemmas
+pub mod ReadingLemmas
+pub mod AllocationLemmas
+pub mod TextLemmas
+pub mod RetainLemmas
+pub mod CopyLemmas
+pub mod ValueLemmas
+pub mod LawLemmas
+pub mod WellFormedLemmas
+pub mod KnownValues

@@ -1,0 +1,28 @@
+-- Subtags put into a value one by one, and items that never come.
+use Rattle.std.proofs.Common.{◌≡◌, Bool, true, false, not, List, [], ◌∷◌, ◌++◌, Option, Some, cond, refl, sym, ap, ◌∙◌, subst, append-nil}
+use Rattle.std.specs.Prelude.{if◌then◌else◌}
+use Rattle.std.specs.Iterator.{Yields}
+use Rattle.std.proofs.lemmas.List.Elements.{filter-append}
+use Rattle.icu_locale_core_grammar.specs.Subtags.{Text, is_true, true_text, same_text, lower}
+use Rattle.icu_locale_core_grammar.proofs.CollectionLemmas.{same_text_swapped}
+use Rattle.icu_locale_core_keywords_fields.specs.Values.{without_true, with_subtag}
+
+-- the value of some subtags, and of one more
+pub without_true-push : (value more : List Text) (taken : List Text) (v : Text) → value ≡ without_true taken → more ≡ with_subtag value v → more ≡ without_true (taken ++ v ∷ [])
+without_true-push value more taken v so_far put =
+    put ∙ ap (λ l. with_subtag l v) so_far ∙ by_test (is_true v) ∙ sym (filter-append (λ w. not (is_true w)) taken (v ∷ []))
+  where
+    by_test : (b : Bool) → (if b then without_true taken else without_true taken ++ v ∷ []) ≡ without_true taken ++ cond (not b) (v ∷ []) []
+    by_test true = sym (append-nil (without_true taken))
+    by_test false = refl
+
+-- a text in lower case that is `true`
+pub told_true : (shown v : Text) (told : Bool) → told ≡ same_text shown true_text → shown ≡ v → lower v ≡ v → told ≡ is_true v
+told_true shown v told answer same low =
+    answer ∙ ap (λ t. same_text t true_text) same ∙ same_text_swapped v true_text ∙ ap (same_text true_text) (sym low)
+
+-- of an iterator that gives no item none has come, and none comes
+pub none_comes : {S A : Type 0} (gives : S → Option A → S → Type 0) (first now next : S) (came : List A) (x : A)
+    → ((y : A) (j : S) → ¬ (gives first (Some y) j)) → Yields gives first came now → gives now (Some x) next → ⊥
+none_comes gives first now next [] x none so_far comes = none x next (subst (λ s. gives s (Some x) next) (sym so_far) comes)
+none_comes gives first now next (y ∷ ys) x none so_far comes = none y so_far.0 so_far.1

@@ -1,0 +1,22 @@
+-- Where the reading of a head and entries may want memory: only a head that grows, a value that does, and an entry that is kept.
+-- Defined in docs/tags.md, "Stages".
+-- Cited by the readers of keywords and fields, and by the functions that step along a head and entries.
+use Rattle.std.specs.Prelude.{Bool, false, not, ◌&&◌, ◌||◌, List, [], ◌∷◌}
+use Rattle.icu_locale_core_grammar.specs.Subtags.{Text, is_value}
+use Rattle.icu_locale_core_grammar.specs.Stepping.{HeadedStage, InHead, InEntry}
+use Rattle.icu_locale_core_subtag_lists.specs.Reading.{begins}
+
+-- a key comes first, and behind it a piece of a value where an entry needs one: else no entry is kept
+abbrev pub begins_entry : (Text → Bool) → Bool → List Text → Bool
+begins_entry test needs [] = false
+begins_entry test needs (p ∷ ps) = test p && (not needs || begins is_value ps)
+
+-- the piece may make the head grow, or goes into a value, or ends an entry
+abbrev pub grows_at : {S H : Type 0} → (S → Text → Bool) → (Text → Bool) → HeadedStage S H → Text → Bool
+grows_at grows test (InHead s) p = grows s p
+grows_at grows test (InEntry h es e full) p = is_value p || (full && test p)
+
+-- an entry is read, and may end
+abbrev pub keeps_last : {S H : Type 0} → HeadedStage S H → Bool
+keeps_last (InHead s) = false
+keeps_last (InEntry h es e full) = full

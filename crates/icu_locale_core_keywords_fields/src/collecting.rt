@@ -1,0 +1,115 @@
+//! Values and maps out of iterators, and joined maps.
+
+ghost use Rattle.std.specs.Prelude.{◌≡◌, List, ℕ, [], IsOk, IfOk, OnOk, OnErr};
+ghost use Rattle.std.specs.Iterator.{AlwaysYields, Drains, IsFinite};
+ghost use Rattle.icu_locale_core_grammar.specs.Collections.{Entry, map_of};
+ghost use Rattle.icu_locale_core_keywords_fields.specs.EntryChanges.{joined_maps};
+ghost use Rattle.icu_locale_core_keywords_fields.specs.Values.{without_true};
+
+use crate::entries::EntriesOf;
+use crate::kind::EntryKind;
+use crate::laws::keys_rise;
+use crate::value::ValueOf;
+use icu_locale_core_subtags::{Subtag, SubtagOf};
+use std::alloc::{AllocError, Global};
+use std::marker::PhantomData;
+
+impl<K: EntryKind> ValueOf<K> {
+    /// The value of the subtags in their order, without `true`: of `abc`, `true`, `def` it is `abc-def`.
+    ///
+    /// The condition is that the iterator ends. `AllocError` is answered for memory alone, and where the iterator gives no item
+    /// none is taken.
+    pub fn try_from_iter<I: IntoIterator<Item = Subtag>>(
+        alloc: Global,
+        iter: I,
+    ) -> Result<Self, AllocError>
+        requires { (it : I.IntoIter) → I.into_iter_gives iter it → I.IntoIter.can_next it × IsFinite (I.IntoIter.remaining it) }
+        ensures succeeds { ((it : I.IntoIter) → I.into_iter_gives iter it → AlwaysYields I.IntoIter.next_gives (λ x. x) it []) → IsOk result }
+        ensures value { IfOk result (λ v. (it : I.IntoIter) × (subtags : List (List ℕ)) × I.into_iter_gives iter it × Drains I.IntoIter.next_gives it subtags × (v ≡ without_true subtags)) }
+    {
+        let mut value = Self::new_empty(alloc);
+        for subtag in iter {
+            value.push_subtag(subtag)?;
+        }
+        Ok(value)
+    }
+
+    /// An equal value: of `abc-def` another `abc-def`. `AllocError` is answered for memory alone, and the empty value takes none.
+    pub fn try_clone(&self) -> Result<Self, AllocError>
+        ensures succeeds { self.now ≡ [] → IsOk result }
+        ensures value { IfOk result (λ v. v ≡ self.now) }
+    {
+        if self.is_empty() {
+            return Ok(Self::new_empty(*self.subtags.allocator()));
+        }
+        let subtags = self.subtags.clone()?;
+        Ok(ValueOf {
+            subtags,
+            kind: PhantomData,
+        })
+    }
+}
+
+/// The same key.
+fn copied<K: EntryKind>(key: &SubtagOf<K, 2>) -> Result<SubtagOf<K, 2>, AllocError>
+    ensures { IfOk result (λ k. k ≡ key.now) }
+{
+    key.clone()
+}
+
+impl<K: EntryKind> EntriesOf<K> {
+    /// The map of the entries; of equal keys the first stands: of `nu` with `thai`, `ca` with `buddhist` and `nu` with `latn` it
+    /// is `ca-buddhist-nu-thai`.
+    ///
+    /// The condition is that the iterator ends. `AllocError` is answered for memory alone, and where the iterator gives no item
+    /// none is taken.
+    pub fn try_from_iter<I: IntoIterator<Item = (SubtagOf<K, 2>, ValueOf<K>)>>(
+        alloc: Global,
+        iter: I,
+    ) -> Result<Self, AllocError>
+        requires { (it : I.IntoIter) → I.into_iter_gives iter it → I.IntoIter.can_next it × IsFinite (I.IntoIter.remaining it) }
+        ensures succeeds { ((it : I.IntoIter) → I.into_iter_gives iter it → AlwaysYields I.IntoIter.next_gives (λ x. x) it []) → IsOk result }
+        ensures value { IfOk result (λ m. (it : I.IntoIter) × (entries : List Entry) × I.into_iter_gives iter it × Drains I.IntoIter.next_gives it entries × (m ≡ map_of entries)) }
+    {
+        let mut map = Self::new(alloc);
+        for (key, value) in iter {
+            map.put_first(key, value)?;
+        }
+        Ok(map)
+    }
+
+    /// An equal map: of `nu-thai` another `nu-thai`. `AllocError` is answered for memory alone, and the empty map takes none.
+    pub fn try_clone(&self) -> Result<Self, AllocError>
+        ensures succeeds { self.now ≡ [] → IsOk result }
+        ensures value { IfOk result (λ m. m ≡ self.now) }
+    {
+        let mut map = Self::new(*self.entries.allocator());
+        for (key, value) in self.as_slice() {
+            map.put_first(copied(key)?, value.try_clone()?)?;
+        }
+        Ok(map)
+    }
+
+    /// Puts the entries of the other map into this one; of equal keys the other's stands.
+    ///
+    /// `ca-buddhist-nu-thai` with `nu-latn` becomes `ca-buddhist-nu-latn`. `AllocError` is answered for memory alone, and
+    /// leaves the map; where one of the two maps is empty, none is taken.
+    pub fn extend_from_keywords(&mut self, other: Self) -> Result<(), AllocError>
+        ensures succeeds { other ≡ [] → IsOk result }
+        ensures empty { self.old ≡ [] → IsOk result }
+        ensures ok { OnOk result (self.new ≡ joined_maps other self.old) }
+        ensures err { OnErr result (self.new ≡ self.old) }
+    {
+        if other.is_empty() {
+            keys_rise(self);
+            return Ok(());
+        }
+        let mut joined = other;
+        keys_rise(&joined);
+        for (key, value) in self.as_slice() {
+            joined.put_first(copied(key)?, value.try_clone()?)?;
+        }
+        *self = joined;
+        Ok(())
+    }
+}

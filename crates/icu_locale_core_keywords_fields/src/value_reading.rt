@@ -1,0 +1,76 @@
+//! Reading a value piece by piece.
+
+ghost use Rattle.std.specs.Prelude.{◌≡◌, true, false, [], Some, None, IfOk, IfErr, IsOk, OnErr, MatchOption, MatchBool};
+ghost use Rattle.std.specs.Result.{IsErrOf};
+ghost use Rattle.icu_locale_core_grammar.specs.declared.error.ParseError.{ParseError};
+ghost use Rattle.icu_locale_core_grammar.specs.Subtags.{is_value, lower};
+ghost use Rattle.icu_locale_core_grammar.specs.Pieces.{pieces};
+ghost use Rattle.icu_locale_core_grammar.specs.PartReaders.{value_after, ReadsValue};
+ghost use Rattle.icu_locale_core_subtag_lists.specs.Reading.{IsRefused, begins};
+
+use crate::kind::EntryKind;
+use crate::value::ValueOf;
+use icu_locale_core_grammar::ParseError;
+use icu_locale_core_subtags::{Subtag, SubtagIterator};
+use std::alloc::{AllocError, Global};
+
+/// The piece of a value in a piece of a text, in lower case: 3 to 8 letters and digits.
+fn value_piece(piece: &[u8]) -> Option<Subtag>
+    ensures { MatchOption result (is_value piece.now ≡ false) (λ subtag. (is_value piece.now ≡ true) × (subtag ≡ lower piece.now)) }
+{
+    if piece.len() < 3 {
+        return None;
+    }
+    Subtag::try_from_utf8(piece).ok()
+}
+
+impl<K: EntryKind> ValueOf<K> {
+    /// Takes a piece of a text, if it is a piece of a value, and answers whether it is.
+    ///
+    /// `AllocError` is answered for memory alone, and leaves the value.
+    pub(crate) fn take_piece(&mut self, piece: &[u8]) -> Result<bool, AllocError>
+        ensures taken { IfOk result (λ taken. MatchBool taken (value_after self.old piece.now ≡ Some self.new) ((value_after self.old piece.now ≡ None) × (self.new ≡ self.old))) }
+        ensures err { OnErr result (self.new ≡ self.old) }
+        ensures room { is_value piece.now ≡ false → IsOk result }
+    {
+        let Some(subtag) = value_piece(piece) else {
+            return Ok(false);
+        };
+        self.push_subtag(subtag)?;
+        Ok(true)
+    }
+
+    /// The value of this text: pieces of 3 to 8 letters and digits between hyphens, in lower case, without `true`.
+    ///
+    /// `ABC-true-def` is `abc-def`, and the empty text the empty value. `ParseError::InvalidExtension`: a piece is of another
+    /// kind. `ParseError::Memory`: memory was refused; none is taken where the first piece is of another kind.
+    pub fn try_from_str(alloc: Global, s: &str) -> Result<Self, ParseError>
+        ensures value { IfOk result (ReadsValue s.now) }
+        ensures fault { IfErr result (IsRefused (ReadsValue s.now)) }
+        ensures succeeds { s.now ≡ [] → IsOk result }
+        ensures room { begins is_value (pieces s.now) ≡ false → ¬ (IsErrOf result ParseError.Memory) }
+    {
+        Self::try_from_utf8(alloc, s.as_bytes())
+    }
+
+    /// The value of these bytes, as `try_from_str`.
+    pub fn try_from_utf8(alloc: Global, code_units: &[u8]) -> Result<Self, ParseError>
+        ensures value { IfOk result (ReadsValue code_units.now) }
+        ensures fault { IfErr result (IsRefused (ReadsValue code_units.now)) }
+        ensures succeeds { code_units.now ≡ [] → IsOk result }
+        ensures room { begins is_value (pieces code_units.now) ≡ false → ¬ (IsErrOf result ParseError.Memory) }
+    {
+        let mut value = Self::new_empty(alloc);
+        if code_units.is_empty() {
+            return Ok(value);
+        }
+        for piece in SubtagIterator::new(code_units) {
+            match value.take_piece(piece) {
+                Ok(true) => {}
+                Ok(false) => return Err(ParseError::InvalidExtension),
+                Err(_) => return Err(ParseError::Memory),
+            }
+        }
+        Ok(value)
+    }
+}

@@ -1,5 +1,0 @@
-use Rattle.icu_locale_core_sets.proofs.LawLemmas.{joining_has_both}
-use Rattle.icu_locale_core_sets.proofs.laws.joining.Goals as goal
-
-pub returns : goal.returns
-returns c = joining_has_both

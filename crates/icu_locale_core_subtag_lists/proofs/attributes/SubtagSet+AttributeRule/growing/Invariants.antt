@@ -1,0 +1,6 @@
+use Rattle.std.proofs.Common.{◌≡◌, [], drop, fold}
+use Rattle.icu_locale_core_grammar.proofs.SetLemmas.{put_text}
+use Rattle.icu_locale_core_subtag_lists.proofs.attributes.SubtagSet+AttributeRule.growing.Given as goal
+
+abbrev pub invariant-loop-attribute : goal.invariant-loop-attribute
+invariant-loop-attribute l = fold put_text l.growing (drop l.attribute-index l.attribute-items) ≡ fold put_text [] l.self

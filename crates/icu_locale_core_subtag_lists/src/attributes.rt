@@ -1,0 +1,97 @@
+//! The attributes of a `u` extension.
+
+ghost use Rattle.std.specs.Prelude.{◌≡◌, false, [], ◌++◌, IsOk, IfOk, IfErr, OnOk, OnErr};
+ghost use Rattle.std.specs.Result.{IsErrOf};
+ghost use Rattle.icu_locale_core_grammar.specs.declared.error.ParseError.{ParseError};
+ghost use Rattle.icu_locale_core_grammar.specs.Subtags.{is_attribute};
+ghost use Rattle.icu_locale_core_grammar.specs.Collections.{Rises, set_of};
+ghost use Rattle.icu_locale_core_grammar.specs.Pieces.{pieces};
+ghost use Rattle.icu_locale_core_grammar.specs.PartReaders.{ReadsAttributes};
+ghost use Rattle.icu_locale_core_subtag_lists.specs.Reading.{IsRefused, begins};
+
+use crate::growing_set::GrowingSet;
+use crate::laws::texts_rise;
+use crate::subtag_set::SubtagSet;
+use icu_locale_core_grammar::ParseError;
+use icu_locale_core_subtags::SubtagIterator;
+use icu_locale_core_subtags::unicode::{Attribute, AttributeRule};
+use std::alloc::{AllocError, Global};
+
+/// The attributes of a `u` extension: none of them twice, in byte order, as `bar`, `foo`.
+pub type Attributes = SubtagSet<AttributeRule>;
+
+impl SubtagSet<AttributeRule> {
+    /// The set of the attributes of this text, pieces of 3 to 8 letters and digits in either case between hyphens.
+    ///
+    /// `foo-Bar-FOO` has `bar`, `foo`; the empty text has none. `InvalidExtension` where a piece is no attribute; `Memory`
+    /// where memory was refused, and none is taken where the first piece is no attribute. Source: UTS 35, section 3.6.
+    pub fn try_from_str(alloc: Global, s: &str) -> Result<Attributes, ParseError>
+        ensures succeeds { s.now ≡ [] → IsOk result }
+        ensures value { IfOk result (ReadsAttributes s.now) }
+        ensures fault { IfErr result (IsRefused (ReadsAttributes s.now)) }
+        ensures room { begins is_attribute (pieces s.now) ≡ false → ¬ (IsErrOf result ParseError.Memory) }
+    {
+        Attributes::try_from_utf8(alloc, s.as_bytes())
+    }
+
+    /// The set of the attributes of these bytes, as `try_from_str`.
+    pub fn try_from_utf8(alloc: Global, code_units: &[u8]) -> Result<Attributes, ParseError>
+        ensures succeeds { code_units.now ≡ [] → IsOk result }
+        ensures value { IfOk result (ReadsAttributes code_units.now) }
+        ensures fault { IfErr result (IsRefused (ReadsAttributes code_units.now)) }
+        ensures room { begins is_attribute (pieces code_units.now) ≡ false → ¬ (IsErrOf result ParseError.Memory) }
+    {
+        if code_units.is_empty() {
+            return Ok(Attributes::new(alloc));
+        }
+        let mut attributes = GrowingSet::new(alloc);
+        for piece in SubtagIterator::new(code_units) {
+            let Ok(attribute) = Attribute::try_from_utf8(piece) else {
+                return Err(ParseError::InvalidExtension);
+            };
+            let Ok(_) = attributes.push(attribute) else {
+                return Err(ParseError::Memory);
+            };
+        }
+        Ok(attributes.settled())
+    }
+
+    // A set of the same attributes that is to grow by many: what one more costs there is a logarithm of how many there are.
+    fn growing(&self) -> Result<GrowingSet<AttributeRule>, AllocError>
+        ensures value { IfOk result (λ growing. growing ≡ self.now) }
+        ensures rises { Rises self.now }
+    {
+        let mut growing = GrowingSet::new(self.allocator());
+        for attribute in self.as_slice() {
+            growing.push(*attribute)?;
+        }
+        Ok(growing)
+    }
+
+    /// Puts the attributes of the other set into this one.
+    ///
+    /// `bar`, `foo` with `baz`, `foo` becomes `bar`, `baz`, `foo`. `AllocError` is answered for memory alone, and the set is
+    /// then as before; where either set is empty, none is taken.
+    pub fn extend_from_attributes(&mut self, other: Attributes) -> Result<(), AllocError>
+        ensures succeeds { other ≡ [] → IsOk result }
+        ensures empty { self.old ≡ [] → IsOk result }
+        ensures value { OnOk result (self.new ≡ set_of (self.old ++ other)) }
+        ensures err { OnErr result (self.new ≡ self.old) }
+    {
+        if other.is_empty() {
+            texts_rise(self);
+            return Ok(());
+        }
+        if self.is_empty() {
+            texts_rise(&other);
+            *self = other;
+            return Ok(());
+        }
+        let mut joined = self.growing()?;
+        for attribute in other.as_slice() {
+            joined.push(*attribute)?;
+        }
+        *self = joined.settled();
+        Ok(())
+    }
+}

@@ -1,0 +1,24 @@
+-- Where the reading of a whole book may run out of memory: never at a fault that is found before memory is asked for.
+-- Defined in docs/books.md, "Faults"; entries of tables in `Allocation.antt` of `locale_numbers_tables`.
+-- Cited by the steps of `Book::from_json`.
+use Rattle.std.specs.Prelude.{Bool, not, ◌&&◌, ◌||◌, List, [], is_some}
+use Rattle.serde_json.specs.Data.{Data, Items}
+use Rattle.locale_numbers_parents.specs.Parents.{Entry}
+use Rattle.locale_numbers_tables.specs.Allocation.{begins_with, compact_may_grow, digits_may_grow, locale_may_grow, rules_may_grow, symbols_may_grow}
+use Rattle.locale_numbers_book.specs.Form.{has_form, items_at}
+use Rattle.locale_numbers_book.specs.ParentEntries.{has_parent_shape, parent_fault}
+
+-- parents, behind these: an entry of two texts, of which a locale may take memory, or one that has no fault
+abbrev pub parent_may_grow : List Entry → Data → Bool
+parent_may_grow before entry = has_parent_shape entry && (locale_may_grow 0 entry || locale_may_grow 1 entry) || not (is_some (parent_fault before entry))
+
+-- arrays: where one of them begins so
+abbrev pub arrays_may_grow : Items → Items → Items → Items → Items → Items → Bool
+arrays_may_grow symbols digits rules short long parents =
+    begins_with symbols_may_grow symbols || begins_with digits_may_grow digits || begins_with rules_may_grow rules
+    || begins_with compact_may_grow short || begins_with compact_may_grow long || begins_with (parent_may_grow []) parents
+
+-- a book: arrays that are so
+abbrev pub book_may_grow : Data → Bool
+book_may_grow value =
+    has_form value && arrays_may_grow (items_at 0 value) (items_at 1 value) (items_at 2 value) (items_at 3 value) (items_at 4 value) (items_at 5 value)

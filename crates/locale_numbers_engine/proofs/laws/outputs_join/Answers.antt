@@ -1,5 +1,0 @@
-use Rattle.locale_numbers_engine.proofs.LinesLemmas.{output_of-joined}
-use Rattle.locale_numbers_engine.proofs.laws.outputs_join.Goals as goal
-
-pub returns : goal.returns
-returns c = output_of-joined

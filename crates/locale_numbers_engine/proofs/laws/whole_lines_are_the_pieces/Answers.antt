@@ -1,5 +1,0 @@
-use Rattle.locale_numbers_engine.proofs.LinesLemmas.{whole_lines_are}
-use Rattle.locale_numbers_engine.proofs.laws.whole_lines_are_the_pieces.Goals as goal
-
-pub returns : goal.returns
-returns c = whole_lines_are

@@ -1,0 +1,89 @@
+ghost use Rattle.std.specs.Prelude.{◌≡◌, ◌<◌, false, ◌++◌, [], length, string_bytes, MatchResult, OnOk};
+ghost use Rattle.locale_numbers_lines.specs.Lines.{HasNoFeed};
+ghost use Rattle.locale_numbers_lines.specs.Outcomes.{MatchRun, ends_in_write};
+ghost use Rattle.locale_numbers_lines.specs.Progress.{Progress, Answered, AnsweredPart};
+
+use crate::answerer::Answerer;
+use crate::answering::answer_held;
+use crate::byte_writer::ByteWriter;
+use crate::first_line::split_line;
+use crate::run_error::RunError;
+use crate::writing::{PIECE, write_full, write_ready};
+
+// Answers the lines that end in this piece, and holds what stands after the last line feed. Answers
+// may be left ready; after Memory those that are left are whole.
+fn gather<A: Answerer, W: ByteWriter>(
+    answerer: &mut A,
+    held: &mut Vec<u8>,
+    ready: &mut String,
+    lines: u64,
+    piece: &[u8],
+    writer: &mut W,
+) -> Result<u64, RunError>
+    requires can_answer { A.is_ready answerer.old }
+    requires cut { HasNoFeed held.old.items }
+    requires nothing { string_bytes ready.old ≡ [] }
+    requires writer_well { W.failed writer.old ≡ false }
+    ensures came { let answer = A.answer_of answerer.old in
+        let bytes = held.old.items ++ piece.now in
+        let before = W.contents writer.old in
+        let after = W.contents writer.new in
+        MatchResult result
+        (λ count. Progress answer bytes held.new.items [] (string_bytes ready.new) before after lines count
+        (A.made_over answerer.old) (A.made_over answerer.new))
+        (λ refusal. MatchRun refusal ⊥ (AnsweredPart answer bytes before after) (Answered answer bytes (string_bytes ready.new) before after)) }
+    ensures short { OnOk result (length (string_bytes ready.new) < PIECE) }
+    ensures fault { W.failed writer.new ≡ ends_in_write result }
+    ensures same { A.answer_of answerer.new ≡ A.answer_of answerer.old }
+    ensures can_answer { A.is_ready answerer.new }
+{
+    let mut count = lines;
+    let mut left = piece;
+    'line: while let Some((line, rest)) = split_line(left) {
+        answer_held(answerer, held, line, ready)?;
+        left = rest;
+        count = count.saturating_add(1);
+        write_full(writer, ready)?;
+    }
+    held.extend_from_slice(left)?;
+    Ok(count)
+}
+
+// The same, and writes all answers that are ready.
+pub fn feed<A: Answerer, W: ByteWriter>(
+    answerer: &mut A,
+    held: &mut Vec<u8>,
+    ready: &mut String,
+    lines: u64,
+    piece: &[u8],
+    writer: &mut W,
+) -> Result<u64, RunError>
+    requires can_answer { A.is_ready answerer.old }
+    requires cut { HasNoFeed held.old.items }
+    requires nothing { string_bytes ready.old ≡ [] }
+    requires writer_well { W.failed writer.old ≡ false }
+    ensures came { let answer = A.answer_of answerer.old in
+        let bytes = held.old.items ++ piece.now in
+        let before = W.contents writer.old in
+        let after = W.contents writer.new in
+        MatchResult result
+        (λ count. Progress answer bytes held.new.items [] [] before after lines count
+        (A.made_over answerer.old) (A.made_over answerer.new))
+        (λ refusal. MatchRun refusal ⊥ (AnsweredPart answer bytes before after) (Answered answer bytes [] before after)) }
+    ensures nothing { OnOk result (string_bytes ready.new ≡ []) }
+    ensures fault { W.failed writer.new ≡ ends_in_write result }
+    ensures same { A.answer_of answerer.new ≡ A.answer_of answerer.old }
+    ensures can_answer { A.is_ready answerer.new }
+{
+    match gather(answerer, held, ready, lines, piece, writer) {
+        Ok(count) => {
+            write_ready(writer, ready)?;
+            Ok(count)
+        }
+        Err(RunError::Memory) => {
+            write_ready(writer, ready)?;
+            Err(RunError::Memory)
+        }
+        Err(refusal) => Err(refusal),
+    }
+}
