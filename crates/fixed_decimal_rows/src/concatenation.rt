@@ -17,7 +17,7 @@ fn overlap<N: Display + Drop + Writeable>(
     Ok(written?)
 }
 
-// Lets both numbers go, and answers that memory was refused.
+// Lets both numbers go, and reports that memory was refused.
 fn refused<N: Display + Drop + Writeable>(first: N, second: UnsignedDecimal) -> Result<(), Stop> {
     drop(first);
     drop(second);

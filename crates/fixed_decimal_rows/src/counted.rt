@@ -1,4 +1,4 @@
-//! Roundings whose turns are counted. A count takes no bytes, so a row sees the number alone.
+//! Roundings whose turns are counted. A count takes no bytes, so a row sees only the number.
 ghost use Rattle.std.specs.Prelude.{◌≡◌, ◌+◌, ◌<◌, ◌≤◌};
 
 use fixed_decimal::{

@@ -17,7 +17,7 @@ fn of_parts(alloc: Global, words: &str) -> Result<Decimal, Stop> {
     ))
 }
 
-// Rounds by a call that is passed a position alone; false where it is none.
+// Rounds by a call that is passed only a position; false where it is none.
 fn round_plain(number: &mut Decimal, step: Step<'_>) -> bool {
     let Ok(position) = number_of::<i16>(step.passed) else {
         return false;

@@ -131,7 +131,7 @@ fn has_long_text<N: Number>(alloc: Global, number: &N, word: &str) -> Result<boo
     is_same
 }
 
-// Writes what a sink with so much room holds of the number.
+// Writes what a sink with this room holds of the number.
 fn held_in_room<N: Number>(number: &N, room: &str, out: &mut String) -> Result<bool, Stop> {
     put_in_room(out, number, number_of(room)?)?;
     Ok(true)
@@ -178,7 +178,7 @@ fn change_all<N: Number>(number: &mut N, calls: &[&str]) -> Result<(), Stop> {
     Ok(())
 }
 
-// Makes calls, of which the last one is answered: writes the answer, or answers false where the last call consumes the number.
+// Makes calls, of which the last one is answered: writes the answer, or returns false where the last call consumes the number.
 fn answer_calls<N: Number>(
     alloc: Global,
     number: &mut N,

@@ -110,7 +110,7 @@ fn digit_of(state: u64) -> char {
     }
 }
 
-// A number of so many digits behind its first, 1, by a sequence that begins at a seed.
+// A number with this many digits behind its first, 1, by a sequence that begins at a seed.
 fn made(alloc: Global, count: u8, seed: u64) -> Result<String, AllocError> {
     let mut text = String::from_str(alloc, "1")?;
     let mut state = seed;
@@ -161,7 +161,7 @@ fn is_same(alloc: Global, packed: &str, plain: &str, change: Change<'_>) -> Resu
     is_same
 }
 
-// A text with so many zeros behind it.
+// A text with this many zeros behind it.
 fn with_zeros(alloc: Global, text: &str, count: usize) -> Result<String, AllocError> {
     let mut text = String::from_str(alloc, text)?;
     for _ in 0..count {
@@ -181,7 +181,7 @@ fn concatenates_alike(alloc: Global, text: &str, index: u8) -> Result<bool, Stop
     alike
 }
 
-// Whether both are the same after each of the changes, at each place of a number of so many digits behind its first.
+// Whether both are the same after each of the changes, at each place of a number with this many digits behind its first.
 fn is_alike(alloc: Global, text: &str, count: u8) -> Result<bool, Stop> {
     let mut alike = is_same(alloc, text, text, Change::Nothing)?;
     for place in 1..count {

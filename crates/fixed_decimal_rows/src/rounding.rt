@@ -27,7 +27,7 @@ impl Rounding {
         })
     }
 
-    /// The mode by size alone.
+    /// The mode by size only.
     pub fn unsigned_mode(self) -> Result<UnsignedRoundingMode, Stop> {
         match self.mode {
             SignedRoundingMode::Unsigned(mode) => Ok(mode),
@@ -45,7 +45,7 @@ pub enum Passed {
 }
 
 impl Passed {
-    /// What words spell: nothing, a position alone, or a position, a mode, and an increment or none.
+    /// What words spell: nothing, only a position, or a position, a mode, and an increment or none.
     pub fn of(words: &str) -> Result<Passed, Stop> {
         let (position, behind) = split_word(words);
         if position.is_empty() {

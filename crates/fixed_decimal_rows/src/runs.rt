@@ -120,7 +120,7 @@ pub fn answer(alloc: Global, fields: &[&str], out: &mut String) -> Result<(), St
     answer
 }
 
-// The answer of a run of calls, written into a sink with so much room.
+// The answer of a run of calls, written into a sink with this room.
 fn answer_bounded(start: &[u8], calls: &[Call], room: usize, out: &mut String) -> Result<(), Stop> {
     let alloc = *out.allocator();
     let mut sink = Bounded::new(alloc, room);
@@ -130,7 +130,7 @@ fn answer_bounded(start: &[u8], calls: &[Call], room: usize, out: &mut String) -
     answer
 }
 
-/// The answer of a run of calls, written into a sink with so much room as the first field says.
+/// The answer of a run of calls, written into a sink with the room that the first field says.
 pub fn answer_in_room(alloc: Global, fields: &[&str], out: &mut String) -> Result<(), Stop> {
     let [room, start, fields @ ..] = fields else {
         return Err(Stop::Unknown);

@@ -17,7 +17,7 @@ use std::collections::BTreeMap;
 /// The digits of each row.
 pub const LATIN: [char; 10] = ['0', '1', '2', '3', '4', '5', '6', '7', '8', '9'];
 
-/// A provider that answers each identifier with the tables of one locale, which it is lent.
+/// A provider that returns the borrowed tables of one locale for each identifier.
 #[derive(Clone, Copy)]
 pub struct OneLocale<'t> {
     pub symbols: &'t DecimalSymbols,

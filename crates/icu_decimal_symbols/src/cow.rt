@@ -9,13 +9,13 @@ use std::ops::Deref;
 /// A value that is borrowed or owned, and read by `*` either way: of `Borrowed(&5)` and of `Owned(5)` it is `5`.
 #[derive(Debug, Drop)]
 pub enum Cow<'a, T> {
-    /// A value of somebody else's, as in `Borrowed(&5)`.
+    /// A borrowed value, as in `Borrowed(&5)`.
     Borrowed(&'a T),
-    /// A value of its own, as in `Owned(5)`.
+    /// An owned value, as in `Owned(5)`.
     Owned(T),
 }
 
-/// The value, whoever owns it: `*` of `Borrowed(&5)` is `5`. It takes no memory.
+/// The value, whoever owns it: `*` of `Borrowed(&5)` is `5`. It does not allocate.
 impl<'a, T> Deref for Cow<'a, T> {
     type Target = T;
 

@@ -13,7 +13,7 @@ pub enum DataError {
     /// No table stands under the identifier: with the sample book, symbols of `xx`.
     #[error("identifier not found")]
     IdentifierNotFound,
-    /// No identifier was asked for: the answer of `load_with_fallback` to an empty list.
+    /// No identifier was asked for: the result of `load_with_fallback` for an empty list.
     #[error("invalid request")]
     InvalidRequest,
     /// The exponents of compact patterns fall: 3 and then 2.
@@ -25,7 +25,7 @@ pub enum DataError {
     /// The exponent of a compact pattern is above its type: 4 at type 3.
     #[error("exponent above its type")]
     AboveType,
-    /// A request for memory was refused, as one of `PluralRules::new` for the condition `i = 1 and v = 0`.
+    /// Out of memory, as in `PluralRules::new` for the condition `i = 1 and v = 0`.
     #[error("out of memory")]
     Memory,
     /// Any other cause: one that the provider knows, or plural rules with `i is 1`, which is no condition.
@@ -34,7 +34,7 @@ pub enum DataError {
 }
 
 impl DataError {
-    /// The number of the error, 1 to 7 in the order above: 1 of `IdentifierNotFound`. It takes no memory.
+    /// The number of the error, 1 to 7 in the order above: 1 of `IdentifierNotFound`. It does not allocate.
     pub fn number(&self) -> u8
         ensures { result ≡ number_of self.now }
     {

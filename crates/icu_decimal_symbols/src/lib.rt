@@ -1,5 +1,5 @@
-//! What a number is written with: the symbols of a locale, the parts of a formatted number, the options of a formatter, and why
-//! there is no table.
+//! What a number is written with: a locale's symbols, the parts of a formatted number, and a formatter's options; and why there is
+//! no table.
 //!
 //! The symbols of English are `-`, `+`, `.`, `,` and the sizes 3, 3, 1. The rules are in docs/formatters.md; the names are those of
 //! ICU4X's `icu_decimal`.

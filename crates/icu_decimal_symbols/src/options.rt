@@ -18,7 +18,7 @@ pub enum GroupingStrategy {
     Min2,
 }
 
-/// How plain numbers are written. By default nothing is said, which means `Auto`: `1,000`. With `Never` it is `1000`.
+/// How plain numbers are written. The default is `Auto`: `1,000`. With `Never` it is `1000`.
 #[derive(Clone, Copy, Debug, Default, PartialEq, Eq, Hash)]
 pub struct DecimalFormatterOptions {
     /// When grouping separators are written; `None` means `Auto`.
@@ -32,7 +32,7 @@ pub struct CompactDecimalFormatterOptions {
     pub grouping_strategy: Option<GroupingStrategy>,
 }
 
-/// The strategy `Min2`, so that `1000T` has no separator and `10,000T` has one. It takes no memory.
+/// The strategy `Min2`, so that `1000T` has no separator and `10,000T` has one. It does not allocate.
 impl Default for CompactDecimalFormatterOptions {
     ghost use Rattle.std.specs.Prelude.{◌≡◌, Some};
     ghost use Rattle.icu_decimal_symbols.specs.declared.options.GroupingStrategy.{GroupingStrategy};
@@ -44,7 +44,7 @@ impl Default for CompactDecimalFormatterOptions {
     }
 }
 
-/// The options with this strategy: `Never` gives `Some(Never)`. It takes no memory.
+/// The options with this strategy: `Never` gives `Some(Never)`. It does not allocate.
 impl From<GroupingStrategy> for DecimalFormatterOptions {
     ghost from_gives = { λ strategy options. options ≡ record { grouping_strategy = Some strategy } };
 
@@ -55,7 +55,7 @@ impl From<GroupingStrategy> for DecimalFormatterOptions {
     }
 }
 
-/// The options with this strategy: `Never` gives `Some(Never)`. It takes no memory.
+/// The options with this strategy: `Never` gives `Some(Never)`. It does not allocate.
 impl From<GroupingStrategy> for CompactDecimalFormatterOptions {
     ghost from_gives = { λ strategy options. options ≡ record { grouping_strategy = Some strategy } };
 
@@ -66,8 +66,8 @@ impl From<GroupingStrategy> for CompactDecimalFormatterOptions {
     }
 }
 
-/// The same strategy, and none where there is none: `Some(Never)` gives `Some(Never)`, and `None` gives `None`. So the default
-/// options for plain numbers do not become the default ones for compact numbers. It takes no memory.
+/// The same strategy, or none: `Some(Never)` gives `Some(Never)`, and `None` gives `None`. So the default options for plain numbers
+/// do not become the default ones for compact numbers. It does not allocate.
 impl From<DecimalFormatterOptions> for CompactDecimalFormatterOptions {
     ghost from_gives = { λ plain compact. compact ≡ record { grouping_strategy = plain.grouping_strategy } };
 
@@ -78,7 +78,7 @@ impl From<DecimalFormatterOptions> for CompactDecimalFormatterOptions {
     }
 }
 
-/// The same strategy, and none where there is none: `Some(Min2)` gives `Some(Min2)`, and `None` gives `None`. It takes no memory.
+/// The same strategy, or none: `Some(Min2)` gives `Some(Min2)`, and `None` gives `None`. It does not allocate.
 impl From<CompactDecimalFormatterOptions> for DecimalFormatterOptions {
     ghost from_gives = { λ compact plain. plain ≡ record { grouping_strategy = compact.grouping_strategy } };
 
@@ -89,7 +89,7 @@ impl From<CompactDecimalFormatterOptions> for DecimalFormatterOptions {
     }
 }
 
-/// The strategy that the options name: `Never` of `Some(Never)`, and `Auto` of `None`. It takes no memory.
+/// The strategy that the options name: `Never` of `Some(Never)`, and `Auto` of `None`. It does not allocate.
 pub fn strategy_of(options: DecimalFormatterOptions) -> GroupingStrategy
     ensures { result ≡ strategy_in options.grouping_strategy }
 {

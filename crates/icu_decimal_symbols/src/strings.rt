@@ -50,18 +50,17 @@ impl Model for DecimalSymbolStrsBuilder {
 }
 
 impl DecimalSymbolStrsBuilder {
-    /// The texts, as they are read by a formatter: of a builder with the decimal separator `.` texts whose `decimal_separator` is
-    /// `.`. It takes no memory.
+    /// The texts as a formatter reads them: with the decimal separator `.` in the builder, their `decimal_separator` is `.`. It
+    /// does not allocate.
     pub fn build(self) -> DecimalSymbolsStrs
         ensures { result ≡ self }
     {
         DecimalSymbolsStrs { texts: self }
     }
 
-    /// A builder with these texts: of those of English one with `-`, `+`, `.`, `,` and `latn`. Building it gives texts that are
-    /// equal.
+    /// A builder with these texts: of those of English one with `-`, `+`, `.`, `,` and `latn`. `build` gives equal texts.
     ///
-    /// `AllocError` is answered for memory alone, and none is taken where the six texts are empty.
+    /// `AllocError`: out of memory. It does not allocate where the six texts are empty.
     pub fn from_strs(alloc: Global, strs: &DecimalSymbolsStrs) -> Result<Self, AllocError>
         ensures succeeds { HasNoText strs.now → IsOk result }
         ensures value { IfOk result (λ builder. builder ≡ strs.now) }
@@ -69,8 +68,8 @@ impl DecimalSymbolStrsBuilder {
         copied(alloc, &strs.texts)
     }
 
-    /// An equal builder: of one with `-`, `+`, `.`, `,` and `latn` another with these. `AllocError` is answered for memory alone,
-    /// and none is taken where the six texts are empty.
+    /// A copy of the builder: of one with `-`, `+`, `.`, `,` and `latn` another with these. `AllocError`: out of memory. It does
+    /// not allocate where the six texts are empty.
     pub fn try_clone(&self) -> Result<Self, AllocError>
         ensures succeeds { HasNoText self.now → IsOk result }
         ensures value { IfOk result (λ builder. builder ≡ self.now) }
@@ -79,7 +78,7 @@ impl DecimalSymbolStrsBuilder {
     }
 }
 
-// The text in a `String` of its own; no memory is taken for the empty one.
+// The text in a `String` of its own; the empty one does not allocate.
 fn owned(alloc: Global, text: &str) -> Result<String, AllocError>
     ensures succeeds { text.now ≡ [] → IsOk result }
     ensures value { IfOk result (λ own. string_bytes own ≡ text.now) }
@@ -163,7 +162,7 @@ impl Model for DecimalSymbolsStrs {
 }
 
 impl DecimalSymbolsStrs {
-    /// What stands before a number with a minus sign: `-`. It takes no memory.
+    /// What stands before a number with a minus sign: `-`. It does not allocate.
     pub fn minus_sign_prefix(&self) -> &str
         ensures { result.now ≡ self.now.minus_sign_prefix }
     {
@@ -171,7 +170,7 @@ impl DecimalSymbolsStrs {
         texts.minus_sign_prefix.as_str()
     }
 
-    /// What stands after a number with a minus sign: nothing in English. It takes no memory.
+    /// What stands after a number with a minus sign: nothing in English. It does not allocate.
     pub fn minus_sign_suffix(&self) -> &str
         ensures { result.now ≡ self.now.minus_sign_suffix }
     {
@@ -179,7 +178,7 @@ impl DecimalSymbolsStrs {
         texts.minus_sign_suffix.as_str()
     }
 
-    /// What stands before a number with a plus sign: `+`. It takes no memory.
+    /// What stands before a number with a plus sign: `+`. It does not allocate.
     pub fn plus_sign_prefix(&self) -> &str
         ensures { result.now ≡ self.now.plus_sign_prefix }
     {
@@ -187,7 +186,7 @@ impl DecimalSymbolsStrs {
         texts.plus_sign_prefix.as_str()
     }
 
-    /// What stands after a number with a plus sign: nothing in English. It takes no memory.
+    /// What stands after a number with a plus sign: nothing in English. It does not allocate.
     pub fn plus_sign_suffix(&self) -> &str
         ensures { result.now ≡ self.now.plus_sign_suffix }
     {
@@ -195,7 +194,7 @@ impl DecimalSymbolsStrs {
         texts.plus_sign_suffix.as_str()
     }
 
-    /// What stands between the integer digits and the fraction digits: `.` in English. It takes no memory.
+    /// What stands between the integer digits and the fraction digits: `.` in English. It does not allocate.
     pub fn decimal_separator(&self) -> &str
         ensures { result.now ≡ self.now.decimal_separator }
     {
@@ -203,7 +202,7 @@ impl DecimalSymbolsStrs {
         texts.decimal_separator.as_str()
     }
 
-    /// What stands between two groups of integer digits: `,` in English. It takes no memory.
+    /// What stands between two groups of integer digits: `,` in English. It does not allocate.
     pub fn grouping_separator(&self) -> &str
         ensures { result.now ≡ self.now.grouping_separator }
     {
@@ -211,7 +210,7 @@ impl DecimalSymbolsStrs {
         texts.grouping_separator.as_str()
     }
 
-    /// The numbering system of the digits: `latn` in English. It takes no memory.
+    /// The numbering system of the digits: `latn` in English. It does not allocate.
     pub fn numsys(&self) -> &str
         ensures { result.now ≡ self.now.numsys }
     {
@@ -219,7 +218,7 @@ impl DecimalSymbolsStrs {
         texts.numsys.as_str()
     }
 
-    /// The numbering system as a small text, which is copied: `latn` in English. It takes no memory.
+    /// The numbering system as a small text, which is copied: `latn` in English. It does not allocate.
     pub fn system(&self) -> TinyAsciiStr<8>
         ensures { result ≡ self.now.numsys }
     {
@@ -227,8 +226,8 @@ impl DecimalSymbolsStrs {
         texts.numsys
     }
 
-    /// Equal texts: of those of English `-`, `+`, `.`, `,` and `latn` once more. `AllocError` is answered for memory alone, and
-    /// none is taken where the six texts are empty.
+    /// A copy of the texts: of those of English `-`, `+`, `.`, `,` and `latn`. `AllocError`: out of memory. It does not allocate
+    /// where the six texts are empty.
     pub fn try_clone(&self) -> Result<Self, AllocError>
         ensures succeeds { HasNoText self.now → IsOk result }
         ensures value { IfOk result (λ texts. texts ≡ self.now) }

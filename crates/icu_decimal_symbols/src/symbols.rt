@@ -31,7 +31,7 @@ impl Model for DecimalSymbols {
     ghost view = { λ s. record { strings = s.strings; grouping_sizes = s.grouping_sizes } };
 }
 
-/// The texts: `symbols.decimal_separator()` is `.` in English. It takes no memory.
+/// The texts: `symbols.decimal_separator()` is `.` in English. It does not allocate.
 impl Deref for DecimalSymbols {
     type Target = DecimalSymbolsStrs;
 
@@ -88,7 +88,7 @@ fn latin() -> TinyAsciiStr<8>
 impl DecimalSymbols {
     /// The symbols of English: `-`, `+`, `.`, `,`, `latn`, and the sizes 3, 3, 1.
     ///
-    /// `AllocError` is answered for memory alone.
+    /// `AllocError`: out of memory.
     pub fn new_en_for_testing(alloc: Global) -> Result<Self, AllocError>
         ensures { IfOk result (λ symbols. symbols ≡ english_symbols) }
     {
@@ -103,8 +103,8 @@ impl DecimalSymbols {
         })
     }
 
-    /// Equal symbols: of those of English `-`, `+`, `.`, `,`, `latn` and 3, 3, 1 once more. `AllocError` is answered for memory
-    /// alone, and none is taken where the six texts are empty.
+    /// A copy of the symbols: of those of English `-`, `+`, `.`, `,`, `latn` and 3, 3, 1. `AllocError`: out of memory. It does not
+    /// allocate where the six texts are empty.
     pub fn try_clone(&self) -> Result<Self, AllocError>
         ensures succeeds { HasNoText self.now.strings → IsOk result }
         ensures value { IfOk result (λ symbols. symbols ≡ self.now) }

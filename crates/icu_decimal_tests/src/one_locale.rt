@@ -1,4 +1,4 @@
-// A provider that answers every identifier with the tables of one locale, whose symbols it is lent.
+// A provider that returns the tables of one locale for every identifier, with borrowed symbols.
 use icu_decimal::provider::{
     DataError, DataIdentifier, DataProvider, DecimalDigitsV1, DecimalSymbols, DecimalSymbolsV1,
     ParentProvider,

@@ -340,7 +340,7 @@ fn unreadable_symbols(rt: HostRuntime) -> Result<(), Fail> {
     Ok(())
 }
 
-// So many ones behind a text.
+// A text with `count` ones behind it.
 fn with_ones(alloc: Global, front: &str, count: u32) -> Result<String, AllocError> {
     let mut text = String::from_str(alloc, front)?;
     for _ in 0..count {
@@ -349,7 +349,7 @@ fn with_ones(alloc: Global, front: &str, count: u32) -> Result<String, AllocErro
     Ok(text)
 }
 
-// A row: whether a text and so many ones behind it are read, as they stand.
+// A row: whether a text with this many ones behind it is read, as it stands.
 fn expect_long_read(
     rt: &impl Abort,
     alloc: Global,

@@ -93,7 +93,7 @@ fn book_of(alloc: Global, seed: Seed, value: Value) -> Result<Book, BookError>
     ensures value { IfOk result (IsBook (view value)) }
     ensures fault { IfErr result (λ fault. IsTold (book_fault (view value)) fault) }
 
-    // A value of another form is never told as out of memory.
+    // A value of another form is never reported as out of memory.
     ensures room { IsErrOf result BookError.Memory → book_may_grow (view value) ≡ true }
 {
     match arrays_of(alloc, value) {
@@ -110,12 +110,12 @@ impl Book {
     ///
     /// An array of five arrays: of symbols, each under a data locale and a system or none, of digits, of plural rules, and of short
     /// and long patterns; and of a sixth or none, of locales and their parents. `SAMPLE_BOOK` is one, `[[],[],[],[],[]]` the
-    /// shortest. Takes memory. The form and the faults are defined in docs/books.md.
+    /// shortest. It allocates. The form and the faults are defined in docs/books.md.
     ///
     /// - Json: the bytes have no reading as JSON, as `[1`.
     /// - Shape: the value is not an array of five arrays or six, as `[]`. Else the first faulty entry decides, and in an entry the
     ///   first of Shape to Cycle that applies: Cycle of `[[],[],[],[],[],[["en","en"]]]`.
-    /// - Memory: memory is refused.
+    /// - Memory: out of memory.
     pub fn from_json(alloc: Global, bytes: &[u8]) -> Result<Book, BookError>
         ensures value { IfOk result (λ book. (value : Data) × Reads bytes.now value × IsBook value book) }
         ensures refused { IfErr result (λ fault. IsRefused bytes.now fault) }
@@ -127,8 +127,8 @@ impl Book {
     }
 }
 
-/// The book that a JSON text is, as by [`Book::from_json`]: the one without tables of `[[],[],[],[],[]]`, and `Json` of `[1`.
-/// The text is let go before the tables are made, so that the two never take memory together.
+/// The book that a JSON text is, as by [`Book::from_json`]: the one without tables of `[[],[],[],[],[]]`, and `Json` of `[1`. The
+/// text is let go before the tables are made, so that the two are never in memory together.
 pub fn book_from(alloc: Global, bytes: Vec<u8>) -> Result<Book, BookError>
     ensures value { IfOk result (λ book. (value : Data) × Reads bytes.items value × IsBook value book) }
     ensures refused { IfErr result (λ fault. IsRefused bytes.items fault) }

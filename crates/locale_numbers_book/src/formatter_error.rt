@@ -16,13 +16,13 @@ pub enum FormatterError {
     /// The book lacks a table for the tag, as `SAMPLE_BOOK` the symbols of `fr`.
     #[error("no table for the tag")]
     Table,
-    /// A request for memory was refused, which a tag of two variants takes: `de-1996-fonipa`.
+    /// Out of memory, as for a tag of two variants: `de-1996-fonipa`.
     #[error("out of memory")]
     Memory,
 }
 
 impl FormatterError {
-    /// The number of the error: 1 of `Tag`, 2 of `Table`, 3 of `Memory`. It takes no memory.
+    /// The number of the error: 1 of `Tag`, 2 of `Table`, 3 of `Memory`. It does not allocate.
     pub fn number(&self) -> u8
         ensures { result ≡ formatter_error_number self.now }
     {

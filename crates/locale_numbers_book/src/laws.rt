@@ -19,8 +19,8 @@ pub fn keys_are_one_where_equal()
     ensures { KeysAreOneWhereEqual }
 {}
 
-/// The function by which patterns are read makes exactly the tables of `CompactPatterns::new`: of `K` at the types 3 and 6 that
-/// of type 3 alone.
+/// The function by which patterns are read makes exactly the tables of `CompactPatterns::new`: of `K` at the types 3 and 6 only
+/// that of type 3.
 pub fn tables_are_made()
     ensures { TablesAreMade }
 {}

@@ -19,7 +19,7 @@ use icu_decimal::provider::DataError;
 use icu_decimal::{CompactDecimalFormatter, DecimalFormatter, DecimalFormatterPreferences};
 use std::alloc::Global;
 
-/// The same preferences, for compact numbers: of `ar-EG-u-nu-thai` the locale `ar-EG` and the system `thai`. It takes no memory.
+/// The same preferences, for compact numbers: of `ar-EG-u-nu-thai` the locale `ar-EG` and the system `thai`. It does not allocate.
 pub fn compact_preferences(plain: DecimalFormatterPreferences) -> CompactDecimalFormatterPreferences
     ensures { result ≡ plain }
 {
@@ -123,8 +123,8 @@ impl Book {
     ///
     /// - Tag: the text is no locale tag, as `e`.
     /// - Table: the book has no symbols or no digits for it, as `SAMPLE_BOOK` for `fr`.
-    /// - Memory: memory is refused. A tag of one variant and one keyword at most takes none, nor does one without a variant and an
-    ///   extension.
+    /// - Memory: out of memory. A tag of at most one variant and one keyword does not allocate, nor does one of language, script
+    ///   and region only.
     pub fn formatter(
         &self,
         alloc: Global,

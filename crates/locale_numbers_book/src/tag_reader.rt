@@ -57,8 +57,8 @@ fn read_any(alloc: Global, tag: &[u8]) -> Result<Option<DecimalFormatterPreferen
 /// What a tag prefers, or `None` where the bytes are no tag: `en-u-nu-thai` prefers the locale `en` and the system `thai`, and `e`
 /// is no tag.
 ///
-/// `AllocError`: memory is refused. A tag of one variant and one keyword at most takes none, nor does one without a variant and an
-/// extension.
+/// `AllocError`: out of memory. A tag of at most one variant and one keyword does not allocate, nor does one of language, script
+/// and region only.
 pub fn read_preferences(
     alloc: Global,
     tag: &[u8],

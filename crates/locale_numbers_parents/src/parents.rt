@@ -19,7 +19,7 @@ pub enum ParentFault {
     Duplicate,
     /// The parents of the locale would lead back to it: `en-US` for `en`, since `en` stands behind `en-US`.
     Cycle,
-    /// Memory was refused to the list.
+    /// Out of memory.
     Memory,
 }
 
@@ -41,7 +41,7 @@ impl Model for Parents {
 }
 
 impl Parents {
-    /// No parents, so that only truncation gives one: `en` for `en-US`. It takes no memory.
+    /// No parents, so that only truncation gives one: `en` for `en-US`. It does not allocate.
     pub fn new(alloc: Global) -> Self
         ensures { result ≡ [] }
     {
@@ -58,7 +58,7 @@ impl Parents {
     }
 
     /// The next locale to ask for: the parent that is listed, or else the locale without its last part. With `en-001` for `en-AU`
-    /// it is `en-001` after `en-AU`, `en` after `en-US`, and none after `en`. It takes no memory.
+    /// it is `en-001` after `en-AU`, `en` after `en-US`, and none after `en`. It does not allocate.
     pub fn parent(&self, locale: &DataLocale) -> Option<DataLocale>
         ensures { result ≡ parent_step self.now locale.now }
     {
@@ -68,7 +68,8 @@ impl Parents {
         }
     }
 
-    /// The bound on the steps of a chain, which no chain exceeds: five for each parent that is listed, and four. It takes no memory.
+    /// The bound on the steps of a chain, which no chain exceeds: five for each parent that is listed, and four. It does not
+    /// allocate.
     pub fn chain_limit(&self) -> u128
         ensures value { result ≡ most_steps self.now }
         ensures cuts_none { (l : DataLocaleMeaning) → Follows (parent_step self.now) l (walk (parent_step self.now) result l) }
@@ -76,7 +77,7 @@ impl Parents {
         5 * (self.pairs.len() as u128) + 4
     }
 
-    /// Whether the chain of the start meets the goal: that of `en-US` meets `en`. It takes no memory.
+    /// Whether the chain of the start meets the goal: that of `en-US` meets `en`. It does not allocate.
     pub fn leads_to(&self, start: DataLocale, goal: DataLocale) -> bool
         ensures value { result ≡ leads_to self.now start goal }
         ensures follows { Follows (parent_step self.now) start (walk (parent_step self.now) (most_steps self.now) start) }
@@ -94,11 +95,11 @@ impl Parents {
         current == goal
     }
 
-    /// Gives the locale this parent: `en-001` for `en-AU`. After a fault the parents are as before. It takes memory.
+    /// Gives the locale this parent: `en-001` for `en-AU`. After a fault the parents are as before. It allocates.
     ///
     /// - Duplicate: the locale has a parent already, as a second one for `en-AU`.
     /// - Cycle: else, its parents would lead back to it, as `en` or `en-US` for `en`.
-    /// - Memory: else, memory was refused.
+    /// - Memory: else, out of memory.
     pub fn add(&mut self, locale: DataLocale, parent: DataLocale) -> Result<(), ParentFault>
         ensures duplicate { IsErrOf result ParentFault.Duplicate → IsSome (listed_parent self.old locale) }
         ensures cycle { IsErrOf result ParentFault.Cycle → ClosesCycle self.old (locale, parent) }
@@ -112,7 +113,7 @@ impl Parents {
         ensures met { IsErrOf result ParentFault.Cycle → leads_to self.old parent locale ≡ true }
         ensures not_met { OnOk result (leads_to self.old parent locale ≡ false) }
 
-        // A locale that is listed and a parent that leads back are never told as out of memory.
+        // A locale that is listed and a parent that leads back are never reported as out of memory.
         ensures room_duplicate { IsErrOf result ParentFault.Memory → listed_parent self.old locale ≡ None }
         ensures room_cycle { IsErrOf result ParentFault.Memory → leads_to self.old parent locale ≡ false }
     {

@@ -308,7 +308,7 @@ pub fn compact_entry(
     ensures sound { OnOk result (compact_fault (view entry.now) ≡ None) }
     ensures fault { IfErr result (λ fault. IsTold (compact_fault (view entry.now)) fault) }
 
-    // An entry that has not four fields, or whose first two are no texts, is never told as out of memory.
+    // An entry that has not four fields, or whose first two are no texts, is never reported as out of memory.
     ensures room { IsErrOf result BookError.Memory → compact_may_grow (view entry.now) ≡ true }
 {
     if !has_frame(entry) {

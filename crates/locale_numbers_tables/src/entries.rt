@@ -95,7 +95,7 @@ pub fn symbols_entry(
     ensures sound { OnOk result (symbols_fault (view entry.now) ≡ None) }
     ensures fault { IfErr result (λ fault. IsTold (symbols_fault (view entry.now)) fault) }
 
-    // A fault is told as out of memory only behind a locale whose reading may take memory.
+    // A fault is reported as out of memory only behind a locale whose reading may allocate.
     ensures room { IsErrOf result BookError.Memory → symbols_may_grow (view entry.now) ≡ true }
 {
     if !has_symbols_shape(entry) {
@@ -148,7 +148,7 @@ pub fn digits_entry(
     ensures sound { OnOk result (digits_fault (view entry.now) ≡ None) }
     ensures fault { IfErr result (λ fault. IsTold (digits_fault (view entry.now)) fault) }
 
-    // No fault of an entry of digits is ever told as out of memory.
+    // No fault of an entry of digits is ever reported as out of memory.
     ensures room { IsErrOf result BookError.Memory → digits_may_grow (view entry.now) ≡ true }
 {
     if !has_digits_shape(entry) {

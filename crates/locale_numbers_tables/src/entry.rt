@@ -22,7 +22,7 @@ pub trait Entry: Drop {
 
     ghost fault_in: { Data → Option BookError };
 
-    // Whether an entry may be told as out of memory.
+    // Whether an entry may be reported as out of memory.
     ghost may_grow: { Data → Bool };
 
     /// What an entry says, with its key.

@@ -9,7 +9,7 @@ use thiserror::Error;
 /// Of a text that is read as JSON the first faulty entry decides, and in an entry the least number.
 #[derive(Clone, Copy, Debug, Drop, PartialEq, Eq, Error)]
 pub enum BookError {
-    /// The bytes have no reading as JSON, as `[1`, for another cause than memory.
+    /// The bytes are no JSON text, as `[1`; `Memory` where reading them runs out of memory.
     #[error("json")]
     Json,
     /// The JSON value is not five arrays or six, as `[]`, or an entry has not its form.
@@ -42,7 +42,7 @@ pub enum BookError {
     /// The parents of a locale lead back to it, under the entries up to its own: `en` for `en`, or `en-US` for `en`.
     #[error("cycle")]
     Cycle,
-    /// Memory was refused, as for the tables of `SAMPLE_BOOK`.
+    /// Out of memory, as for the tables of `SAMPLE_BOOK`.
     #[error("memory")]
     Memory,
 }

@@ -22,7 +22,7 @@ pub fn is_plain_text(text: &str) -> bool
     text.chars().all(|c| c != '\t' && c != '\n')
 }
 
-/// Whether a value is an array of so many items.
+/// Whether a value is an array of `count` items.
 pub fn has_count(entry: &Value, count: usize) -> bool
     ensures { result ≡ has_count count (view entry.now) }
 {
@@ -91,7 +91,7 @@ pub fn size(entry: &Value, place: usize) -> Option<u8>
 fn read_locale(alloc: Global, text: &str) -> Result<Option<DataLocale>, AllocError>
     ensures value { IfOk result (λ locale. locale ≡ data_locale_of (pieces text.now)) }
 
-    // A text that begins as no tag does, or has no variant and no extension, is never told as out of memory.
+    // A text that begins as no tag does, or has no variant and no extension, is never reported as out of memory.
     ensures room { OnErr result (tag_may_grow (pieces text.now) ≡ true) }
 {
     match DataLocale::try_from_utf8(alloc, text.as_bytes()) {
@@ -193,7 +193,7 @@ fn count_of(text: &str) -> usize
 pub fn digits(alloc: Global, entry: &Value, place: usize) -> Result<Option<[char; 10]>, AllocError>
     ensures value { IfOk result (λ digits. digits ≡ field_at digits_in place (view entry.now)) }
 
-    // A field that is not there, or is no such text, is never told as out of memory.
+    // A field that is not there, or is no such text, is never reported as out of memory.
     ensures room { OnErr result (is_some (field_at digits_in place (view entry.now)) ≡ true) }
 {
     let Some(text) = plain_text(entry, place) else {

@@ -106,7 +106,8 @@ pub fn rules_entry(alloc: Global, entry: &Value) -> Result<(DataLocale, PluralRu
     ensures sound { OnOk result (rules_fault (view entry.now) ≡ None) }
     ensures fault { IfErr result (λ fault. IsTold (rules_fault (view entry.now)) fault) }
 
-    // An entry that has not two fields, or whose first is no text, is never told as out of memory.
+    // An entry that has not two fields, or whose first is no text, is never reported as out of
+    // memory.
     ensures room { IsErrOf result BookError.Memory → rules_may_grow (view entry.now) ≡ true }
 {
     if !has_count(entry, 2) || !is_text_at(entry, 0) {

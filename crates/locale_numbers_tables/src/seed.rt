@@ -58,7 +58,7 @@ impl Seed {
         }
     }
 
-    /// The seed of a text: the halves of its SHA-512 digest, each as one number. It takes no memory.
+    /// The seed of a text: the halves of its SHA-512 digest, each as one number. It does not allocate.
     pub fn of_text(text: &[u8]) -> Self {
         Seed::of_digest(&Sha512::digest(text)[..])
     }

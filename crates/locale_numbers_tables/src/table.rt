@@ -8,7 +8,7 @@ use crate::seed::Seed;
 use indexmap::IndexMap;
 use std::hash::Hash;
 
-/// What the entries of an array say, each under its key: of `[["latn","0123456789"]]` the ten digits of `latn`.
+/// What the entries of an array define, each under its key: of `[["latn","0123456789"]]` the ten digits of `latn`.
 pub struct Table<K: Eq + Hash, V> {
     pub map: IndexMap<K, V, Seed>,
 }
@@ -30,7 +30,7 @@ pub fn add<K: Eq + Hash + Drop, V: Drop>(
     ensures fresh { OnOk result (get K.eq table.old key ≡ None) }
     ensures duplicate { IsErrOf result BookError.Duplicate → IsSome (get K.eq table.old key) }
 
-    // A key that stands already is never told as out of memory.
+    // A key that stands already is never reported as out of memory.
     ensures twice { IsSome (get K.eq table.old key) → IsErrOf result BookError.Duplicate }
     ensures only { IfErr result (λ fault. (fault ≡ BookError.Duplicate) ⊎ (fault ≡ BookError.Memory)) }
 {

@@ -69,7 +69,7 @@ pub fn table_of<V: Entry>(
     ensures sound { OnOk result (first_fault_behind V.Key.eq V.key_in V.fault_in [] (items_view entries.items) ≡ None) }
     ensures fault { IfErr result (λ fault. IsTold (first_fault_behind V.Key.eq V.key_in V.fault_in [] (items_view entries.items)) fault) }
 
-    // A fault of the first entry that is found before memory is asked for is never told as out of memory.
+    // A fault of the first entry that is found before anything is allocated is never reported as out of memory.
     ensures room { IsErrOf result BookError.Memory → begins_with V.may_grow (items_view entries.items) ≡ true }
 {
     let mut map: IndexMap<V::Key, V, Seed> = IndexMap::with_hasher(alloc, seed);

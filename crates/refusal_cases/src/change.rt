@@ -4,7 +4,7 @@ use crate::case::Case;
 use rows::{Stop, put_text};
 use std::alloc::{AllocError, Global};
 
-/// An answer has room for so many bytes before the call, so that it asks for none behind it.
+/// The capacity of an answer in bytes before the call, so that it is not allocated after it.
 pub const ROOM: usize = 256;
 
 /// A receiver, as a row spells it.

@@ -6,7 +6,7 @@ use crate::stop::Stop;
 use std::alloc::Global;
 use writeable::{Error, Part, Sink, Writeable};
 
-/// A sink with room for so many bytes. It refuses a call that brings more, and takes nothing of that one.
+/// A sink with room for a number of bytes. It refuses a call that brings more, and takes nothing of that one.
 #[derive(Drop)]
 pub struct Bounded {
     text: String,
@@ -15,7 +15,7 @@ pub struct Bounded {
 }
 
 impl Bounded {
-    /// An empty sink with room for so many bytes.
+    /// An empty sink with room for this number of bytes.
     pub fn new(alloc: Global, room: usize) -> Bounded
         ensures { ⟦<Bounded as Sink>⟧.refused result ≡ false }
     {
@@ -91,7 +91,7 @@ pub fn put_held(out: &mut String, text: &str, has_refused: bool) -> Result<(), S
     put_text(out, text)
 }
 
-/// Writes what a sink with so much room holds of a value.
+/// Writes what a sink with room for `room` bytes holds of a value.
 pub fn put_in_room<W: Writeable>(out: &mut String, value: &W, room: usize) -> Result<(), Stop> {
     let mut sink = Bounded::new(*out.allocator(), room);
     let is_refused = value.write_to(&mut sink).is_err();

@@ -11,7 +11,7 @@ enum State {
     Plain,
     // behind a backslash
     Escape,
-    // behind the digits of this number to the base 16, of which so many are to come
+    // behind the first hexadecimal digits of this number; how many are to come
     Digits(u16, u8),
 }
 

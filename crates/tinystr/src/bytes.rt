@@ -60,7 +60,7 @@ pub(crate) fn is_title_of_letters(bytes: &[u8]) -> bool
     }
 }
 
-/// Raises the first byte and lowers the rest.
+/// Puts the first byte in upper case and the rest in lower case.
 pub(crate) fn make_title(bytes: &mut [u8])
     requires { IsAscii bytes.old }
     ensures { bytes.new ≡ titlecase bytes.old }

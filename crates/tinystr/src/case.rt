@@ -28,7 +28,7 @@ impl<const N: usize> TinyAsciiStr<N> {
 
     /// The text with its first character in upper case and the rest in lower case: `tEsT` gives `Test`.
     ///
-    /// Only the first character is raised, a letter or not: `1ab` stays.
+    /// Only the first character is put in upper case, a letter or not: `1ab` stays.
     pub fn to_ascii_titlecase(self) -> Self
         ensures { result ≡ titlecase self.entry }
     {

@@ -40,7 +40,7 @@ impl ParseError {
 /// Why bytes or a JSON value are no form of a value: of the byte `[97]` at 2 it is `Length(1)`.
 #[derive(Clone, Copy, Debug, Drop, PartialEq, Eq, Error)]
 pub enum UleError {
-    /// So many bytes are no form, whatever they hold; of a JSON value that is no text it is `Length(0)`.
+    /// A list of this many bytes is no form, whatever they are; of a JSON value that is no text it is `Length(0)`.
     #[error("{0} bytes are no form")]
     Length(usize),
     /// The count is right, and the bytes are no form, as `[0, 97]` at 2; or the text in a JSON value is refused.

@@ -12,7 +12,7 @@ use serde_json::Value;
 use std::alloc::{AllocError, Global};
 
 impl<const N: usize> TinyAsciiStr<N> {
-    /// The text as a JSON value: `ab` gives `"ab"`. It takes memory; `AllocError` is answered where that is refused.
+    /// The text as a JSON value: `ab` gives `"ab"`. It allocates. `AllocError`: out of memory.
     pub fn to_json(&self, alloc: Global) -> Result<Value, AllocError>
         ensures { IfOk result (λ value. view value ≡ string self.now) }
     {

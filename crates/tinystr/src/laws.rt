@@ -18,7 +18,7 @@ pub fn niche_is_no_form()
     ensures { NicheIsNoForm }
 {}
 
-/// Units that are refused have one fault, and no text has one: `[0, 97]` at 2 is `ContainsNull` alone, and `[97]` has none.
+/// Units that are refused have one fault, and no text has one: `[0, 97]` at 2 is only `ContainsNull`, and `[97]` has none.
 pub fn one_fault()
     ensures one { OneFault }
     ensures texts { TextsHaveNoFault }

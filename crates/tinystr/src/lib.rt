@@ -1,7 +1,7 @@
 //! Bounded ASCII texts, held in place: `TinyAsciiStr<N>` is one text of at most N bytes.
 //!
-//! `TinyAsciiStr::<4>::try_from_str("tEsT")` holds `tEsT`; its title case is `Test`. No call but
-//! `to_json` takes memory. The names are those of ICU4X's `tinystr`.
+//! `TinyAsciiStr::<4>::try_from_str("tEsT")` holds `tEsT`; its title case is `Test`. Only `to_json`
+//! allocates. The names are those of ICU4X's `tinystr`.
 
 #![tactic(auto)]
 

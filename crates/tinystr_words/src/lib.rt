@@ -1,7 +1,7 @@
 //! ASCII bytes by words of eight: the inner crate of `tinystr`.
 //!
 //! A word holds eight bytes, the first the lowest. A class, a case change and a length go over a
-//! slice word by word; the last word is filled up with NULs. No call takes memory.
+//! slice word by word; the last word is filled up with NULs. No call allocates.
 
 #![tactic(auto)]
 

@@ -87,7 +87,7 @@ pub fn are_same(one: &[u8], other: &[u8]) -> bool
     same
 }
 
-/// The word with each byte changed, where only so many bytes are no NULs that fill up.
+/// The word with each byte changed, of which the bytes from `count` on are NULs that fill it up.
 ///
 /// Four and eight bytes are read at once; a word of another count is put together.
 pub(crate) fn changed_word<C: WordChange>(word: u64, count: usize) -> u64

@@ -1,4 +1,4 @@
-//! Title case: the first byte raised and the rest lowered.
+//! Title case: the first byte in upper case and the rest in lower case.
 
 ghost use Rattle.std.specs.Prelude.{◌≡◌, ◌≤◌, length};
 ghost use Rattle.std.specs.Char.{to_ascii_lowercase, to_ascii_uppercase};
@@ -14,7 +14,8 @@ const FIRST_CASE: u64 = 32;
 
 /// The word of at most eight bytes in title case, filled up with NULs.
 ///
-/// All bytes are lowered while the first has its case bit turned, and then it is turned back.
+/// All bytes are put in lower case while the first has its case bit turned, and then it is turned
+/// back.
 fn title_word(bytes: &[u8]) -> u64
     requires short { length bytes.now ≤ 8 }
     requires ascii { IsAscii bytes.now }
@@ -24,7 +25,8 @@ fn title_word(bytes: &[u8]) -> u64
     changed_word::<ToLowercase>(turned, bytes.len()) ^ FIRST_CASE
 }
 
-/// Raises the first byte and lowers the rest. The condition is that each byte is below 128.
+/// Puts the first byte in upper case and the rest in lower case. The condition is that each byte is
+/// below 128.
 pub fn make_title(bytes: &mut [u8])
     requires { IsAscii bytes.old }
     ensures { bytes.new ≡ map_first to_ascii_uppercase to_ascii_lowercase bytes.old }

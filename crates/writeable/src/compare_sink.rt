@@ -13,7 +13,7 @@ use std::marker::Model;
 /// A sink that compares the text with given bytes, byte by byte, and keeps neither: against `a,b`,
 /// after `a,` its verdict is `Less`.
 ///
-/// It never refuses and takes no memory.
+/// It never refuses and does not allocate.
 #[derive(Drop)]
 pub struct CompareSink<'b> {
     rest: &'b [u8],
@@ -32,7 +32,7 @@ impl<'b> CompareSink<'b> {
     ghost use Rattle.writeable.specs.Order.{Compares, order_given};
 
     /// A sink that compares with `other`: with `a,` the verdict is `Less` as long as nothing was
-    /// written. It takes no memory.
+    /// written. It does not allocate.
     pub fn new(other: &'b [u8]) -> Self
         ensures { result ≡ record { rest = other.now; so_far = Equal } }
     {
@@ -112,7 +112,7 @@ impl<'b> Sink for CompareSink<'b> {
 /// The byte order of the text of `value` against `other`, without the text being built.
 ///
 /// The first byte that differs decides; else the shorter one is less: `a,b` against `a,` is
-/// `Greater`. It takes no memory.
+/// `Greater`. It does not allocate.
 pub fn strict_cmp<T: Writeable>(value: &T, other: &[u8]) -> Ordering
     ensures { result ≡ byte_order (text_of (T.events value.now)) other.now }
 {

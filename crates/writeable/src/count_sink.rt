@@ -12,7 +12,7 @@ use std::marker::Model;
 /// count is 3.
 ///
 /// A call is refused exactly where the count would pass the greatest `u64`; a refused `write_str`
-/// leaves the count as it was. It takes no memory.
+/// leaves the count as it was. It does not allocate.
 #[derive(Clone, Copy, Debug)]
 pub struct CountSink {
     count: u64,

@@ -6,7 +6,7 @@ use std::fmt;
 /// A sink refused, as one with room for two bytes refuses `a,b`; it has taken a beginning of what
 /// was to be written.
 ///
-/// It is answered only where `has_refused` of the sink is true afterwards. Shown as
+/// It is returned only where `has_refused` of the sink is true afterwards. Shown as
 /// `the sink refused`.
 #[derive(Clone, Copy, Debug, PartialEq, Eq)]
 pub struct Error;

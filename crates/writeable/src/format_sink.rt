@@ -61,7 +61,8 @@ impl<'f, W: fmt::Write> Sink for FormatSink<'f, W> {
 /// Shows `value` in `f`: the text that `write_text` writes.
 ///
 /// Each `Display` of a value that is `Writeable` is this call. `a,b` with parts is shown as `a,b`.
-/// Where the formatter fails it answers `fmt::Error`. It takes no memory of its own.
+/// `fmt::Error`, only where the formatter fails. It allocates only what the formatter and the value
+/// do.
 #[tactic(auto, using(crate::proofs::AnnotatedTextLemmas::text_of_bytes))]
 pub fn display<T: Writeable, W: fmt::Write>(value: &T, f: &mut fmt::Formatter<W>) -> fmt::Result
     ensures { DisplaysOnOk W.write_str_gives f.old result

@@ -8,7 +8,7 @@ pub fn joining()
     ensures { Joining }
 {}
 
-/// Text alone: the same bytes written without parts are the same text, with no parts. `a,b` with
+/// Text only: the same bytes written without parts are the same text, with no parts. `a,b` with
 /// parts becomes `a,b` without any.
 pub fn text_alone()
     ensures { TextAlone }
@@ -19,7 +19,7 @@ pub fn texts_join()
     ensures { TextsJoin }
 {}
 
-/// Count alone: a count goes on exactly where it stays within the greatest `u64`. From 2 it goes on
+/// Count only: a count goes on exactly where it stays within the greatest `u64`. From 2 it goes on
 /// to 5 with `a,b`.
 pub fn count_alone()
     ensures { CountAlone }

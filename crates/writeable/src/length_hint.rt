@@ -7,9 +7,9 @@ ghost use Rattle.writeable.specs.LengthHint.{IsWithinHint};
 /// The length of the text lies between the two. After ICU4X's `writeable::LengthHint`.
 #[derive(Clone, Copy, Debug, PartialEq, Eq)]
 pub struct LengthHint {
-    /// The text has at least so many bytes: 3 of `a,b`.
+    /// The least number of bytes of the text: 3 of `a,b`.
     pub low: usize,
-    /// The text has at most so many bytes: `Some(3)` of `a,b`; `None` where nothing is known.
+    /// The greatest number of bytes of the text: `Some(3)` of `a,b`; `None` where nothing is known.
     pub high: Option<usize>,
 }
 

@@ -52,7 +52,7 @@ impl Model for PartsSink {
 impl PartsSink {
     ghost use Rattle.writeable.specs.ListedParts.{interval_of};
 
-    /// An empty sink: its text is empty, and no part is listed. It takes no memory.
+    /// An empty sink: its text is empty, and no part is listed. It does not allocate.
     pub fn new(alloc: Global) -> Self
         ensures { result ≡ record { held = held_after []; refused = false } }
     {
@@ -93,8 +93,7 @@ impl PartsSink {
     }
 }
 
-// Lists `last` at its place, where it ends at `end`, unless it has no bytes. That takes memory only
-// where it is listed.
+// Lists `last` at its place, where it ends at `end`, unless it has no bytes. It allocates only where the part is listed.
 fn list_closed(
     parts: &mut Vec<(usize, usize, Part)>,
     last: OpenPart,

@@ -5,9 +5,8 @@ use crate::part::Part;
 
 /// A place that takes a text with parts: one that holds `x` and takes `a,b` holds `xa,b`.
 ///
-/// Each call is made where `has_refused` is false. It answers `Ok` exactly where `has_refused` is
-/// false after it too, and has then taken all that it was given. Else it answers [`Error`], has
-/// taken a beginning, and has no room for the rest.
+/// Each call is made where `has_refused` is false. It returns `Ok` exactly where `has_refused` is still false afterwards; the sink
+/// has then taken all that it was given. Else it returns [`Error`], has taken a beginning, and has no room for the rest.
 pub trait Sink {
     ghost use Rattle.writeable.specs.AnnotatedText.{Event, bytes, opening, closing};
     ghost use Rattle.writeable.specs.PartName.{name_of};
@@ -81,7 +80,7 @@ pub trait Sink {
     ghost joins: { (s t u : Self) (first second : List Event) → takes s first t
         → refused t ≡ false → takes t second u → takes s (first ++ second) u };
 
-    // a refusal is one whatever else the answer says
+    // a refusal is one whatever else the result says
     ghost stops: { (r : Result (Unit {0}) Error) (s t : Self) (es : List Event)
         → HasBegun takes lacks_room s es t → OnErr r (HasBegun takes lacks_room s es t) } = { λ r s t es begun. on_err r begun };
 

@@ -9,7 +9,7 @@ use std::marker::Model;
 
 /// A sink that holds the text and leaves out the parts: of `a,b` with parts it holds `a,b`.
 ///
-/// It refuses only bytes, and only for memory; it never refuses a part.
+/// It refuses only bytes, and only where it is out of memory; it never refuses a part.
 #[derive(Drop)]
 pub struct TextSink {
     text: String,
@@ -29,7 +29,7 @@ impl Model for TextSink {
 }
 
 impl TextSink {
-    /// An empty sink: its text is empty. It takes no memory.
+    /// An empty sink: its text is empty. It does not allocate.
     pub fn new(alloc: Global) -> Self
         ensures text { result.text ≡ [] }
         ensures refused { result.refused ≡ false }
@@ -50,7 +50,7 @@ impl TextSink {
     }
 
     /// A sink that goes on behind what a text holds: behind `a,` it holds `a,b` after `write_char('b')`. The text is moved, and
-    /// keeps its room; it takes no memory.
+    /// keeps its capacity. It does not allocate.
     pub fn from_string(text: String) -> Self
         ensures text { result.text ≡ string_bytes text }
         ensures refused { result.refused ≡ false }
@@ -63,8 +63,8 @@ impl TextSink {
 
     /// Writes `text` behind what the sink holds: `a,` and then `b` are `a,b`.
     ///
-    /// `AllocError` where an allocation is refused, and then the sink is as it was. It allocates only
-    /// where the text outgrows its room; the empty text is never refused.
+    /// `AllocError`: out of memory; the sink is as it was. It allocates only where the text outgrows its capacity; the empty text
+    /// is never refused.
     pub fn push_str(&mut self, text: &str) -> Result<(), AllocError>
         ensures ok { OnOk result (self.new ≡ record { text = self.old.text ++ text.now; refused = self.old.refused }) }
         ensures kept { OnErr result (self.new ≡ self.old) }
@@ -73,7 +73,7 @@ impl TextSink {
         self.text.push_str(text)
     }
 
-    /// What the sink holds, moved out: `a,b` after `write_str("a,b")`. It takes no memory.
+    /// What the sink holds, moved out: `a,b` after `write_str("a,b")`. It does not allocate.
     pub fn into_string(self) -> String
         ensures { string_bytes result ≡ self.text }
     {

@@ -21,8 +21,8 @@ pub trait Writeable {
 
     /// Writes the value into `sink`, which has not refused yet: `a,b` behind `x` is `xa,b`.
     ///
-    /// `Ok`: the sink took the whole value behind what it held. [`Error`], only where the sink
-    /// refused: it took a beginning. It takes no memory but the sink's.
+    /// `Ok`: the sink took the whole value behind what it held. [`Error`], only where the sink refused: it took a beginning. It
+    /// allocates only what the sink does.
     fn write_to<S: Sink>(&self, sink: &mut S) -> Result<(), Error>
         requires { S.refused sink.old ≡ false }
         ensures ok { OnOk result (S.takes sink.old (events self.now) sink.new) }
@@ -32,8 +32,8 @@ pub trait Writeable {
     /// Writes the text of the value into `sink`, which has not refused yet, without its parts:
     /// `a,b` with parts behind `x` is `xa,b` with no part more.
     ///
-    /// `Ok`: the sink took the whole text behind what it held. [`Error`], only where the sink
-    /// refused: it took a beginning. It takes no memory but the sink's.
+    /// `Ok`: the sink took the whole text behind what it held. [`Error`], only where the sink refused: it took a beginning. It
+    /// allocates only what the sink does.
     fn write_text<S: Sink>(&self, sink: &mut S) -> Result<(), Error>
         requires { S.refused sink.old ≡ false }
         ensures ok { OnOk result (S.takes sink.old (without_parts (events self.now)) sink.new) }
@@ -47,8 +47,8 @@ pub trait Writeable {
         written
     }
 
-    /// Bounds of how many bytes the text has: for `"a,b"` exactly 3; a value that says nothing has 0 and
-    /// more. It takes no memory.
+    /// Bounds of how many bytes the text has: for `"a,b"` exactly 3; a value that says nothing has 0 and more. It does not
+    /// allocate.
     fn writeable_length_hint(&self) -> LengthHint
         ensures { IsWithinHint result (length (text_of (events self.now))) }
     {
@@ -57,7 +57,7 @@ pub trait Writeable {
 
     /// The text of the value, without its parts: `a,b` with parts gives the string `a,b`.
     ///
-    /// It allocates, unless the text is empty; `AllocError` where that is refused.
+    /// It allocates, unless the text is empty. `AllocError`: out of memory.
     #[tactic(auto, using(crate::proofs::AnnotatedTextLemmas::text_of_bytes))]
     final fn write_to_string(&self, alloc: Global) -> Result<String, AllocError>
         ensures succeeds { text_of (events self.now) ≡ [] → IsOk result }

@@ -5,11 +5,11 @@ ghost use Rattle.std.specs.Prelude.{◌≡◌, false};
 use crate::laying::lay;
 use writeable::{Error, Part, Sink};
 
-/// A sink that lays the text over the bytes that it is lent, from the first on, and leaves out the parts: `a,b` over `....` gives
-/// `a,b.`, and over `..` gives `a,`.
+/// A sink that lays the text over borrowed bytes, from the first on, and leaves out the parts: `a,b` over `....` gives `a,b.`, and
+/// over `..` gives `a,`.
 ///
-/// Behind the end of the bytes it only counts. A call is refused exactly where the length of the text would pass the greatest `usize`.
-/// It takes no memory.
+/// Behind the end of the bytes it only counts. A call is refused exactly where the length of the text would pass the greatest
+/// `usize`. It does not allocate.
 #[derive(Drop)]
 pub struct BytesSink<'b> {
     /// The bytes that the text is laid over: `a,b.` after `a,b` over `....`.
@@ -33,7 +33,7 @@ impl<'b> BytesSink<'b> {
     }
 }
 
-/// `Error`, only where the length of the text would pass the greatest `usize`. It takes no memory.
+/// `Error`, only where the length of the text would pass the greatest `usize`. It does not allocate.
 impl<'b> Sink for BytesSink<'b> {
     ghost use Rattle.writeable_bytes.specs.LaidText.{LaysText, PassesLength, passes_more, lays_nothing, lays_joined};
 

@@ -1,4 +1,4 @@
-//! Writing texts into bytes that the caller has: no memory is taken.
+//! Writes texts into bytes of the caller's, without allocating.
 //!
 //! `a,b` written to four bytes `....` leaves `a,b.`, and to two of them `a,`, with the length 3 that it needs.
 

@@ -47,7 +47,7 @@ impl fmt::Write for Failing {
     }
 }
 
-/// A sink that takes so many calls and refuses the next one.
+/// A sink that takes a number of calls and refuses the next one.
 #[derive(Drop)]
 pub struct Short {
     pub calls: usize,

@@ -58,7 +58,7 @@ fn lists_closed_parts_with_bytes(rt: HostRuntime) -> Result<(), Fail> {
         ("(a", "a", "", ""),
         ("(a)", "a", " 0-1A", " A=a"),
         ("(a[b]", "ab", " 1-2B", " B=b"),
-        // a close alone does nothing
+        // only a close: nothing happens
         (")(a))b", "ab", " 0-1A", " A=a"),
         // two parts at one start, in order of opening
         ("([a])", "a", " 0-1A 0-1B", " A=a B=a"),
@@ -86,7 +86,7 @@ fn parts_of<T: Writeable>(alloc: Global, value: &T) -> Result<PartsSink, Error> 
     Ok(sink)
 }
 
-// `x` as a part, and the text alone of a value behind it.
+// `x` as a part, and only the text of a value behind it.
 fn text_behind<T: Writeable>(alloc: Global, value: &T) -> Result<PartsSink, Error> {
     let mut sink = PartsSink::new(alloc);
     sink.open_part(OUTER)?;
@@ -111,7 +111,7 @@ fn lists_the_parts_of_a_value(rt: HostRuntime) -> Result<(), Fail> {
     assert_eq!(rt; sink.text(), "€a,b net");
     assert_eq!(rt; sink.parts(), [(3, 6, OUTER), (4, 5, INNER)].as_slice());
     assert_eq!(rt; texts(rt.alloc(), &sink)?.as_str(), " A=a,b B=,");
-    // the text alone has no parts
+    // only the text: no parts
     let alone = text_behind(rt.alloc(), &Pair)?;
     assert_eq!(rt; alone.text(), "xa,b");
     assert_eq!(rt; alone.parts(), [(0, 1, OUTER)].as_slice());

@@ -111,7 +111,7 @@ fn a_value_is_refused_where_the_sink_refuses(rt: HostRuntime) {
         assert_eq!(rt; Pair.write_to(&mut sink), want, "{calls} calls");
         assert_eq!(rt; sink.has_refused(), want.is_err(), "{calls} calls");
     }
-    // its text alone makes three
+    // only its text: three
     for (calls, want) in [(0, Err(Error)), (2, Err(Error)), (3, Ok(()))] {
         let mut sink = Short {
             calls,

@@ -80,7 +80,7 @@ fn parents_of(alloc: Global, entries: Vec<Value>) -> Result<Parents, BookError>
     ensures sound { OnOk result (parents_faults [] (items_view entries.items) ≡ None) }
     ensures fault { IfErr result (λ fault. IsTold (parents_faults [] (items_view entries.items)) fault) }
 
-    // A fault of the first entry that is found before memory is asked for is never told as out of memory.
+    // A fault of the first entry that is found before anything is allocated is never reported as out of memory.
     ensures room { IsErrOf result BookError.Memory → begins_with (parent_may_grow []) (items_view entries.items) ≡ true }
 {
     let mut parents = Parents::new(alloc);
