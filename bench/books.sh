@@ -2,7 +2,6 @@
 # What a book costs an entry, as its entries grow more, and what a book of all locales costs.
 # Each run reads a seeded book and no line. Prints times and memory of one run; nothing here is asserted.
 # usage: bench/books.sh [SYMBOLS..]
-# LOCALE_NUMBERS in the environment names another program than the one of this repository.
 set -eu
 top=$(cd "$(dirname "$0")/.." && pwd)
 made=$top/bench/made
@@ -10,15 +9,12 @@ command -v python3 >/dev/null || {
     echo "bench: python3 is needed" >&2
     exit 1
 }
+program=${LOCALE_NUMBERS:-$("$top/locale_numbers" --built)}
 mkdir -p "$made"
 [ $# -gt 0 ] || set -- 1000 2000 5500
 for count in 0 "$@"; do
     python3 "$top/bench/make_book.py" "$count" >"$made/book-$count.json"
 done
-program=${LOCALE_NUMBERS:-}
-if [ -z "$program" ]; then
-    program=$("$top/locale_numbers" --built)
-fi
 
 python3 - "$program" "$made" "$@" <<'PYTHON'
 import json, os, subprocess, sys

@@ -7,20 +7,25 @@
 set -eu
 top=$(cd "$(dirname "$0")/.." && pwd)
 made=${TMPDIR:-/tmp}/fixed_decimal_bench      # outside the repository: a check of all crates reads every .rt file below it
+for needed in python3 rt; do
+    command -v "$needed" >/dev/null || {
+        echo "bench: $needed is needed" >&2
+        exit 1
+    }
+done
 mkdir -p "$made/crates/fixed_decimal_bench/src"
-for crate in writeable fixed_decimal_digits fixed_decimal_unsigned fixed_decimal; do
+"$top/bench/below.py" "$top/crates.txt" fixed_decimal >"$made/crates.txt"
+for crate in $(cut -d: -f1 "$made/crates.txt"); do
     cp -au "$top/crates/$crate" "$made/crates/"
 done
-grep -E '^(writeable|fixed_decimal_digits|fixed_decimal_unsigned|fixed_decimal):' "$top/crates.txt" >"$made/crates.txt"
 echo 'fixed_decimal_bench: anyhow fixed_decimal writeable' >>"$made/crates.txt"
 cp "$top/bench/decimals/main.rt.txt" "$made/crates/fixed_decimal_bench/src/main.rt"
 (cd "$made/crates/fixed_decimal_bench" && rt run)
 [ $# -gt 0 ] || exit 0
 
-# The second program, in a folder that holds the crates below it, as this list of all crates has them.
+# The second program, in a folder that holds the crates below it and their lines of crates.txt.
 build() {
     mkdir -p "$1/crates/beside/src"
-    grep -E '^(writeable|fixed_decimal_digits|fixed_decimal_unsigned):' "$2" >"$1/crates.txt"
     echo 'beside: anyhow fixed_decimal_unsigned writeable' >>"$1/crates.txt"
     cp "$top/bench/decimals/beside.rt.txt" "$1/crates/beside/src/main.rt"
     (cd "$1/crates/beside" && rt run >/dev/null)
@@ -28,12 +33,17 @@ build() {
 now=$made/now
 before=$made/before
 mkdir -p "$now/crates" "$before/crates"
-cp -au "$top/crates/writeable" "$top/crates/fixed_decimal_digits" "$top/crates/fixed_decimal_unsigned" "$now/crates/"
-below=$(cd "$top" && git ls-tree --name-only "$1" crates/ | grep -xE 'crates/(writeable|fixed_decimal_digits|fixed_decimal_unsigned)')
-(cd "$top" && git archive "$1" $below) | tar -x -C "$before"
+"$top/bench/below.py" "$top/crates.txt" fixed_decimal_unsigned >"$now/crates.txt"
+for crate in $(cut -d: -f1 "$now/crates.txt"); do
+    cp -au "$top/crates/$crate" "$now/crates/"
+done
 (cd "$top" && git show "$1:crates.txt") >"$made/before.list"
-build "$now" "$top/crates.txt"
-build "$before" "$made/before.list"
+"$top/bench/below.py" "$made/before.list" fixed_decimal_unsigned >"$before/crates.txt"
+for crate in $(cut -d: -f1 "$before/crates.txt"); do
+    (cd "$top" && git archive "$1" "crates/$crate") | tar -x -C "$before"
+done
+build "$now"
+build "$before"
 : >"$made/now.times"
 : >"$made/before.times"
 for turn in 1 2 3 4 5; do

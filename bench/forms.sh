@@ -12,7 +12,7 @@ command -v python3 >/dev/null || {
     exit 1
 }
 mkdir -p "$made"
-built=$("$top/locale_numbers" --built)
+built=${LOCALE_NUMBERS:-$("$top/locale_numbers" --built)}
 
 python3 - "$built" "$made" "${1:-300000}" <<'PYTHON'
 import os, random, subprocess, sys

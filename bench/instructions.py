@@ -4,8 +4,7 @@
 usage: bench/instructions.py [BOOK [COUNT]]
 
 A line costs the difference between a run over 2 * COUNT lines and one over the first COUNT of them, over COUNT: so the start and
-the first use of each formatter cost nothing here. Counts do not swing, as times do, by other work on the machine. PROGRAM names
-the program; without it it is the proved one of ./locale_numbers. BOOK is the sample book where none is named; with one of
+the first use of each formatter cost nothing here. Counts do not swing, as times do, by other work on the machine. BOOK is the sample book where none is named; with one of
 `books/make-cldr` the lines of twenty locales are of twenty locales. The lines are seeded. It prints a row a kind, and the status
 is 1 where valgrind or the program is not there.
 """
@@ -23,8 +22,8 @@ LOCALES = "en de fr it es pt nl sv da fi pl cs hu tr el uk id vi ja ko".split()
 
 def program():
     """The path of the program."""
-    if os.environ.get("PROGRAM"):
-        return os.path.abspath(os.environ["PROGRAM"])
+    if os.environ.get("LOCALE_NUMBERS"):
+        return os.path.abspath(os.environ["LOCALE_NUMBERS"])
     asked = subprocess.run([f"{TOP}/locale_numbers", "--built"], stdin=subprocess.DEVNULL, stdout=subprocess.PIPE, check=False)
     if asked.returncode:
         sys.exit(1)

@@ -8,6 +8,7 @@ of long patterns each, and about 1.1 MB in all; for another count the others go 
 systems, the texts and the patterns are made up, of the lengths and the scripts that such books have. The whole book is
 read without a fault, and no key stands twice.
 """
+import argparse
 import json
 import random
 import sys
@@ -127,10 +128,12 @@ def book(count, seed):
 
 
 def main():
-    if len(sys.argv) not in (2, 3):
-        sys.exit("usage: make_book.py SYMBOLS [SEED]")
+    words = argparse.ArgumentParser(usage="make_book.py SYMBOLS [SEED]", add_help=False)
+    words.add_argument("symbols", type=int)
+    words.add_argument("seed", type=int, nargs="?", default=1)
+    asked = words.parse_args()
     sys.stdout.reconfigure(encoding="utf-8")
-    sys.stdout.write(book(int(sys.argv[1]), int(sys.argv[2]) if len(sys.argv) > 2 else 1))
+    sys.stdout.write(book(asked.symbols, asked.seed))
 
 
 main()

@@ -6,6 +6,7 @@ usage: make_lines.py COUNT [SEED [LONGEST]]
 Nine lines of ten have an answer; the others are refused, each word in turn. LONGEST bounds the
 whole digits of a number (12 without it).
 """
+import argparse
 import random
 import sys
 
@@ -37,11 +38,14 @@ def refused(rng, turn):
 
 
 def main():
-    count = int(sys.argv[1])
-    rng = random.Random(int(sys.argv[2]) if len(sys.argv) > 2 else 1)
-    longest = int(sys.argv[3]) if len(sys.argv) > 3 else 12
+    words = argparse.ArgumentParser(usage="make_lines.py COUNT [SEED [LONGEST]]", add_help=False)
+    words.add_argument("count", type=int)
+    words.add_argument("seed", type=int, nargs="?", default=1)
+    words.add_argument("longest", type=int, nargs="?", default=12)
+    asked = words.parse_args()
+    rng, longest = random.Random(asked.seed), asked.longest
     write = sys.stdout.write
-    for turn in range(count):
+    for turn in range(asked.count):
         if turn % 10 == 9:
             write(refused(rng, turn // 10) + "\n")
         else:

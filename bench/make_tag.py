@@ -3,6 +3,7 @@
 
 usage: make_tag.py COUNT variants|attributes rising|falling|shuffled
 """
+import argparse
 import random
 import sys
 
@@ -19,13 +20,17 @@ def piece(number):
 
 
 def main():
-    count, kind, order = int(sys.argv[1]), sys.argv[2], sys.argv[3]
-    pieces = [piece(number * 97) for number in range(count)]
-    if order == "falling":
+    words = argparse.ArgumentParser(usage="make_tag.py COUNT variants|attributes rising|falling|shuffled", add_help=False)
+    words.add_argument("count", type=int)
+    words.add_argument("kind", choices=["variants", "attributes"])
+    words.add_argument("order", choices=["rising", "falling", "shuffled"])
+    asked = words.parse_args()
+    pieces = [piece(number * 97) for number in range(asked.count)]
+    if asked.order == "falling":
         pieces.reverse()
-    elif order == "shuffled":
+    elif asked.order == "shuffled":
         random.Random(1).shuffle(pieces)
-    front = {"variants": "en-", "attributes": "en-u-"}[kind]
+    front = {"variants": "en-", "attributes": "en-u-"}[asked.kind]
     sys.stdout.write(front + "-".join(pieces) + "\tplain\tauto\tkeep\t-\t1234\n")
 
 

@@ -16,13 +16,13 @@ command -v python3 >/dev/null || {
     echo "bench: python3 is needed" >&2
     exit 1
 }
+built=${LOCALE_NUMBERS:-$("$top/locale_numbers" --built)}
 mkdir -p "$made"
 input=$made/lines-$lines-12.txt
 if [ ! -f "$input" ]; then
     python3 "$top/bench/make_lines.py" "$lines" 1 12 >"$input.part"
     mv "$input.part" "$input"
 fi
-built=$("$top/locale_numbers" --built)
 
 python3 - "$input" "$made" "$lines" "$built" ${book:+"$book"} <<'PYTHON'
 import filecmp, os, subprocess, sys, time

@@ -1,9 +1,9 @@
 #!/bin/sh
 # Compares the program with a small program over ICU4C on the same seeded lines, under a book of all locales.
-# Prints ratios of one run: above 1 the program is the faster one, or holds less.
+# Prints ratios of one run: above 1 the program is the faster one, or holds less. Starting and reading the book are taken off the
+# time; where what is left is not four times that, it ends and asks for more LINES.
 # usage: bench/peers.sh [BOOK [LINES]]
 # Without BOOK one is made of CLDR's data, or of ICU's own where unicode-cldr-core is not installed.
-# LOCALE_NUMBERS in the environment names another program than the one of this repository.
 set -eu
 top=$(cd "$(dirname "$0")/.." && pwd)
 made=$top/bench/made
@@ -13,6 +13,7 @@ command -v python3 >/dev/null || {
     echo "bench: python3 is needed" >&2
     exit 1
 }
+program=${LOCALE_NUMBERS:-$("$top/locale_numbers" --built)}
 mkdir -p "$made"
 if [ -z "$book" ]; then
     book=$made/book.json
@@ -24,10 +25,6 @@ if [ -z "$book" ]; then
     fi
 fi
 peer=$("$top/books/build-icu" icu_peer)
-program=${LOCALE_NUMBERS:-}
-if [ -z "$program" ]; then
-    program=$("$top/locale_numbers" --built)
-fi
 
 python3 - "$book" "$lines" "$made" "$program" "$peer" <<'PYTHON'
 import decimal, os, random, subprocess, sys, time
@@ -99,6 +96,14 @@ def answers(path, form):
     return found
 
 
+def left_of(name, source):
+    """The least processor time of a program over these lines, without its start; it has to be well above the start."""
+    left = spent(COMMANDS[name], source, f"{made}/peers.{name}") - start[name]
+    if left < 4 * start[name]:
+        sys.exit(f"bench: too few lines for a ratio: {name} takes {start[name]:.3f} s to start and {max(left, 0):.3f} s for {count} lines; give more LINES")
+    return left
+
+
 start = {name: spent(command, os.devnull) for name, command in COMMANDS.items()}
 print(f"{'lines':<36}{'speed':>8}{'memory':>8}{'here MB':>9}{'there MB':>10}{'same':>11}")
 for name, form, tags, least, most in [
@@ -112,7 +117,7 @@ for name, form, tags, least, most in [
     ("read back, twenty locales", "read", TWENTY, 1, 8),
 ]:
     source = write(name, form, tags, least, most)
-    took = {it: max(spent(command, source, f"{made}/peers.{it}") - start[it], 1e-3) for it, command in COMMANDS.items()}
+    took = {it: left_of(it, source) for it in COMMANDS}
     memory = {it: held(command, source) for it, command in COMMANDS.items()}
     here, there = answers(f"{made}/peers.here", form), answers(f"{made}/peers.there", form)
     same = sum(a == b for a, b in zip(here, there)) / count

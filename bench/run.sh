@@ -13,6 +13,7 @@ for needed in python3 rustc; do
         exit 1
     }
 done
+built=${LOCALE_NUMBERS:-$("$top/locale_numbers" --built)}
 mkdir -p "$made"
 input=$made/lines-$lines-$longest.txt
 if [ ! -f "$input" ]; then
@@ -20,7 +21,6 @@ if [ ! -f "$input" ]; then
     mv "$input.part" "$input"
 fi
 rustc -O --edition 2021 -o "$made/plain" "$top/bench/plain/main.rs"
-built=$("$top/locale_numbers" --built)
 
 python3 - "$input" "$made" "$built" <<'PYTHON'
 import filecmp, os, subprocess, sys, time

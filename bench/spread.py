@@ -1,16 +1,19 @@
-#!/usr/bin/env python3
+#!/usr/bin/python3
 """Answers the same lines by one run and by an engine that spreads over machines, and compares the bytes.
 
 usage: bench/spread.py [LINES [BOOK]]
 
 The engine is Debian's package python3-distributed, with two workers of a cluster on this machine. The lines are cut behind
-line feeds into blocks of some 1 MB, and each block is a task of its own. PROGRAM names the program; without it it is the
-proved one of ./locale_numbers. It prints the two times and whether the bytes are the same; the status is 1 where they are not.
+line feeds into blocks of some 1 MB, and each block is a task of its own. It prints the two times and whether the bytes are the same;
+the status is 1 where they are not.
 """
+import logging
 import os
 import subprocess
 import sys
+import tempfile
 import time
+import warnings
 
 TOP = os.path.dirname(os.path.dirname(os.path.realpath(__file__)))
 BLOCK = 1 << 20
@@ -18,8 +21,8 @@ BLOCK = 1 << 20
 
 def program():
     """The path of the program."""
-    if os.environ.get("PROGRAM"):
-        return os.path.abspath(os.environ["PROGRAM"])
+    if os.environ.get("LOCALE_NUMBERS"):
+        return os.path.abspath(os.environ["LOCALE_NUMBERS"])
     asked = subprocess.run([f"{TOP}/locale_numbers", "--built"], stdin=subprocess.DEVNULL, stdout=subprocess.PIPE, check=False)
     if asked.returncode:
         sys.exit(1)
@@ -44,10 +47,13 @@ def spread(words, lines):
     """What two workers write for the blocks, put together in order, and the time without that of their start."""
     from distributed import Client, LocalCluster
 
-    with LocalCluster(n_workers=2, threads_per_worker=1, dashboard_address=None) as cluster, Client(cluster) as client:
-        start = time.monotonic()
-        tasks = [client.submit(answer, words, block, pure=False) for block in blocks(lines)]
-        return b"".join(client.gather(tasks)), time.monotonic() - start, len(tasks)
+    warnings.simplefilter("ignore")
+    with tempfile.TemporaryDirectory() as folder:
+        how = {"n_workers": 2, "threads_per_worker": 1, "dashboard_address": None, "local_directory": folder, "silence_logs": logging.CRITICAL}
+        with LocalCluster(**how) as cluster, Client(cluster) as client:
+            start = time.monotonic()
+            tasks = [client.submit(answer, words, block, pure=False) for block in blocks(lines)]
+            return b"".join(client.gather(tasks)), time.monotonic() - start, len(tasks)
 
 
 def main(count="1000000", book=""):
@@ -55,7 +61,7 @@ def main(count="1000000", book=""):
     try:
         import distributed
     except ImportError:
-        print("bench: the package distributed is needed (Debian's python3-distributed, with /usr/bin/python3)", file=sys.stderr)
+        print("bench: the package distributed is needed (Debian's python3-distributed)", file=sys.stderr)
         return 1
     words = [program(), *([os.path.abspath(book)] if book else [])]
     lines = subprocess.run([sys.executable, f"{TOP}/bench/make_lines.py", count, "1", "12"], stdout=subprocess.PIPE, check=True).stdout

@@ -9,6 +9,7 @@ command -v python3 >/dev/null || {
     echo "bench: python3 is needed" >&2
     exit 1
 }
+built=${LOCALE_NUMBERS:-$("$top/locale_numbers" --built)}
 mkdir -p "$made"
 [ $# -gt 0 ] || set -- 50000 100000 200000 400000
 for kind in variants attributes; do
@@ -18,7 +19,6 @@ for kind in variants attributes; do
         done
     done
 done
-built=$("$top/locale_numbers" --built)
 
 python3 - "$built" "$made" "$@" <<'PYTHON'
 import os, subprocess, sys

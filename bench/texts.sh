@@ -7,22 +7,24 @@
 set -eu
 top=$(cd "$(dirname "$0")/.." && pwd)
 made=${TMPDIR:-/tmp}/tinystr_bench      # outside the repository: a check of all crates reads every .rt file below it
+for needed in python3 rt; do
+    command -v "$needed" >/dev/null || {
+        echo "bench: $needed is needed" >&2
+        exit 1
+    }
+done
 mkdir -p "$made/crates/tinystr_bench/src"
-for crate in tinystr_words tinystr; do
+"$top/bench/below.py" "$top/crates.txt" tinystr >"$made/crates.txt"
+for crate in $(cut -d: -f1 "$made/crates.txt"); do
     cp -au "$top/crates/$crate" "$made/crates/"
 done
-grep -E '^(tinystr_words|tinystr):' "$top/crates.txt" >"$made/crates.txt"
 echo 'tinystr_bench: anyhow tinystr' >>"$made/crates.txt"
 cp "$top/bench/texts/main.rt.txt" "$made/crates/tinystr_bench/src/main.rt"
 (cd "$made/crates/tinystr_bench" && rt run)
 [ $# -gt 0 ] || exit 0
 
 # The second program, in a folder that holds the crates below it and their lines of crates.txt.
-path='tinystr_words tinystr writeable icu_locale_core_grammar icu_locale_core_subtags icu_locale_core_subtag_lists icu_locale_core_langid'
 build() {
-    for crate in $path; do
-        grep -E "^$crate:" "$1/all.txt"
-    done >"$1/crates.txt"
     echo 'tags: anyhow icu_locale_core_langid writeable' >>"$1/crates.txt"
     mkdir -p "$1/crates/tags/src"
     cp "$top/bench/texts/tags.rt.txt" "$1/crates/tags/src/main.rt"
@@ -31,12 +33,15 @@ build() {
 now=$made/now
 before=$made/before
 mkdir -p "$now/crates" "$before"
-for crate in $path; do
+"$top/bench/below.py" "$top/crates.txt" icu_locale_core_langid >"$now/crates.txt"
+for crate in $(cut -d: -f1 "$now/crates.txt"); do
     cp -au "$top/crates/$crate" "$now/crates/"
+done
+(cd "$top" && git show "$1:crates.txt") >"$made/before.list"
+"$top/bench/below.py" "$made/before.list" icu_locale_core_langid >"$before/crates.txt"
+for crate in $(cut -d: -f1 "$before/crates.txt"); do
     (cd "$top" && git archive "$1" "crates/$crate") | tar -x -C "$before"
 done
-cp "$top/crates.txt" "$now/all.txt"
-(cd "$top" && git show "$1:crates.txt") >"$before/all.txt"
 build "$now"
 build "$before"
 : >"$made/now.times"
