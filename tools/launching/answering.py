@@ -95,6 +95,7 @@ def answer_numbers(said, seen):
         if kind == b"ok":
             write_all(text + b"\n")
         else:
-            say(f"{number}: {text.decode()}{meaning(text.decode())}")
+            way_out = "; the sample book has en and ar-EG, --world has all" if text == b"table" and not words else ""
+            say(f"{number}: {text.decode()}{meaning(text.decode())}{way_out}")
             status = FAILED
     return status
