@@ -20,3 +20,5 @@ pub mod TextBlockLemmas
 pub mod WordLemmas
 pub mod KnownRoundings
 pub mod KnownDigits
+pub mod NumberWordLemmas
+pub mod CutWordLemmas

@@ -1,8 +1,9 @@
 -- A word of digits: the digits that are folded into it, and the bytes that it is.
-use Rattle.std.proofs.Common.{◌≡◌, ℕ, zero, suc, ◌+◌, ◌*◌, ◌/◌, ◌%◌, ◌^◌, ◌<◌, ◌≤◌, List, [], ◌∷◌, ◌++◌, length, get_or, map, drop, refl, sym, ap, ◌∙◌, subst, arith, lit≤, add-one, drop-cons}
-use Rattle.std.proofs.lemmas.List.{append_assoc, append-nil, drop_all, length_push, map-append}
-use Rattle.std.proofs.Math.Nat.{pow-suc, pow-le-pow_right}
+use Rattle.std.proofs.Common.{◌≡◌, ℕ, zero, suc, ◌+◌, ◌-◌, ◌*◌, ◌/◌, ◌%◌, ◌^◌, ◌<◌, ◌≤◌, List, [], ◌∷◌, ◌++◌, length, get_or, map, take, drop, refl, sym, ap, ◌∙◌, subst, arith, lit≤, w64}
+use Rattle.std.proofs.lemmas.List.{append_assoc, append-nil, length_push, take_more}
+use Rattle.std.proofs.Math.Nat.{pow-suc, pow-le-pow_right, mul_comm, div-div-eq-div-mul}
 use Rattle.std.specs.Char.{digit_value}
+use Rattle.std.specs.Int.{byte_at, bytes_high_first, to_be_bytes}
 use Rattle.std.specs.Str.Parse.{digits_value_after}
 use Rattle.std.specs.Int.Digits.{AllBelowBase}
 use Rattle.fixed_decimal_digits.specs.DigitWord.{word_digits, word_bytes}
@@ -69,21 +70,16 @@ power_positive (suc n) = let p = power_positive n in omega (arith, pow-suc 16 n)
 pub room_more : (w d k : ℕ) → w < 16 ^ k → d < 10 → w * 16 + d < 16 ^ (k + 1)
 room_more w d k h t = let next : k + 1 ≡ suc k = omega arith in omega (arith, ap (λ n. 16 ^ n) next ∙ pow-suc 16 k)
 
-power_below : (k : ℕ) → k ≤ 8 → 16 ^ k ≤ 2 ^ 32
-power_below zero h = lit≤ tt
-power_below (suc zero) h = lit≤ tt
-power_below (suc (suc zero)) h = lit≤ tt
-power_below (suc (suc (suc zero))) h = lit≤ tt
-power_below (suc (suc (suc (suc zero)))) h = lit≤ tt
-power_below (suc (suc (suc (suc (suc zero))))) h = lit≤ tt
-power_below (suc (suc (suc (suc (suc (suc zero)))))) h = lit≤ tt
-power_below (suc (suc (suc (suc (suc (suc (suc zero))))))) h = lit≤ tt
-power_below (suc (suc (suc (suc (suc (suc (suc (suc zero)))))))) h = lit≤ tt
-power_below (suc (suc (suc (suc (suc (suc (suc (suc (suc k))))))))) h = absurd (omega arith)
+pub powers_rise : (j k : ℕ) → j ≤ k → 16 ^ j ≤ 16 ^ k
+powers_rise j k h = pow-le-pow_right {n = 16} (omega arith) {i = j} {j = k} h
 
--- eight digits fit in a word
-pub word_fits : (w d k : ℕ) → k ≤ 7 → w < 16 ^ k → d < 10 → w * 16 + d < 2 ^ 32
-word_fits w d k l h t = let more = room_more w d k h t in let most = power_below (k + 1) (omega arith) in omega arith
+-- sixteen digits fit in a word
+pub word_fits : (w d k : ℕ) → k ≤ 15 → w < 16 ^ k → d < 10 → w * 16 + d < 2 ^ 64
+word_fits w d k l h t =
+    let more = room_more w d k h t in
+    let rise = powers_rise (k + 1) 16 (omega arith) in
+    let most : 16 ^ 16 ≤ 2 ^ 64 = lit≤ tt in
+    omega (arith, more, rise, most)
 
 pub value_below : (text : List ℕ) (w k : ℕ) → AreDigits text → w < 16 ^ k → digits_value_after 16 w text < 16 ^ (k + length text)
 value_below [] w k a h = let none : k ≡ k + 0 = omega arith in subst (λ n. w < 16 ^ n) none h
@@ -91,12 +87,16 @@ value_below (c ∷ cs) w k a h =
     let count : k + 1 + length cs ≡ k + suc (length cs) = omega arith in
     subst (λ n. digits_value_after 16 (w * 16 + digit_value c) cs < 16 ^ n) count (value_below cs (w * 16 + digit_value c) (k + 1) a.1 (room_more w (digit_value c) k h a.0))
 
--- one digit of a text more is folded into a word
-pub folded_more : (text : List ℕ) (i n : ℕ) → i < length text → digits_value_after 16 n (drop i text) ≡ digits_value_after 16 (n * 16 + digit_value (get_or text i 0)) (drop (i + 1) text)
-folded_more text i n l = ap (digits_value_after 16 n) (drop-cons text i 0 l) ∙ ap (λ k. digits_value_after 16 (n * 16 + digit_value (get_or text i 0)) (drop k text)) (sym (add-one i))
+pub folded_push : (text : List ℕ) (n c : ℕ) → digits_value_after 16 n (text ++ c ∷ []) ≡ digits_value_after 16 n text * 16 + digit_value c
+folded_push [] n c = refl
+folded_push (d ∷ ds) n c = folded_push ds (n * 16 + digit_value d) c
 
-pub folded_all : (text : List ℕ) (i n : ℕ) → length text ≤ i → digits_value_after 16 n (drop i text) ≡ n
-folded_all text i n l = ap (digits_value_after 16 n) (drop_all i text l)
+-- one digit more that a text begins with is folded into a word
+pub front_more : (text : List ℕ) (i n after : ℕ) → i < length text → after ≡ digits_value_after 16 n (take i text)
+    → after * 16 + digit_value (get_or text i 0) ≡ digits_value_after 16 n (take (i + 1) text)
+front_more text i n after l e =
+    ap (λ a. a * 16 + digit_value (get_or text i 0)) e ∙ sym (folded_push (take i text) n (get_or text i 0))
+    ∙ ap (digits_value_after 16 n) (sym (take_more text i 0 l))
 
 pub tens_of : (text : List ℕ) → AreDigits text → AllBelowBase 10 (map digit_value text)
 tens_of [] h = tt
@@ -105,18 +105,6 @@ tens_of (c ∷ cs) h = (h.0, tens_of cs h.1)
 pub digits_joined : (xs ys : List ℕ) → AreDigits xs → AreDigits ys → AreDigits (xs ++ ys)
 digits_joined [] ys h k = k
 digits_joined (c ∷ cs) ys h k = (h.0, digits_joined cs ys h.1 k)
-
--- the digits of two texts in a word
-pub word_both : (xs ys : List ℕ) → AreDigits xs → AreDigits ys
-    → word_digits (digits_value_after 16 (digits_value_after 16 0 xs) ys) (length xs + length ys) ≡ map digit_value (xs ++ ys)
-word_both xs ys h k =
-    let count : length xs ≡ 0 + length xs = omega arith in
-    word_after ys (length xs) (digits_value_after 16 0 xs) k
-    ∙ ap (λ ds. ds ++ map digit_value ys) (ap (word_digits (digits_value_after 16 0 xs)) count ∙ word_after xs 0 0 h)
-    ∙ sym (map-append digit_value xs ys)
-
-pub powers_rise : (j k : ℕ) → j ≤ k → 16 ^ j ≤ 16 ^ k
-powers_rise j k h = pow-le-pow_right {n = 16} (omega arith) {i = j} {j = k} h
 
 -- the bytes of a word hold its digits
 pub even_word : (kept : List ℕ) (w count : ℕ) → AllBelowBase 10 (word_digits w count) → count % 2 ≡ 0 → kept ≡ word_bytes w (count / 2)
@@ -130,3 +118,31 @@ pub odd_word : (kept : List ℕ) (w count : ℕ) → AllBelowBase 10 (word_digit
 odd_word kept w count h odd e =
     let twice : count ≡ 2 * (count / 2) + 1 = omega arith in
     kept_so kept (word_digits w count) count h (e ∙ sym (ap (λ n. packed (word_digits w n)) twice ∙ word_odd (count / 2) w)) (sym (word_length count w))
+
+high_next : (n w : ℕ) → byte_at (suc n) w ≡ byte_at n (w / 256)
+high_next zero w = refl
+high_next (suc n) w = ap (λ t. w / t % 256) (pow-suc 256 (suc n) ∙ mul_comm (256 ^ suc n) 256) ∙ ap (λ q. q % 256) (sym (div-div-eq-div-mul w 256 (256 ^ suc n)))
+
+high_push : (n w : ℕ) → bytes_high_first (suc n) w ≡ bytes_high_first n (w / 256) ++ (w % 256 ∷ [])
+high_push zero w = refl
+high_push (suc n) w = let first = high_next n w in let rest = high_push n w in λ i. first i ∷ rest i
+
+high_word : (n w : ℕ) → bytes_high_first n w ≡ word_bytes w n
+high_word zero w = refl
+high_word (suc n) w = high_push n w ∙ ap (λ bs. bs ++ (w % 256 ∷ [])) (high_word n (w / 256))
+
+high_last : (n w : ℕ) → n ≤ 8 → drop (8 - n) (bytes_high_first 8 w) ≡ bytes_high_first n w
+high_last zero w h = refl
+high_last (suc zero) w h = refl
+high_last (suc (suc zero)) w h = refl
+high_last (suc (suc (suc zero))) w h = refl
+high_last (suc (suc (suc (suc zero)))) w h = refl
+high_last (suc (suc (suc (suc (suc zero))))) w h = refl
+high_last (suc (suc (suc (suc (suc (suc zero)))))) w h = refl
+high_last (suc (suc (suc (suc (suc (suc (suc zero))))))) w h = refl
+high_last (suc (suc (suc (suc (suc (suc (suc (suc zero)))))))) w h = refl
+high_last (suc (suc (suc (suc (suc (suc (suc (suc (suc n))))))))) w h = absurd (omega arith)
+
+-- the lowest bytes of a word are the last of all eight
+pub last_bytes : (n w : ℕ) → n ≤ 8 → drop (8 - n) (to_be_bytes w64 w) ≡ word_bytes w n
+last_bytes n w h = high_last n w h ∙ high_word n w

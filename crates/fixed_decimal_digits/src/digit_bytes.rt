@@ -7,25 +7,40 @@ ghost use Rattle.fixed_decimal_digits.specs.Packed.{halves, packed, shifted};
 
 use crate::digits::INLINE;
 use smallvec::SmallVec;
+use std::alloc::Global;
 
-// Puts the lowest bytes of a word, so many, the highest of them first, in place of those that are there. The memory stays, and none
-// is taken.
-pub fn assign_bytes(kept: &mut SmallVec<u8, INLINE>, word: u32, count: usize)
-    requires few { count ≤ 4 }
+// The lowest bytes of a word, so many as lie inline at most, the highest of them first.
+fn inline_bytes(alloc: Global, word: u64, count: usize) -> SmallVec<u8, INLINE>
+    requires { count ≤ 4 }
+    ensures items { result.items ≡ word_bytes word count }
+    ensures capacity { result.capacity ≡ 4 }
+{
+    let [_, _, _, _, first, second, third, last] = word.to_be_bytes();
+    match count {
+        0 => SmallVec::new(alloc),
+        1 => SmallVec::from_buf_and_len(alloc, [last, 0, 0, 0], 1),
+        2 => SmallVec::from_buf_and_len(alloc, [third, last, 0, 0], 2),
+        3 => SmallVec::from_buf_and_len(alloc, [second, third, last, 0], 3),
+        _ => SmallVec::from_buf(alloc, [first, second, third, last]),
+    }
+}
+
+// Puts the lowest bytes of a word, so many, the highest of them first, in place of those that are there. The memory stays.
+#[tactic(auto, using(crate::proofs::WordLemmas::last_bytes))]
+pub fn assign_bytes(kept: &mut SmallVec<u8, INLINE>, word: u64, count: usize)
+    requires few { count ≤ 8 }
     requires inline { 4 ≤ kept.old.capacity }
+    requires room { count ≤ kept.old.capacity }
     ensures items { kept.new.items ≡ word_bytes word count }
     ensures capacity { kept.old.capacity ≤ kept.new.capacity }
 {
-    let bytes = word.to_be_bytes();
-    if !kept.is_empty() {
+    if count > INLINE || kept.spilled() {
+        let bytes = word.to_be_bytes();
+        let (_, lowest) = bytes.split_at(8 - count);
         kept.clear();
-    }
-    match count {
-        0 => {}
-        1 => kept.push_reserved(bytes[3]),
-        2 => push_bytes(kept, &[bytes[2], bytes[3]]),
-        3 => push_bytes(kept, &[bytes[1], bytes[2], bytes[3]]),
-        _ => push_bytes(kept, &bytes),
+        copy_bytes(kept, lowest);
+    } else {
+        *kept = inline_bytes(*kept.allocator(), word, count);
     }
 }
 
@@ -105,17 +120,6 @@ pub fn digits_between(bytes: &[u8]) -> [u8; 16]
 }
 
 // Adds bytes, for which there is room, behind those that are there.
-pub fn push_bytes(kept: &mut SmallVec<u8, INLINE>, bytes: &[u8])
-    requires { length kept.old.items + length bytes.now ≤ kept.old.capacity }
-    ensures items { kept.new.items ≡ kept.old.items ++ bytes.now }
-    ensures capacity { kept.old.capacity ≤ kept.new.capacity }
-{
-    for byte in bytes {
-        kept.push_reserved(*byte);
-    }
-}
-
-// Adds bytes, for which there is room, behind those that are there, all of them at once.
 pub fn copy_bytes(kept: &mut SmallVec<u8, INLINE>, bytes: &[u8])
     requires { length kept.old.items + length bytes.now ≤ kept.old.capacity }
     ensures items { kept.new.items ≡ kept.old.items ++ bytes.now }

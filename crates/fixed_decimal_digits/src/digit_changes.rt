@@ -8,7 +8,7 @@ ghost use Rattle.fixed_decimal_digits.specs.DigitWord.{word_digits};
 use crate::digit_bytes::{
     assign_bytes, bytes_of_block, copy_bytes, drop_bytes, set_byte, shift_half,
 };
-use crate::digits::Digits;
+use crate::digits::{Digits, INLINE_DIGITS};
 use std::alloc::AllocError;
 
 impl Digits {
@@ -52,11 +52,12 @@ impl Digits {
         self.reserve(more)
     }
 
-    // Puts the lowest digits of a word, so many, four bits each, in place of those that are there. The memory stays, and none is taken.
-    pub(crate) fn assign_word(&mut self, word: u32, count: usize)
-        requires few { count ≤ 8 }
+    // Puts the lowest digits of a word, so many, four bits each, in place of those that are there: there is room for them.
+    fn put_word(&mut self, word: u64, count: usize)
+        requires few { count ≤ 16 }
         requires fits { word < 16 ^ count }
         requires tens { AllBelowBase 10 (word_digits word count) }
+        requires room { count ≤ self.old.capacity }
         ensures items { self.new.items ≡ word_digits word count }
     {
         if count % 2 == 0 {
@@ -65,6 +66,26 @@ impl Digits {
             assign_bytes(&mut self.kept, word * 16, count / 2 + 1);
         }
         self.count = count;
+    }
+
+    /// Puts the lowest digits of a word, so many, four bits each, in place of those that are there: 9, 0, 5 of 0x905 and 3.
+    ///
+    /// The condition is that these are digits, and all of the word. The memory that the digits have is used again; more is taken
+    /// where it has no room for these, and where that is refused (`AllocError`) the digits are as before.
+    pub fn assign_word(&mut self, word: u64, count: usize) -> Result<(), AllocError>
+        requires few { count ≤ 16 }
+        requires fits { word < 16 ^ count }
+        requires tens { AllBelowBase 10 (word_digits word count) }
+        ensures items { OnOk result (self.new.items ≡ word_digits word count) }
+        ensures err { OnErr result (self.new ≡ self.old) }
+        ensures room { OnErr result (self.old.capacity < count) }
+    {
+        let _inline = self.len();
+        if count > INLINE_DIGITS {
+            self.make_room(count)?;
+        }
+        self.put_word(word, count);
+        Ok(())
     }
 
     // Adds a digit behind an even count: it begins a byte.

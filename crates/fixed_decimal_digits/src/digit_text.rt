@@ -1,15 +1,14 @@
 // The digits of a text.
-ghost use Rattle.std.specs.Prelude.{◌≡◌, ◌+◌, ◌-◌, ◌%◌, ◌^◌, ◌<◌, ◌≤◌, ◌++◌, length, map, take, OnOk, OnErr, IsTrue};
+ghost use Rattle.std.specs.Prelude.{◌≡◌, ◌+◌, ◌%◌, ◌^◌, ◌<◌, ◌≤◌, ◌++◌, length, map, take, OnOk, OnErr, IsTrue};
 ghost use Rattle.std.specs.Char.{digit_value};
-ghost use Rattle.std.specs.Str.Parse.{digits_value_after};
 ghost use Rattle.fixed_decimal_digits.specs.DigitText.{AreDigits};
 
 use crate::digit_bytes::digit_of;
 use crate::digits::{BLOCK, Digits};
 use std::alloc::AllocError;
 
-// So many digits fit in a word, and need no memory.
-const WORD_DIGITS: usize = 8;
+// So many characters are looked at by one step.
+const STRIDE: usize = 8;
 
 // Whether each character is a digit.
 fn are_digits(text: &[u8]) -> bool
@@ -29,11 +28,11 @@ pub fn digits_in_words(text: &[u8]) -> usize
     ensures digits { AreDigits (take result text.now) }
 {
     let mut count = 0;
-    while text.len() - count >= WORD_DIGITS {
-        if !are_digits(&text[count..count + WORD_DIGITS]) {
+    while text.len() - count >= STRIDE {
+        if !are_digits(&text[count..count + STRIDE]) {
             return count;
         }
-        count += WORD_DIGITS;
+        count += STRIDE;
     }
     count
 }
@@ -89,48 +88,6 @@ fn push_text(digits: &mut Digits, text: &[u8])
     }
 }
 
-// A word with the digits of a text behind those that it has, four bits each.
-#[tactic(auto, using(crate::proofs::DigitTextLemmas::digits_at, crate::proofs::WordLemmas::folded_more, crate::proofs::WordLemmas::folded_all))]
-fn word_after(word: u32, text: &[u8]) -> u32
-    requires text_digits { AreDigits text.now }
-    requires few { length text.now ≤ 8 }
-    requires room { word < 16 ^ (8 - length text.now) }
-    ensures { result ≡ digits_value_after 16 word text.now }
-{
-    let mut after = word;
-    for c in text {
-        after = after * 16 + digit_of(*c) as u32;
-    }
-    after
-}
-
-// Puts the digits that two texts spell one behind the other, at most eight, in place of those that are there. No memory is taken.
-fn assign_few(digits: &mut Digits, whole: &[u8], rest: &[u8])
-    requires whole_digits { AreDigits whole.now }
-    requires rest_digits { AreDigits rest.now }
-    requires few { length whole.now + length rest.now ≤ 8 }
-    ensures { digits.new.items ≡ map digit_value (whole.now ++ rest.now) }
-{
-    let word = word_after(word_after(0, whole), rest);
-    digits.assign_word(word, whole.len() + rest.len());
-}
-
-// Puts the digits that two texts spell one behind the other, however many, in place of those that are there.
-fn assign_many(digits: &mut Digits, whole: &[u8], rest: &[u8]) -> Result<(), AllocError>
-    requires whole_digits { AreDigits whole.now }
-    requires rest_digits { AreDigits rest.now }
-    requires count { length whole.now + length rest.now < 2 ^ 64 }
-    ensures items { OnOk result (digits.new.items ≡ map digit_value (whole.now ++ rest.now)) }
-    ensures err { OnErr result (digits.new ≡ digits.old) }
-    ensures room { OnErr result (digits.old.capacity < length whole.now + length rest.now) }
-{
-    digits.make_room(whole.len() + rest.len())?;
-    digits.clear();
-    push_text(digits, whole);
-    push_text(digits, rest);
-    Ok(())
-}
-
 /// Puts the digits that two texts spell one behind the other in place of those that are there: 9, 0, 5 of `90` and `5`.
 ///
 /// The condition is that each byte is a digit. The memory that the digits have is used again; more is taken where it has no room
@@ -143,9 +100,9 @@ pub fn assign_texts(digits: &mut Digits, whole: &[u8], rest: &[u8]) -> Result<()
     ensures err { OnErr result (digits.new ≡ digits.old) }
     ensures room { OnErr result (digits.old.capacity < length whole.now + length rest.now) }
 {
-    if whole.len() + rest.len() <= WORD_DIGITS {
-        assign_few(digits, whole, rest);
-        return Ok(());
-    }
-    assign_many(digits, whole, rest)
+    digits.make_room(whole.len() + rest.len())?;
+    digits.clear();
+    push_text(digits, whole);
+    push_text(digits, rest);
+    Ok(())
 }

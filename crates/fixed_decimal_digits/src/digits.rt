@@ -8,8 +8,11 @@ use smallvec::SmallVec;
 use std::alloc::{AllocError, Global};
 use std::marker::Model;
 
-// How many bytes lie inline: eight digits need no memory.
+// How many bytes lie inline.
 pub const INLINE: usize = 4;
+
+// So many digits lie inline, and need no memory.
+pub const INLINE_DIGITS: usize = 8;
 
 /// So many digits are read, or written, by one step: those of thirty-two bytes.
 pub const BLOCK: usize = 64;

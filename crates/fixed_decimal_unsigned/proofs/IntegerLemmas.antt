@@ -1,11 +1,14 @@
 -- A whole number: its zeros at the end, and how many digits it has.
-use Rattle.std.proofs.Common.{◌≡◌, ℕ, ◌+◌, ◌-◌, ◌*◌, ◌/◌, ◌%◌, ◌^◌, ◌<◌, ◌≤◌, max, min, List, [], ◌∷◌, length, get_or, refl, sym, ap, ◌∙◌, subst, arith, ⊎_elim}
-use Rattle.std.proofs.Math.Nat.{le-mul_of_pos_right, mul-le-mul_right}
+use Rattle.std.proofs.Common.{◌≡◌, ℕ, ◌+◌, ◌-◌, ◌*◌, ◌%◌, ◌^◌, ◌<◌, ◌≤◌, max, min, List, [], ◌∷◌, length, get_or, refl, sym, ap, ◌∙◌, subst, arith, ⊎_elim}
+use Rattle.std.proofs.Math.Nat.{le-mul_of_pos_right}
 use Rattle.std.proofs.lemmas.Bool.{cases_lt}
 use Rattle.std.specs.Int.Digits.{number_from_digits, AllBelowBase}
 use Rattle.fixed_decimal_unsigned.specs.Integers.{IsInteger}
 use Rattle.fixed_decimal_unsigned.specs.Range.{IsHighest}
 use Rattle.fixed_decimal_digits.specs.DigitList.{IsTrimmed, count_of}
+use Rattle.fixed_decimal_digits.specs.DigitWord.{word_digits, IsCutWord}
+use Rattle.fixed_decimal_digits.proofs.CutWordLemmas.{cut_some}
+use Rattle.fixed_decimal_digits.proofs.WordLemmas.{word_length}
 use Rattle.fixed_decimal_unsigned.proofs.MantissaLemmas.{number_made}
 use Rattle.fixed_decimal_unsigned.proofs.RangeLemmas.{highest_is}
 use Rattle.fixed_decimal_digits.proofs.TenLemmas.{tens_apart, tens_positive, tens_split}
@@ -51,3 +54,15 @@ one_made ds e =
     let first : 0 < length ds → 0 < get_or ds 0 0 = λ _. subst (λ xs. 0 < get_or xs 0 0) (sym e) (omega arith) in
     integer_made ds 1 1 0 (count_of ds 32768) 32768 32768 32768 (omega arith) (ap (number_from_digits 10) e) refl (omega arith) (subst (AllBelowBase 10) (sym e) (omega arith, tt)) first
     (ap (λ k. number_from_digits 10 ds * 10 ^ (32768 + 1 - k)) len) refl refl (omega arith) (omega arith)
+
+-- the number whose digits are left of a word
+pub word_integer : (ds : List ℕ) (number word left count below whole low high top : ℕ) → 0 < number → number_from_digits 10 (word_digits word 16) ≡ number → IsCutWord word left count below
+    → (0 < count → 0 < number_from_digits 10 (word_digits left count) % 10) → ds ≡ word_digits left count → whole ≡ number_from_digits 10 ds * 10 ^ (32768 + below) → low ≡ min 32768 32768 → high ≡ max 32768 top
+    → top ≡ 32768 + below + count - 1 → IsInteger number (number_made whole low high)
+word_integer ds number word left count below whole low high top some n c last e ew el eh et =
+    let size : length ds ≡ count = ap length e ∙ word_length count left in
+    let value : number ≡ number_from_digits 10 (word_digits left count) * 10 ^ below = sym n ∙ c.value in
+    let many : 0 < count = cut_some word left count below c (subst (λ m. 0 < m) (sym n) some) in
+    integer_made ds number (number_from_digits 10 (word_digits left count)) below whole low high top some (ap (number_from_digits 10) e) value (last many)
+    (subst (λ xs. AllBelowBase 10 xs) (sym e) c.tens) (λ p. subst (λ xs. 0 < get_or xs 0 0) (sym e) (c.first many)) ew el eh (omega (arith, size, many))
+    (et ∙ ap (λ k. 32768 + below + k - 1) (sym size))

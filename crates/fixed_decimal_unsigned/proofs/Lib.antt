@@ -8,6 +8,7 @@ pub mod RangeLemmas
 pub mod ShiftLemmas
 pub mod IntegerLemmas
 pub mod EqualityLemmas
+pub mod ShortTextLemmas
 pub mod NonzeroLemmas
 pub mod LongLemmas
 pub mod ConcatenationLemmas

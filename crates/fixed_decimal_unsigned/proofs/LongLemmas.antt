@@ -1,9 +1,9 @@
 -- Counts of more than eight digits: where memory for digits may be wanted.
-use Rattle.std.proofs.Common.{◌≡◌, ℕ, suc, ◌+◌, ◌-◌, ◌*◌, ◌/◌, ◌%◌, ◌^◌, ◌<◌, ◌≤◌, List, [], ◌∷◌, ◌++◌, length, length-append, get_or, Result, Ok, Err, IsOk, OnErr, refl, sym, ap, ◌∙◌, subst, arith, ⊎_elim, zero, w32, map, drop, lit≤, add-one, drop-cons}
-use Rattle.std.proofs.Math.Nat.{div-add-mod', mul-div_cancel, mul-le-mul_right, mul-lt-mul_of_pos_right, mul-mod_left, mul_assoc, mod-one, eq-zero-or-pos, pow-suc, pow-le-pow_right}
+use Rattle.std.proofs.Common.{◌≡◌, ℕ, suc, ◌+◌, ◌-◌, ◌*◌, ◌/◌, ◌%◌, ◌^◌, ◌<◌, ◌≤◌, List, [], ◌∷◌, ◌++◌, length, length-append, get_or, Result, Ok, Err, IsOk, OnErr, refl, sym, ap, ◌∙◌, subst, arith, ⊎_elim, map}
+use Rattle.std.proofs.Math.Nat.{div-add-mod', mul-div_cancel, mul-le-mul_right, mul-lt-mul_of_pos_right, mul-mod_left, mul_assoc, mod-one, eq-zero-or-pos}
 use Rattle.std.proofs.lemmas.Bool.{cases_lt}
 use Rattle.std.specs.Char.{digit_value}
-use Rattle.std.specs.Int.Digits.{number_from_digits, AllBelowBase}
+use Rattle.std.specs.Int.Digits.{number_from_digits}
 use Rattle.fixed_decimal_unsigned.specs.NumberText.{spelled}
 use Rattle.fixed_decimal_unsigned.specs.Range.{HoldsDigits, IsLong}
 use Rattle.fixed_decimal_digits.specs.DigitList.{count_of}
@@ -11,10 +11,7 @@ use Rattle.fixed_decimal_unsigned.specs.Stored.{IsStored}
 use Rattle.fixed_decimal_digits.proofs.TenLemmas.{tens_positive, tens_apart, tens_split, digit_under}
 use Rattle.fixed_decimal_unsigned.proofs.MantissaLemmas.{spelled_from}
 use Rattle.fixed_decimal_unsigned.proofs.RangeLemmas.{holds_length, trimmed_of}
-use Rattle.std.proofs.lemmas.List.{append_assoc, append-nil, drop_all, length_push, map-append}
 use Rattle.std.proofs.lemmas.Int.Digits.{digits_value_is, number_lt}
-use Rattle.std.specs.Int.{to_be_bytes}
-use Rattle.std.specs.Str.Parse.{digits_value_after}
 
 -- a multiple of ten to `low` has no last digit below
 pub last_above : (n e count low : ℕ) → count ≡ n * 10 ^ e → 0 < n % 10 → count % 10 ^ low ≡ 0 → low ≤ e

@@ -1,7 +1,6 @@
 -- Places and sizes: where the first and the last digit of a count stand.
 use Rattle.std.proofs.Common.{◌≡◌, ℕ, ◌+◌, ◌-◌, ◌*◌, ◌%◌, ◌^◌, ◌<◌, ◌≤◌, max, min, List, [], ◌∷◌, length, refl, sym, ap, ◌∙◌, subst, arith, inl, inr, ⊎_elim}
 use Rattle.std.proofs.Math.Nat.{zero-mul, eq-zero-or-pos, mul-mod_left, pow-le-pow_right, zero-mod}
-use Rattle.std.proofs.lemmas.Bool.{cases_lt}
 use Rattle.fixed_decimal_unsigned.specs.Number.{Number}
 use Rattle.fixed_decimal_digits.specs.Rounding.{count_limit, IsLimited, IsRounded, IsMultiple, increment_number}
 use Rattle.fixed_decimal_digits.specs.declared.RoundingIncrement.{RoundingIncrement}

@@ -1,9 +1,7 @@
 -- The count that stored digits spell: its size, and its digit at a place.
-use Rattle.std.proofs.Common.{◌≡◌, ℕ, ◌+◌, ◌-◌, ◌/◌, ◌%◌, ◌^◌, ◌<◌, ◌≤◌, ◌==◌, List, [], ◌∷◌, length, get_or, refl, sym, ap, ◌∙◌, subst, arith}
-use Rattle.std.proofs.Math.Nat.{mul-lt-mul_of_pos_right, mul-le-mul_right, mul-pos, zero-mul}
+use Rattle.std.proofs.Common.{◌≡◌, ℕ, ◌+◌, ◌-◌, ◌^◌, ◌<◌, ◌≤◌, ◌==◌, List, [], ◌∷◌, length, get_or, refl, sym, ap, arith}
 use Rattle.std.proofs.lemmas.Bool.Decides.{nat_tests}
-use Rattle.std.specs.Int.Digits.{number_from_digits, AllBelowBase}
-use Rattle.std.proofs.lemmas.Int.Digits.{number_lt}
+use Rattle.std.specs.Int.Digits.{number_from_digits}
 use Rattle.fixed_decimal_unsigned.specs.Number.{IsNumber}
 use Rattle.fixed_decimal_digits.specs.DigitList.{count_of}
 use Rattle.fixed_decimal_unsigned.specs.Stored.{IsStored}

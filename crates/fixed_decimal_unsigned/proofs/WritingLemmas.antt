@@ -1,8 +1,8 @@
 -- Digits written a piece a call: the events of the next piece, and of the rest.
-use Rattle.std.proofs.Common.{◌≡◌, ℕ, zero, suc, ◌+◌, ◌-◌, ◌<◌, ◌≤◌, List, [], ◌∷◌, ◌++◌, length, map, take, refl, sym, ap, ◌∙◌, arith, ◌*◌, ◌/◌, ◌%◌, get_or, set, drop}
+use Rattle.std.proofs.Common.{◌≡◌, ℕ, zero, suc, ◌+◌, ◌-◌, ◌<◌, ◌≤◌, List, [], ◌∷◌, ◌++◌, length, map, take, refl, sym, ap, ◌∙◌, arith, set}
 use Rattle.std.proofs.Math.ListN.{set}
 use Rattle.std.specs.Str.{IsAscii}
-use Rattle.std.proofs.lemmas.List.{append_assoc, append-nil, map-append, take_more_set, drop_all, take_all, drop_more}
+use Rattle.std.proofs.lemmas.List.{append_assoc, append-nil, map-append, take_more_set, take_all}
 use Rattle.std.proofs.lemmas.Str.Ascii.{IsAscii-nil, IsAscii-cons}
 use Rattle.std.proofs.lemmas.Str.{IsAscii-append}
 use Rattle.writeable.specs.AnnotatedText.{bytes, text_of as written}

@@ -10,6 +10,7 @@ pub mod NonzeroPlaces
 pub mod NumberText
 pub mod Range
 pub mod Shifts
+pub mod ShortText
 pub mod Stored
 pub mod TextParts
 pub use Rattle.fixed_decimal_digits.specs.Rounding

@@ -1,20 +1,38 @@
-ghost use Rattle.std.specs.Prelude.{IfOk, OnErr, IsOk};
+ghost use Rattle.std.specs.Prelude.{◌<◌, ◌^◌, IfOk, OnErr, IsOk};
 ghost use Rattle.fixed_decimal_unsigned.specs.Integers.{IsInteger};
 ghost use Rattle.fixed_decimal_unsigned.specs.Range.{IsLong};
 
 use crate::reading::{Ends, assembled};
 use crate::unsigned_decimal::UnsignedDecimal;
-use fixed_decimal_digits::{Digits, ONES, push_number, strip_zeros};
+use fixed_decimal_digits::{Digits, ONES, cut_word, push_number, strip_zeros, word_of_number};
 use std::alloc::{AllocError, Global};
 
-// The whole number as a decimal.
-fn from_whole(alloc: Global, number: u128) -> Result<UnsignedDecimal, AllocError>
+// Ten to the power of the digits that a word has.
+const WORD_LIMIT: u128 = 10_000_000_000_000_000;
+
+// The whole number as a decimal: it is not 0, and its digits fit in a word.
+fn from_word(alloc: Global, number: u64) -> Result<UnsignedDecimal, AllocError>
+    requires some { 0 < number }
+    requires fits { number < 10 ^ 16 }
     ensures value { IfOk result (λ v. IsInteger number v) }
     ensures room { OnErr result (IsLong number) }
 {
-    if number == 0 {
-        return Ok(UnsignedDecimal::zero(alloc));
-    }
+    let cut = cut_word(word_of_number(number));
+    let mut digits = Digits::new(alloc);
+    digits.assign_word(cut.word, cut.count)?;
+    let ends = Ends {
+        first: (ONES as usize + cut.zeros + cut.count - 1) as u16,
+        last: ONES,
+    };
+    Ok(assembled(digits, cut.zeros, ends))
+}
+
+// The whole number as a decimal: it is not 0.
+fn from_long(alloc: Global, number: u128) -> Result<UnsignedDecimal, AllocError>
+    requires { 0 < number }
+    ensures value { IfOk result (λ v. IsInteger number v) }
+    ensures room { OnErr result (IsLong number) }
+{
     let (left, zeros) = strip_zeros(number);
     let mut digits = Digits::new(alloc);
     push_number(&mut digits, left)?;
@@ -25,28 +43,61 @@ fn from_whole(alloc: Global, number: u128) -> Result<UnsignedDecimal, AllocError
     Ok(assembled(digits, zeros, ends))
 }
 
+// The whole number as a decimal.
+fn from_whole(alloc: Global, number: u128) -> Result<UnsignedDecimal, AllocError>
+    ensures value { IfOk result (λ v. IsInteger number v) }
+    ensures room { OnErr result (IsLong number) }
+{
+    if number == 0 {
+        return Ok(UnsignedDecimal::zero(alloc));
+    }
+    if number < WORD_LIMIT {
+        return from_word(alloc, number as u64);
+    }
+    from_long(alloc, number)
+}
+
 impl UnsignedDecimal {
-    /// The whole number `integer`: 250 is shown as `250`. It takes no memory.
+    /// The whole number `integer`: 250 is shown as `250`. It does not allocate.
     pub fn from_u8(alloc: Global, integer: u8) -> Result<UnsignedDecimal, AllocError>
         ensures value { IfOk result (λ v. IsInteger integer v) }
         ensures succeeds { IsOk result }
     {
-        Self::from_u16(alloc, integer as u16)
+        from_whole(alloc, u128::from(integer))
     }
 
-    /// The whole number `integer`: 1729 is shown as `1729`. It takes no memory.
+    /// The whole number `integer`: 1729 is shown as `1729`. It does not allocate.
     pub fn from_u16(alloc: Global, integer: u16) -> Result<UnsignedDecimal, AllocError>
         ensures value { IfOk result (λ v. IsInteger integer v) }
         ensures succeeds { IsOk result }
     {
-        Self::from_u32(alloc, integer as u32)
+        from_whole(alloc, u128::from(integer))
     }
 
     /// The whole number `integer`: 100000 is shown as `100000`.
     ///
-    /// Memory is taken where it has more than eight digits without the zeros at its end; it is refused
-    /// (`AllocError`) only there.
+    /// It allocates where it has more than eight digits without the zeros at its end. `AllocError`: out of memory.
     pub fn from_u32(alloc: Global, integer: u32) -> Result<UnsignedDecimal, AllocError>
+        ensures value { IfOk result (λ v. IsInteger integer v) }
+        ensures room { OnErr result (IsLong integer) }
+    {
+        from_whole(alloc, u128::from(integer))
+    }
+
+    /// The whole number `integer`: 1729 is shown as `1729`.
+    ///
+    /// It allocates where it has more than eight digits without the zeros at its end. `AllocError`: out of memory.
+    pub fn from_u64(alloc: Global, integer: u64) -> Result<UnsignedDecimal, AllocError>
+        ensures value { IfOk result (λ v. IsInteger integer v) }
+        ensures room { OnErr result (IsLong integer) }
+    {
+        from_whole(alloc, u128::from(integer))
+    }
+
+    /// The whole number `integer`: 1729 is shown as `1729`.
+    ///
+    /// It allocates where it has more than eight digits without the zeros at its end. `AllocError`: out of memory.
+    pub fn from_usize(alloc: Global, integer: usize) -> Result<UnsignedDecimal, AllocError>
         ensures value { IfOk result (λ v. IsInteger integer v) }
         ensures room { OnErr result (IsLong integer) }
     {
@@ -55,30 +106,7 @@ impl UnsignedDecimal {
 
     /// The whole number `integer`: 1729 is shown as `1729`.
     ///
-    /// Memory is taken where it has more than eight digits without the zeros at its end; it is refused
-    /// (`AllocError`) only there.
-    pub fn from_u64(alloc: Global, integer: u64) -> Result<UnsignedDecimal, AllocError>
-        ensures value { IfOk result (λ v. IsInteger integer v) }
-        ensures room { OnErr result (IsLong integer) }
-    {
-        Self::from_u128(alloc, integer as u128)
-    }
-
-    /// The whole number `integer`: 1729 is shown as `1729`.
-    ///
-    /// Memory is taken where it has more than eight digits without the zeros at its end; it is refused
-    /// (`AllocError`) only there.
-    pub fn from_usize(alloc: Global, integer: usize) -> Result<UnsignedDecimal, AllocError>
-        ensures value { IfOk result (λ v. IsInteger integer v) }
-        ensures room { OnErr result (IsLong integer) }
-    {
-        Self::from_u64(alloc, integer as u64)
-    }
-
-    /// The whole number `integer`: 1729 is shown as `1729`.
-    ///
-    /// Memory is taken where it has more than eight digits without the zeros at its end; it is refused
-    /// (`AllocError`) only there.
+    /// It allocates where it has more than eight digits without the zeros at its end. `AllocError`: out of memory.
     pub fn from_u128(alloc: Global, integer: u128) -> Result<UnsignedDecimal, AllocError>
         ensures value { IfOk result (λ v. IsInteger integer v) }
         ensures room { OnErr result (IsLong integer) }

@@ -18,6 +18,7 @@ mod reading;
 mod rounding;
 mod rounding_calls;
 mod shifting;
+mod short_text;
 mod shown_digits;
 mod text_parts;
 mod trimming;

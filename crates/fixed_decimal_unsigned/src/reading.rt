@@ -9,6 +9,7 @@ ghost use Rattle.fixed_decimal_unsigned.specs.Stored.{IsStored};
 ghost use Rattle.fixed_decimal_digits.specs.DigitList.{count_of};
 
 use crate::error::ParseError;
+use crate::short_text::{ShortText, read_short};
 use crate::text_parts::TextParts;
 use crate::unsigned_decimal::UnsignedDecimal;
 use fixed_decimal_digits::{Digits, ONES, assign_texts, digit_of};
@@ -182,7 +183,7 @@ pub struct Places {
 }
 
 // The places of digits of which the last stands so many places above the end of their mantissa.
-fn places_of(digits: &Digits, zeros: usize, ends: Ends) -> Places
+pub fn places_of(digits: &Digits, zeros: usize, ends: Ends) -> Places
     requires tens { AllBelowBase 10 digits.now.items }
     requires first { 0 < length digits.now.items → 0 < slice_index digits.now.items 0 }
     requires last { 0 < length digits.now.items → 0 < number_from_digits 10 digits.now.items % 10 }
@@ -256,29 +257,56 @@ fn read_parts(digits: &mut Digits, parts: &TextParts<'_>) -> Result<Places, Pars
     Ok(places_of(digits, zeros, ends))
 }
 
+// Puts the digits of a text in place of those that are there, and says their places.
+fn read_text(digits: &mut Digits, text: &[u8]) -> Result<Places, ParseError>
+    ensures stored { IfOk result (λ p. IsStored digits.new.items p.top p.low p.high) }
+    ensures value { IfOk result (λ p. Reads text.now (record { count = count_of digits.new.items p.top; low = p.low; high = p.high })) }
+    ensures err { OnErr result (digits.new ≡ digits.old) }
+    ensures syntax { IsErrOf result ParseError.Syntax → IsNoText text.now }
+    ensures limit { IsErrOf result ParseError.Limit → IsBeyond text.now }
+    ensures memory { IsErrOf result ParseError.Memory → ReadsLong text.now }
+    ensures kept { IsErrOf result ParseError.Memory → (other low : ℕ) → HoldsDigits other low (length digits.old.items) → ReadsLonger text.now other }
+{
+    if let Some(short) = ShortText::of(text) {
+        return match read_short(digits, short) {
+            Ok(places) => Ok(places),
+            Err(_) => Err(ParseError::Memory),
+        };
+    }
+    let Some(parts) = TextParts::of(text) else {
+        return Err(ParseError::Syntax);
+    };
+    read_parts(digits, &parts)
+}
+
 impl UnsignedDecimal {
     /// The number that a text spells: `12.30` is 12.3, shown from magnitude 1 down to -2.
     ///
     /// `Syntax` where the text spells no number (`5.`), `Limit` where it spells one that passes
-    /// magnitudes -32768 to 32767 (`1e32768`), `Memory` where memory for its digits was refused;
-    /// it is taken where there are more than eight, from the first to the last one that is not zero.
+    /// magnitudes -32768 to 32767 (`1e32768`), `Memory`: out of memory. It allocates where there are
+    /// more than eight digits, from the first to the last one that is not zero.
     pub fn try_from_utf8(alloc: Global, code_units: &[u8]) -> Result<UnsignedDecimal, ParseError>
         ensures syntax { IsErrOf result ParseError.Syntax → IsNoText code_units.now }
         ensures limit { IsErrOf result ParseError.Limit → IsBeyond code_units.now }
         ensures memory { IsErrOf result ParseError.Memory → ReadsLong code_units.now }
         ensures value { IfOk result (λ v. Reads code_units.now v) }
     {
-        let mut number = UnsignedDecimal::zero(alloc);
-        match number.assign_from_utf8(code_units) {
-            Ok(()) => Ok(number),
+        let mut digits = Digits::new(alloc);
+        match read_text(&mut digits, code_units) {
+            Ok(places) => Ok(UnsignedDecimal {
+                digits,
+                top: places.top,
+                low: places.low,
+                high: places.high,
+            }),
             Err(refused) => Err(refused),
         }
     }
 
     /// Puts the number that a text spells in place of this one: `12.30` in place of 5.
     ///
-    /// The refusals are those of `try_from_utf8`, and then the number is as before. The memory that the number has is used again:
-    /// more is taken only where the text spells a number of more than eight digits, from the first to the last one that is not
+    /// The errors are those of `try_from_utf8`, and then the number is as before. The memory that the number has is used again:
+    /// it allocates only where the text spells a number of more than eight digits, from the first to the last one that is not
     /// zero, and of more than any number that this one has been.
     pub fn assign_from_utf8(&mut self, code_units: &[u8]) -> Result<(), ParseError>
         ensures syntax { IsErrOf result ParseError.Syntax → IsNoText code_units.now }
@@ -288,10 +316,7 @@ impl UnsignedDecimal {
         ensures err { OnErr result (self.new ≡ self.old) }
         ensures room { IsErrOf result ParseError.Memory → ReadsLonger code_units.now self.old.count }
     {
-        let Some(parts) = TextParts::of(code_units) else {
-            return Err(ParseError::Syntax);
-        };
-        match read_parts(&mut self.digits, &parts) {
+        match read_text(&mut self.digits, code_units) {
             Ok(places) => {
                 self.top = places.top;
                 self.low = places.low;

@@ -1,12 +1,12 @@
 use Rattle.std.proofs.Common.{◌≡◌, ◌%◌, ◌≤◌, ◌∙◌, ap, arith}
 use Rattle.fixed_decimal_digits.proofs.WordLemmas.{word_fits, even_word, odd_word}
-use Rattle.fixed_decimal_digits.proofs.digits.Digits.assign_word.Goals as goal
-use Rattle.fixed_decimal_digits.proofs.digits.Digits.assign_word.Goals.{then-count-eq0, else-count-eq0}
+use Rattle.fixed_decimal_digits.proofs.digits.Digits.put_word.Goals as goal
+use Rattle.fixed_decimal_digits.proofs.digits.Digits.put_word.Goals.{then-count-eq0, else-count-eq0}
 
 pub overflow_mul-word : goal.overflow_mul-word
 overflow_mul-word c =
     let odd : c.args.count % 2 ≡ 1 = grind (arith, c.if-count-eq0.false) in
-    let few : c.args.count ≤ 7 = omega (arith, odd, c.requires.few) in
+    let few : c.args.count ≤ 15 = omega (arith, odd, c.requires.few) in
     let fits = word_fits c.args.word 0 c.args.count few c.requires.fits (omega arith) in
     omega (arith, fits)
 

@@ -2,7 +2,7 @@ use Rattle.std.proofs.Common.{◌≡◌, ◌++◌, ◌∙◌, length, map, sym, 
 use Rattle.std.proofs.lemmas.List.{map-append}
 use Rattle.std.specs.Char.{digit_value}
 use Rattle.fixed_decimal_digits.proofs.BlockLemmas.{pushed_length}
-use Rattle.fixed_decimal_digits.proofs.digit_text.assign_many.Goals as goal
+use Rattle.fixed_decimal_digits.proofs.digit_text.assign_texts.Goals as goal
 
 pub push_text-requires-2-clause-room : goal.push_text-requires-2-clause-room
 push_text-requires-2-clause-room c =

@@ -2,7 +2,7 @@ use Rattle.std.proofs.Common.{◌<◌, ◌+◌, ◌-◌, length, arith, ap}
 use Rattle.writeable.specs.Taking.{on_err}
 use Rattle.fixed_decimal_unsigned.proofs.LongLemmas.{long_count}
 use Rattle.fixed_decimal_unsigned.proofs.IntegerLemmas.{left_few, integer_made, some_digits}
-use Rattle.fixed_decimal_unsigned.proofs.integers.from_whole.Goals as goal
+use Rattle.fixed_decimal_unsigned.proofs.integers.from_long.Goals as goal
 
 pub overflow_add-ends-2 : goal.overflow_add-ends-2
 overflow_add-ends-2 c =
