@@ -10,20 +10,19 @@ use thiserror::Error;
 /// Why a text is not read as a decimal: `NotWritten` of `98,7654` in English.
 #[derive(Clone, Copy, Debug, Drop, PartialEq, Eq, Error)]
 pub enum ReadError {
-    /// The formatter's symbols do not tell numbers apart, as with `-` for a minus sign and for a plus sign: no text is read
-    /// under them.
+    /// The symbols do not tell numbers apart, as with `-` for a minus sign and for a plus sign: no text is read with them.
     #[error("unreadable symbols")]
     Unreadable,
     /// The formatter writes no decimal so: `98,7654` in English.
     #[error("not written so")]
     NotWritten,
-    /// A request for memory was refused, which the nine digits of `123,456,789` take.
+    /// Out of memory: the nine digits of `123,456,789` allocate, eight do not.
     #[error("out of memory")]
     Memory,
 }
 
 impl ReadError {
-    /// The number of the error: 1 of `Unreadable`, 2 of `NotWritten`, 3 of `Memory`. It takes no memory.
+    /// The number of the error: 1 of `Unreadable`, 2 of `NotWritten`, 3 of `Memory`. Does not allocate.
     pub fn number(&self) -> u8
         ensures { result ≡ read_error_number self.now }
     {

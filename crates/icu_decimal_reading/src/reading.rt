@@ -88,9 +88,8 @@ fn read_as_defined(
 
 /// As `read_plain`, of tables whose symbols are known to be readable: in English `-1,234.50` is -1234.50.
 ///
-/// The condition is `is_readable`, which looks through all symbols: a caller who reads many texts with the same tables makes the
-/// test once. `NotWritten` where no decimal is written so; `Memory` where memory for the digits was refused. It is taken
-/// where more than eight digits stand in the text.
+/// The condition is `is_readable`, which looks through all symbols: a caller who reads many texts with the same tables tests it
+/// once. `NotWritten`: no decimal is written so. `Memory`: out of memory. Allocates where the text has more than eight digits.
 #[tactic(auto, using(crate::proofs::LawLemmas::answered_value))]
 pub fn read_readable(
     alloc: Global,
@@ -113,9 +112,9 @@ pub fn read_readable(
 
 /// The decimal whose text with these tables this is: in English `-1,234.50` is -1234.50, shown down to magnitude -2.
 ///
-/// Sign, digits and visible range are those of the one decimal that is written so. `Unreadable` where `is_readable`
-/// is false; `NotWritten` where no decimal is written so, as `98,7654` or `1234` in English; `Memory` where memory for
-/// the digits was refused. It is taken where more than eight digits stand in the text.
+/// Sign, digits and visible range are those of the one decimal that is written so. `Unreadable`: `is_readable` is false.
+/// `NotWritten`: no decimal is written so, as `98,7654` or `1234` in English. `Memory`: out of memory. Allocates where the text
+/// has more than eight digits.
 #[tactic(auto, using(crate::proofs::ReadingLemmas::reading_unreadable))]
 pub fn read_plain(
     alloc: Global,
