@@ -9,4 +9,5 @@ pub mod PieceLemmas
 pub mod PlainTextLemmas
 pub mod RowLemmas
 pub mod SeparatorLemmas
+pub mod ShortRowLemmas
 pub mod TextLemmas

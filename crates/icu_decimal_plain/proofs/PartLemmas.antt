@@ -12,7 +12,7 @@ use Rattle.fixed_decimal.specs.SignedValue.{SignedValue}
 use Rattle.icu_decimal_plain.specs.Affixes.{AffixTexts, affixes_of, as_part, decimal_part, prefix_events, suffix_events}
 use Rattle.icu_decimal_plain.specs.PartIntervals.{decimal_parts, fraction_parts, groups_of, integer_parts, part_at, prefix_parts, suffix_parts, unit_text, unsigned_parts}
 use Rattle.icu_decimal_plain.specs.PartLaws.{DecimalHasParts, UnitHasParts, UnsignedHasParts}
-use Rattle.icu_decimal_plain.specs.PlainText.{PlainNumber, Tables, chained, decimal_events, digit_text, formatted, fraction_events, integer_events, prefix_text, suffix_text, unsigned_events, unsigned_text, whole_events, whole_text}
+use Rattle.icu_decimal_plain.specs.PlainText.{PlainNumber, Tables, chained, decimal_events, digit_text, formatted, fraction_events, integer_events, prefix_text, unsigned_events, unsigned_text, whole_events, whole_text}
 use Rattle.icu_decimal_plain.proofs.PlainTextLemmas.{bytes_chained}
 use Rattle.icu_decimal_plain.proofs.TextLemmas.{decimal_is_text, text_in_unit, text_of_part, text_prefix, text_whole, text_inside, text_with_sign, unsigned_is_text}
 use Rattle.icu_decimal_plain.proofs.EventPartLemmas.{both_from, no_parts, part_from, text_part_balanced, text_part_from}

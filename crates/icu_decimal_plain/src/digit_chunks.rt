@@ -40,11 +40,12 @@ fn next_digits(digits: &mut ShownDigits<'_>) -> [u8; CHUNK]
 }
 
 // Puts a block of digits into a chunk, from a place on.
-fn set_block(chunk: &mut [u8; CHUNK], at: usize, block: &[u8; 16])
-    requires { at + 16 ≤ 48 }
+pub(crate) fn set_block<const N: usize>(chunk: &mut [u8; N], at: usize, block: &[u8; 16])
+    requires { at + 16 ≤ N }
     ensures { take (at + 16) chunk.new ≡ take at chunk.old ++ block.now }
 {
-    chunk[at..at + 16].copy_from_slice(block);
+    let all = &mut chunk[..];
+    all[at..at + 16].copy_from_slice(block);
 }
 
 // Puts the next digits into a chunk, from a place on, sixteen or all that are left; the answer is how many they are.
@@ -77,13 +78,9 @@ pub(crate) fn few_digits(digits: &mut ShownDigits<'_>, count: usize) -> [u8; CHU
 }
 
 // Writes the first bytes of `waiting`, so many.
-fn write_waiting<S: Sink>(
-    waiting: &[u8; CHUNK_BYTES],
-    len: usize,
-    sink: &mut S,
-) -> Result<(), Error>
+pub(crate) fn write_waiting<S: Sink>(waiting: &[u8], len: usize, sink: &mut S) -> Result<(), Error>
     requires fine { S.refused sink.old ≡ false }
-    requires within { len ≤ 384 }
+    requires within { len ≤ length waiting.now }
     requires utf8 { IsUtf8 (take len waiting.now) }
     ensures ok { OnOk result (S.takes sink.old (bytes (take len waiting.now)) sink.new) }
     ensures refused { S.refused sink.new ≡ is_err result }

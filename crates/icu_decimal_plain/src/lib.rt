@@ -21,6 +21,7 @@ pub mod grouper;
 pub mod laws;
 mod piece_tables;
 mod rows;
+mod short_rows;
 mod short_text;
 mod tables;
 mod text_pieces;

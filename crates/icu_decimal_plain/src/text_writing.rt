@@ -9,9 +9,10 @@ ghost use Rattle.icu_decimal_plain.specs.BorrowedTables.{borrowed_tables};
 ghost use Rattle.icu_decimal_plain.specs.PlainText.{chained, digit_text, fraction_text, unsigned_text, whole_text};
 ghost use Rattle.icu_decimal_plain.specs.LaterGroups.{groups_ahead};
 
-use crate::digit_chunks::{write_chunks, write_last};
+use crate::digit_chunks::{write_chunks, write_last, write_waiting};
 use crate::grouper::GroupSizes;
 use crate::piece_tables::DigitTable;
+use crate::short_rows::{SHORT, put_short};
 use crate::short_text::ShortText;
 use crate::tables::DecimalTables;
 use crate::text_pieces::CHUNK;
@@ -176,8 +177,10 @@ fn write_fraction_text<S: Sink>(
     write_fraction_digits(&tables.digits, number, sink)
 }
 
-// Writes the text of a number without a sign.
-pub(crate) fn write_unsigned_text<S: Sink>(
+// Writes the text of a number without a sign that is not put together short: at once up to forty-seven digits, and else the integer
+// digits before the fraction.
+#[inline(never)]
+fn write_long_text<S: Sink>(
     tables: &DecimalTables<'_>,
     number: &UnsignedDecimal,
     sink: &mut S,
@@ -193,4 +196,22 @@ pub(crate) fn write_unsigned_text<S: Sink>(
     }
     write_whole_text(tables, number, sink)?;
     write_fraction_text(tables, number, sink)
+}
+
+// Writes the text of a number without a sign.
+pub(crate) fn write_unsigned_text<S: Sink>(
+    tables: &DecimalTables<'_>,
+    number: &UnsignedDecimal,
+    sink: &mut S,
+) -> Result<(), Error>
+    requires { S.refused sink.old ≡ false }
+    ensures ok { OnOk result (S.takes sink.old (bytes (unsigned_text (borrowed_tables tables.now) number.now)) sink.new) }
+    ensures refused { S.refused sink.new ≡ is_err result }
+    ensures begun { OnErr result (HasBegun S.takes S.lacks_room sink.old (bytes (unsigned_text (borrowed_tables tables.now) number.now)) sink.new) }
+{
+    let mut text = [0; SHORT];
+    match put_short(&mut text, tables, number) {
+        Some(len) => write_waiting(&text, len, sink),
+        None => write_long_text(tables, number, sink),
+    }
 }

@@ -1,4 +1,4 @@
-use Rattle.std.proofs.Common.{◌+◌, ◌++◌, ◌∙◌, ap, arith, drop, length, min, take}
+use Rattle.std.proofs.Common.{◌++◌, ◌∙◌, ap, arith, drop, length, min, take}
 use Rattle.std.proofs.lemmas.List.{drop-drop, drop_all, drop_min}
 use Rattle.icu_decimal_plain.proofs.DigitChunkLemmas.{block_next, blocks_done}
 use Rattle.icu_decimal_plain.proofs.digit_chunks.few_digits.Goals as goal

@@ -2,7 +2,7 @@ use Rattle.std.proofs.lemmas.Result.{on_ok_weaker}
 use Rattle.writeable.specs.Taking.{begun_first, on_err}
 use Rattle.icu_decimal_plain.specs.BorrowedTables.{borrowed_tables}
 use Rattle.icu_decimal_plain.proofs.PlainTextLemmas.{unsigned_bytes}
-use Rattle.icu_decimal_plain.proofs.text_writing.write_unsigned_text.Goals as goal
+use Rattle.icu_decimal_plain.proofs.text_writing.write_long_text.Goals as goal
 
 pub returns-in_err-write_whole_text-clause-begun : goal.returns-in_err-write_whole_text-clause-begun
 returns-in_err-write_whole_text-clause-begun g c =

@@ -1,0 +1,79 @@
+-- Sixteen digits that are taken and put at once, of which the first ones count.
+use Rattle.std.proofs.Common.{◌≡◌, ℕ, zero, suc, ◌+◌, ◌-◌, ◌≤◌, List, [], ◌∷◌, ◌++◌, drop, get_or, length, map, min, refl, replicate, subst, sym, take, ap, ◌∙◌, append_assoc, arith}
+use Rattle.std.proofs.lemmas.List.{take_all}
+use Rattle.std.specs.Int.Digits.{AllBelowBase}
+use Rattle.icu_decimal_plain.specs.LaterGroups.{groups_ahead}
+use Rattle.icu_decimal_plain.specs.PlainText.{chained, digit_text}
+use Rattle.icu_decimal_plain.specs.Rows.{IsRow, row_text}
+use Rattle.icu_decimal_plain.proofs.DigitChunkLemmas.{block_part}
+use Rattle.icu_decimal_plain.proofs.PieceLemmas.{tens_taken}
+use Rattle.icu_decimal_plain.proofs.PlainTextLemmas.{tens_dropped}
+use Rattle.icu_decimal_plain.proofs.RowLemmas.{row_digits, threes_ahead}
+
+-- Digits taken.
+
+-- digits in front of digits are digits
+tens_joined : (n : ℕ) (ds : List ℕ) → AllBelowBase 10 (take n ds) → AllBelowBase 10 (drop n ds) → AllBelowBase 10 ds
+tens_joined zero ds front behind = behind
+tens_joined (suc n) [] front behind = tt
+tens_joined (suc n) (d ∷ ds) front behind = (front.0, tens_joined n ds front.1 behind)
+
+zeros_below : (n : ℕ) → AllBelowBase 10 (replicate n 0)
+zeros_below zero = tt
+zeros_below (suc n) = (omega arith, zeros_below n)
+
+-- the digits at the front of a block
+pub block_front : (ds block : List ℕ) (n : ℕ) → length ds ≤ 16 → n ≡ min 16 (length ds) → take n block ≡ take n ds → take (length ds) block ≡ ds
+block_front ds block n few count taken =
+    let all : n ≡ length ds = omega (arith, few, count) in
+    ap (λ k. take k block) (sym all) ∙ taken ∙ take_all n ds (omega (arith, all))
+
+-- a block of them and of zeros
+pub block_tens : (ds block : List ℕ) (n : ℕ) → AllBelowBase 10 ds → take n block ≡ take n ds → drop n block ≡ drop n (replicate 16 0) → AllBelowBase 10 block
+block_tens ds block n tens taken same =
+    tens_joined n block (subst (AllBelowBase 10) (sym taken) (tens_taken n ds tens)) (subst (AllBelowBase 10) (sym same) (tens_dropped n (replicate 16 0) (zeros_below 16)))
+
+-- so many digits, of a block that begins with them
+pub front_shown : (ds block : List ℕ) (count : ℕ) → length ds ≡ count → take (length ds) block ≡ ds → take count block ≡ take count ds
+front_shown ds block count size front = ap (λ k. take k block) (sym size) ∙ front ∙ sym (take_all count ds (omega (arith, size)))
+
+-- Digits put.
+
+-- of a block's bytes those of its first digits
+row_front : (nought n : ℕ) (ds : List ℕ) → take n (chained (map (row_text nought) ds)) ≡ chained (map (row_text nought) (take n ds))
+row_front nought zero ds = refl
+row_front nought (suc n) [] = refl
+row_front nought (suc n) (d ∷ ds) = ap (λ rest. (nought + d) ∷ rest) (row_front nought n ds)
+
+pub front_put : (nought at count : ℕ) (text after bytes digits : List ℕ) → count ≤ 16 → at ≤ length text → bytes ≡ chained (map (row_text nought) digits)
+    → take (at + 16) after ≡ take at text ++ bytes → take (at + count) after ≡ take at text ++ chained (map (row_text nought) (take count digits))
+front_put nought at count text after bytes digits few within is put =
+    block_part text after bytes bytes at count few within put refl
+    ∙ ap (λ front. take at text ++ take count front) is
+    ∙ ap (λ front. take at text ++ front) (row_front nought count digits)
+
+-- the integer digits in groups of three
+pub whole_row : (nought first groups count n : ℕ) (table bytes ds block others front text : List ℕ) → IsRow nought table → AllBelowBase 10 ds → length bytes ≡ 4 → n ≡ 1 → others ≡ replicate groups 3
+    → take first block ≡ take first ds → take (count - first) (drop first block) ≡ drop first ds
+    → front ≡ chained (map (row_text nought) (take first block))
+    → text ≡ front ++ groups_ahead (get_or bytes 0 0 ∷ []) (row_text nought) (replicate groups 3) (take (count - first) (drop first block))
+    → text ≡ chained (map (digit_text table) (take first ds)) ++ groups_ahead (take n bytes) (digit_text table) others (drop first ds)
+whole_row nought first groups count n table bytes ds block others front text row tens long one all part rest begun put =
+    let ahead : List ℕ → List ℕ = groups_ahead (get_or bytes 0 0 ∷ []) (row_text nought) (replicate groups 3) in
+    let group : front ≡ chained (map (digit_text table) (take first ds))
+    = begun ∙ ap (λ digits. chained (map (row_text nought) digits)) part ∙ row_digits nought table (take first ds) row (tens_taken first ds tens) in
+    put
+    ∙ ap (λ digits. front ++ ahead digits) rest
+    ∙ ap (λ behind. front ++ behind) (threes_ahead nought groups n bytes table others (drop first ds) row (tens_dropped first ds tens) long one all)
+    ∙ ap (λ begin. begin ++ groups_ahead (take n bytes) (digit_text table) others (drop first ds)) group
+
+-- the separator and the fraction digits behind what is there
+pub fraction_row : (nought count : ℕ) (table ds block separator before point text : List ℕ) → IsRow nought table → AllBelowBase 10 ds → take count block ≡ take count ds
+    → point ≡ before ++ separator → text ≡ point ++ chained (map (row_text nought) (take count block))
+    → text ≡ before ++ (separator ++ chained (map (digit_text table) (take count ds)))
+fraction_row nought count table ds block separator before point text row tens shown pointed put =
+    put
+    ∙ ap (λ front. front ++ chained (map (row_text nought) (take count block))) pointed
+    ∙ append_assoc before separator (chained (map (row_text nought) (take count block)))
+    ∙ ap (λ digits. before ++ (separator ++ chained (map (row_text nought) digits))) shown
+    ∙ ap (λ digits. before ++ (separator ++ digits)) (row_digits nought table (take count ds) row (tens_taken count ds tens))

@@ -1,0 +1,152 @@
+//! Short numbers whose digits are single bytes in a row: sixteen digits at most on each side of the point, in groups of three.
+
+ghost use Rattle.std.specs.Prelude.{◌≡◌, ◌+◌, ◌-◌, ◌<◌, ◌≤◌, ◌++◌, length, map, take, IfSome, IsUtf8};
+ghost use Rattle.std.specs.Int.Digits.{AllBelowBase};
+ghost use Rattle.fixed_decimal.specs.Number.{fraction_digits, whole_digits};
+ghost use Rattle.icu_decimal_plain.specs.BorrowedTables.{borrowed_tables};
+ghost use Rattle.icu_decimal_plain.specs.Pieces.{Holds};
+ghost use Rattle.icu_decimal_plain.specs.PlainText.{chained, fraction_text, unsigned_text, whole_text};
+ghost use Rattle.icu_decimal_plain.specs.Rows.{IsRow, row_text};
+
+use crate::digit_chunks::set_block;
+use crate::grouper::GroupSizes;
+use crate::rows::{put_row, put_threes};
+use crate::tables::DecimalTables;
+use crate::text_pieces::{Piece, put_piece};
+use crate::writing::{fraction_len, highest};
+use fixed_decimal::{ShownDigits, UnsignedDecimal};
+
+// How many digits are taken at once.
+const BLOCK: u16 = 16;
+
+// The bytes that a short text may have.
+pub(crate) const SHORT: usize = 64;
+
+// The digits that are left, sixteen at most, and zeros behind them.
+#[inline(always)]
+fn block_of(digits: &mut ShownDigits<'_>) -> [u8; 16]
+    requires few { length digits.old ≤ 16 }
+    requires tens { AllBelowBase 10 digits.old }
+    ensures front { take (length digits.old) result ≡ digits.old }
+    ensures tens { AllBelowBase 10 result }
+{
+    let mut block = [0; 16];
+    digits.next_block(&mut block);
+    block
+}
+
+// The bytes of sixteen digits.
+#[inline(always)]
+fn row_bytes(digits: &[u8; 16], nought: u8) -> [u8; 16]
+    requires small { nought + 9 < 128 }
+    requires tens { AllBelowBase 10 digits.now }
+    ensures { result ≡ chained (map (row_text nought) digits.now) }
+{
+    let mut bytes = [0; 16];
+    put_row(&mut bytes, 0, digits, nought);
+    bytes
+}
+
+// Puts sixteen digits behind so many bytes, of which so many count; the answer is how many bytes count then.
+#[inline(always)]
+fn put_front(
+    text: &mut [u8; SHORT],
+    len: usize,
+    digits: &[u8; 16],
+    count: usize,
+    nought: u8,
+) -> usize
+    requires room { len + 16 ≤ 64 }
+    requires few { count ≤ 16 }
+    requires small { nought + 9 < 128 }
+    requires tens { AllBelowBase 10 digits.now }
+    ensures text { take result text.new ≡ take len text.old ++ chained (map (row_text nought) (take count digits.now)) }
+    ensures room { result ≡ len + count }
+{
+    let bytes = row_bytes(digits, nought);
+    set_block(text, len, &bytes);
+    len + count
+}
+
+// Puts the integer digits in their groups to the front. `None`: a group behind the first has not three digits.
+#[inline(always)]
+fn put_whole(
+    text: &mut [u8; SHORT],
+    tables: &DecimalTables<'_>,
+    separator: Piece,
+    nought: u8,
+    number: &UnsignedDecimal,
+) -> Option<usize>
+    requires separator { Holds separator (borrowed_tables tables.now).symbols.strings.grouping_separator }
+    requires one { separator.len ≡ 1 }
+    requires row { IsRow nought (borrowed_tables tables.now).digits }
+    requires few { number.now.high - 32767 ≤ 16 }
+    ensures text { IfSome result (λ len. take len text.new ≡ whole_text (borrowed_tables tables.now) (whole_digits number.now)) }
+    ensures utf8 { IfSome result (λ len. ∥ IsUtf8 (take len text.new) ∥₁) }
+    ensures room { IfSome result (λ len. len ≤ 24) }
+{
+    let count = highest(number) + 1;
+    let symbols = tables.symbols.symbols;
+    let mut sizes = GroupSizes::of(count, tables.strategy, symbols.grouping_sizes);
+    let first = sizes.next().unwrap_or(0);
+    let groups = sizes.threes()?;
+    let mut digits = number.whole_digits();
+    let block = block_of(&mut digits);
+    put_front(text, 0, &block, first, nought);
+    let behind = &block[first..count as usize];
+    Some(put_threes(text, first, separator.bytes[0], behind, groups, nought))
+}
+
+// Puts the decimal separator and the fraction digits, where there are any, behind so many bytes; the answer is how many there are
+// then.
+#[inline(always)]
+fn put_fraction(
+    text: &mut [u8; SHORT],
+    len: usize,
+    tables: &DecimalTables<'_>,
+    separator: Piece,
+    nought: u8,
+    number: &UnsignedDecimal,
+) -> usize
+    requires room { len ≤ 24 }
+    requires separator { Holds separator (borrowed_tables tables.now).symbols.strings.decimal_separator }
+    requires row { IsRow nought (borrowed_tables tables.now).digits }
+    requires few { 32768 - number.now.low ≤ 16 }
+    requires utf8 { ∥ IsUtf8 (take len text.old) ∥₁ }
+    ensures text { take result text.new ≡ take len text.old ++ fraction_text (borrowed_tables tables.now) (fraction_digits number.now) }
+    ensures utf8 { ∥ IsUtf8 (take result text.new) ∥₁ }
+    ensures room { result ≤ 64 }
+{
+    let count = fraction_len(number) as usize;
+    if count == 0 {
+        return len;
+    }
+    let from = put_piece(text, len, separator);
+    let mut digits = number.fraction_digits();
+    let block = block_of(&mut digits);
+    put_front(text, from, &block, count, nought)
+}
+
+// Puts the text of a number to the front; the answer is how many bytes it has. `None`: it has more digits than are put at once, its
+// digits are not single bytes in a row, or a group separator has more than one.
+#[inline(always)]
+pub(crate) fn put_short(
+    text: &mut [u8; SHORT],
+    tables: &DecimalTables<'_>,
+    number: &UnsignedDecimal,
+) -> Option<usize>
+    ensures text { IfSome result (λ len. take len text.new ≡ unsigned_text (borrowed_tables tables.now) number.now) }
+    ensures utf8 { IfSome result (λ len. ∥ IsUtf8 (take len text.new) ∥₁) }
+    ensures room { IfSome result (λ len. len ≤ 64) }
+{
+    if highest(number) >= BLOCK || fraction_len(number) > BLOCK {
+        return None;
+    }
+    let nought = tables.digits.nought?;
+    let separators = tables.symbols.separators?;
+    if separators.group.len != 1 {
+        return None;
+    }
+    let len = put_whole(text, tables, separators.group, nought, number)?;
+    Some(put_fraction(text, len, tables, separators.decimal, nought, number))
+}
