@@ -1,4 +1,4 @@
-//! Providers: who has the tables that a formatter borrows, and under which identifier each stands.
+//! Providers: who has the tables that a formatter borrows, and the identifier of each.
 
 pub use icu_decimal_compact_value::CompactEntry;
 pub use icu_decimal_patterns::{CompactPatterns, DecimalCompactLongV1, DecimalCompactShortV1};

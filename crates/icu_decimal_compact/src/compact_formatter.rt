@@ -9,6 +9,7 @@ ghost use Rattle.fixed_decimal.specs.Range.{IsLong};
 ghost use Rattle.icu_decimal_patterns.specs.Elements.{slot_of};
 ghost use Rattle.icu_decimal_plurals.specs.Operands.{operands_of};
 ghost use Rattle.icu_decimal_compact_value.specs.Choice.{CanShow, entry_at, exponent_of};
+ghost use Rattle.icu_decimal_formatter.specs.HeldTables.{tables_of};
 ghost use Rattle.icu_decimal_compact.specs.CompactText.{compact_decimal_text, compact_formatted, compact_of};
 ghost use Rattle.icu_decimal_compact.specs.FoundCompactTables.{found_compact_tables};
 ghost use Rattle.icu_decimal_compact.specs.HeldCompact.{compact_tables_of};
@@ -64,8 +65,7 @@ fn pattern_for<'b>(
 impl<'b> CompactDecimalFormatter<'b> {
     /// The formatter of these preferences and options that writes in short form, `1.6K` in English, with tables of the provider.
     ///
-    /// The symbols are asked for first, then the digits, the plural rules and the patterns. Errors as `load_with_fallback`, the
-    /// first one of these tables. It takes no memory.
+    /// It loads symbols, digits, plural rules and patterns. Errors as `load_by_chain`, the first of them. It does not allocate.
     pub fn try_new_short_unstable<P>(
         provider: &'b P,
         preferences: CompactDecimalFormatterPreferences,
@@ -89,7 +89,7 @@ impl<'b> CompactDecimalFormatter<'b> {
         })
     }
 
-    /// The same in long form: `1.6 thousand` in English. It takes no memory.
+    /// The same in long form: `1.6 thousand` in English. It does not allocate.
     pub fn try_new_long_unstable<P>(
         provider: &'b P,
         preferences: CompactDecimalFormatterPreferences,
@@ -111,6 +111,44 @@ impl<'b> CompactDecimalFormatter<'b> {
             rules,
             patterns,
         })
+    }
+
+    /// The formatter of tables that the caller has: a plain formatter, plural rules, and a table of patterns.
+    ///
+    /// With the plain formatter and the rules of `en`, and with `K` at type 3, it writes 1650 as `1.6K`. It does not allocate.
+    pub fn from_tables(
+        plain: DecimalFormatter<'b>,
+        rules: &'b PluralRules,
+        patterns: &'b CompactPatterns,
+    ) -> Self
+        ensures value { compact_tables_of result ≡ record { plain = tables_of plain.entry; rules = rules.now; patterns = patterns.now } }
+    {
+        CompactDecimalFormatter {
+            plain,
+            rules,
+            patterns,
+        }
+    }
+
+    /// The plain formatter that writes the digits shown: of that of `en` the one that writes 1650 as `1,650`. It does not allocate.
+    pub fn plain(&self) -> &DecimalFormatter<'b>
+        ensures { tables_of result.now ≡ (compact_tables_of self.now).plain }
+    {
+        &self.plain
+    }
+
+    /// The plural rules: of `en` those with `i = 1 and v = 0` for `one`. It does not allocate.
+    pub fn rules(&self) -> &'b PluralRules
+        ensures { result.now ≡ (compact_tables_of self.now).rules }
+    {
+        self.rules
+    }
+
+    /// The table of patterns: of `en` in short form that with `K` at type 3. It does not allocate.
+    pub fn patterns(&self) -> &'b CompactPatterns
+        ensures { result.now ≡ (compact_tables_of self.now).patterns }
+    {
+        self.patterns
     }
 
     // The patterns beside the entry of an index.
@@ -141,7 +179,7 @@ impl<'b> CompactDecimalFormatter<'b> {
 
     /// Whether what the number is shown as is a decimal: false in English of 32,768 nines, as they are rounded to 10^32768.
     ///
-    /// A decimal with its sign is asked by `can_format`. It takes no memory.
+    /// A decimal with its sign is asked by `can_format`. It does not allocate.
     pub fn can_show(&self, value: &UnsignedDecimal) -> bool
         ensures { IsTrue result ↔ CanShow (compact_tables_of self.now).patterns.entries value.now.count }
     {
@@ -151,7 +189,7 @@ impl<'b> CompactDecimalFormatter<'b> {
     /// Whether the decimal can be formatted, whatever its sign: true in English of -1172700, false of 32,768 nines, as what they are
     /// rounded to, 10^32768, is no decimal.
     ///
-    /// It is the condition of `format` and `format_to_string`. It takes no memory.
+    /// It is the condition of `format` and `format_to_string`. It does not allocate.
     pub fn can_format(&self, value: &Decimal) -> bool
         ensures { IsTrue result ↔ CanShow (compact_tables_of self.now).patterns.entries value.now.absolute.count }
     {
@@ -179,8 +217,8 @@ impl<'b> CompactDecimalFormatter<'b> {
 
     /// The decimal as this formatter writes it: -1172700 as `-1.2M` in English.
     ///
-    /// The condition is `can_format`. Memory is taken where the number has more than eight digits, from
-    /// the first to the last one that is not zero; it is refused (`AllocError`) only there.
+    /// The condition is `can_format`. It allocates where the number has more than eight digits, from the first to the last one
+    /// that is not zero. `AllocError`: out of memory, only there.
     pub fn format<'l>(
         &'l self,
         value: &Decimal,
@@ -195,7 +233,7 @@ impl<'b> CompactDecimalFormatter<'b> {
 
     /// The text of the decimal: -1172700 gives `-1.2M` in English.
     ///
-    /// The condition is `can_format`. It takes memory; `AllocError` is answered where that is refused.
+    /// The condition is `can_format`. It allocates. `AllocError`: out of memory.
     pub fn format_to_string(&self, alloc: Global, value: &Decimal) -> Result<String, AllocError>
         requires { CanShow (compact_tables_of self.now).patterns.entries value.now.absolute.count }
         ensures { IfOk result (λ text. string_bytes text ≡ compact_decimal_text (compact_tables_of self.now) value.now) }
@@ -203,7 +241,7 @@ impl<'b> CompactDecimalFormatter<'b> {
         self.format(value)?.write_to_string(alloc)
     }
 
-    /// The exponent that numbers of a magnitude are shown with: in English 3 for 5, and 0 for 2. It takes no memory.
+    /// The exponent that numbers of a magnitude are shown with: in English 3 for 5, and 0 for 2. It does not allocate.
     pub fn compact_exponent_for_magnitude(&self, magnitude: i16) -> u8
         ensures { result ≡ exponent_of (entry_at 32768 (compact_tables_of self.now).patterns.entries (place magnitude)) }
     {

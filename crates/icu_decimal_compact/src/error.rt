@@ -13,13 +13,13 @@ pub enum WriteFault {
     /// The sink refused, as one with room for two bytes refuses `1.6K`; it has taken a beginning.
     #[error("the sink refused")]
     Sink,
-    /// A request for memory was refused: the number has more than eight digits, as 123456789. Nothing was written.
+    /// Out of memory: the number has more than eight digits, as 123456789. Nothing was written.
     #[error("out of memory")]
     Memory,
 }
 
 impl WriteFault {
-    /// The number of the error: 1 of `Sink`, 2 of `Memory`. It takes no memory.
+    /// The number of the error: 1 of `Sink`, 2 of `Memory`. It does not allocate.
     pub fn number(&self) -> u8
         ensures { result ≡ write_fault_number self.now }
     {

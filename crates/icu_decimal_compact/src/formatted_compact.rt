@@ -55,14 +55,14 @@ impl<'l> FormattedUnsignedCompactDecimal<'l> {
         }
     }
 
-    /// The number that stands in the pattern: 1.6 of `1.6K`. It takes no memory.
+    /// The number in the pattern: 1.6 of `1.6K`. It does not allocate.
     pub fn significand(&self) -> &UnsignedDecimal
         ensures { result.now ≡ self.now.plain.number }
     {
         &self.number
     }
 
-    /// The power of ten that the pattern stands for: 3 of `1.6K`, and 0 without a pattern. It takes no memory.
+    /// The power of ten that the pattern stands for: 3 of `1.6K`, and 0 without a pattern. It does not allocate.
     pub fn exponent(&self) -> u8
         ensures { result ≡ self.now.exponent }
     {

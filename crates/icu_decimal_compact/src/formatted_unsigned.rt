@@ -18,8 +18,8 @@ pub enum FormattedUnsigned<'l> {
 
 /// What the formatter writes for the number: `1,650` with the parts `integer` and `group`, or `1.6K`.
 ///
-/// `Error`, only where the sink refused: it took a beginning. Writing takes no memory but the sink's. The hint is that of the plain
-/// or the compact number, and takes none.
+/// `Error`, only where the sink refused: it took a beginning. Only the sink may allocate. The hint is that of the plain or the
+/// compact number.
 impl<'l> Writeable for FormattedUnsigned<'l> {
     ghost use Rattle.std.specs.Prelude.{length};
     ghost use Rattle.writeable.specs.AnnotatedText.{text_of};
@@ -52,7 +52,7 @@ impl<'l> Writeable for FormattedUnsigned<'l> {
     }
 }
 
-/// The same text, without its parts: `1,650` or `1.6K`. It takes no memory but the writer's.
+/// The same text, without its parts: `1,650` or `1.6K`. Only the writer may allocate.
 impl<'l> fmt::Display for FormattedUnsigned<'l> {
     ghost use Rattle.std.specs.Prelude.{Some};
     ghost use Rattle.writeable.specs.AnnotatedText.{text_of};

@@ -25,7 +25,7 @@ pub fn sign_round_unsigned()
     ensures compact_text { WritesText ⟦<CompactDecimalFormatter<'static> as AbstractFormatter>⟧.unsigned_events ⟦<CompactDecimalFormatter<'static> as AbstractFormatter>⟧.affixes (λ f d. compact_decimal_text (compact_tables_of f) d) }
 {}
 
-/// With a text before what `format_unsigned` answers and one behind it, `format_sign` writes the affixes of the sign round all
+/// With a text before what `format_unsigned` returns and one behind it, `format_sign` writes the affixes of the sign round all
 /// three: of `€`, -1234.5 and no text behind in English a plain formatter writes `-€1,234.5`, and a compact one `-€1.2K`.
 pub fn sign_round_unit()
     ensures plain { WritesUnit ⟦<DecimalFormatter<'static> as AbstractFormatter>⟧.unsigned_events ⟦<DecimalFormatter<'static> as AbstractFormatter>⟧.affixes (λ f number. unsigned_text (tables_of f) number) }
@@ -78,8 +78,8 @@ fn entries_are_small(entries: &[CompactEntry])
     }
 }
 
-/// The types of a formatter's table rise, and its numbers fit into bytes: in English those are the types 3 and 6 of the short form.
-/// It takes no memory.
+/// The types of a formatter's table rise, and its numbers fit into bytes: in English those are the types 3 and 6 of the short
+/// form. It does not allocate.
 pub fn held_entries_are_sound(formatter: &CompactDecimalFormatter<'_>)
     ensures rises { Rises 0 (compact_tables_of formatter.now).patterns.entries }
     ensures small { AreSmall (compact_tables_of formatter.now).patterns.entries }

@@ -18,7 +18,7 @@ fn place_with(significand: &UnsignedDecimal, exponent: u8) -> u32
 
 /// Whether the magnitude of a significand and an exponent together is at most 32767: true of 1.2 and 6, false of 10^32767 and 1.
 ///
-/// It takes no memory.
+/// It does not allocate.
 pub fn exponent_in_range(significand: &UnsignedDecimal, exponent: u8) -> bool
     ensures { IsTrue result ↔ IsInRange significand.now.count exponent }
 {
@@ -30,7 +30,7 @@ pub fn exponent_in_range(significand: &UnsignedDecimal, exponent: u8) -> bool
 ///
 /// The magnitude of the significand and the exponent together says the entry, and its exponent is the expected one, 0 with no
 /// entry. `CompactExponentError` exactly where the exponent is another: 1.2 and 5 there. The condition is `exponent_in_range`. It
-/// takes no memory.
+/// does not allocate.
 pub fn exact_entry(
     significand: &UnsignedDecimal,
     exponent: u8,

@@ -21,8 +21,8 @@ pub fn showable_numbers_show_themselves()
     ensures { ShowableShowsItself }
 {}
 
-/// A shown value is off by at most a twentieth of its number, and zero is shown for zero alone. In English, with `K` and `M`,
-/// 1650 shows 1600, which is off by 50, and a twentieth of 1650 is 82.5.
+/// A shown value is off by at most a twentieth of its number, and zero is shown only for zero. In English, with `K` and `M`, 1650
+/// shows 1600, which is off by 50, and a twentieth of 1650 is 82.5.
 pub fn shown_values_are_near()
     ensures near { ShownIsNear }
     ensures zero_value { ZeroShowsZero }

@@ -1,4 +1,4 @@
-//! What a compact text shows: entries of compact tables, and the value that stands in place of a number.
+//! What a compact text shows: entries of compact tables, and the value shown in place of a number.
 //!
 //! With an entry of type 3 and exponent 3, as of `K`, 1650 is shown as 1.6 under that entry. The rules are in
 //! docs/compact-text.md.

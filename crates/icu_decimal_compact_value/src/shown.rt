@@ -21,7 +21,7 @@ use std::marker::Model;
 /// the index of the entry whose patterns are taken.
 #[derive(Debug, Drop)]
 pub struct Shown {
-    /// The number that stands in the pattern: 1.6 of 1650 under `K`.
+    /// The number in the pattern: 1.6 of 1650 under `K`.
     pub significand: UnsignedDecimal,
     /// The power of ten that the pattern stands for: 3 of 1650 under `K`.
     pub exponent: u8,
@@ -77,7 +77,7 @@ fn are_nines(number: &UnsignedDecimal, from: u16) -> bool
 /// Whether what a number is shown as is a decimal: false of 32,768 nines under an entry of the exponent 6, as they are rounded to
 /// 10^32768.
 ///
-/// It is true exactly where the number rounded to its unit stays below 10^32768. It takes no memory.
+/// It is true exactly where the number rounded to its unit stays below 10^32768. It does not allocate.
 pub fn can_show(number: &UnsignedDecimal, entries: &[CompactEntry]) -> bool
     ensures { IsTrue result ↔ CanShow entries.now number.now.count }
 {
@@ -151,9 +151,9 @@ fn divided(rounded: UnsignedDecimal, exponent: u8) -> UnsignedDecimal
 /// What a number is shown as under the entries of a table: 1650 under entries of the types 3 and 6 with the exponents 3 and 6 as
 /// 1.6, the exponent 3 and the first entry; 999500 as 1, the exponent 6 and the second entry; 843 as itself with no entry.
 ///
-/// The number is rounded half to even, at the magnitude of the exponent where its first digit stands above it, else to two digits.
-/// Zeros that end the fraction go, and zeros before the number stay. The condition is `can_show`. Memory is taken where the number
-/// has more than eight digits, from the first to the last one that is not zero; it is refused (`AllocError`) only there.
+/// The number is rounded half to even, at the magnitude of the exponent where its first digit stands above it, else to two
+/// digits. Zeros that end the fraction go, and zeros before the number stay. The condition is `can_show`. It allocates where the
+/// number has more than eight digits, from the first to the last one that is not zero. `AllocError`: out of memory, only there.
 pub fn show(number: &UnsignedDecimal, entries: &[CompactEntry]) -> Result<Shown, AllocError>
     requires { CanShow entries.now number.now.count }
     ensures value { IfOk result (Shows entries.now number.now) }

@@ -33,7 +33,7 @@ impl<'b> DecimalFormatter<'b> {
     /// then the digits.
     ///
     /// With the sample book, preferences of `en-u-nu-thai` and default options it writes 1000007 as `๑,๐๐๐,๐๐๗`. Errors as
-    /// `load_symbols` and `load_digits`. It takes no memory.
+    /// `load_symbols` and `load_digits`. It does not allocate.
     pub fn try_new_unstable<P>(
         provider: &'b P,
         preferences: DecimalFormatterPreferences,
@@ -51,7 +51,7 @@ impl<'b> DecimalFormatter<'b> {
     /// The formatter of tables that the caller has: symbols, and ten digits from zero up.
     ///
     /// With the symbols of `en`, the digits of `thai` and default options it writes 1000007 as `๑,๐๐๐,๐๐๗`. The numbering system
-    /// that the symbols name is not looked at. It takes no memory.
+    /// that the symbols name is not looked at. It does not allocate.
     pub fn from_tables(
         symbols: &'b DecimalSymbols,
         digits: &'b [char; 10],
@@ -64,28 +64,28 @@ impl<'b> DecimalFormatter<'b> {
         }
     }
 
-    /// What it writes with, as one value: of the formatter of `en` what writes -1234.5 as `-1,234.5`. It takes no memory.
+    /// What it writes with, as one value: of the formatter of `en` what writes -1234.5 as `-1,234.5`. It does not allocate.
     pub fn tables(&self) -> &DecimalTables<'b>
         ensures { borrowed_tables result.now ≡ tables_of self.now }
     {
         &self.tables
     }
 
-    /// The symbols that it writes with: in English `-`, `+`, `.`, `,` and the sizes 3, 3, 1. It takes no memory.
+    /// The symbols that it writes with: in English `-`, `+`, `.`, `,` and the sizes 3, 3, 1. It does not allocate.
     pub fn symbols(&self) -> &'b DecimalSymbols
         ensures { result.now ≡ (tables_of self.now).symbols }
     {
         self.tables.symbols()
     }
 
-    /// The ten digits that it writes with, from zero up: of `thai` `๐` to `๙`. It takes no memory.
+    /// The ten digits that it writes with, from zero up: of `thai` `๐` to `๙`. It does not allocate.
     pub fn digits(&self) -> &'b [char; 10]
         ensures { result.now ≡ (tables_of self.now).digits }
     {
         self.tables.digits()
     }
 
-    /// The number without a sign as this formatter writes it: 1234.5 as `1,234.5` in English. It takes no memory.
+    /// The number without a sign as this formatter writes it: 1234.5 as `1,234.5` in English. It does not allocate.
     ///
     /// Source: UTS 35, part 3 (numbers), number symbols and patterns.
     pub fn format_unsigned<'l>(&'l self, value: &'l UnsignedDecimal) -> FormattedUnsignedDecimal<'l>
@@ -94,7 +94,7 @@ impl<'b> DecimalFormatter<'b> {
         self.tables.format_unsigned(value)
     }
 
-    /// The decimal as this formatter writes it: -1234.5 as `-1,234.5` in English. It takes no memory.
+    /// The decimal as this formatter writes it: -1234.5 as `-1,234.5` in English. It does not allocate.
     ///
     /// Source: UTS 35, part 3 (numbers), number symbols and patterns.
     pub fn format<'l>(&'l self, value: &'l Decimal) -> FormattedDecimal<'l>
@@ -105,7 +105,7 @@ impl<'b> DecimalFormatter<'b> {
 
     /// The text of the decimal: -1234.5 gives `-1,234.5` in English.
     ///
-    /// It takes memory; `AllocError` is answered where that is refused.
+    /// It allocates. `AllocError`: out of memory.
     #[tactic(auto, using(icu_decimal_plain::proofs::TextLemmas::decimal_is_text))]
     pub fn format_to_string(&self, alloc: Global, value: &Decimal) -> Result<String, AllocError>
         ensures { IfOk result (λ text. string_bytes text ≡ decimal_text (tables_of self.now) value.now) }
@@ -115,7 +115,7 @@ impl<'b> DecimalFormatter<'b> {
 }
 
 impl<'b> AsRef<DecimalFormatter<'b>> for DecimalFormatter<'b> {
-    /// The formatter itself: the one of `en` gives the one of `en`. It takes no memory.
+    /// The formatter itself: the one of `en` gives the one of `en`. It does not allocate.
     fn as_ref(&self) -> &DecimalFormatter<'b>
         ensures { result.now ≡ self.now }
     {

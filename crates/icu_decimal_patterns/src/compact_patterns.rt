@@ -89,13 +89,13 @@ fn kept(alloc: Global, given: GivenTypes, zero: Base<'_>) -> Result<CompactPatte
 impl CompactPatterns {
     /// The table of these types, each with its exponent and its patterns.
     ///
-    /// A type whose patterns are those of the type kept before it, without slot `1`, is left out, and so are the first types whose
-    /// patterns are `zero_magnitude`, those of smaller numbers. With `K` at type 3 and at type 4, both with exponent 3, it is type 3
-    /// alone.
+    /// A type whose patterns are those of the type kept before it, without slot `1`, is left out, and so are the first types
+    /// whose patterns are `zero_magnitude`, those of smaller numbers. With `K` at type 3 and at type 4, both with exponent 3, it
+    /// is only type 3.
     ///
-    /// Refused, in this order: Decreasing, where an exponent is below the one before it; AboveType or TooManyZeros, where the least
-    /// type that is kept and has a fault has its exponent above it, or more than 15 below it; Memory, where a request for memory is
-    /// refused. Types of which none is kept take no memory.
+    /// Refused, in this order: Decreasing, where an exponent is below the one before it; AboveType or TooManyZeros, where the
+    /// least type that is kept and has a fault has its exponent above it, or more than 15 below it; Memory: out of memory. It
+    /// does not allocate where no type is kept.
     pub fn new(
         alloc: Global,
         types: BTreeMap<u8, (u8, PluralElements<Pattern>)>,
@@ -121,8 +121,8 @@ impl CompactPatterns {
         }
     }
 
-    /// The entries, from the least type up, in English those of the types 3 and 6: types rise strictly, and each exponent is 0
-    /// to 15 below its type. It takes no memory.
+    /// The entries, from the least type up, in English those of the types 3 and 6: types rise strictly, and each exponent is 0 to
+    /// 15 below its type. It does not allocate.
     pub fn entries(&self) -> &[CompactEntry]
         ensures value { result.now ≡ self.now.entries }
         ensures rising { Rises 0 result.now }
@@ -132,7 +132,7 @@ impl CompactPatterns {
 
     /// The patterns of the entry at an index, counted from 0: those of `K` at index 0 of the short form of English.
     ///
-    /// The condition is that the index is below the number of entries. It takes no memory.
+    /// The condition is that the index is below the number of entries. It does not allocate.
     pub fn elements(&self, place: usize) -> &PluralElements<Pattern>
         requires { place < length self.now.entries }
         ensures { slice_get self.now.patterns place ≡ Some result.now }

@@ -27,7 +27,7 @@ fn copied(slot: &Option<Pattern>) -> Result<Option<Pattern>, AllocError>
 impl PluralElements<Pattern> {
     /// Equal patterns in the same slots: of `{0}K` for `one` and `{0}Ks` for `other` these once more.
     ///
-    /// Memory is taken for each text that is not empty; it is refused (`AllocError`) only where there is one.
+    /// It allocates for each text that is not empty. `AllocError`: out of memory, only where there is one.
     pub fn try_clone(&self) -> Result<Self, AllocError>
         ensures succeeds { HaveNoText self.now → IsOk result }
         ensures value { IfOk result (λ copy. copy ≡ self.now) }
@@ -83,7 +83,7 @@ fn all_copied(
 impl CompactPatterns {
     /// An equal table: of that with `K` at type 3 another with `K` at type 3.
     ///
-    /// Memory is taken for each entry; it is refused (`AllocError`) only where there is one.
+    /// It allocates for each entry. `AllocError`: out of memory, only where there is one.
     pub fn try_clone(&self) -> Result<Self, AllocError>
         ensures succeeds { self.now.entries ≡ [] → IsOk result }
         ensures value { IfOk result (λ copy. copy ≡ self.now) }

@@ -34,7 +34,7 @@ impl<T> Model for PluralElements<T> {
 }
 
 impl<T> PluralElements<T> {
-    /// These values with `other` alone, which every number takes: with `K`, `1` and `2` take `K`. It takes no memory.
+    /// These values with only `other`, which every number takes: with `K`, `1` and `2` take `K`. It does not allocate.
     pub fn new(other: T) -> Self
         ensures { result ≡ only_other other }
     {
@@ -90,8 +90,8 @@ impl<T> PluralElements<T> {
         }
     }
 
-    /// The value of `other` where it stands alone, so that every number takes it: of `thousands` for `other` and no other slot
-    /// `thousands`, and `None` where slot `1` is there too. It takes no memory.
+    /// The value of `other` where it is the only one, so that every number takes it: of `thousands` for `other` and no other slot
+    /// `thousands`, and `None` where slot `1` is there too. It does not allocate.
     ///
     /// After ICU4X's `try_into_other`.
     #[tactic(auto, using(crate::proofs::ElementsLemmas::other_stands_alone, crate::proofs::ElementsLemmas::other_has_company))]
@@ -108,7 +108,7 @@ impl<T> PluralElements<T> {
 
     /// The value for a number of these operands: that of slot `0` or `1` where the number is shown as just that digit, or with
     /// zeros before it, else that of its category, else `other`. With `thousand` in slot `1` it is `thousand` for `1`, but not
-    /// for `1.0`. It takes no memory.
+    /// for `1.0`. It does not allocate.
     pub fn get(&self, operands: &PluralOperands, rules: &PluralRules) -> &T
         ensures { result.now ≡ slot_of self.now rules.now operands.now }
     {
@@ -120,8 +120,8 @@ impl<T> PluralElements<T> {
 }
 
 impl<T: Drop> PluralElements<T> {
-    /// The same with this value for the category `zero`, or with none: the number then takes `other`. With `nothing` for it,
-    /// `0` takes `nothing` in Arabic. It takes no memory.
+    /// The same with this value for the category `zero`, or with none: the number then takes `other`. With `nothing` for it, `0`
+    /// takes `nothing` in Arabic. It does not allocate.
     pub fn with_zero_value(mut self, zero: Option<T>) -> Self
         ensures { result ≡ with_zero self zero }
     {
@@ -129,8 +129,8 @@ impl<T: Drop> PluralElements<T> {
         self
     }
 
-    /// The same with this value for the category `one`, or with none. With `thousand` for it, `1` takes `thousand` in English.
-    /// It takes no memory.
+    /// The same with this value for the category `one`, or with none. With `thousand` for it, `1` takes `thousand` in English. It
+    /// does not allocate.
     pub fn with_one_value(mut self, one: Option<T>) -> Self
         ensures { result ≡ with_one self one }
     {
@@ -138,8 +138,8 @@ impl<T: Drop> PluralElements<T> {
         self
     }
 
-    /// The same with this value for the category `two`, or with none. With `pair` for it, `2` takes `pair` in Arabic. It takes
-    /// no memory.
+    /// The same with this value for the category `two`, or with none. With `pair` for it, `2` takes `pair` in Arabic. It does not
+    /// allocate.
     pub fn with_two_value(mut self, two: Option<T>) -> Self
         ensures { result ≡ with_two self two }
     {
@@ -147,8 +147,8 @@ impl<T: Drop> PluralElements<T> {
         self
     }
 
-    /// The same with this value for the category `few`, or with none. With `some` for it, `2` and `22` take `some` in Polish.
-    /// It takes no memory.
+    /// The same with this value for the category `few`, or with none. With `some` for it, `2` and `22` take `some` in Polish. It
+    /// does not allocate.
     pub fn with_few_value(mut self, few: Option<T>) -> Self
         ensures { result ≡ with_few self few }
     {
@@ -156,8 +156,8 @@ impl<T: Drop> PluralElements<T> {
         self
     }
 
-    /// The same with this value for the category `many`, or with none. With `lots` for it, `5` and `12` take `lots` in Polish.
-    /// It takes no memory.
+    /// The same with this value for the category `many`, or with none. With `lots` for it, `5` and `12` take `lots` in Polish. It
+    /// does not allocate.
     pub fn with_many_value(mut self, many: Option<T>) -> Self
         ensures { result ≡ with_many self many }
     {
@@ -166,7 +166,7 @@ impl<T: Drop> PluralElements<T> {
     }
 
     /// The same with this value for a number that is shown as `0` or `00`, or with none. With `nothing` for it, `0` takes
-    /// `nothing`, and `0.0` does not. It takes no memory.
+    /// `nothing`, and `0.0` does not. It does not allocate.
     pub fn with_explicit_zero_value(mut self, explicit_zero: Option<T>) -> Self
         ensures { result ≡ with_explicit_zero self explicit_zero }
     {
@@ -175,7 +175,7 @@ impl<T: Drop> PluralElements<T> {
     }
 
     /// The same with this value for a number that is shown as `1` or `01`, or with none. With `a thousand` for it, `1` takes
-    /// `a thousand`, and `1.0` does not. It takes no memory.
+    /// `a thousand`, and `1.0` does not. It does not allocate.
     pub fn with_explicit_one_value(mut self, explicit_one: Option<T>) -> Self
         ensures { result ≡ with_explicit_one self explicit_one }
     {
@@ -217,7 +217,7 @@ impl<T: Eq> PluralElements<T> {
     }
 }
 
-/// Equal where the same slots hold equal values: `K` for `other` alone is not `K` for `one` and for `other`.
+/// Equal where the same slots hold equal values: only `K` for `other` is not `K` for `one` and for `other`.
 impl<T: Eq> PartialEq for PluralElements<T> {
     ghost eq = { same_elements T.eq };
 

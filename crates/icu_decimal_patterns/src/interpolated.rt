@@ -9,7 +9,7 @@ use std::fmt;
 use std::marker::Model;
 use writeable::{Error, LengthHint, Sink, Writeable, display};
 
-/// A value in a pattern, or alone where there is no pattern: `1.2` in the pattern of thousands is `1.2K`.
+/// A value in a pattern, or by itself where there is no pattern: `1.2` in the pattern of thousands is `1.2K`.
 ///
 /// The parts are those of the value; the texts of the pattern are no parts.
 #[derive(Debug, Drop)]
@@ -28,22 +28,22 @@ impl<'l, T> Model for Interpolated<'l, T> {
 }
 
 impl<'l, T> Interpolated<'l, T> {
-    /// A value in a pattern, which is borrowed; without one the value alone. `1.2` in `{0}K` is written `1.2K`, and without a
-    /// pattern `1.2`. It takes no memory.
+    /// A value in a pattern, which is borrowed; without one, the value by itself. `1.2` in `{0}K` is written `1.2K`, and without
+    /// a pattern `1.2`. It does not allocate.
     pub fn new(pattern: Option<&'l Pattern>, value: T) -> Self
         ensures { result ≡ record { pattern = option_map (λ p. p.now) pattern.entry; value = value } }
     {
         Interpolated { pattern, value }
     }
 
-    /// The value without the pattern: `1.2` of `1.2K`. It takes no memory.
+    /// The value without the pattern: `1.2` of `1.2K`. It does not allocate.
     pub fn value(&self) -> &T
         ensures { result.now ≡ self.now.value }
     {
         &self.value
     }
 
-    /// Another value in the same pattern: of `1.2K` with `3` it is `3K`. It takes no memory.
+    /// Another value in the same pattern: of `1.2K` with `3` it is `3K`. It does not allocate.
     pub fn with_value<U>(&self, value: U) -> Interpolated<'l, U>
         ensures { result ≡ record { pattern = self.now.pattern; value = value } }
     {
@@ -55,7 +55,7 @@ impl<'l, T> Interpolated<'l, T> {
 }
 
 /// The text before the placeholder, the value with its parts, the text behind it: `1.2K`. A pattern without a placeholder is
-/// written alone, and so is a value without a pattern.
+/// written by itself, and so is a value without a pattern.
 impl<'l, T: Writeable> Writeable for Interpolated<'l, T> {
     ghost use Rattle.std.specs.Prelude.{length};
     ghost use Rattle.writeable.specs.AnnotatedText.{text_of};

@@ -1,4 +1,4 @@
-//! Patterns: what stands before and behind one placeholder.
+//! Patterns: the texts before and behind one placeholder.
 
 ghost use Rattle.std.specs.Prelude.{◌≡◌, [], ◌++◌, IfOk, IsOk, Some, string_bytes, false, is_err, OnOk, OnErr};
 ghost use Rattle.std.specs.Cmp.{partial_equiv_from_equiv};
@@ -53,7 +53,7 @@ fn text_copied(text: &String) -> Result<String, AllocError>
 
 impl Pattern {
     /// The pattern with `before` before its placeholder and `after` behind it: the empty text and `K` make of `1.2` the text
-    /// `1.2K`. It takes no memory.
+    /// `1.2K`. It does not allocate.
     pub fn around(before: String, after: String) -> Self
         ensures { result ≡ around (string_bytes before) (string_bytes after) }
     {
@@ -62,7 +62,7 @@ impl Pattern {
         }
     }
 
-    /// The pattern of this text alone, without a placeholder: `thousand` makes of `1` the text `thousand`. It takes no memory.
+    /// The pattern of only this text, without a placeholder: `thousand` makes of `1` the text `thousand`. It does not allocate.
     pub fn literal(text: String) -> Self
         ensures { result ≡ literal (string_bytes text) }
     {
@@ -85,7 +85,7 @@ impl Pattern {
 
     /// An equal pattern: of `{0}K` another `{0}K`.
     ///
-    /// Memory is taken for each text that is not empty; it is refused (`AllocError`) only where there is one.
+    /// It allocates for each text that is not empty. `AllocError`: out of memory, only where there is one.
     pub fn try_clone(&self) -> Result<Self, AllocError>
         ensures succeeds { HasNoText self.now → IsOk result }
         ensures value { IfOk result (λ copy. copy ≡ self.now) }
@@ -125,8 +125,8 @@ impl Eq for Pattern {
 }
 
 impl Pattern {
-    /// A value in the place of the placeholder: `1.2` in the pattern of thousands is `1.2K`. The pattern is borrowed. It takes no
-    /// memory.
+    /// A value in the place of the placeholder: `1.2` in the pattern of thousands is `1.2K`. The pattern is borrowed. It does not
+    /// allocate.
     pub fn interpolate<T>(&self, value: T) -> Interpolated<'_, T>
         ensures { result ≡ record { pattern = Some self.now; value = value } }
     {

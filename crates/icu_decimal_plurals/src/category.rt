@@ -22,7 +22,7 @@ pub enum PluralCategory {
 impl PluralCategory {
     ghost use Rattle.icu_decimal_plurals.specs.Categories.{word, category_named};
 
-    /// The word of the category in CLDR: `few` of `Few`. It takes no memory.
+    /// The word of the category in CLDR: `few` of `Few`. It does not allocate.
     pub fn as_str(self) -> &'static str
         ensures { result.now ≡ word self }
     {
@@ -36,7 +36,7 @@ impl PluralCategory {
         }
     }
 
-    /// The category of a word of CLDR: `Few` of `few`, none of `Few` or of an empty text. It takes no memory.
+    /// The category of a word of CLDR: `Few` of `few`, none of `Few` or of an empty text. It does not allocate.
     ///
     /// After ICU4X's call of this name.
     pub fn get_for_cldr_bytes(bytes: &[u8]) -> Option<PluralCategory>

@@ -64,7 +64,7 @@ fn copied(alloc: Global, condition: &Option<Condition>) -> Result<Option<Conditi
 impl PluralRules {
     /// Equal rules: of those of English, `i = 1 and v = 0` for `one`, these once more.
     ///
-    /// Memory is taken for each condition, so none for rules without any, as those of Japanese; it is refused (`AllocError`) only
+    /// It allocates for each condition, so not for rules without any, as those of Japanese. `AllocError`: out of memory, only
     /// where there is one.
     pub fn try_clone(&self, alloc: Global) -> Result<Self, AllocError>
         ensures succeeds { self.now ≡ no_rules → IsOk result }

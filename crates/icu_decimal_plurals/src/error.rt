@@ -5,6 +5,6 @@
 pub enum ConditionError {
     /// The text is no condition.
     Syntax,
-    /// A request for memory was refused.
+    /// Out of memory.
     Memory,
 }

@@ -30,7 +30,7 @@ fn piece_len(text: &[u8]) -> usize
     last + 1
 }
 
-/// The first piece of a text, and what stands behind it: `i` and ` = 1` of `i = 1`. The condition is that the text is not empty.
+/// The first piece of a text, and the text behind it: `i` and ` = 1` of `i = 1`. The condition is that the text is not empty.
 #[tactic(auto, using(crate::proofs::PieceLemmas::first_of))]
 pub fn first_piece(text: &[u8]) -> (&[u8], &[u8])
     requires { 0 < length text.now }
@@ -40,7 +40,7 @@ pub fn first_piece(text: &[u8]) -> (&[u8], &[u8])
     text.split_at(piece_len(text))
 }
 
-/// Whether a piece holds blanks alone.
+/// Whether a piece holds only blanks.
 pub fn is_blank(piece: &[u8]) -> bool
     ensures { result ≡ is_blank piece.now }
 {

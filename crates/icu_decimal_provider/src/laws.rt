@@ -13,8 +13,8 @@ pub use icu_decimal_symbols::laws::{same_builders, same_symbols};
 use std::hash::Hash;
 
 /// Where a provider says of each identifier that its table is there or not found, and nothing else, the first that is there is
-/// taken, and not found is answered where none is. Asked for `en` with `wxyz` and then for `en` alone, the sample book gives
-/// the symbols of `en`.
+/// taken, and not found is returned where none is. Asked for `en` with `wxyz` and then for only `en`, the sample book gives the
+/// symbols of `en`.
 pub fn first_is_found<M: DataMarker>()
     ensures { FirstIsFound M.DataStruct }
 {}

@@ -2,11 +2,13 @@
 
 use crate::parts::{put_by, put_range};
 use crate::refusals::parsed;
+use crate::tables::elements_of;
 use crate::with_unit::WithUnit;
 use fixed_decimal::{Decimal, Sign, UnsignedDecimal};
 use icu_decimal::AbstractFormatter;
-use icu_decimal::plurals::PluralRules;
-use rows::{Stop, put_text};
+use icu_decimal::pattern::Pattern;
+use icu_decimal::plurals::{PluralElements, PluralRules};
+use rows::{Stop, put_text, put_written};
 use std::alloc::Global;
 use writeable::TextSink;
 
@@ -78,6 +80,38 @@ fn put_category<F: AbstractFormatter>(
     put_text(out, rules.category_for(&operands).as_str())
 }
 
+// Writes the text that these elements have for what is shown for a number.
+fn put_element<F: AbstractFormatter>(
+    formatter: &F,
+    rules: &PluralRules,
+    elements: &PluralElements<Pattern>,
+    number: &UnsignedDecimal,
+    out: &mut String,
+) -> Result<(), Stop> {
+    if !formatter.can_write(number) {
+        return put_range(out);
+    }
+    let operands = formatter.plural_operands(number)?;
+    let element = elements.get(&operands, rules).interpolate("");
+    put_written(out, &element)
+}
+
+// The text that the elements of a JSON text have for what is shown for the number of a text.
+fn element<F: AbstractFormatter>(
+    formatter: &F,
+    rules: &PluralRules,
+    elements: &str,
+    number: &str,
+    out: &mut String,
+) -> Result<(), Stop> {
+    let number = parsed(UnsignedDecimal::try_from_str(*out.allocator(), number))?;
+    let elements = elements_of(elements, out)?;
+    let put = put_element(formatter, rules, &elements, &number, out);
+    drop(elements);
+    drop(number);
+    put
+}
+
 // Writes the number with a unit round it, between the affixes of its sign.
 fn put_formatted<F: AbstractFormatter>(
     formatter: &F,
@@ -141,8 +175,12 @@ pub fn answer<F: AbstractFormatter>(
     let Some((number, texts)) = passed.split_last() else {
         return Err(Stop::Unknown);
     };
-    if call == "plural_operands" && texts.is_empty() {
-        return plural(formatter, rules, number, out);
+    match texts {
+        [] if call == "plural_operands" => return plural(formatter, rules, number, out),
+        [elements] if call == "elements" => {
+            return element(formatter, rules, elements, number, out);
+        }
+        _ => {}
     }
     let number = parsed(Decimal::try_from_str(*out.allocator(), number))?;
     let put = answer_of_number(formatter, call, texts, &number, out);

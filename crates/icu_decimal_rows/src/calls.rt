@@ -1,7 +1,7 @@
 //! Which call a row asks for.
 
 use crate::formatters::FormatterCall;
-use crate::marks::Marks;
+use crate::marks::{Marks, Signs};
 use crate::{copies, formatters, plurals, preferences, shown, tables};
 use rows::{Stop, Table};
 use std::alloc::Global;
@@ -40,6 +40,7 @@ fn answer_by(name: &str, passed: &[&str], out: &mut String) -> Result<(), Stop> 
         "preferences" => preferences::answer(passed, out),
         "options" => preferences::options(passed, out),
         "plain" => answer_by_marks(name, passed, out),
+        "under" => answer_under_marks(passed, out),
         _ => answer_by_formatter(name, passed, out),
     }
 }
@@ -76,7 +77,36 @@ fn answer_by_marks<'r>(name: &'r str, fields: &'r [&'r str], out: &mut String) -
         grouping,
         rules: "",
         table: "",
-        marks: Some(Marks::of(decimal, group, sizes, digits)?),
+        marks: Some(Marks::of(Signs::None, decimal, group, sizes, digits)?),
+        passed,
+    };
+    formatters::answer(call, out)
+}
+
+// The answer of a call of a formatter with separators, sizes and digits of its row, which stand before its name, and with `-` and `+`.
+fn answer_under_marks(fields: &[&str], out: &mut String) -> Result<(), Stop> {
+    let [
+        decimal,
+        group,
+        sizes,
+        digits,
+        name,
+        form,
+        grouping,
+        rules,
+        table,
+        passed @ ..,
+    ] = fields
+    else {
+        return Err(Stop::Unknown);
+    };
+    let call = FormatterCall {
+        name,
+        form,
+        grouping,
+        rules,
+        table,
+        marks: Some(Marks::of(Signs::Before, decimal, group, sizes, digits)?),
         passed,
     };
     formatters::answer(call, out)

@@ -55,6 +55,17 @@ fn plain_of<'p>(
     )
 }
 
+// The compact formatter of a row, made of its tables; it is made once more of the tables that it then has.
+fn of_tables<'p>(
+    provider: &'p OneLocale<'_>,
+    grouping: &str,
+    out: &mut String,
+) -> Result<CompactDecimalFormatter<'p>, Stop> {
+    let plain = plain_of(provider, grouping, out)?;
+    let made = CompactDecimalFormatter::from_tables(plain, provider.rules, provider.patterns);
+    Ok(CompactDecimalFormatter::from_tables(*made.plain(), made.rules(), made.patterns()))
+}
+
 // The compact formatter of a row.
 fn compact_of<'p>(
     provider: &'p OneLocale<'_>,
@@ -73,6 +84,7 @@ fn compact_of<'p>(
             CompactDecimalFormatter::try_new_long_unstable(provider, preferences, options),
             out,
         ),
+        "tables" => of_tables(provider, grouping, out),
         _ => Err(Stop::Unknown),
     }
 }
@@ -109,7 +121,7 @@ fn by_compact(
         [one] if call.name != "plural_operands" => {
             compact::answer_of_one(&formatter, call.name, one, out)
         }
-        [one, other] if call.name != "write_sign" => {
+        [one, other] if call.name != "write_sign" && call.name != "elements" => {
             compact::answer_of_two(&formatter, call.name, one, other, out)
         }
         passed => abstract_formatter::answer(&formatter, provider.rules, call.name, passed, out),

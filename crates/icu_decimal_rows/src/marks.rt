@@ -5,14 +5,32 @@ use rows::{Stop, number_of};
 use std::alloc::{AllocError, Global};
 use tinystr::TinyAsciiStr;
 
-/// The separators, the sizes and the digits of a row. Its symbols have no affixes.
+/// The separators, the sizes, the signs and the digits of a row.
 #[derive(Clone, Copy)]
 pub struct Marks<'r> {
     decimal: &'r str,
     group: &'r str,
     sizes: GroupingSizes,
+    signs: Signs,
     /// The ten digits, that of zero first.
     pub digits: [char; 10],
+}
+
+/// The affixes of signs: none, or `-` and `+` in front.
+#[derive(Clone, Copy)]
+pub enum Signs {
+    None,
+    Before,
+}
+
+impl Signs {
+    // The text in front of a number with this sign.
+    fn prefix(self, alloc: Global, sign: &str) -> Result<String, AllocError> {
+        match self {
+            Signs::None => Ok(String::new(alloc)),
+            Signs::Before => String::from_str(alloc, sign),
+        }
+    }
 }
 
 // The three sizes of `3,2,1`: primary, secondary and least.
@@ -49,8 +67,9 @@ fn digits_of(field: &str) -> Result<[char; 10], Stop> {
 }
 
 impl<'r> Marks<'r> {
-    /// The marks that fields spell.
+    /// The marks that fields spell, with these signs.
     pub fn of(
+        signs: Signs,
         decimal: &'r str,
         group: &'r str,
         sizes: &str,
@@ -60,6 +79,7 @@ impl<'r> Marks<'r> {
             decimal,
             group,
             sizes: sizes_of(sizes)?,
+            signs,
             digits: digits_of(digits)?,
         })
     }
@@ -71,10 +91,12 @@ impl<'r> Marks<'r> {
             Err(_) => return Err(Stop::Unknown),
         };
         let (decimal_separator, grouping_separator) = self.separators(alloc)?;
+        let minus_sign_prefix = self.signs.prefix(alloc, "-")?;
+        let plus_sign_prefix = self.signs.prefix(alloc, "+")?;
         let texts = DecimalSymbolStrsBuilder {
-            minus_sign_prefix: String::new(alloc),
+            minus_sign_prefix,
             minus_sign_suffix: String::new(alloc),
-            plus_sign_prefix: String::new(alloc),
+            plus_sign_prefix,
             plus_sign_suffix: String::new(alloc),
             decimal_separator,
             grouping_separator,

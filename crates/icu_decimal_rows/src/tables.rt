@@ -99,8 +99,8 @@ pub fn value_of(alloc: Global, text: &str) -> Result<Value, Stop> {
     }
 }
 
-// The patterns of a JSON text of slots.
-fn elements_of(slots: &str, out: &mut String) -> Result<PluralElements<Pattern>, Stop> {
+/// The patterns of a JSON text of slots.
+pub fn elements_of(slots: &str, out: &mut String) -> Result<PluralElements<Pattern>, Stop> {
     let alloc = *out.allocator();
     let slots = value_of(alloc, slots)?;
     let elements = PluralElements::from_json(alloc, &slots);

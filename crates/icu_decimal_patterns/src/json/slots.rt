@@ -207,8 +207,8 @@ impl PluralElements<Pattern> {
     /// two texts round a placeholder. `[["one",["","K"]],["other",["","Ks"]]]` is the pattern `{0}K` for the category `one`, and
     /// `{0}Ks` for others.
     ///
-    /// The names are `0`, `1`, `zero`, `one`, `two`, `few`, `many` and `other`, which must be there. Custom is answered for any other
-    /// value, also where a name stands twice, and Memory where a request for memory is refused.
+    /// The names are `0`, `1`, `zero`, `one`, `two`, `few`, `many` and `other`, which must be there. `Custom`: any other value,
+    /// also one where a name occurs twice. `Memory`: out of memory.
     pub fn from_json(alloc: Global, value: &Value) -> Result<Self, DataError>
         ensures custom { IsErrOf result DataError.Custom ↔ (slots_of (view value.now) ≡ None) }
         ensures only { IfErr result IsCustomOrMemory }

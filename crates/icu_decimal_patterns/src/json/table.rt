@@ -73,8 +73,8 @@ impl CompactPatterns {
     /// `[[3,3,[["other",["","K"]]]],[6,6,[["other",["","M"]]]]]` is the short table of English.
     ///
     /// Refused, in this order: Custom, where the value has another form, or a type is not above the one before it; Decreasing,
-    /// AboveType and TooManyZeros where `new` refuses the types so; Memory, where a request for memory is refused. An array without
-    /// items takes no memory, and no refusal but Memory does.
+    /// AboveType and TooManyZeros where `new` refuses the types so; Memory: out of memory. It does not allocate for an array
+    /// without items, nor where another error is returned.
     pub fn from_json(alloc: Global, value: &Value) -> Result<Self, DataError>
         ensures custom { IsErrOf result DataError.Custom ↔ (types_of (view value.now) ≡ None) }
         ensures decreasing { IsErrOf result DataError.Decreasing ↔ IsSomeAnd (types_of (view value.now)) (λ given. ¬ (NeverFalls 0 given)) }

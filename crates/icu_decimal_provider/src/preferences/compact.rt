@@ -44,7 +44,7 @@ fn from_plain(plain: DecimalFormatterPreferences) -> CompactDecimalFormatterPref
     }
 }
 
-/// The language `und`, and nothing else. It takes no memory.
+/// The language `und`, and nothing else. It does not allocate.
 impl Default for CompactDecimalFormatterPreferences {
     ghost is_default = { λ p. p ≡ nothing_preferred };
 
@@ -53,7 +53,7 @@ impl Default for CompactDecimalFormatterPreferences {
     }
 }
 
-/// What the locale prefers, as for plain numbers: of `en-u-nu-thai` the locale `en` and the system `thai`. It takes no memory.
+/// What the locale prefers, as for plain numbers: of `en-u-nu-thai` the locale `en` and the system `thai`. It does not allocate.
 impl From<&Locale> for CompactDecimalFormatterPreferences {
     ghost from_gives = { λ locale p. p ≡ preferences_of locale.now };
 
@@ -62,7 +62,7 @@ impl From<&Locale> for CompactDecimalFormatterPreferences {
     }
 }
 
-/// As of a borrowed locale: of `en-u-nu-thai` the locale `en` and the system `thai`. It takes no memory.
+/// As of a borrowed locale: of `en-u-nu-thai` the locale `en` and the system `thai`. It does not allocate.
 impl From<Locale> for CompactDecimalFormatterPreferences {
     ghost from_gives = { λ locale p. p ≡ preferences_of locale };
 
@@ -71,7 +71,7 @@ impl From<Locale> for CompactDecimalFormatterPreferences {
     }
 }
 
-/// What the identifier prefers, as for plain numbers: of `de-1996` the locale `de-1996`, and no system. It takes no memory.
+/// What the identifier prefers, as for plain numbers: of `de-1996` the locale `de-1996`, and no system. It does not allocate.
 impl From<&LanguageIdentifier> for CompactDecimalFormatterPreferences {
     ghost from_gives = { λ id p. p ≡ preferred_by id.now };
 
@@ -80,7 +80,7 @@ impl From<&LanguageIdentifier> for CompactDecimalFormatterPreferences {
     }
 }
 
-/// As of a borrowed identifier: of `de-1996` the locale `de-1996`, and no system. It takes no memory.
+/// As of a borrowed identifier: of `de-1996` the locale `de-1996`, and no system. It does not allocate.
 impl From<LanguageIdentifier> for CompactDecimalFormatterPreferences {
     ghost from_gives = { λ id p. p ≡ preferred_by id };
 
@@ -92,7 +92,7 @@ impl From<LanguageIdentifier> for CompactDecimalFormatterPreferences {
 impl CompactDecimalFormatterPreferences {
     /// What the locale prefers, as `from`, where its keywords `sd`, `rg` and `nu` read or are not there.
     ///
-    /// `InvalidKeywordValue`: one of them is there and does not read, as in `en-u-nu-latn-thai`. It takes no memory.
+    /// `InvalidKeywordValue`: one of them is there and does not read, as in `en-u-nu-latn-thai`. It does not allocate.
     pub fn from_locale_strict(locale: &Locale) -> Result<Self, PreferencesParseError>
         ensures { MatchResult result (λ p. (fails locale.now ≡ false) × (p ≡ preferences_of locale.now)) (λ e. (fails locale.now ≡ true) × (e ≡ PreferencesParseError.InvalidKeywordValue)) }
     {
@@ -103,7 +103,7 @@ impl CompactDecimalFormatterPreferences {
     }
 
     /// Puts each part of the other that is there in place of this one's, as for plain numbers: `en-US-u-nu-thai` extended by
-    /// `und-GB` prefers `en-GB` and `thai`. It takes no memory.
+    /// `und-GB` prefers `en-GB` and `thai`. It does not allocate.
     pub fn extend(&mut self, other: CompactDecimalFormatterPreferences)
         ensures { self.new ≡ joined self.old other }
     {

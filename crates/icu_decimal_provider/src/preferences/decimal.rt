@@ -36,7 +36,7 @@ impl Model for DecimalFormatterPreferences {
     ghost inverse = { λ v. record { locale_preferences = v.locale; numbering_system = v.numbering_system } };
 }
 
-/// The language `und`, and nothing else. It takes no memory.
+/// The language `und`, and nothing else. It does not allocate.
 impl Default for DecimalFormatterPreferences {
     ghost is_default = { λ p. p ≡ nothing_preferred };
 
@@ -50,7 +50,7 @@ impl Default for DecimalFormatterPreferences {
 
 /// What the locale prefers: of `ar-EG-u-nu-thai` the locale `ar-EG` and the system `thai`.
 ///
-/// A keyword whose value does not read counts as not there: `en-u-nu-latn-thai` prefers no system. It takes no memory.
+/// A keyword whose value does not read counts as not there: `en-u-nu-latn-thai` prefers no system. It does not allocate.
 impl From<&Locale> for DecimalFormatterPreferences {
     ghost from_gives = { λ locale p. p ≡ preferences_of locale.now };
 
@@ -62,7 +62,7 @@ impl From<&Locale> for DecimalFormatterPreferences {
     }
 }
 
-/// As of a borrowed locale: of `ar-EG-u-nu-thai` the locale `ar-EG` and the system `thai`. It takes no memory.
+/// As of a borrowed locale: of `ar-EG-u-nu-thai` the locale `ar-EG` and the system `thai`. It does not allocate.
 impl From<Locale> for DecimalFormatterPreferences {
     ghost from_gives = { λ locale p. p ≡ preferences_of locale };
 
@@ -71,7 +71,7 @@ impl From<Locale> for DecimalFormatterPreferences {
     }
 }
 
-/// What the identifier prefers: of `de-1996` the locale `de-1996`, and no system. It takes no memory.
+/// What the identifier prefers: of `de-1996` the locale `de-1996`, and no system. It does not allocate.
 impl From<&LanguageIdentifier> for DecimalFormatterPreferences {
     ghost from_gives = { λ id p. p ≡ preferred_by id.now };
 
@@ -83,7 +83,7 @@ impl From<&LanguageIdentifier> for DecimalFormatterPreferences {
     }
 }
 
-/// As of a borrowed identifier: of `de-1996` the locale `de-1996`, and no system. It takes no memory.
+/// As of a borrowed identifier: of `de-1996` the locale `de-1996`, and no system. It does not allocate.
 impl From<LanguageIdentifier> for DecimalFormatterPreferences {
     ghost from_gives = { λ id p. p ≡ preferred_by id };
 
@@ -92,7 +92,7 @@ impl From<LanguageIdentifier> for DecimalFormatterPreferences {
     }
 }
 
-/// The same preferences: of `en-u-nu-thai` for compact numbers those of `en-u-nu-thai` for plain ones. It takes no memory.
+/// The same preferences: of `en-u-nu-thai` for compact numbers those of `en-u-nu-thai` for plain ones. It does not allocate.
 impl From<&CompactDecimalFormatterPreferences> for DecimalFormatterPreferences {
     ghost from_gives = { λ compact p. p ≡ compact.now };
 
@@ -107,7 +107,7 @@ impl From<&CompactDecimalFormatterPreferences> for DecimalFormatterPreferences {
 impl DecimalFormatterPreferences {
     /// What the locale prefers, as `from`, where its keywords `sd`, `rg` and `nu` read or are not there.
     ///
-    /// `InvalidKeywordValue`: one of them is there and does not read, as in `en-u-nu-latn-thai`. It takes no memory.
+    /// `InvalidKeywordValue`: one of them is there and does not read, as in `en-u-nu-latn-thai`. It does not allocate.
     pub fn from_locale_strict(locale: &Locale) -> Result<Self, PreferencesParseError>
         ensures { MatchResult result (λ p. (fails locale.now ≡ false) × (p ≡ preferences_of locale.now)) (λ e. (fails locale.now ≡ true) × (e ≡ PreferencesParseError.InvalidKeywordValue)) }
     {
@@ -120,8 +120,8 @@ impl DecimalFormatterPreferences {
         }
     }
 
-    /// Puts each part of the other that is there in place of this one's: `en-US-u-nu-thai` extended by `und-GB` prefers `en-GB` and
-    /// `thai`. It takes no memory.
+    /// Puts each part of the other that is there in place of this one's: `en-US-u-nu-thai` extended by `und-GB` prefers `en-GB`
+    /// and `thai`. It does not allocate.
     pub fn extend(&mut self, other: DecimalFormatterPreferences)
         ensures { self.new ≡ joined self.old other }
     {
@@ -130,7 +130,7 @@ impl DecimalFormatterPreferences {
     }
 
     /// The identifier of the system that is preferred, under this locale: of `thai` and `en` it is `en` and `thai`, and `None`
-    /// without a system. It takes no memory.
+    /// without a system. It does not allocate.
     pub fn nu_id(&self, locale: &DataLocale) -> Option<DataIdentifier>
         ensures { result ≡ of_asked locale.now self.now.numbering_system }
     {

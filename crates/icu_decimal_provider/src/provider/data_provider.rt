@@ -5,7 +5,7 @@ ghost use Rattle.std.specs.Prelude.{◌≡◌};
 use crate::provider::identifier::DataIdentifier;
 use icu_decimal_symbols::{DataError, DataMarker};
 
-/// A provider of the tables of one kind. What it answers is a function of the identifier: under `en` the sample book always lends
+/// A provider of the tables of one kind. What it returns is a function of the identifier: under `en` the sample book always lends
 /// the symbols of English.
 ///
 /// After ICU4X's `DataProvider`.
@@ -20,7 +20,7 @@ pub trait DataProvider<M: DataMarker> {
 
     /// The table under the identifier, borrowed from the provider: of the sample book under `thai` the digits `๐` to `๙`.
     ///
-    /// `IdentifierNotFound`: no table stands there, as under `wxyz`. Any other error is the provider's own. It takes no memory.
+    /// `IdentifierNotFound`: there is no table, as under `wxyz`. Any other error is the provider's own. It does not allocate.
     fn load(&self, id: &DataIdentifier) -> Result<&M::DataStruct, DataError>
         ensures { result_map_both (λ found. found.now) (λ error. error) result ≡ table self.now id.now };
 }

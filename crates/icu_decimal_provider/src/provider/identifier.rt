@@ -1,4 +1,4 @@
-//! What a table stands under.
+//! The names of tables.
 
 ghost use Rattle.std.specs.Prelude.{◌≡◌};
 ghost use Rattle.icu_decimal_provider.specs.Identifiers.{of_locale, of_system, of_both};
@@ -7,10 +7,9 @@ use icu_locale_core::DataLocale;
 use std::marker::Model;
 use tinystr::TinyAsciiStr;
 
-/// What a table stands under: a locale, and attributes. The attributes of symbols and of digits are a numbering system, or
-/// empty.
+/// The name of a table: a locale, and attributes. The attributes of symbols and of digits are a numbering system, or empty.
 ///
-/// The symbols of `en` for Thai digits stand under `en` and `thai`, the digits under `und` and `thai`. After ICU4X's
+/// The symbols of `en` for Thai digits are under `en` and `thai`, the digits under `und` and `thai`. After ICU4X's
 /// `DataIdentifierBorrowed`.
 #[derive(Clone, Copy, Debug, PartialEq, Eq, Hash)]
 pub struct DataIdentifier {
@@ -31,7 +30,7 @@ impl Model for DataIdentifier {
 }
 
 impl DataIdentifier {
-    /// The identifier of a locale without attributes: of `en` it is `en` and the empty text. It takes no memory.
+    /// The identifier of a locale without attributes: of `en` it is `en` and the empty text. It does not allocate.
     pub fn for_locale(locale: DataLocale) -> Self
         ensures { result ≡ of_locale locale }
     {
@@ -41,7 +40,7 @@ impl DataIdentifier {
         }
     }
 
-    /// The identifier of attributes without a locale: of `thai` it is `und` and `thai`. It takes no memory.
+    /// The identifier of attributes without a locale: of `thai` it is `und` and `thai`. It does not allocate.
     pub fn for_marker_attributes(attributes: TinyAsciiStr<8>) -> Self
         ensures { result ≡ of_system attributes }
     {
@@ -51,7 +50,7 @@ impl DataIdentifier {
         }
     }
 
-    /// The identifier of both: of `thai` and `en` it is `en` and `thai`. It takes no memory.
+    /// The identifier of both: of `thai` and `en` it is `en` and `thai`. It does not allocate.
     pub fn for_marker_attributes_and_locale(attributes: TinyAsciiStr<8>, locale: DataLocale) -> Self
         ensures { result ≡ of_both attributes locale }
     {

@@ -30,10 +30,10 @@ fn load_one_or<'p, M: DataMarker, P: DataProvider<M>>(
 }
 
 /// The symbols that the preferences ask for: along the chain of their locale, each with their numbering system, where they have
-/// one, then each alone.
+/// one, then each without.
 ///
 /// With the sample book `en-u-nu-wxyz` gets those of `en`. The locale is the form with the language first. Errors as
-/// `load_by_chain`. It takes no memory.
+/// `load_by_chain`. It does not allocate.
 pub fn load_symbols<'p, P: DataProvider<DecimalSymbolsV1> + ParentProvider>(
     provider: &'p P,
     preferences: &DecimalFormatterPreferences,
@@ -50,7 +50,7 @@ pub fn load_symbols<'p, P: DataProvider<DecimalSymbolsV1> + ParentProvider>(
 /// that the symbols name.
 ///
 /// With the sample book `en-u-nu-thai` gets `๐` to `๙`, and `en-u-nu-wxyz` those of `latn`. Errors as `load_with_fallback`. It
-/// takes no memory.
+/// does not allocate.
 pub fn load_digits<'p, P: DataProvider<DecimalDigitsV1>>(
     provider: &'p P,
     preferences: &DecimalFormatterPreferences,

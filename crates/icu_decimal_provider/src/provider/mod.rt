@@ -1,7 +1,7 @@
-//! Providers: who has the tables that a formatter borrows, and under which identifier each stands.
+//! Providers: who has the tables that a formatter borrows, and the identifier of each.
 //!
-//! A provider answers an identifier with a table or an error. Symbols stand under a locale and a numbering system or none,
-//! digits under a numbering system alone.
+//! A provider returns a table or an error for an identifier. Symbols are under a locale and a numbering system or none, digits
+//! only under a numbering system.
 
 mod chain_loading;
 mod data_provider;

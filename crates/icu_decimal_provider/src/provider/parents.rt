@@ -6,7 +6,7 @@ use icu_locale_core::DataLocale;
 
 /// A provider that names the next locale to ask for where one has no table: `en-001` after `en-AU`, where its parents say so.
 ///
-/// What it answers is a function of the locale. One without parents answers `None` and 0.
+/// What it returns is a function of the locale. One without parents returns `None` and 0.
 pub trait ParentProvider {
     ghost use Rattle.std.specs.Prelude.{◌≡◌, ℕ, Option, None};
     ghost use Rattle.icu_locale_core.specs.TagPreferences.{DataLocaleMeaning};
@@ -17,11 +17,11 @@ pub trait ParentProvider {
     // how many steps are taken at most
     ghost limit: { Self → ℕ } = { λ provider. 0 };
 
-    /// The locale that is asked for after this one: `en-001` after `en-AU`. `None` ends the chain. It takes no memory.
+    /// The locale that is asked for after this one: `en-001` after `en-AU`. `None` ends the chain. It does not allocate.
     fn parent(&self, locale: &DataLocale) -> Option<DataLocale>
         ensures { result ≡ next self.now locale.now };
 
-    /// How many steps a chain is followed at most: 0 where there are no parents. It takes no memory.
+    /// How many steps a chain is followed at most: 0 where there are no parents. It does not allocate.
     fn chain_limit(&self) -> u128
         ensures { result ≡ limit self.now };
 }
