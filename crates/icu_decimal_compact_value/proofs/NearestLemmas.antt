@@ -4,10 +4,7 @@ use Rattle.std.proofs.Math.Nat.{div-add-mod', mod-lt}
 use Rattle.std.proofs.lemmas.Bool.{cases_lt}
 use Rattle.fixed_decimal.specs.Rounding.{IsMultiple, IsNearest, distance}
 use Rattle.icu_decimal_compact_value.specs.ShownValue.{even_count}
-use Rattle.icu_decimal_compact_value.proofs.RoundingLemmas.{CountedBy, under, over, tie, counted, sides}
-
-upper_count : (q u : ℕ) → q * u + u ≡ (q + 1) * u
-upper_count q u = omega arith
+use Rattle.icu_decimal_compact_value.proofs.RoundingLemmas.{CountedBy, under, over, tie, counted, sides, upper_count}
 
 near_lower : (u low r n w : ℕ) → n ≡ low + r → 2 * r ≤ u → (w ≤ low) ⊎ (low + u ≤ w) → distance n low ≤ distance n w
 near_lower u low r n w e h (inl a) = omega arith

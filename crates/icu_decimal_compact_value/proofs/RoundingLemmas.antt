@@ -43,7 +43,7 @@ parity u q c p e = ⊎_elim (λ l. let m = mul-le-mul_right {m = suc q} {n = c *
 parity_of : (u q c v : ℕ) → 0 < u → v ≡ q * u → v ≡ c * (2 * u) → q % 2 ≡ 0
 parity_of u q c v p a b = parity u q c p (sym a ∙ b)
 
-upper_count : (q u : ℕ) → q * u + u ≡ (q + 1) * u
+pub upper_count : (q u : ℕ) → q * u + u ≡ (q + 1) * u
 upper_count q u = omega arith
 
 near_low : (n v u a r : ℕ) → n ≡ a + r → 2 * r < u → distance n v ≤ distance n a → (v ≤ a) ⊎ (a + u ≤ v) → v ≡ a

@@ -21,7 +21,7 @@ shown_between ones e n = ⊎_elim
     (even_nearest (10 ^ unit_place e (magnitude ones n)) n (tens_positive (unit_place e (magnitude ones n))))))
     (eq-zero-or-pos n)
 
-limit_is : (k : ℕ) → k ≡ 65536 → count_limit ≡ 10 ^ k
+pub limit_is : (k : ℕ) → k ≡ 65536 → count_limit ≡ 10 ^ k
 unfolding count_limit
 limit_is k e = ap (λ x. 10 ^ x) (sym e)
 

@@ -10,6 +10,7 @@ use Rattle.icu_decimal_compact_value.specs.ExactForms.{IsInRange}
 use Rattle.icu_decimal_compact_value.specs.ShownValue.{IsShowable, IsShown, magnitude}
 use Rattle.icu_decimal_compact_value.proofs.ExactLemmas.{exact_form_has_shown_magnitude}
 use Rattle.icu_decimal_compact_value.proofs.MagnitudeLemmas.{magnitude_top, tens_apart}
+use Rattle.icu_decimal_compact_value.proofs.ShowableLemmas.{limit_is}
 use Rattle.icu_decimal_compact_value.proofs.ShownLemmas.{order_kept, rule_shows, shown_near, shows_itself, zero_for_zero}
 
 module _ (ones : ℕ) (entries : List CompactEntry) where
@@ -46,10 +47,6 @@ magnitude_below limit k is room v l = ⊎_elim
     (λ h. let up = tens_apart k (magnitude 32768 v) h in let t = (magnitude_top 32768 v p).reaches in absurd (omega arith))
     (cases_lt (magnitude 32768 v) k))
     (eq-zero-or-pos v)
-
-limit_is : (k : ℕ) → k ≡ 65536 → count_limit ≡ 10 ^ k
-unfolding count_limit
-limit_is k e = ap (λ x. 10 ^ x) (sym e)
 
 magnitude_in_range : (k v : ℕ) → k ≡ 65536 → v < count_limit → magnitude 32768 v < k
 magnitude_in_range k v e l = magnitude_below count_limit k (limit_is k e) (omega arith) v l
