@@ -134,6 +134,19 @@ impl Pattern {
     }
 }
 
+// Writes a text; the sink is not called for the empty one.
+fn write_some<S: Sink>(text: &str, sink: &mut S) -> Result<(), Error>
+    requires { S.refused sink.old ≡ false }
+    ensures ok { OnOk result (S.takes sink.old (bytes text.now) sink.new) }
+    ensures refused { S.refused sink.new ≡ is_err result }
+    ensures begun { OnErr result (HasBegun S.takes S.lacks_room sink.old (bytes text.now) sink.new) }
+{
+    if text.is_empty() {
+        return Ok(());
+    }
+    sink.write_str(text)
+}
+
 // Writes a value between two texts.
 fn write_between<T: Writeable, S: Sink>(
     before: &str,
@@ -146,9 +159,9 @@ fn write_between<T: Writeable, S: Sink>(
     ensures refused { S.refused sink.new ≡ is_err result }
     ensures begun { OnErr result (HasBegun S.takes S.lacks_room sink.old (bytes before.now ++ (T.events value.now ++ bytes after.now)) sink.new) }
 {
-    sink.write_str(before)?;
+    write_some(before, sink)?;
     value.write_to(sink)?;
-    sink.write_str(after)
+    write_some(after, sink)
 }
 
 // Writes a value in a pattern.
