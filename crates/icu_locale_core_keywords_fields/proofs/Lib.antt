@@ -7,6 +7,8 @@ pub mod AllocationLemmas
 pub mod TextLemmas
 pub mod RetainLemmas
 pub mod CopyLemmas
+pub mod JoinLemmas
+pub mod NewKeyLemmas
 pub mod ValueLemmas
 pub mod LawLemmas
 pub mod WellFormedLemmas

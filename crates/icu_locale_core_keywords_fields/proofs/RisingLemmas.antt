@@ -1,6 +1,6 @@
 -- Maps stay maps: keys rise after each change. And what a changed map has at a key.
 use Rattle.std.proofs.Common.{◌≡◌, Bool, true, false, not, List, [], ◌∷◌, ◌++◌, None, Some, filter, cond, sym, refl, ap, ◌∙◌, subst}
-use Rattle.std.specs.Prelude.{if◌then◌else◌}
+use Rattle.std.specs.Prelude.{if◌then◌else◌, Result, Ok, Err, OnOk, OnErr}
 use Rattle.std.specs.List.{AllByRecursion, items_where_true}
 use Rattle.std.specs.List.Sorted.{IsStrictlySortedBy}
 use Rattle.std.specs.Ordering.{match_ordering, is_eq}
@@ -30,6 +30,11 @@ keys-set e (f ∷ fs) = by_order (text_cmp e.0 f.0) refl (keys-set e fs)
 
 pub Rises-set : (e : Entry) (fs : List Entry) → Rises (keys_of fs) → Rises (keys_of (set_entry e fs))
 Rises-set e fs rises = subst Rises (sym (keys-set e fs)) (Rises-insert e.0 (keys_of fs) rises)
+
+-- behind a call that sets it, or fails and changes nothing
+pub Rises_either : {T E : Type 0} (r : Result T E) (e : Entry) (es new : List Entry) → Rises (keys_of es) → OnOk r (new ≡ set_entry e es) → OnErr r (new ≡ es) → Rises (keys_of new)
+Rises_either (Ok x) e es new rises set kept = subst (λ l. Rises (keys_of l)) (sym set) (Rises-set e es rises)
+Rises_either (Err x) e es new rises set kept = subst (λ l. Rises (keys_of l)) (sym kept) rises
 
 -- ---- some entries kept
 
@@ -70,7 +75,7 @@ Rises-without key es rises = Rises-filtered (λ e. not (same_text key e.0)) es r
 
 module _ (q : Text) where
   -- a key below all keys of a map is not there
-  absent : (key : Text) → same_text q key ≡ true → (es : List Entry) → AllByRecursion (λ k. text_cmp key k ≡ Less) (keys_of es) → value_at q es ≡ None
+  pub absent : (key : Text) → same_text q key ≡ true → (es : List Entry) → AllByRecursion (λ k. text_cmp key k ≡ Less) (keys_of es) → value_at q es ≡ None
   absent key same [] each = refl
   absent key same (e ∷ es) each =
       let differs : same_text q e.0 ≡ false = ap (λ k. same_text k e.0) (same_text_equal q key same) ∙ texts_ties key e.0 ∙ ap is_eq each.0 in

@@ -3,12 +3,12 @@
 ghost use Rattle.std.specs.Prelude.{◌≡◌, List, ℕ, [], IsOk, IfOk, OnOk, OnErr};
 ghost use Rattle.std.specs.Iterator.{AlwaysYields, Drains, IsFinite};
 ghost use Rattle.icu_locale_core_grammar.specs.Collections.{Entry, map_of};
-ghost use Rattle.icu_locale_core_keywords_fields.specs.EntryChanges.{joined_maps};
+ghost use Rattle.icu_locale_core_keywords_fields.specs.EntryChanges.{joined_maps, HasKeysOf};
 ghost use Rattle.icu_locale_core_keywords_fields.specs.Values.{without_true};
 
 use crate::entries::EntriesOf;
 use crate::kind::EntryKind;
-use crate::laws::keys_rise;
+use crate::placing::{count_new, set_all};
 use crate::value::ValueOf;
 use icu_locale_core_subtags::{Subtag, SubtagOf};
 use std::alloc::{AllocError, Global};
@@ -17,8 +17,7 @@ use std::marker::PhantomData;
 impl<K: EntryKind> ValueOf<K> {
     /// The value of the subtags in their order, without `true`: of `abc`, `true`, `def` it is `abc-def`.
     ///
-    /// The condition is that the iterator ends. `AllocError` is answered for memory alone, and where the iterator gives no item
-    /// none is taken.
+    /// The condition is that the iterator ends. `AllocError`: out of memory. Without an item it does not allocate.
     pub fn try_from_iter<I: IntoIterator<Item = Subtag>>(
         alloc: Global,
         iter: I,
@@ -34,7 +33,7 @@ impl<K: EntryKind> ValueOf<K> {
         Ok(value)
     }
 
-    /// An equal value: of `abc-def` another `abc-def`. `AllocError` is answered for memory alone, and the empty value takes none.
+    /// An equal value: of `abc-def` another `abc-def`. `AllocError`: out of memory. The empty value does not allocate.
     pub fn try_clone(&self) -> Result<Self, AllocError>
         ensures succeeds { self.now ≡ [] → IsOk result }
         ensures value { IfOk result (λ v. v ≡ self.now) }
@@ -50,19 +49,18 @@ impl<K: EntryKind> ValueOf<K> {
     }
 }
 
-/// The same key.
-fn copied<K: EntryKind>(key: &SubtagOf<K, 2>) -> Result<SubtagOf<K, 2>, AllocError>
-    ensures { IfOk result (λ k. k ≡ key.now) }
+// The same key.
+fn copied<T: Copy>(key: &T) -> T
+    ensures { result ≡ key.now }
 {
-    key.clone()
+    *key
 }
 
 impl<K: EntryKind> EntriesOf<K> {
     /// The map of the entries; of equal keys the first stands: of `nu` with `thai`, `ca` with `buddhist` and `nu` with `latn` it
     /// is `ca-buddhist-nu-thai`.
     ///
-    /// The condition is that the iterator ends. `AllocError` is answered for memory alone, and where the iterator gives no item
-    /// none is taken.
+    /// The condition is that the iterator ends. `AllocError`: out of memory. Without an item it does not allocate.
     pub fn try_from_iter<I: IntoIterator<Item = (SubtagOf<K, 2>, ValueOf<K>)>>(
         alloc: Global,
         iter: I,
@@ -78,38 +76,38 @@ impl<K: EntryKind> EntriesOf<K> {
         Ok(map)
     }
 
-    /// An equal map: of `nu-thai` another `nu-thai`. `AllocError` is answered for memory alone, and the empty map takes none.
+    /// An equal map: of `nu-thai` another `nu-thai`. `AllocError`: out of memory. The empty map does not allocate.
     pub fn try_clone(&self) -> Result<Self, AllocError>
         ensures succeeds { self.now ≡ [] → IsOk result }
         ensures value { IfOk result (λ m. m ≡ self.now) }
     {
-        let mut map = Self::new(*self.entries.allocator());
+        let mut entries = Vec::with_capacity(*self.entries.allocator(), self.entries.len())?;
         for (key, value) in self.as_slice() {
-            map.put_first(copied(key)?, value.try_clone()?)?;
+            entries.push_reserved((copied(key), value.try_clone()?));
         }
-        Ok(map)
+        Ok(EntriesOf { entries })
     }
 
     /// Puts the entries of the other map into this one; of equal keys the other's stands.
     ///
-    /// `ca-buddhist-nu-thai` with `nu-latn` becomes `ca-buddhist-nu-latn`. `AllocError` is answered for memory alone, and
-    /// leaves the map; where one of the two maps is empty, none is taken.
+    /// `ca-buddhist-nu-thai` with `nu-latn` becomes `ca-buddhist-nu-latn`. `AllocError`: out of memory, and the map is as before.
+    /// It does not allocate where one of the two maps has all keys of the other.
     pub fn extend_from_keywords(&mut self, other: Self) -> Result<(), AllocError>
         ensures succeeds { other ≡ [] → IsOk result }
         ensures empty { self.old ≡ [] → IsOk result }
+        ensures there { HasKeysOf self.old other → IsOk result }
+        ensures within { HasKeysOf other self.old → IsOk result }
         ensures ok { OnOk result (self.new ≡ joined_maps other self.old) }
         ensures err { OnErr result (self.new ≡ self.old) }
     {
-        if other.is_empty() {
-            keys_rise(self);
+        if count_new(self.as_slice(), &other) == 0 {
+            *self = other;
             return Ok(());
         }
-        let mut joined = other;
-        keys_rise(&joined);
-        for (key, value) in self.as_slice() {
-            joined.put_first(copied(key)?, value.try_clone()?)?;
-        }
-        *self = joined;
+        let more = count_new(other.as_slice(), self);
+        self.entries.reserve(more)?;
+        let EntriesOf { entries } = other;
+        set_all(&mut self.entries, entries);
         Ok(())
     }
 }

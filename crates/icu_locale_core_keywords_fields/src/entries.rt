@@ -9,6 +9,7 @@ ghost use Rattle.icu_locale_core_keywords_fields.specs.EntryChanges.{set_entry, 
 ghost use Rattle.icu_locale_core_keywords_fields.specs.Places.{IsFoundAt, IsMissingAt};
 
 use crate::kind::EntryKind;
+use crate::placing::{place_in, set_in};
 use crate::value::ValueOf;
 use icu_locale_core_subtags::SubtagOf;
 use std::alloc::{AllocError, Global};
@@ -36,7 +37,7 @@ impl<K: EntryKind> Model for EntriesOf<K> {
 }
 
 impl<K: EntryKind> EntriesOf<K> {
-    /// The empty map, of which `is_empty` is true. It takes no memory.
+    /// The empty map, of which `is_empty` is true. It does not allocate.
     #[tactic(auto, using(icu_locale_core_grammar::proofs::MapLemmas::rises_none))]
     pub fn new(alloc: Global) -> Self
         ensures { result ≡ [] }
@@ -46,7 +47,7 @@ impl<K: EntryKind> EntriesOf<K> {
         }
     }
 
-    /// The map with one entry: `nu` and `thai` give `nu-thai`. `AllocError` is answered for memory alone.
+    /// The map with one entry: `nu` and `thai` give `nu-thai`. `AllocError`: out of memory.
     pub fn new_single(
         alloc: Global,
         key: SubtagOf<K, 2>,
@@ -71,7 +72,7 @@ impl<K: EntryKind> EntriesOf<K> {
     pub(crate) fn place_of(&self, key: &SubtagOf<K, 2>) -> Result<usize, usize>
         ensures { MatchResult result (λ place. IsFoundAt key.now self.now place) (λ place. IsMissingAt key.now self.now place) }
     {
-        self.entries.binary_search_by(|entry| entry.0.cmp(key))
+        place_in(self.as_slice(), key)
     }
 
     /// Puts an entry that is not there at its place.
@@ -82,8 +83,7 @@ impl<K: EntryKind> EntriesOf<K> {
         value: ValueOf<K>,
     ) -> Result<(), AllocError>
         requires { IsMissingAt key self.old place }
-        ensures put { OnOk result (self.new ≡ put_first (key, value) self.old) }
-        ensures set { OnOk result (self.new ≡ set_entry (key, value) self.old) }
+        ensures ok { OnOk result (self.new ≡ put_first (key, value) self.old) }
         ensures err { OnErr result (self.new ≡ self.old) }
     {
         let Ok(()) = self.entries.insert(place, (key, value)) else {
@@ -94,7 +94,7 @@ impl<K: EntryKind> EntriesOf<K> {
 
     /// Puts the entry into the map, unless the key is there: then the map stays as it is.
     ///
-    /// `AllocError` is answered for memory alone, and leaves the map.
+    /// `AllocError`: out of memory, and the map is as before.
     pub(crate) fn put_first(
         &mut self,
         key: SubtagOf<K, 2>,
@@ -126,10 +126,10 @@ impl<K: EntryKind> EntriesOf<K> {
         self.place_of(key).is_ok()
     }
 
-    /// Sets the value of a key, and answers the value that it had, if any.
+    /// Sets the value of a key, and returns the value that it had, if any.
     ///
-    /// `nu` set to `latn` in `ca-buddhist-nu-thai` answers `thai` and leaves `ca-buddhist-nu-latn`.
-    /// `AllocError` is answered for memory alone, and leaves the map. No memory is taken where the map has the key.
+    /// `nu` set to `latn` in `ca-buddhist-nu-thai` returns `thai` and leaves `ca-buddhist-nu-latn`. `AllocError`: out of
+    /// memory, and the map is as before. It does not allocate where the map has the key.
     pub fn set(
         &mut self,
         key: SubtagOf<K, 2>,
@@ -140,18 +140,12 @@ impl<K: EntryKind> EntriesOf<K> {
         ensures succeeds { is_some (value_at key self.old) ≡ true → IsOk result }
         ensures err { OnErr result (self.new ≡ self.old) }
     {
-        match self.place_of(&key) {
-            Ok(place) => Ok(Some(mem::replace(&mut self.entries[place].1, value))),
-            Err(place) => {
-                self.insert_at(place, key, value)?;
-                Ok(None)
-            }
-        }
+        set_in(&mut self.entries, key, value)
     }
 
-    /// Takes the key away, and answers the value that it had, if any. It takes no memory.
+    /// Removes the key, and returns the value that it had, if any. It does not allocate.
     ///
-    /// `nu` taken out of `ca-buddhist-nu-thai` answers `thai` and leaves `ca-buddhist`.
+    /// `nu` removed from `ca-buddhist-nu-thai` returns `thai` and leaves `ca-buddhist`.
     pub fn remove(&mut self, key: &SubtagOf<K, 2>) -> Option<ValueOf<K>>
         ensures value { result ≡ value_at key.now self.old }
         ensures rest { self.new ≡ without_key key.now self.old }
@@ -162,7 +156,7 @@ impl<K: EntryKind> EntriesOf<K> {
         }
     }
 
-    /// Takes every entry out, and answers the map as it was: of `nu-thai` it is `nu-thai`. It takes no memory.
+    /// Removes every entry, and returns the map as it was: of `nu-thai` it is `nu-thai`. It does not allocate.
     pub fn clear(&mut self) -> Self
         ensures value { result ≡ self.old }
         ensures empty { self.new ≡ [] }

@@ -115,8 +115,8 @@ fn entries_text_length<K: EntryKind>(map: &EntriesOf<K>) -> Option<usize>
 impl<K: EntryKind> EntriesOf<K> {
     /// Writes the entries in order of their keys, each subtag with a hyphen before it: `-ca-buddhist-nu-thai`.
     ///
-    /// The sink has not refused yet. `Error`, only where the sink refused: it took a beginning. It takes no memory but the
-    /// sink's.
+    /// The sink has not refused yet. `Error`, only where the sink refused: it took a beginning. It allocates only what the sink
+    /// does.
     pub fn write_hyphened<S: Sink>(&self, sink: &mut S) -> Result<(), Error>
         requires { S.refused sink.old ≡ false }
         ensures ok { OnOk result (S.takes sink.old (bytes (hyphened_entries K.needs self.now)) sink.new) }

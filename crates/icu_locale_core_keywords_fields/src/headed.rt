@@ -29,7 +29,7 @@ pub trait HeadReader {
     // whether a piece may make the stage grow, as any may where a head does not say
     ghost grows: { Self.Stage → List ℕ → Bool } = { λ s p. true };
 
-    /// The stage after a piece. `AllocError` is answered for memory alone, and only of a piece that may make the stage grow.
+    /// The stage after a piece. `AllocError`: out of memory. Only a piece that may make the stage grow allocates.
     fn after(
         alloc: Global,
         stage: Self::Stage,
@@ -125,8 +125,8 @@ fn after_entry<H: Drop, K: EntryKind>(
 
 /// The stage of a head and entries after a piece, or the stage as it was where the piece does not fit.
 ///
-/// Behind `nu-thai` the piece `latn` goes into the value, `ca` opens the next keyword, and `a` is refused. `AllocError` is
-/// answered for memory alone; none is taken for a first key, nor behind a key for a piece that is refused.
+/// Behind `nu-thai` the piece `latn` goes into the value, `ca` opens the next keyword, and `a` is refused. `AllocError`: out of
+/// memory. A first key does not allocate, nor does a refused piece behind a key.
 #[tactic(auto, unfolding(icu_locale_core_grammar::specs::Stepping::headed_after))]
 pub fn headed_after<R: HeadReader, K: EntryKind>(
     alloc: Global,
@@ -151,7 +151,7 @@ where
 
 /// The head and the entries that were read; `None` where the last entry needs a value and has none.
 ///
-/// `AllocError` is answered for memory alone; none is taken where no entry is read, or the last may not end.
+/// `AllocError`: out of memory. It does not allocate where no entry is read, or the last may not end.
 pub fn headed_finish<H: Drop, K: EntryKind>(
     alloc: Global,
     stage: HeadedStage<H, K>,

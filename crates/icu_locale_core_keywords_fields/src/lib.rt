@@ -20,6 +20,7 @@ mod headed;
 mod kind;
 pub mod laws;
 mod lending;
+mod placing;
 mod retaining;
 mod value;
 mod value_comparing;

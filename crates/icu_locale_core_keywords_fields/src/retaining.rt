@@ -1,4 +1,4 @@
-//! Keeping the entries at whose keys a closure answers true.
+//! Keeping the entries at whose keys a closure returns true.
 
 ghost use Rattle.std.specs.Fn.{CalledAt};
 ghost use Rattle.icu_locale_core_keywords_fields.specs.Retained.{IsRetained};
@@ -6,7 +6,7 @@ ghost use Rattle.icu_locale_core_keywords_fields.specs.Retained.{IsRetained};
 use crate::entries::EntriesOf;
 use icu_locale_core_subtags::{transform, unicode};
 
-// Keeps the pairs at whose first parts the closure answers true.
+// Keeps the pairs at whose first parts the closure returns true.
 pub(crate) fn retain_pairs<X: Drop, Y: Drop, F: FnMut(&X) -> bool + Drop>(
     pairs: &mut Vec<(X, Y)>,
     mut keep: F,
@@ -25,10 +25,10 @@ pub(crate) fn retain_pairs<X: Drop, Y: Drop, F: FnMut(&X) -> bool + Drop>(
 }
 
 impl EntriesOf<unicode::KeyRule> {
-    /// Keeps the entries at whose keys `keep` answers true. It is asked once at each key, in order.
+    /// Keeps the entries at whose keys `keep` returns true. It is asked once at each key, in order.
     ///
-    /// The condition is that `keep` may be called at any time. Of `ca-buddhist-nu-thai`, where it keeps `nu` alone, `nu-thai` is
-    /// left. It takes no memory.
+    /// The condition is that `keep` may be called at any time. Of `ca-buddhist-nu-thai`, where it keeps `nu` alone, `nu-thai`
+    /// is left. It does not allocate.
     pub fn retain_by_key<F: FnMut(&unicode::Key) -> bool + Drop>(&mut self, keep: F)
         requires { F.IsAlwaysCallable keep }
         ensures { IsRetained (CalledAt F.FnMut) keep self.old self.new }
@@ -38,10 +38,10 @@ impl EntriesOf<unicode::KeyRule> {
 }
 
 impl EntriesOf<transform::KeyRule> {
-    /// Keeps the entries at whose keys `keep` answers true. It is asked once at each key, in order.
+    /// Keeps the entries at whose keys `keep` returns true. It is asked once at each key, in order.
     ///
     /// The condition is that `keep` may be called at any time. Of `h0-hybrid-m0-und`, where it keeps `m0` alone, `m0-und` is
-    /// left. It takes no memory.
+    /// left. It does not allocate.
     pub fn retain_by_key<F: FnMut(&transform::Key) -> bool + Drop>(&mut self, keep: F)
         requires { F.IsAlwaysCallable keep }
         ensures { IsRetained (CalledAt F.FnMut) keep self.old self.new }

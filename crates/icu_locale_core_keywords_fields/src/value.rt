@@ -44,7 +44,7 @@ fn is_true_word(subtag: &Subtag) -> bool
 }
 
 impl<K: EntryKind> ValueOf<K> {
-    /// The empty value: a keyword's prints as the empty text, a field's as `true`. It takes no memory.
+    /// The empty value: a keyword's prints as the empty text, a field's as `true`. It does not allocate.
     pub fn new_empty(alloc: Global) -> Self
         ensures { result ≡ [] }
     {
@@ -56,7 +56,7 @@ impl<K: EntryKind> ValueOf<K> {
 
     /// The value of one subtag; the empty value of none, and of `true`.
     ///
-    /// `AllocError` is answered for memory alone, and memory is taken where the value has a subtag.
+    /// `AllocError`: out of memory. It allocates where the value has a subtag.
     pub fn from_subtag(alloc: Global, subtag: Option<Subtag>) -> Result<Self, AllocError>
         ensures value { IfOk result (λ v. v ≡ without_true (option_to_list subtag)) }
         ensures succeeds { without_true (option_to_list subtag) ≡ [] → IsOk result }
@@ -71,7 +71,7 @@ impl<K: EntryKind> ValueOf<K> {
 
     /// Puts a subtag behind the others, or leaves it out where it is `true`.
     ///
-    /// `abc` and then `true` and `def` give `abc-def`. `AllocError` is answered for memory alone, and leaves the value.
+    /// `abc` and then `true` and `def` give `abc-def`. `AllocError`: out of memory, and the value is as before.
     pub fn push_subtag(&mut self, subtag: Subtag) -> Result<(), AllocError>
         ensures ok { OnOk result (self.new ≡ with_subtag self.old subtag) }
         ensures succeeds { is_true subtag ≡ true → IsOk result }
@@ -111,7 +111,7 @@ impl<K: EntryKind> ValueOf<K> {
         self.subtags.as_slice()
     }
 
-    /// Leaves the empty value: of `abc-de` no subtag is left. It takes no memory.
+    /// Leaves the empty value: of `abc-de` no subtag is left. It does not allocate.
     pub fn clear(&mut self)
         ensures { self.new ≡ [] }
     {
@@ -125,7 +125,7 @@ impl<K: EntryKind> ValueOf<K> {
         self.subtags.get(index)
     }
 
-    /// Takes the subtag at this place away and answers it; `None`, and nothing is taken away, where there is none.
+    /// Removes the subtag at this place and returns it; `None`, and nothing is removed, where there is none.
     pub fn remove_subtag(&mut self, index: usize) -> Option<Subtag>
         ensures value { result ≡ slice_get self.old index }
         ensures rest { self.new ≡ remove self.old index }

@@ -25,9 +25,9 @@ fn value_piece(piece: &[u8]) -> Option<Subtag>
 }
 
 impl<K: EntryKind> ValueOf<K> {
-    /// Takes a piece of a text, if it is a piece of a value, and answers whether it is.
+    /// Takes a piece of a text, if it is a piece of a value, and returns whether it is.
     ///
-    /// `AllocError` is answered for memory alone, and leaves the value.
+    /// `AllocError`: out of memory, and the value is as before.
     pub(crate) fn take_piece(&mut self, piece: &[u8]) -> Result<bool, AllocError>
         ensures taken { IfOk result (λ taken. MatchBool taken (value_after self.old piece.now ≡ Some self.new) ((value_after self.old piece.now ≡ None) × (self.new ≡ self.old))) }
         ensures err { OnErr result (self.new ≡ self.old) }

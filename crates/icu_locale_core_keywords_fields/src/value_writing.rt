@@ -14,8 +14,8 @@ use writeable::{Error, LengthHint, Sink, Writeable, display, strict_cmp};
 impl<K: EntryKind> ValueOf<K> {
     /// Writes the subtags, each with a hyphen before it: `-abc-def`. Of a field without a value it is `-true`.
     ///
-    /// The sink has not refused yet. `Error`, only where the sink refused: it took a beginning. It takes no memory but the
-    /// sink's.
+    /// The sink has not refused yet. `Error`, only where the sink refused: it took a beginning. It allocates only what the sink
+    /// does.
     pub fn write_hyphened<S: Sink>(&self, sink: &mut S) -> Result<(), Error>
         requires { S.refused sink.old ≡ false }
         ensures ok { OnOk result (S.takes sink.old (bytes (hyphened_value K.needs self.now)) sink.new) }
@@ -30,7 +30,7 @@ impl<K: EntryKind> ValueOf<K> {
 
     /// Whether the text of the value is this one, in normal case: of `abc-def` true for `abc-def`, false for `ABC-def`.
     ///
-    /// Of a keyword without a value it is the empty text, of a field without one `true`. It takes no memory.
+    /// Of a keyword without a value it is the empty text, of a field without one `true`. It does not allocate.
     pub fn eq_str(&self, other: &str) -> bool
         ensures { IsTrue result ↔ (value_text K.needs self.now ≡ other.now) }
     {

@@ -12,7 +12,7 @@ use icu_locale_core_subtags::laws::subtags_are_words;
 impl<K: EntryKind> ValueOf<K> {
     /// Whether each subtag has 3 to 8 characters, as those that are read have.
     ///
-    /// True of `abc-def`, and false of `abc-de`, which can only be put together by hand. It takes no memory.
+    /// True of `abc-def`, and false of `abc-de`, which can only be put together by hand. It does not allocate.
     pub fn is_well_formed(&self) -> bool
         ensures { IsTrue result ↔ AllByRecursion IsNormalValue self.now }
     {
@@ -27,7 +27,7 @@ impl<K: EntryKind> ValueOf<K> {
 }
 
 impl<K: EntryKind> EntriesOf<K> {
-    /// Whether each value is well-formed: true of `nu-thai`, and of every map that was read. It takes no memory.
+    /// Whether each value is well-formed: true of `nu-thai`, and of every map that was read. It does not allocate.
     pub fn is_well_formed(&self) -> bool
         ensures { IsTrue result ↔ AreNormalEntries K.accepts self.now }
     {
