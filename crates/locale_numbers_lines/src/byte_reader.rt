@@ -26,7 +26,7 @@ pub trait ByteReader {
     // Where it may be read: everywhere, where an implementation names no condition.
     ghost may_read: { Self → Type 0 } = { λ _. Unit {0} };
 
-    /// Fills a beginning of `buffer`, and answers how many bytes that is: 2, where of `one` a buffer of
+    /// Fills a beginning of `buffer`, and returns how many bytes that is: 2, where of `one` a buffer of
     /// two bytes gets `on`.
     ///
     /// Of a buffer that has room, 0 is the end of the bytes. A failed read gives none, and is the last:
@@ -43,7 +43,7 @@ pub trait ByteReader {
         // A failed read sets it for good, and nothing else does.
         ensures fault { failed self.new ≡ is_err result };
 
-    /// Whether a read has failed: true after one that answered [`ByteReadFault`].
+    /// Whether a read has failed: true after one that returned [`ByteReadFault`].
     fn has_failed(&self) -> bool
         ensures value { result ≡ failed self.now };
 }

@@ -22,7 +22,7 @@ pub trait ByteWriter {
     // Whether a write or a flush has failed.
     ghost failed: { Self → Bool };
 
-    /// Takes a beginning of `piece`, and answers how many bytes that is: 2, where of `one` it takes
+    /// Takes a beginning of `piece`, and returns how many bytes that is: 2, where of `one` it takes
     /// `on`.
     ///
     /// A write that takes no byte of a piece that is not empty counts as failed. The condition is that no

@@ -4,9 +4,9 @@ ghost use Rattle.locale_numbers_lines.specs.Outcomes.{MatchRun, ends_in_write};
 ghost use Rattle.locale_numbers_lines.specs.Progress.{Progress, Answered, AnsweredPart};
 
 use crate::answerer::Answerer;
-use crate::answering::answer_held;
 use crate::byte_writer::ByteWriter;
 use crate::first_line::split_line;
+use crate::ready_answers::answer_held;
 use crate::run_error::RunError;
 use crate::writing::{PIECE, write_full, write_ready};
 

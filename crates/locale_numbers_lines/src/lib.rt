@@ -12,15 +12,15 @@
 #![tactic(auto)]
 
 mod answerer;
-mod answering;
 mod byte_reader;
 mod byte_writer;
 mod feeding;
 mod first_line;
 pub mod laws;
+mod ready_answers;
 mod report;
 mod run_error;
-mod running;
+mod streaming;
 mod tracked;
 mod writing;
 
@@ -29,5 +29,5 @@ pub use byte_reader::{ByteReadFault, ByteReader};
 pub use byte_writer::{ByteWriteFault, ByteWriter};
 pub use report::Report;
 pub use run_error::RunError;
-pub use running::run_with;
+pub use streaming::run_with;
 pub use tracked::Tracked;

@@ -14,7 +14,7 @@ pub enum RunError {
     /// The writer failed, as one whose flush did, or took no byte of a piece that was not empty.
     #[error("the writer failed")]
     Write,
-    /// A request for memory was refused, of the run or of the answerer, as for the text of an
+    /// Out of memory, in the run or in the answerer, as for the text of an
     /// answer.
     #[error("out of memory")]
     Memory,
@@ -23,7 +23,7 @@ pub enum RunError {
 impl RunError {
     ghost use Rattle.locale_numbers_lines.specs.Outcomes.{run_error_number};
 
-    /// Its number: 1 for Read, 2 for Write, 3 for Memory. Takes no memory.
+    /// Its number: 1 for Read, 2 for Write, 3 for Memory. Does not allocate.
     pub fn number(&self) -> u8
         ensures value { result ≡ run_error_number self.now }
     {

@@ -32,7 +32,7 @@ impl<T> Model for Tracked<T> {
 }
 
 impl<T> Tracked<T> {
-    /// Tracks `inner`, of which no call has failed so far: `has_failed` answers false, as of
+    /// Tracks `inner`, of which no call has failed so far: `has_failed` returns false, as of
     /// `Tracked::new(rt.stdin())`.
     pub fn new(inner: T) -> Self
         ensures inner { result.inner ≡ inner }

@@ -4,7 +4,7 @@ use Rattle.std.proofs.KnownBytes.{Consumes-nil, Consumes-trans, Consumes-kept}
 use Rattle.locale_numbers_lines.proofs.ProgressLemmas.{progress_none}
 use Rattle.locale_numbers_lines.proofs.OutcomeLemmas.{progress_fed, all_part, all_answered, told_ended, read_allowed}
 use Rattle.locale_numbers_lines.proofs.RefusalLemmas.{feed_refused, finish_refused, stop_refused}
-use Rattle.locale_numbers_lines.proofs.running.stream.Goals as goal
+use Rattle.locale_numbers_lines.proofs.streaming.stream.Goals as goal
 
 pub read-init : goal.read-init
 read-init g c = record {

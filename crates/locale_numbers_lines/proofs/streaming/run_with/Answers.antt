@@ -1,7 +1,7 @@
 use Rattle.std.proofs.Common.{◌≡◌, Err, ap}
 use Rattle.std.proofs.lemmas.Result.{err_from_is_err_and}
 use Rattle.locale_numbers_lines.specs.declared.run_error.RunError.TheVariants.{Read, Memory}
-use Rattle.locale_numbers_lines.proofs.running.run_with.Goals as goal
+use Rattle.locale_numbers_lines.proofs.streaming.run_with.Goals as goal
 
 pub returns-in_err-lines-clause-reader_failed : goal.returns-in_err-lines-clause-reader_failed
 returns-in_err-lines-clause-reader_failed g c =

@@ -6,7 +6,7 @@ use crate::answerer::Answerer;
 use std::alloc::AllocError;
 
 // The answer to a line and its line feed, behind the ready ones; a part of it may stand after an error.
-fn push_answer<A: Answerer>(
+fn push_ended<A: Answerer>(
     answerer: &mut A,
     line: &[u8],
     ready: &mut String,
@@ -40,7 +40,7 @@ pub fn answer_line<A: Answerer>(
     ensures err { OnErr result (string_bytes ready.new ≡ string_bytes ready.old) }
 {
     let whole = ready.len();
-    match push_answer(answerer, line, ready) {
+    match push_ended(answerer, line, ready) {
         Ok(()) => Ok(()),
         Err(refused) => {
             ready.truncate(whole);

@@ -7,10 +7,10 @@ ghost use Rattle.locale_numbers_lines.specs.Run.{WritesAll, WritesTold, WritesPa
 ghost use Rattle.locale_numbers_lines.specs.Run.{CountsLines, CountsMade, MayReadOnceAnswered};
 
 use crate::answerer::Answerer;
-use crate::answering::answer_line;
 use crate::byte_reader::ByteReader;
 use crate::byte_writer::ByteWriter;
 use crate::feeding::feed;
+use crate::ready_answers::answer_line;
 use crate::report::Report;
 use crate::run_error::RunError;
 use crate::writing::{PIECE, write_ready};
@@ -131,7 +131,7 @@ fn stream<A: Answerer, R: ByteReader, W: ByteWriter>(
 /// - Read: a read failed. The whole lines that the reader gave have been answered, and the writer has
 ///   been flushed.
 /// - Write: a write or the flush failed, or a write took no byte. A beginning of the output is written.
-/// - Memory: a request for memory was refused, here or by the answerer. Some first lines have been
+/// - Memory: out of memory, here or in the answerer. Some first lines have been
 ///   answered, each whole.
 pub fn run_with<A: Answerer, R: ByteReader, W: ByteWriter>(
     alloc: Global,

@@ -1,7 +1,7 @@
 use Rattle.std.proofs.Common.{◌≡◌, ℕ, List, [], false, string_bytes}
 use Rattle.std.specs.Io.KnownBytes.{Consumes}
 use Rattle.locale_numbers_lines.specs.Progress.{Progress}
-use Rattle.locale_numbers_lines.proofs.running.stream.Given as goal
+use Rattle.locale_numbers_lines.proofs.streaming.stream.Given as goal
 
 abbrev pub invariant-read : goal.invariant-read
 invariant-read g l = record {
