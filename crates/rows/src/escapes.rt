@@ -116,6 +116,7 @@ fn put_escaped(out: &mut String, character: char) -> Result<(), Stop> {
         '\t' => out.push_str("\\t")?,
         '\n' => out.push_str("\\n")?,
         '\r' => out.push_str("\\r")?,
+        '\0' => out.push_str("\\x00")?,
         '\\' => out.push_str("\\\\")?,
         _ => out.push(character)?,
     }
@@ -134,7 +135,7 @@ fn put_bytes(out: &mut String, bytes: &[u8]) -> Result<(), Stop> {
     Ok(())
 }
 
-/// Writes bytes as they stand in a field: a tab as `\t`, and a byte of what is no text as `\xFF`.
+/// Writes bytes as they stand in a field: a tab as `\t`, a NUL as `\x00`, and a byte of what is no text as `\xFF`.
 pub fn escaped(out: &mut String, bytes: &[u8]) -> Result<(), Stop> {
     let Ok(text) = str::from_utf8(bytes) else {
         return put_bytes(out, bytes);
