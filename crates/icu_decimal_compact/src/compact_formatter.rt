@@ -16,7 +16,7 @@ ghost use Rattle.icu_decimal_compact.specs.HeldCompact.{compact_tables_of};
 ghost use Rattle.icu_decimal_compact.specs.PatternAt.{pattern_at, patterns_beside};
 
 use crate::formatted_compact::FormattedUnsignedCompactDecimal;
-use crate::loading::{load_patterns, load_plain, load_rules};
+use crate::loading::load_with;
 use fixed_decimal::{Decimal, UnsignedDecimal};
 use icu_decimal_compact_value::{can_show, exponent_for_magnitude, show};
 use icu_decimal_formatter::DecimalFormatter;
@@ -28,7 +28,7 @@ use icu_decimal_plain::FormattedSign;
 use icu_decimal_plurals::{PluralOperands, PluralRules, PluralsCardinalV1};
 use icu_decimal_provider::preferences::CompactDecimalFormatterPreferences;
 use icu_decimal_provider::provider::{
-    DataProvider, DecimalDigitsV1, DecimalSymbolsV1, ParentProvider,
+    DataProvider, DecimalDigitsV1, DecimalSymbolsV1, ParentProvider, load_by_locale,
 };
 use icu_decimal_symbols::DataError;
 use icu_decimal_symbols::options::CompactDecimalFormatterOptions;
@@ -79,14 +79,8 @@ impl<'b> CompactDecimalFormatter<'b> {
             + ParentProvider,
         ensures { result_map_both compact_tables_of (λ error. error) result ≡ found_compact_tables (chain (P.next provider.now) (P.limit provider.now)) (λ id. ⟦<P as DataProvider<DecimalSymbolsV1>>⟧.table provider.now id) (λ id. ⟦<P as DataProvider<DecimalDigitsV1>>⟧.table provider.now id) (λ id. ⟦<P as DataProvider<PluralsCardinalV1>>⟧.table provider.now id) (λ id. ⟦<P as DataProvider<DecimalCompactShortV1>>⟧.table provider.now id) preferences options.grouping_strategy }
     {
-        let plain = load_plain(provider, &preferences, options)?;
-        let rules = load_rules(provider, &preferences)?;
-        let patterns = load_patterns::<DecimalCompactShortV1, P>(provider, &preferences)?;
-        Ok(CompactDecimalFormatter {
-            plain,
-            rules,
-            patterns,
-        })
+        let patterns = load_by_locale::<DecimalCompactShortV1, P>(provider, &preferences);
+        load_with(provider, &preferences, options, patterns)
     }
 
     /// The same in long form: `1.6 thousand` in English. It does not allocate.
@@ -103,14 +97,8 @@ impl<'b> CompactDecimalFormatter<'b> {
             + ParentProvider,
         ensures { result_map_both compact_tables_of (λ error. error) result ≡ found_compact_tables (chain (P.next provider.now) (P.limit provider.now)) (λ id. ⟦<P as DataProvider<DecimalSymbolsV1>>⟧.table provider.now id) (λ id. ⟦<P as DataProvider<DecimalDigitsV1>>⟧.table provider.now id) (λ id. ⟦<P as DataProvider<PluralsCardinalV1>>⟧.table provider.now id) (λ id. ⟦<P as DataProvider<DecimalCompactLongV1>>⟧.table provider.now id) preferences options.grouping_strategy }
     {
-        let plain = load_plain(provider, &preferences, options)?;
-        let rules = load_rules(provider, &preferences)?;
-        let patterns = load_patterns::<DecimalCompactLongV1, P>(provider, &preferences)?;
-        Ok(CompactDecimalFormatter {
-            plain,
-            rules,
-            patterns,
-        })
+        let patterns = load_by_locale::<DecimalCompactLongV1, P>(provider, &preferences);
+        load_with(provider, &preferences, options, patterns)
     }
 
     /// The formatter of tables that the caller has: a plain formatter, plural rules, and a table of patterns.

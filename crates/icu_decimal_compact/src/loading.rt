@@ -5,18 +5,19 @@ ghost use Rattle.icu_decimal_chains.specs.Chains.{chain};
 ghost use Rattle.icu_decimal_provider.specs.Choice.{first_found};
 ghost use Rattle.icu_decimal_formatter.specs.FoundTables.{found_tables};
 ghost use Rattle.icu_decimal_formatter.specs.HeldTables.{tables_of};
-ghost use Rattle.icu_decimal_compact.specs.FoundCompactTables.{patterns_identifiers, rules_identifiers};
+ghost use Rattle.icu_decimal_compact.specs.FoundCompactTables.{rules_identifiers, with_plain};
+ghost use Rattle.icu_decimal_compact.specs.HeldCompact.{compact_tables_of};
 
+use crate::compact_formatter::CompactDecimalFormatter;
 use icu_decimal_formatter::DecimalFormatter;
+use icu_decimal_patterns::CompactPatterns;
 use icu_decimal_plurals::{PluralRules, PluralsCardinalV1};
-use icu_decimal_provider::preferences::{
-    CompactDecimalFormatterPreferences, DecimalFormatterPreferences,
-};
+use icu_decimal_provider::preferences::CompactDecimalFormatterPreferences;
 use icu_decimal_provider::provider::{
     DataProvider, DecimalDigitsV1, DecimalSymbolsV1, ParentProvider, load_by_chain,
 };
+use icu_decimal_symbols::DataError;
 use icu_decimal_symbols::options::{CompactDecimalFormatterOptions, DecimalFormatterOptions};
-use icu_decimal_symbols::{DataError, DataMarker};
 
 // The plain formatter of the same preferences and options.
 pub fn load_plain<
@@ -31,7 +32,7 @@ pub fn load_plain<
 {
     DecimalFormatter::try_new_unstable(
         provider,
-        DecimalFormatterPreferences::from(preferences),
+        *preferences,
         DecimalFormatterOptions::from(options),
     )
 }
@@ -49,15 +50,23 @@ pub fn load_rules<'p, P: DataProvider<PluralsCardinalV1> + ParentProvider>(
     load_by_chain::<PluralsCardinalV1, P>(provider, &locale, None)
 }
 
-// The patterns of the locale, along its chain: with the numbering system that is preferred, where one is, and then without.
-pub fn load_patterns<'p, M: DataMarker, P: DataProvider<M> + ParentProvider>(
+// The formatter of these preferences and options with patterns that were loaded, or the first error: that of the plain tables, of the
+// rules, of the patterns.
+pub fn load_with<'p, P>(
     provider: &'p P,
     preferences: &CompactDecimalFormatterPreferences,
-) -> Result<&'p M::DataStruct, DataError>
-    ensures { result_map_both (λ found. found.now) (λ error. error) result ≡ first_found (λ id. P.table provider.now id) (patterns_identifiers (chain (P.next provider.now) (P.limit provider.now)) preferences.now) }
+    options: CompactDecimalFormatterOptions,
+    patterns: Result<&'p CompactPatterns, DataError>,
+) -> Result<CompactDecimalFormatter<'p>, DataError>
+where
+    P: DataProvider<DecimalSymbolsV1>
+        + DataProvider<DecimalDigitsV1>
+        + DataProvider<PluralsCardinalV1>
+        + ParentProvider,
+    ensures { result_map_both compact_tables_of (λ error. error) result ≡ with_plain (found_tables (chain (P.next provider.now) (P.limit provider.now)) (λ id. ⟦<P as DataProvider<DecimalSymbolsV1>>⟧.table provider.now id) (λ id. ⟦<P as DataProvider<DecimalDigitsV1>>⟧.table provider.now id) preferences.now options.grouping_strategy) (first_found (λ id. ⟦<P as DataProvider<PluralsCardinalV1>>⟧.table provider.now id) (rules_identifiers (chain (P.next provider.now) (P.limit provider.now)) preferences.now)) (result_map_both (λ found. found.now) (λ error. error) patterns.entry) }
 {
-    let locale = preferences
-        .locale_preferences
-        .to_data_locale_language_priority();
-    load_by_chain::<M, P>(provider, &locale, preferences.numbering_system)
+    let plain = load_plain(provider, preferences, options)?;
+    let rules = load_rules(provider, preferences)?;
+    let patterns = patterns?;
+    Ok(CompactDecimalFormatter::from_tables(plain, rules, patterns))
 }

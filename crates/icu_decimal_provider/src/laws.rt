@@ -6,7 +6,7 @@ ghost use Rattle.icu_locale_core.specs.TagPreferences.{DataLocaleMeaning};
 ghost use Rattle.icu_decimal_provider.specs.Identifiers.{symbols_identifiers, digits_identifiers};
 ghost use Rattle.icu_decimal_provider.specs.Laws.{FirstIsFound};
 
-use crate::preferences::{CompactDecimalFormatterPreferences, DecimalFormatterPreferences};
+use crate::preferences::DecimalFormatterPreferences;
 use crate::provider::DataIdentifier;
 use icu_decimal_symbols::DataMarker;
 pub use icu_decimal_symbols::laws::{same_builders, same_symbols};
@@ -36,17 +36,6 @@ pub fn same_preferences(
     ensures symbols { IsTrue result → (chain : DataLocaleMeaning → List DataLocaleMeaning) → symbols_identifiers chain one.now ≡ symbols_identifiers chain other.now }
     ensures digits { IsTrue result → (named : Text) → digits_identifiers one.now.numbering_system named ≡ digits_identifiers other.now.numbering_system named }
     ensures hashed { IsTrue result → ⟦<DecimalFormatterPreferences as Hash>⟧.hash_input one.now ≡ ⟦<DecimalFormatterPreferences as Hash>⟧.hash_input other.now }
-{
-    one == other
-}
-
-/// Two preferences for compact numbers are `==` exactly where they are one value: true of those of `EN-u-NU-thai` and
-/// `en-u-nu-thai`, false of those of `en-u-nu-thai` and `en`.
-pub fn same_compact_preferences(
-    one: &CompactDecimalFormatterPreferences,
-    other: &CompactDecimalFormatterPreferences,
-) -> bool
-    ensures { IsTrue result ↔ (one.now ≡ other.now) }
 {
     one == other
 }

@@ -1,4 +1,4 @@
-//! What a locale prefers for plain numbers.
+//! What a locale prefers for plain numbers, and for compact ones.
 
 ghost use Rattle.std.specs.Prelude.{◌≡◌, true, false, MatchResult};
 ghost use Rattle.icu_locale_core.specs.TagPreferences.{preferences_of};
@@ -6,7 +6,6 @@ ghost use Rattle.icu_locale_core.specs.declared.preferences.extensions.unicode.e
 ghost use Rattle.icu_decimal_provider.specs.Identifiers.{of_asked};
 ghost use Rattle.icu_decimal_provider.specs.Preferences.{nothing_preferred, preferred_by, joined, fails};
 
-use crate::preferences::compact::CompactDecimalFormatterPreferences;
 use crate::preferences::keywords::{fails_at_numbering, system_of};
 use crate::provider::DataIdentifier;
 use icu_locale_core::preferences::LocalePreferences;
@@ -35,6 +34,12 @@ impl Model for DecimalFormatterPreferences {
 
     ghost inverse = { λ v. record { locale_preferences = v.locale; numbering_system = v.numbering_system } };
 }
+
+/// What a locale prefers for compact numbers, the same as for plain ones: `ar-EG-u-nu-thai` prefers the locale `ar-EG` and the
+/// numbering system `thai`.
+///
+/// Source: UTS 35, section 3.6, key `nu`.
+pub type CompactDecimalFormatterPreferences = DecimalFormatterPreferences;
 
 /// The language `und`, and nothing else. It does not allocate.
 impl Default for DecimalFormatterPreferences {
@@ -97,10 +102,7 @@ impl From<&CompactDecimalFormatterPreferences> for DecimalFormatterPreferences {
     ghost from_gives = { λ compact p. p ≡ compact.now };
 
     fn from(compact: &CompactDecimalFormatterPreferences) -> Self {
-        DecimalFormatterPreferences {
-            locale_preferences: compact.locale_preferences,
-            numbering_system: compact.numbering_system,
-        }
+        *compact
     }
 }
 

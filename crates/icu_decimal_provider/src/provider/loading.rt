@@ -29,21 +29,33 @@ fn load_one_or<'p, M: DataMarker, P: DataProvider<M>>(
     }
 }
 
-/// The symbols that the preferences ask for: along the chain of their locale, each with their numbering system, where they have
-/// one, then each without.
+/// The first table that the preferences ask for, of a kind that stands where symbols do: along the chain of their locale, each with
+/// their numbering system, where they have one, then each without.
 ///
-/// With the sample book `en-u-nu-wxyz` gets those of `en`. The locale is the form with the language first. Errors as
+/// With the sample book `en-u-nu-wxyz` gets the symbols of `en`. The locale is the form with the language first. Errors as
 /// `load_by_chain`. It does not allocate.
+pub fn load_by_locale<'p, M: DataMarker, P: DataProvider<M> + ParentProvider>(
+    provider: &'p P,
+    preferences: &DecimalFormatterPreferences,
+) -> Result<&'p M::DataStruct, DataError>
+    ensures { result_map_both (λ found. found.now) (λ error. error) result ≡ first_found (λ id. P.table provider.now id) (symbols_identifiers (chain (P.next provider.now) (P.limit provider.now)) preferences.now) }
+{
+    let locale = preferences
+        .locale_preferences
+        .to_data_locale_language_priority();
+    load_by_chain::<M, P>(provider, &locale, preferences.numbering_system)
+}
+
+/// The symbols that the preferences ask for, by `load_by_locale`: with the sample book `en-u-nu-wxyz` gets those of `en`.
+///
+/// Errors as `load_by_chain`. It does not allocate.
 pub fn load_symbols<'p, P: DataProvider<DecimalSymbolsV1> + ParentProvider>(
     provider: &'p P,
     preferences: &DecimalFormatterPreferences,
 ) -> Result<&'p DecimalSymbols, DataError>
     ensures { result_map_both (λ found. found.now) (λ error. error) result ≡ first_found (λ id. P.table provider.now id) (symbols_identifiers (chain (P.next provider.now) (P.limit provider.now)) preferences.now) }
 {
-    let locale = preferences
-        .locale_preferences
-        .to_data_locale_language_priority();
-    load_by_chain::<DecimalSymbolsV1, P>(provider, &locale, preferences.numbering_system)
+    load_by_locale::<DecimalSymbolsV1, P>(provider, preferences)
 }
 
 /// The ten digits that the preferences ask for: those of their numbering system, where they have one, then those of the system

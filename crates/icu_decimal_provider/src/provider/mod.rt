@@ -15,6 +15,6 @@ pub use chain_loading::load_by_chain;
 pub use data_provider::DataProvider;
 pub use fallback::load_with_fallback;
 pub use identifier::DataIdentifier;
-pub use loading::{load_digits, load_symbols};
+pub use loading::{load_by_locale, load_digits, load_symbols};
 pub use markers::{DecimalDigitsV1, DecimalSymbolsV1};
 pub use parents::ParentProvider;

@@ -10,5 +10,4 @@ returns g c =
     let symbols = g.P.DataProvider-1.table c.args.provider.now in
     let digits = g.P.DataProvider-2.table c.args.provider.now in
     c.try_new_unstable.ensures
-    ∙ ap (λ p. found_tables along symbols digits p c.from-2.result.grouping_strategy) c.from.ensures
-    ∙ ap (λ (o : DecimalFormatterOptions). found_tables along symbols digits c.args.preferences.now o.grouping_strategy) c.from-2.ensures
+    ∙ ap (λ (o : DecimalFormatterOptions). found_tables along symbols digits c.args.preferences.now o.grouping_strategy) c.from.ensures
