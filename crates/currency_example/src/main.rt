@@ -3,31 +3,9 @@
 #![tactic(auto)]
 
 use anyhow::Result;
-use locale_numbers::prelude::{AbstractFormatter, Affixed, Book, Decimal, SAMPLE_BOOK, Writeable};
+use locale_numbers::prelude::{AbstractFormatter, Affixed, Book, Decimal, SAMPLE_BOOK};
 
-/// The number between a unit's two texts, and its sign round all: `-€1,234.50`, `12.5 %`.
-fn with_unit<F: AbstractFormatter>(
-    rt: &HostRuntime,
-    formatter: &F,
-    before: &str,
-    number: &Decimal,
-    behind: &str,
-) -> Result<String>
-    requires { F.can_write formatter.now number.now.absolute }
-{
-    let value = formatter.format_unsigned(&number.absolute)?;
-    let amount = Affixed {
-        before,
-        value,
-        behind,
-    };
-    let text = formatter
-        .format_sign(number.sign, amount)
-        .write_to_string(rt.alloc())?;
-    Ok(text)
-}
-
-/// Prints the number with its unit, where the formatter can write it.
+/// Prints a number between a unit's two texts, and its sign round all: `-€1,234.50`, `12.5 %`.
 fn print_unit<F: AbstractFormatter>(
     rt: &HostRuntime,
     formatter: &F,
@@ -37,7 +15,13 @@ fn print_unit<F: AbstractFormatter>(
 ) -> Result<()> {
     let number = Decimal::try_from_str(rt.alloc(), number)?;
     if formatter.can_write(&number.absolute) {
-        println!(rt; "{}", with_unit(rt, formatter, before, &number, behind)?)?;
+        let value = formatter.format_unsigned(&number.absolute)?;
+        let amount = Affixed {
+            before,
+            value,
+            behind,
+        };
+        println!(rt; "{}", formatter.format_sign(number.sign, amount))?;
     }
     Ok(())
 }
