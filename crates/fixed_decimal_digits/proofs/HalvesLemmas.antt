@@ -1,6 +1,6 @@
 -- The halves of bytes: put into a list two at a time, and found again among the digits.
 use Rattle.std.proofs.Common.{◌≡◌, ℕ, zero, suc, ◌+◌, ◌-◌, ◌*◌, ◌/◌, ◌%◌, ◌<◌, ◌≤◌, List, [], ◌∷◌, ◌++◌, length, get_or, set, take, drop, refl, sym, ap, ◌∙◌, arith}
-use Rattle.std.proofs.lemmas.List.{append_assoc, append-nil, drop_all, take_all, take_at, take-take, drop_more, drop-drop, drop-take, take_more_set, length-set}
+use Rattle.std.proofs.lemmas.List.{append_assoc, append-nil, drop_all, take_all, take_at, take-take, drop_more, drop-drop, drop-take, take_more_set, length-set, length-drop}
 use Rattle.fixed_decimal_digits.specs.Packed.{halves, digits_in}
 
 -- two values behind those that are there
@@ -78,6 +78,16 @@ digits_cut bytes front count m k s n i at fits enough e =
     ∙ ap (λ h. take n (drop s h)) (halves_past k bytes)
     ∙ ap (take n) (drop-drop s (2 * k) (halves bytes) ∙ ap (λ j. drop j (halves bytes)) (sym at))
     ∙ sym (within_front i n count (halves bytes) fits)
+
+-- and so in a block that holds at its front the bytes from that byte on, so many at most
+pub digits_first : (bytes rest first : List ℕ) (count m k s n i : ℕ) → i ≡ 2 * k + s → i + n ≤ count → s + n ≤ 2 * m → count ≤ 2 * length bytes → rest ≡ drop k bytes → take (length rest) first ≡ take m rest
+    → take n (drop s (halves first)) ≡ take n (drop i (digits_in bytes count))
+digits_first bytes rest first count m k s n i at fits enough whole behind e =
+    let size : length rest ≡ length bytes - k = ap length behind ∙ length-drop k bytes in
+    let held : s + n ≤ 2 * length rest = omega (arith, at, fits, whole, size) in
+    sym (within_front s n (2 * length rest) (halves first) held)
+    ∙ ap (λ h. take n (drop s h)) (sym (halves_front (length rest) first))
+    ∙ digits_cut bytes (take (length rest) first) count m k s n i at fits enough (e ∙ ap (take m) behind)
 
 -- so many bytes from one on hold so many digits
 pub digits_whole : (bytes front : List ℕ) (count m k i : ℕ) → i ≡ 2 * k → i + 2 * m ≤ count → front ≡ take m (drop k bytes) → halves front ≡ take (2 * m) (drop i (digits_in bytes count))

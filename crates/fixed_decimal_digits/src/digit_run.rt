@@ -2,6 +2,7 @@
 ghost use Rattle.std.specs.Prelude.{◌≡◌, ◌+◌, ◌^◌, ◌<◌, ◌≤◌, length, min, take, drop};
 ghost use Rattle.std.specs.Iterator.{YieldsFirst, item_count};
 
+use crate::digit_bytes::{digits_between, digits_within, first_bytes, put_front};
 use crate::digits::{Digits, STEP};
 use std::iter::FusedIterator;
 use std::marker::Model;
@@ -39,6 +40,21 @@ impl Digits {
             left,
         }
     }
+
+    // The digits from an index on, so many, at the front of a block.
+    #[tactic(auto, using(crate::proofs::PackedChanges::bytes_length))]
+    fn few(&self, index: usize, count: usize) -> [u8; 16]
+        requires few { count ≤ 16 }
+        requires within { index + count ≤ length self.now.items }
+        ensures { take count result ≡ take count (drop index self.now.items) }
+    {
+        let (_, rest) = self.kept.as_slice().split_at(index / 2);
+        if index % 2 == 0 {
+            digits_within(&first_bytes::<8>(rest))
+        } else {
+            digits_between(&first_bytes::<9>(rest))
+        }
+    }
 }
 
 impl<'l> DigitRun<'l> {
@@ -62,22 +78,20 @@ impl<'l> DigitRun<'l> {
         digits
     }
 
-    // Puts the digits that are left, sixteen at most, into the front of a block, and answers how many. What stands behind them
-    // stays.
-    pub fn next_few(&mut self, block: &mut [u8; 16]) -> usize
-        ensures count { result ≡ min 16 (length self.old) }
-        ensures taken { take result block.new ≡ take result self.old }
-        ensures same { drop result block.new ≡ drop result block.old }
+    // Puts the digits that are left into the front of a part, as many as it holds, and returns how many. What stands behind
+    // them stays.
+    pub fn next_few(&mut self, part: &mut [u8]) -> usize
+        requires { length part.old ≤ 16 }
+        ensures count { result ≡ min (length part.old) (length self.old) }
+        ensures taken { take result part.new ≡ take result self.old }
+        ensures same { drop result part.new ≡ drop result part.old }
         ensures rest { self.new ≡ drop result self.old }
     {
-        let mut count = 0;
-        while count < STEP {
-            let Some(digit) = self.next() else {
-                return count;
-            };
-            block[count] = digit;
-            count += 1;
-        }
+        let count = part.len().min(self.left);
+        let digits = self.digits.few(self.next, count);
+        put_front(part, &digits, count);
+        self.next += count;
+        self.left -= count;
         count
     }
 }

@@ -11,6 +11,9 @@ use crate::digits::{Digits, STEP};
 use std::iter::{ExactSizeIterator, FusedIterator};
 use std::marker::Model;
 
+// So many digits are handed out one by one sooner than by one step.
+const FEW: usize = 4;
+
 /// The digits of a number at a range of magnitudes, from the highest to the lowest, each from 0 to 9: before the point of
 /// `012.30` they are 0, 1, 2, and behind it 3, 0.
 ///
@@ -69,7 +72,7 @@ impl<'l> ShownDigits<'l> {
             *block = self.inside.next_sixteen();
             return STEP;
         }
-        if self.zeros_before == 0 && self.zeros_behind == 0 {
+        if self.zeros_before == 0 && self.zeros_behind == 0 && self.inside.len() > FEW {
             return self.inside.next_few(block);
         }
         self.next_few(block)

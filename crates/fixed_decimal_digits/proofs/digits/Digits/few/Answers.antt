@@ -1,0 +1,33 @@
+use Rattle.std.proofs.Common.{◌≡◌, ◌≤◌, ◌*◌, ◌/◌, ◌%◌, length, take, drop, sym, ap, ◌∙◌, arith}
+use Rattle.std.proofs.lemmas.List.{take-take}
+use Rattle.fixed_decimal_digits.specs.Packed.{halves}
+use Rattle.fixed_decimal_digits.proofs.HalvesLemmas.{digits_first}
+use Rattle.fixed_decimal_digits.proofs.PackedChanges.{bytes_length}
+use Rattle.fixed_decimal_digits.proofs.digits.Digits.few.Goals as goal
+
+pub returns-then-index-eq0 : goal.returns-then-index-eq0
+returns-then-index-eq0 c =
+    let i = c.self.inside in
+    let index = c.args.index in
+    let count = c.args.count in
+    let counted : i.count ≡ length c.args.self.now.items = sym c.self.invariant.0.all ∙ ap (λ v. length v.items) c.self.view_is in
+    let whole : i.count ≤ 2 * length i.kept.items = omega (arith, bytes_length i.kept.items i.count c.self.invariant.0) in
+    let behind = c.split_at.ensures.back ∙ ap (drop (index / 2)) c.as_slice.ensures in
+    ap (take count) c.digits_within.ensures
+    ∙ digits_first i.kept.items c.split_at.result.1.now c.first_bytes.result i.count 8 (index / 2) 0 count index (omega (arith, c.if-index-eq0.true)) (omega (arith, counted, c.requires.within)) (omega (arith, c.requires.few)) whole behind c.first_bytes.ensures
+    ∙ ap (λ v. take count (drop index v.items)) c.self.view_is
+
+pub returns-else-index-eq0 : goal.returns-else-index-eq0
+returns-else-index-eq0 c =
+    let i = c.self.inside in
+    let index = c.args.index in
+    let count = c.args.count in
+    let odd : index % 2 ≡ 1 = grind (arith, c.if-index-eq0.false) in
+    let counted : i.count ≡ length c.args.self.now.items = sym c.self.invariant.0.all ∙ ap (λ v. length v.items) c.self.view_is in
+    let whole : i.count ≤ 2 * length i.kept.items = omega (arith, bytes_length i.kept.items i.count c.self.invariant.0) in
+    let behind = c.split_at.ensures.back ∙ ap (drop (index / 2)) c.as_slice.ensures in
+    let first = c.first_bytes-else-index-eq0.result in
+    ap (take count) c.digits_between.ensures
+    ∙ take-take count 16 (drop 1 (halves first)) c.requires.few
+    ∙ digits_first i.kept.items c.split_at.result.1.now first i.count 9 (index / 2) 1 count index (omega (arith, odd)) (omega (arith, counted, c.requires.within)) (omega (arith, c.requires.few)) whole behind c.first_bytes-else-index-eq0.ensures
+    ∙ ap (λ v. take count (drop index v.items)) c.self.view_is
