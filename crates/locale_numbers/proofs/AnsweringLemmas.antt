@@ -1,5 +1,5 @@
 -- A call that refuses before it has written leaves what was there; a text that is written behind `ok` is the answer.
-use Rattle.std.proofs.Common.{◌≡◌, ◌≤◌, ◌+◌, List, [], ◌∷◌, ◌++◌, ℕ, codes, length, sym, ap, ◌∙◌, subst, arith, Result, Ok, Err, OnOk, OnErr, IsOk}
+use Rattle.std.proofs.Common.{◌≡◌, ◌≤◌, ◌+◌, List, [], ◌∷◌, ◌++◌, ℕ, codes, length, sym, ap, ◌∙◌, subst, arith, Option, Some, Result, Ok, Err, OnOk, OnErr, IsOk}
 use Rattle.std.proofs.lemmas.List.{append-nil, append_assoc, length-append}
 use Rattle.locale_numbers_lines.specs.Growth.{Grows}
 use Rattle.locale_numbers.specs.AnswerLine.{written}
@@ -13,6 +13,10 @@ pub on_ok_by : {T E P Q : Type 0} (r : Result T E) → (P → Q) → OnOk r P �
 on_ok_by (Ok t) f h = f h
 on_ok_by (Err e) f h = tt
 
+-- of two that the latest is, one is the other
+pub one_of : {K : Type 0} (one other : K) (latest : Option K) → latest ≡ Some one → latest ≡ Some other → one ≡ other
+one_of one other latest is found = let same : Some one ≡ Some other = sym is ∙ found in cc
+
 -- ---- a text behind `ok`
 
 -- what stands before a text
@@ -22,6 +26,21 @@ well = codes "ok" ++ tab ∷ []
 -- a text behind it is the answer that holds it
 pub answer_put : (text old begun new : List ℕ) → begun ≡ old ++ well → new ≡ begun ++ text → new ≡ old ++ written text
 answer_put text old begun new put rest = rest ∙ ap (λ held. held ++ text) put ∙ append_assoc old well text
+
+-- where two texts fit one behind the other, so does the second behind the first
+pub fits_behind : (front text old begun : List ℕ) (before after : ℕ) → begun ≡ old ++ front → before ≤ after → length old + length (front ++ text) ≤ before
+    → length begun + length text ≤ after
+fits_behind front text old begun before after put grows room =
+    let held : length begun ≡ length old + length front = ap length put ∙ length-append old front in
+    omega (arith, held, length-append front text, grows, room)
+
+-- the first of two that fit fits
+pub front_fits : (front text old : List ℕ) (room : ℕ) → length old + length (front ++ text) ≤ room → length old + length front ≤ room
+front_fits front text old room fits = omega (arith, length-append front text, fits)
+
+-- an answer of two texts is the answer of the first, and the second behind a tab
+pub two_texts : (text more : List ℕ) → written text ++ tab ∷ more ≡ written (text ++ tab ∷ more)
+two_texts text more = append_assoc well text (tab ∷ more)
 
 -- where the answer fits, so does the text behind `ok`
 pub answer_fits : (text old begun : List ℕ) (before after : ℕ) → begun ≡ old ++ well → before ≤ after → length old + length (written text) ≤ before

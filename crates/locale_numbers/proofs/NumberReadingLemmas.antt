@@ -1,5 +1,5 @@
 -- What the relations say of a text is what the function answers.
-use Rattle.std.proofs.Common.{◌≡◌, ◌==◌, Bool, true, false, cond, List, [], ◌∷◌, ◌++◌, ℕ, Option, Some, None, refl, sym, ap, ◌∙◌, inl, inr, Result, Ok, Err, IfOk}
+use Rattle.std.proofs.Common.{◌≡◌, ◌==◌, Bool, true, false, cond, List, [], ◌∷◌, ◌++◌, ℕ, Option, Some, None, refl, sym, ap, ◌∙◌, inl, inr}
 use Rattle.std.proofs.lemmas.Bool.{eqb-true}
 use Rattle.fixed_decimal.specs.declared.sign.Sign.{Sign}
 use Rattle.fixed_decimal.specs.declared.sign.Sign.TheVariants.{None as Unsigned, Positive, Negative}
@@ -80,8 +80,3 @@ signed_nothing (c ∷ cs) lacks = at (c == plus) (c == minus) refl refl
     at true b first second = reads_nothing Positive cs (lacks Positive cs (ap (λ x. x ∷ cs) (eqb-true c plus first)))
     at false true first second = reads_nothing Negative cs (lacks Negative cs (ap (λ x. x ∷ cs) (eqb-true c minus second)))
     at false false first second = reads_nothing Unsigned (c ∷ cs) (lacks Unsigned (c ∷ cs) refl)
-
--- the same of what a call answers
-pub signed_value : {E : Type 0} (text : List ℕ) (r : Result (SignedValue Number) E) → IfOk r (λ value. ReadsSigned text value) → IfOk r (λ value. reading_of text ≡ number value)
-signed_value text (Ok value) read = signed_number text value read
-signed_value text (Err cause) read = tt

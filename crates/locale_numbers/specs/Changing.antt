@@ -1,10 +1,11 @@
 -- What a request makes of the number that its text says: it is rounded, and then the sign is chosen by the number that this left.
 -- Defined in docs/requests.md, "Rounding and sign".
 -- Cited by `answer` and `run`, through Answer.antt.
-use Rattle.std.specs.Prelude.{◌==◌}
+use Rattle.std.specs.Prelude.{ℕ, List, ◌==◌}
 use Rattle.fixed_decimal.specs.Calls.{MayGrowBy}
 use Rattle.fixed_decimal.specs.Number.{Number, place}
 use Rattle.fixed_decimal.specs.SignChoice.{chosen_sign}
+use Rattle.fixed_decimal.specs.SignedText.{ReadsLongSigned, ReadsLongerSigned}
 use Rattle.fixed_decimal.specs.SignedValue.{SignedValue}
 use Rattle.fixed_decimal.specs.declared.call.Call.TheVariants.{Round}
 use Rattle.locale_numbers.specs.NumberReading.{Reading, number, beyond, nothing}
@@ -38,3 +39,7 @@ abbrev pub MayGrowRead : RoundingAsked → Reading → Type 0
 MayGrowRead rounding (number value) = MayGrow rounding value
 MayGrowRead rounding beyond = ⊥
 MayGrowRead rounding nothing = ⊥
+
+-- a text spells a number of more than eight digits, and of more than the number that is there: only then more memory is wanted to read it in its place
+abbrev pub ReadsMore : List ℕ → SignedValue Number → Type 0
+ReadsMore text value = ReadsLongSigned text × ReadsLongerSigned text value.absolute.count

@@ -1,26 +1,33 @@
-pub mod Answer
+-- What a reader must believe: request lines and their answers.
+pub mod Cutting
+pub mod Request
+pub mod RoundingField
+pub mod Refusal
+pub mod Changing
 pub mod AnswerLine
+pub mod CompactAnswer
+pub mod ReadAnswer
+pub mod Answer
+-- Keys of formatters, and how many are made.
+pub mod FormatterKeys
+-- The program.
+pub mod Words
+pub mod Fault
+pub mod Program
+-- What the answers go by, which a law makes needless to believe.
+pub mod NumberReading
+pub mod CompactReading
+pub mod Rounded
+-- What private steps follow.
+pub mod Front
 pub mod AnswerSink
 pub mod AnswerSinkLaws
-pub mod Changing
-pub mod CompactAnswer
-pub mod CompactReading
-pub mod Cutting
-pub mod Fault
-pub mod FormatterKeys
-pub mod Front
+-- Statements of laws.
+pub mod SameKeys
 pub mod Laws
-pub mod NumberReading
 pub mod Printed
 pub mod PrintedLaws
-pub mod Program
-pub mod ReadAnswer
-pub mod Refusal
-pub mod Request
-pub mod Rounded
-pub mod RoundingField
-pub mod SameKeys
-pub mod Words
+-- Of the inner crates: books.
 pub use Rattle.locale_numbers_book.specs.Book
 pub use Rattle.locale_numbers_book.specs.BookError
 pub use Rattle.locale_numbers_book.specs.Faults as BookFaults
@@ -31,9 +38,11 @@ pub use Rattle.locale_numbers_book.specs.Refusal as BookRefusal
 pub use Rattle.locale_numbers_book.specs.Tables
 pub use Rattle.locale_numbers_book.specs.TagFormatters
 pub use Rattle.locale_numbers_book.specs.Wanted
+-- Of the inner crates: what is kept from line to line.
 pub use Rattle.locale_numbers_cache.specs.Cached
 pub use Rattle.locale_numbers_cache.specs.Laws as CacheLaws
 pub use Rattle.locale_numbers_cache.specs.Recent
+-- Of the inner crates: lines, readers and writers.
 pub use Rattle.locale_numbers_lines.specs.ByteIo
 pub use Rattle.locale_numbers_lines.specs.Laws as LineLaws
 pub use Rattle.locale_numbers_lines.specs.Lines

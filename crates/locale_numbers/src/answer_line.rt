@@ -1,5 +1,5 @@
 // The two kinds of answer.
-ghost use Rattle.std.specs.Prelude.{◌≡◌, ◌++◌, IsOk, OnOk, OnErr, string_bytes};
+ghost use Rattle.std.specs.Prelude.{◌≡◌, ◌≤◌, ◌++◌, IsOk, OnOk, OnErr, string_bytes, string_capacity};
 ghost use Rattle.writeable.specs.AnnotatedText.{text_of};
 ghost use Rattle.locale_numbers_lines.specs.Growth.{Grows};
 ghost use Rattle.locale_numbers.specs.AnswerLine.{refused, written};
@@ -25,6 +25,7 @@ pub(crate) fn push_answer<T: Writeable>(out: &mut String, value: &T) -> Result<(
     ensures text { OnOk result (string_bytes out.new ≡ string_bytes out.old ++ written (text_of (T.events value.now))) }
     ensures err { OnErr result (Grows (string_bytes out.old) (string_bytes out.new)) }
     ensures room { HasRoom out.old (written (text_of (T.events value.now))) → IsOk result }
+    ensures capacity { OnOk result (string_capacity out.old ≤ string_capacity out.new) }
 {
     out.push_str("ok\t")?;
     push_written(out, value)

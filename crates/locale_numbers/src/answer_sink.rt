@@ -69,13 +69,14 @@ impl<'o> Sink for AnswerSink<'o> {
 
 /// Puts the text of a value behind what `out` holds.
 ///
-/// Where its hint tells the length, memory is asked for once; where there is room, not at all. After an error a part of the
+/// Where its hint tells the length, it allocates once; where there is room, not at all. After an error a part of the
 /// text may stand there.
 #[tactic(auto, using(writeable::proofs::AnnotatedTextLemmas::text_of_bytes))]
 pub(crate) fn push_written<T: Writeable>(out: &mut String, value: &T) -> Result<(), AllocError>
     ensures text { OnOk result (string_bytes out.new ≡ string_bytes out.old ++ text_of (T.events value.now)) }
     ensures err { OnErr result (Grows (string_bytes out.old) (string_bytes out.new)) }
     ensures room { HasRoom out.old (text_of (T.events value.now)) → IsOk result }
+    ensures capacity { OnOk result (string_capacity out.old ≤ string_capacity out.new) }
 {
     out.reserve(value.writeable_length_hint().low)?;
     let mut sink = AnswerSink {

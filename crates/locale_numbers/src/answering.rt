@@ -14,14 +14,16 @@ use crate::number_answer::push_text;
 use crate::read_answer::push_reading;
 use crate::refusal::Refusal;
 use crate::request::{Form, cut_text};
+use fixed_decimal::Decimal;
 use locale_numbers_book::Book;
 use std::alloc::{AllocError, Global};
 
 /// Puts the answer to a text behind a front, behind what `out` holds.
 ///
-/// It fails only where it is out of memory; a part of the answer may then stand there.
+/// `value` is where a number is read. `AllocError`: out of memory; a part of the answer may then stand there.
 pub(crate) fn push_behind<'a, F: Formatters<'a>>(
     alloc: Global,
+    value: &mut Decimal,
     formatters: &mut F,
     front: &Option<Front>,
     text: &str,
@@ -45,7 +47,7 @@ pub(crate) fn push_behind<'a, F: Formatters<'a>>(
     };
     match front.form {
         Form::Plain | Form::Compact(_) => push_text(
-            alloc,
+            value,
             formatters,
             key,
             front.sign,
@@ -76,7 +78,8 @@ fn push_line<'a, F: Formatters<'a>>(
         return push_refusal(out, Refusal::Shape);
     };
     let front = read_front(alloc, front)?;
-    push_behind(alloc, formatters, &front, text, out)
+    let mut value = Decimal::zero(alloc);
+    push_behind(alloc, &mut value, formatters, &front, text, out)
 }
 
 /// The answer of `book` to a request line, without a line feed.
@@ -88,8 +91,8 @@ fn push_line<'a, F: Formatters<'a>>(
 /// `-1.20M`; with `read` and `-987,654.321` by `ok`, a tab and `-987654.321`. A line that is refused is
 /// answered by `err`, a tab and the first word that applies: `shape`, `tag`, `number`, `limit`,
 /// `table`, `range`, `exponent`, `unreadable`, `not-written`; an empty line by `shape`. A line feed in it
-/// is an ordinary byte. Takes memory, and fails only where that is refused. Tags are the whole locale tags of
-/// UTS 35, of which the preferences alone count; the lines are defined in docs/requests.md.
+/// is an ordinary byte. Allocates. `AllocError`: out of memory. Tags are the whole locale tags of
+/// UTS 35, of which only the preferences count; the lines are defined in docs/requests.md.
 pub fn answer(alloc: Global, book: &Book, line: &[u8]) -> Result<Vec<u8>, AllocError>
     ensures text { IfOk result (λ text. text.items ≡ answer_of book.now line.now) }
 {

@@ -20,7 +20,7 @@ fn round(value: &mut Decimal, rounding: RoundingAsked) -> Result<(), AllocError>
     }
 }
 
-/// Chooses the sign of a number, where that is asked for. It takes no memory.
+/// Chooses the sign of a number, where that is asked for. It does not allocate.
 pub(crate) fn choose_sign(value: &mut Decimal, sign: SignAsked)
     ensures { value.new ≡ signed_as sign value.old }
 {
@@ -32,7 +32,7 @@ pub(crate) fn choose_sign(value: &mut Decimal, sign: SignAsked)
 
 /// Rounds a number, and then chooses its sign by what that left.
 ///
-/// Memory is wanted only for some roundings to multiples of 25: those of `Decimal::round_with_mode_and_increment`.
+/// It allocates only for some roundings to multiples of 25: those of `Decimal::round_with_mode_and_increment`.
 pub(crate) fn change(
     value: &mut Decimal,
     rounding: RoundingAsked,

@@ -1,9 +1,10 @@
 //! The exact forms: a significand and an exponent, as they are given.
-ghost use Rattle.std.specs.Prelude.{◌≡◌, ◌∷◌, ◌++◌, List, Option, Some, IfOk, OnOk, OnErr, IsErrOf, string_bytes};
+ghost use Rattle.std.specs.Prelude.{◌≡◌, ◌∷◌, ◌++◌, List, Option, Some, IfOk, IsOk, OnOk, OnErr, IsErrOf, string_bytes};
 ghost use Rattle.fixed_decimal.specs.CompactText.{ReadsLongCompact};
 ghost use Rattle.icu_decimal.specs.HeldCompact.{compact_tables_of};
 ghost use Rattle.locale_numbers_lines.specs.Growth.{Grows};
 ghost use Rattle.locale_numbers.specs.Answer.{exact_to};
+ghost use Rattle.locale_numbers.specs.AnswerSink.{HasRoom};
 ghost use Rattle.locale_numbers.specs.CompactAnswer.{exact_answer, exact_with, found_compact};
 ghost use Rattle.locale_numbers.specs.CompactReading.{compact_beyond, compact_nothing, compact_number, compact_reading_of};
 ghost use Rattle.locale_numbers.specs.FormatterKeys.{key_exact};
@@ -46,6 +47,9 @@ fn push_exact(
     ensures text { OnOk result (string_bytes out.new
         ≡ string_bytes out.old ++ exact_answer (compact_tables_of formatter.now) (record { significand = significand.now; exponent = exponent })) }
     ensures err { OnErr result (Grows (string_bytes out.old) (string_bytes out.new)) }
+
+    // Where there is room for the answer, it does not allocate.
+    ensures room { HasRoom out.old (exact_answer (compact_tables_of formatter.now) (record { significand = significand.now; exponent = exponent })) → IsOk result }
 {
     if !formatter.exponent_in_range(significand, exponent) {
         return push_refusal(out, Refusal::Range);
@@ -88,7 +92,7 @@ fn push_significand<'a, F: Formatters<'a>>(
 
 /// Puts the answer to the text of an exact form, with the formatter of a key, behind what `out` holds.
 ///
-/// It fails only where it is out of memory; a part of the answer may then stand there.
+/// `AllocError`: out of memory; a part of the answer may then stand there.
 pub(crate) fn push_exact_text<'a, F: Formatters<'a>>(
     alloc: Global,
     formatters: &mut F,

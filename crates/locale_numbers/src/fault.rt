@@ -16,9 +16,9 @@ pub enum ProgramFault {
     Usage,
     /// The file of the book can't be opened, as `/no/such/book.json`, or not be read to its end.
     File,
-    /// The book is refused, as the text `[1` by `BookError::Json`, or memory was refused while it was read.
+    /// The book is refused, as the text `[1` by `BookError::Json`, or it was out of memory while it was read.
     Book(BookError),
-    /// The reader or the writer failed, as `RunError::Read` says of the reader, or memory was refused while lines were answered.
+    /// The reader or the writer failed, as `RunError::Read` says of the reader, or it was out of memory while lines were answered.
     Run(RunError),
 }
 
@@ -28,7 +28,7 @@ impl ProgramFault {
     /// The status with which the program ends: 2 for usage, 3 for the file, 4 for the book, 5 for
     /// a failed read or write, 6 for out of memory, wherever it arose.
     ///
-    /// Of `Book(BookError::Json)` it is 4, of `Book(BookError::Memory)` 6. Takes no memory.
+    /// Of `Book(BookError::Json)` it is 4, of `Book(BookError::Memory)` 6. Does not allocate.
     pub fn status(&self) -> u8
         ensures value { result ≡ status_of self.now }
     {

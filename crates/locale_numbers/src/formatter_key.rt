@@ -10,7 +10,7 @@ use locale_numbers_cache::CacheKey;
 /// Which tables a form is written with.
 #[derive(Clone, Copy, PartialEq, Eq, Hash)]
 pub(crate) enum Kind {
-    /// Symbols and digits alone.
+    /// Only symbols and digits.
     Plain,
     /// These, plural rules and the patterns of a length.
     Compact(PatternLength),

@@ -19,7 +19,7 @@ pub(crate) trait Formatters<'a> {
     // How many formatters it will have counted once lines with these keys are answered too.
     ghost counted_over: { Self → List (Option FormatterKey) → ℕ };
 
-    // Finding one may take memory.
+    // Finding one may allocate.
     ghost may_take_memory: { Self → Type 0 };
 
     // The formatter that was found last is that of the key.
@@ -36,7 +36,7 @@ pub(crate) trait Formatters<'a> {
         ensures ready { is_ready self.new }
         ensures room { OnErr result (may_take_memory self.old) };
 
-    /// The formatter of a key. The condition is that it was found last. It takes no memory.
+    /// The formatter of a key. The condition is that it was found last. It does not allocate.
     fn found(&self, key: &Hashed<FormatterKey>) -> &KeptFormatter<'a>
         requires { holds self.now key.now }
         ensures { IsMadeFor (book self.now) key.now result.now };

@@ -46,7 +46,7 @@ fn key_by(
 
 /// What a front asks: it is read as a line with no text. `None` where it is none.
 ///
-/// Its tag may take memory, and it fails only where that is refused.
+/// It may allocate for its tag. `AllocError`: out of memory.
 pub(crate) fn read_front(alloc: Global, bytes: &[u8]) -> Result<Option<Front>, AllocError>
     ensures { IfOk result (λ front. front ≡ front_of bytes.now) }
 {
@@ -65,7 +65,7 @@ pub(crate) fn read_front(alloc: Global, bytes: &[u8]) -> Result<Option<Front>, A
 /// A reader of fronts.
 #[derive(Clone, Copy)]
 pub(crate) struct FrontReader {
-    /// Where a tag may take memory.
+    /// Where a tag may allocate.
     pub alloc: Global,
 }
 

@@ -64,7 +64,7 @@ pub fn auto_is_answered_as_always()
 {}
 
 /// What is found in tables is ten digits, and symbols that are texts, as the laws of reading back ask for: with preferences of
-/// `en`, in the sample book, `0` to `9` and `-`, `+`, `.`, `,`. It makes a formatter to tell, and takes no memory.
+/// `en`, in the sample book, `0` to `9` and `-`, `+`, `.`, `,`. It makes a formatter to tell, and does not allocate.
 pub fn found_tables_are_texts<T: Tables>(
     tables: &T,
     preferences: DecimalFormatterPreferences,
@@ -188,7 +188,7 @@ fn found_tables_are_sound<T: Tables>(
 }
 
 /// What the short form finds in tables of one's own is sound: in the sample book with `en` the types 3 and 6. It makes a formatter
-/// to tell, and takes no memory.
+/// to tell, and does not allocate.
 pub fn found_short_tables_are_sound<T: Tables>(
     tables: &T,
     preferences: DecimalFormatterPreferences,
@@ -200,7 +200,7 @@ pub fn found_short_tables_are_sound<T: Tables>(
 }
 
 /// What the long form finds in tables of one's own is sound: in the sample book with `en` the types 3 and 6. It makes a formatter
-/// to tell, and takes no memory.
+/// to tell, and does not allocate.
 pub fn found_long_tables_are_sound<T: Tables>(
     tables: &T,
     preferences: DecimalFormatterPreferences,

@@ -8,19 +8,22 @@ use crate::kept::Kept;
 use crate::refusal::Refusal;
 use crate::request::cut_text;
 use crate::tables::Tables;
+use fixed_decimal::Decimal;
 use locale_numbers_cache::ReadKeys;
 use locale_numbers_lines::Answerer;
 use std::alloc::{AllocError, Global};
 
-/// Formatters that are kept, and the fronts that were read.
+/// Formatters that are kept, the fronts that were read, and the number that was read last.
 #[derive(Drop)]
 pub(crate) struct LineAnswerer<'a, T: Tables> {
-    /// Where lines take memory.
+    /// Where lines allocate.
     pub alloc: Global,
     /// The formatters.
     pub kept: Kept<'a, T>,
     /// The fronts of lines that were read, and what each asks.
     pub read: ReadKeys<Option<Front>>,
+    /// Where numbers are read: the memory of one serves the next.
+    pub value: Decimal,
 }
 
 impl<'a, T: Tables> Answerer for LineAnswerer<'a, T> {
@@ -32,7 +35,7 @@ impl<'a, T: Tables> Answerer for LineAnswerer<'a, T> {
     ghost use Rattle.locale_numbers.specs.FormatterKeys.{IsKeptFor, finds, key_of};
     ghost use Rattle.locale_numbers.specs.Front.{front_of};
 
-    ghost is_ready = { λ s. IsSound (finds (T.book s.kept.maker.tables.now)) (IsKeptFor (T.book s.kept.maker.tables.now)) s.kept.formatters × All (AreRead front_of) s.read };
+    ghost is_ready = { λ s. IsSound (finds (T.book s.kept.maker.tables.now)) (IsKeptFor (T.book s.kept.maker.tables.now)) s.kept.formatters × All (AreRead front_of) s.read.pairs };
 
     ghost answer_of = { λ s line. answer_of (T.book s.kept.maker.tables.now) line };
 
@@ -43,8 +46,15 @@ impl<'a, T: Tables> Answerer for LineAnswerer<'a, T> {
             return push_refusal(out, Refusal::Shape);
         };
         let reader = FrontReader { alloc: self.alloc };
-        let front = self.read.key_of(&reader, front)?;
-        push_behind(self.alloc, &mut self.kept, &front, text, out)
+        self.read.find(&reader, front)?;
+        push_behind(
+            self.alloc,
+            &mut self.value,
+            &mut self.kept,
+            self.read.latest(),
+            text,
+            out,
+        )
     }
 
     fn made(&self) -> u64 {

@@ -1,13 +1,12 @@
 // The forms that write a number.
 ghost use Rattle.std.specs.Prelude.{◌≡◌, ◌∷◌, ◌++◌, List, Option, Some, IsOk, IfOk, OnOk, OnErr, IsErrOf, string_bytes};
 ghost use Rattle.fixed_decimal.specs.Number.{Number};
-ghost use Rattle.fixed_decimal.specs.SignedText.{ReadsLongSigned};
 ghost use Rattle.icu_decimal.specs.HeldTables.{tables_of};
 ghost use Rattle.icu_decimal.specs.PlainText.{decimal_text};
 ghost use Rattle.locale_numbers_lines.specs.Growth.{Grows};
 ghost use Rattle.locale_numbers.specs.Answer.{written, answer_to};
 ghost use Rattle.locale_numbers.specs.AnswerSink.{HasRoom};
-ghost use Rattle.locale_numbers.specs.Changing.{MayGrowRead};
+ghost use Rattle.locale_numbers.specs.Changing.{MayGrowRead, ReadsMore};
 ghost use Rattle.locale_numbers.specs.FormatterKeys.{IsPlain, answer_by, answer_of_kind, key_text};
 ghost use Rattle.locale_numbers.specs.NumberReading.{number, beyond, nothing, reading_of};
 ghost use Rattle.locale_numbers.specs.declared.formatter_key.FormatterKey.{FormatterKey};
@@ -25,18 +24,18 @@ use crate::sign_field::SignAsked;
 use fixed_decimal::{Decimal, ParseError};
 use icu_decimal::DecimalFormatter;
 use locale_numbers_cache::Hashed;
-use std::alloc::{AllocError, Global};
+use std::alloc::AllocError;
 
-// The number that a text says.
-fn read_number(alloc: Global, text: &[u8]) -> Result<Decimal, ParseError>
-    ensures value { IfOk result (λ value. reading_of text.now ≡ number value) }
+// Puts the number that a text says in place of the one that is there.
+fn read_number(value: &mut Decimal, text: &[u8]) -> Result<(), ParseError>
+    ensures value { OnOk result (reading_of text.now ≡ number value.new) }
     ensures limit { IsErrOf result ParseError.Limit → reading_of text.now ≡ beyond }
     ensures syntax { IsErrOf result ParseError.Syntax → reading_of text.now ≡ nothing }
 
-    // A text that says no number of more than eight digits is never told as out of memory.
-    ensures memory { IsErrOf result ParseError.Memory → ReadsLongSigned text.now }
+    // Only a text that says a number of more than eight digits, and of more than the one that is there, is told as out of memory.
+    ensures memory { IsErrOf result ParseError.Memory → ReadsMore text.now value.old }
 {
-    Decimal::try_from_utf8(alloc, text)
+    value.assign_from_utf8(text)
 }
 
 // Puts a number, as a formatter writes it, behind what `out` holds.
@@ -94,11 +93,11 @@ fn push_number<'a, F: Formatters<'a>>(
     push_with(formatters.found(key), value, out)
 }
 
-/// Puts the answer to a number's text, with the formatter of a key, behind what `out` holds.
+/// Puts the answer to a number's text, with the formatter of a key, behind what `out` holds. `value` is read anew.
 ///
-/// It fails only where it is out of memory; a part of the answer may then stand there.
+/// `AllocError`: out of memory; a part of the answer may then stand there.
 pub(crate) fn push_text<'a, F: Formatters<'a>>(
-    alloc: Global,
+    value: &mut Decimal,
     formatters: &mut F,
     key: &Hashed<FormatterKey>,
     sign: SignAsked,
@@ -112,18 +111,18 @@ pub(crate) fn push_text<'a, F: Formatters<'a>>(
     ensures err { OnErr result (Grows (string_bytes out.old) (string_bytes out.new)) }
 
     // In plain form, where there is room for the answer, and handing out a formatter takes none, only a number of more than
-    // eight digits may be out of memory, and a rounding to multiples of 25 that may lengthen one of eight.
+    // eight digits, and of more than `value` had, may be out of memory, and a rounding to multiples of 25 that may lengthen one of eight.
     ensures room { HasRoom out.old (answer_to (answer_of_kind key.now.kind (F.book formatters.old) key.now.preferences key.now.grouping) sign rounding (reading_of text.now))
-        → key.now.kind ≡ Kind.Plain → ¬ (F.may_take_memory formatters.old) → ¬ (ReadsLongSigned text.now) → ¬ (MayGrowRead rounding (reading_of text.now)) → IsOk result }
+        → key.now.kind ≡ Kind.Plain → ¬ (F.may_take_memory formatters.old) → ¬ (ReadsMore text.now value.old) → ¬ (MayGrowRead rounding (reading_of text.now)) → IsOk result }
     ensures counted { OnOk result ((more : List (Option FormatterKey)) →
         F.counted_over formatters.old (key_text key.now (reading_of text.now) ∷ more) ≡ F.counted_over formatters.new more) }
     ensures same { F.book formatters.new ≡ F.book formatters.old }
     ensures ready { F.is_ready formatters.new }
 {
-    match read_number(alloc, text) {
-        Ok(mut value) => {
-            change(&mut value, rounding, sign)?;
-            push_number(formatters, key, &value, out)
+    match read_number(value, text) {
+        Ok(()) => {
+            change(value, rounding, sign)?;
+            push_number(formatters, key, value, out)
         }
         Err(ParseError::Syntax) => push_refusal(out, Refusal::Number),
         Err(ParseError::Limit) => push_refusal(out, Refusal::Limit),

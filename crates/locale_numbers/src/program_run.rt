@@ -183,14 +183,14 @@ fn report<I: Read + Drop, R: ByteReader, W: ByteWriter>(
 /// The book is the file at `words.book`, or the sample book where that is `None`; the lines are
 /// answered as by [`run`](crate::run), and what that asks of its capacity, reader and writer is asked
 /// here too. Without words the line of `ar-EG`, `plain`, `auto`, `keep`, `-`, `1234.5` is answered by
-/// `ok`, a tab, `١٬٢٣٤٫٥`. Takes memory. Faults come in this order, and up to Book nothing is read or
+/// `ok`, a tab, `١٬٢٣٤٫٥`. Allocates. Faults come in this order, and up to Book nothing is read or
 /// written:
 ///
 /// - File: the file can't be opened, or not be read to its end.
-/// - Book: its text is refused, or memory was refused while it was read.
-/// - Run: the reader or the writer failed, or memory was refused while lines were answered.
+/// - Book: its text is refused, or it was out of memory while it was read.
+/// - Run: the reader or the writer failed, or it was out of memory while lines were answered.
 ///
-/// It never answers Usage, which is for [`read_words`](crate::read_words).
+/// It never returns Usage, which is for [`read_words`](crate::read_words).
 pub fn program<F: Files, R: ByteReader, W: ByteWriter>(
     rt: &F,
     alloc: Global,

@@ -72,7 +72,7 @@ fn push_read(
 
 /// Puts the answer to a text that the formatter of a key reads back behind what `out` holds.
 ///
-/// It fails only where it is out of memory; a part of the answer may then stand there.
+/// `AllocError`: out of memory; a part of the answer may then stand there.
 pub(crate) fn push_reading<'a, F: Formatters<'a>>(
     alloc: Global,
     formatters: &mut F,

@@ -9,6 +9,7 @@ use crate::kept::Kept;
 use crate::kept_formatter::FormatterMaker;
 use crate::line_answerer::LineAnswerer;
 use crate::tables::Tables;
+use fixed_decimal::Decimal;
 use icu_decimal::DecimalFormatterPreferences;
 use icu_decimal::options::GroupingStrategy;
 use locale_numbers_cache::{FormatterCache, ReadKeys};
@@ -30,15 +31,15 @@ use std::alloc::Global;
 /// `capacity` is how many formatters are kept, 1 at least: those that were used last. A line uses the
 /// formatter of what its tag prefers, of its form's tables and of its grouping, once its tag and its
 /// number were read and where the tables are found; `made` counts the uses whose formatter was not
-/// kept. Of neither `reader` nor `writer` a call may have failed before. Takes memory; that it takes
-/// no more for more lines is measured by bench/, and not proved.
+/// kept. Of neither `reader` nor `writer` a call may have failed before. Allocates; that it takes
+/// no more memory for more lines is measured by bench/, and not proved.
 ///
 /// A line is answered as soon as it is whole: `reader` is read where each whole line that it gave is
 /// answered and written, and nowhere else; a reader that names a condition names one that holds there.
 ///
 /// - Read: a read failed. The whole lines that the reader gave have been answered.
 /// - Write: a write or the flush failed, or a write took no byte. A beginning of the output is written.
-/// - Memory: a request for memory was refused. Some first lines have been answered, each whole.
+/// - Memory: out of memory. Some first lines have been answered, each whole.
 pub fn run<T: Tables, R: ByteReader, W: ByteWriter>(
     alloc: Global,
     tables: &T,
@@ -89,6 +90,7 @@ pub fn run<T: Tables, R: ByteReader, W: ByteWriter>(
         alloc,
         kept,
         read: ReadKeys::new(alloc)?,
+        value: Decimal::zero(alloc),
     };
     run_with(alloc, &mut answerer, reader, writer)
 }

@@ -115,13 +115,13 @@ fn start_with<F: Files, R: ByteReader, W: ByteWriter>(
 ///
 /// `rt` is the runtime that `main` has; its words are read by [`read_words`], and its book by
 /// [`program`](crate::program). No words ask for the sample book: the line of `ar-EG`, `plain`, `auto`, `keep`, `-`,
-/// `1234.5` is answered by `ok`, a tab, `١٬٢٣٤٫٥`. Takes memory. Of neither `reader` nor `writer` a call may have
+/// `1234.5` is answered by `ok`, a tab, `١٬٢٣٤٫٥`. Allocates. Of neither `reader` nor `writer` a call may have
 /// failed before. Faults come in this order, and up to Book nothing is read or written:
 ///
 /// - Usage: the words are not those of [`read_words`], or one is not UTF-8.
 /// - File: the book's file can't be opened, or not be read to its end.
-/// - Book: its text is refused, or memory was refused while it was read.
-/// - Run: the reader or the writer failed, or memory was refused.
+/// - Book: its text is refused, or it was out of memory while it was read.
+/// - Run: the reader or the writer failed, or it was out of memory.
 ///
 /// Of the words that a program is given the runtime tells nothing, so the clauses leave open which book it is: that is
 /// said of [`read_words`] and of [`program`](crate::program).

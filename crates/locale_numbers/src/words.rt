@@ -57,7 +57,7 @@ fn words_by(path: &str, capacity: Option<usize>) -> Result<Words<'_>, ProgramFau
 /// What the words say that the program was started with, its own name left out: BOOK, or BOOK and CAPACITY, or none.
 ///
 /// No words name no book, so the sample book is read, and a capacity of 16. `b` is the book of that path and a capacity of
-/// 16, and `b`, `65535` that book and 65535; `00016` is 16. Takes no memory. [`ProgramFault::Usage`] comes for more than two
+/// 16, and `b`, `65535` that book and 65535; `00016` is 16. Does not allocate. [`ProgramFault::Usage`] comes for more than two
 /// words, for an empty BOOK, and for a CAPACITY that is not one to five digits of a number from 1 to 65535: for `b`, `0`.
 pub fn read_words<'a>(words: &[&'a str]) -> Result<Words<'a>, ProgramFault>
     ensures value { IfOk result (λ read. words_said (map (λ word. word.now) words.now)

@@ -1,7 +1,8 @@
 -- Bytes kept beside the key that was read from them, in pairs of places: it is the key that would be read now.
 -- Defined in docs/requests.md, "What a cache keeps".
--- Cited by `ReadKeys::key_of`.
-use Rattle.std.specs.Prelude.{ℕ, ◌≡◌, ◌%◌, Bool, false, ◌||◌, List, Option, Some, None}
+-- Cited by `ReadKeys::find`.
+use Rattle.std.specs.Prelude.{ℕ, ◌≡◌, ◌%◌, Bool, false, ◌||◌, List, Option, Some, None, IfSome, slice_get, refl}
+use Rattle.std.specs.Coded.{Coded, code_by, coded×, coded_list, coded_option, coded_ℕ}
 use Rattle.std.specs.Str.{bytes_eq}
 use Rattle.std.specs.Hash.FoldHasher.{initial, write, finish}
 
@@ -13,7 +14,23 @@ pair_at bytes = finish (write initial bytes) % 512
 abbrev pub Place : Type 0 → Type 0
 Place K = Option (List ℕ × K)
 
+-- the pairs of places, and the key of the bytes that came last
+pub record Remembered (K : Type 0) : Type 0 where
+  pub pairs : List (Place K × Place K)
+  pub latest : Option K
+
 module _ {K : Type 0} where
+  abbrev pub remembered : List (Place K × Place K) → Option K → Remembered K
+  remembered pairs latest = record { pairs = pairs; latest = latest }
+
+  -- a pair of places is stored as the pair of them, and all of it as the pair of its fields
+  abbrev pub pair_code : Coded K → Coded (Place K × Place K)
+  pair_code k = coded× (coded_option (coded× (coded_list coded_ℕ) k)) (coded_option (coded× (coded_list coded_ℕ) k))
+
+  abbrev pub remembered_code : Coded K → Coded (Remembered K)
+  remembered_code k =
+      code_by (List (Place K × Place K) × Option K) (coded× (coded_list (pair_code k)) (coded_option k)) (λ r. (r.pairs, r.latest)) (λ p. remembered p.0 p.1) (λ _. refl)
+
   -- what is kept for the bytes is the key that these have
   abbrev pub IsRead : (List ℕ → K) → Place K → Type 0
   IsRead key_of None = Unit {0}
@@ -36,3 +53,15 @@ module _ {K : Type 0} where
   pub record Uses (bytes : List ℕ) (key : K) (old new : Place K × Place K) : Type 0 where
     pub last : new.0 ≡ Some (bytes, key)
     pub other : remembers bytes old.0 ≡ false → new.1 ≡ old.0
+
+  -- of these pairs the one at this place, where there is one, was used last: by bytes that belong there and have the latest key
+  abbrev pub IsLastAt : ℕ → List (Place K × Place K) → Option K → Type 0
+  IsLastAt last pairs latest = IfSome (slice_get pairs last) (λ pair. IfSome pair.0 (λ kept. (latest ≡ Some kept.1) × (pair_at kept.0 ≡ last)))
+
+  -- these are the bytes that came last: their pair used the place with them last, and the key there is the latest
+  pub record IsLastOf (bytes : List ℕ) (keys : Remembered K) : Type 0 where
+    pub pair : Place K × Place K
+    pub key : K
+    pub at : slice_get keys.pairs (pair_at bytes) ≡ Some pair
+    pub last : pair.0 ≡ Some (bytes, key)
+    pub latest : keys.latest ≡ Some key

@@ -33,9 +33,9 @@ impl<K: CacheKey, F: Drop> Model for FormatterCache<K, F> {
 
 impl<K: CacheKey, F: Drop> FormatterCache<K, F> {
     /// A cache that keeps nothing yet, `capacity` things at most, 1 at least: with 16 it keeps up to sixteen, and `made`
-    /// answers 0.
+    /// returns 0.
     ///
-    /// The condition is that the capacity is 1 at least. It fails where it is out of memory.
+    /// The condition is that the capacity is 1 at least. It allocates. `AllocError`: out of memory.
     pub fn new(alloc: Global, capacity: usize) -> Result<Self, AllocError>
         requires { 1 ≤ capacity }
         ensures { IfOk result (λ cache. cache ≡ cached [] capacity 0) }
@@ -49,8 +49,8 @@ impl<K: CacheKey, F: Drop> FormatterCache<K, F> {
     ///
     /// It is made only where it is not kept already, and then pushes out what was used longest ago where the cache is full: with
     /// a capacity of 2, after the keys 1, 2, 1 the key 3 pushes out 2. A key for which nothing is made changes nothing. The
-    /// condition is that all that is kept is what this maker makes for its key. It fails where it is out of memory, and then the
-    /// cache is as before; for a key that is kept, or for which nothing is made, it takes none.
+    /// condition is that all that is kept is what this maker makes for its key. It allocates only for a key that is not kept, and
+    /// for which something is made. `AllocError`: out of memory; the cache is then as before.
     pub fn keep<M: Maker<K, F>>(&mut self, maker: &M, key: &K) -> Result<bool, AllocError>
         requires { IsSound (M.finds maker.now) (M.is_made maker.now) self.old }
         ensures succeeds { M.finds maker.now key.now ≡ false → IsOk result }
@@ -78,7 +78,7 @@ impl<K: CacheKey, F: Drop> FormatterCache<K, F> {
     }
 
     /// How many things were made: 3 after the keys 1, 2, 1, 3, 1 with a capacity of 2; a count that does not fit is
-    /// 18,446,744,073,709,551,615. It takes no memory.
+    /// 18,446,744,073,709,551,615. It does not allocate.
     pub fn made(&self) -> u64
         ensures value { result ≡ self.now.made }
         ensures fits { self.now.made ≤ most }
@@ -86,8 +86,8 @@ impl<K: CacheKey, F: Drop> FormatterCache<K, F> {
         self.made
     }
 
-    /// What was kept or used last: after the keys 1, 2, 1 what was made for 1; `None` where nothing is kept. It takes no
-    /// memory.
+    /// What was kept or used last: after the keys 1, 2, 1 what was made for 1; `None` where nothing is kept. It does not
+    /// allocate.
     pub fn latest(&self) -> Option<&F>
         ensures { option_copied result ≡ option_map (λ entry. entry.1) (slice_get self.now.entries 0) }
     {

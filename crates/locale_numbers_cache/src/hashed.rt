@@ -36,7 +36,7 @@ impl<V: Copy + Hash> Model for Hashed<V> {
 }
 
 impl<V: Copy + Hash> Hashed<V> {
-    /// The value, hashed by a `FoldHasher`: of 5 it is 5 beside its hash. It takes no memory.
+    /// The value, hashed by a `FoldHasher`: of 5 it is 5 beside its hash. It does not allocate.
     pub fn new(value: V) -> Self
         ensures { result ≡ value }
     {
@@ -48,7 +48,7 @@ impl<V: Copy + Hash> Hashed<V> {
         }
     }
 
-    /// The value: 5 of `Hashed::new(5)`. It takes no memory.
+    /// The value: 5 of `Hashed::new(5)`. It does not allocate.
     pub fn value(&self) -> V
         ensures { result ≡ self.now }
     {
@@ -56,7 +56,7 @@ impl<V: Copy + Hash> Hashed<V> {
     }
 }
 
-/// The same once more: of 5 beside its hash another 5 beside it. It takes no memory.
+/// The same once more: of 5 beside its hash another 5 beside it. It does not allocate.
 impl<V: Copy + Hash> Clone for Hashed<V> {
     ghost is_clone = { λ one other. one ≡ other };
 

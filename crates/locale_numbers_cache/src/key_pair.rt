@@ -1,5 +1,5 @@
 ghost use Rattle.std.specs.Prelude.{◌≡◌, true, None, IfOk, OnOk, OnErr, IsOk};
-ghost use Rattle.locale_numbers_cache.specs.LastRead.{AreRead, Uses, either_remembers};
+ghost use Rattle.locale_numbers_cache.specs.LastRead.{AreRead, Uses, either_remembers, remembers};
 
 use crate::key_reader::KeyReader;
 use crate::last_key::LastKey;
@@ -29,7 +29,7 @@ impl<K: Copy> Model for KeyPair<K> {
 }
 
 impl<K: Copy> KeyPair<K> {
-    /// Two that remember nothing yet. It takes no memory.
+    /// Two that remember nothing yet. It does not allocate.
     pub fn new(alloc: Global) -> Self
         ensures { result ≡ (None, None) }
     {
@@ -38,6 +38,18 @@ impl<K: Copy> KeyPair<K> {
             second: LastKey::new(alloc),
             is_second_last: false,
         }
+    }
+
+    /// Whether the place that was used last remembers these bytes. It does not allocate.
+    pub fn is_last(&self, bytes: &[u8]) -> bool
+        ensures { result ≡ remembers bytes.now self.now.0 }
+    {
+        let last = if self.is_second_last {
+            &self.second
+        } else {
+            &self.first
+        };
+        last.known(bytes).is_some()
     }
 
     /// Remembers the bytes with their key in the place that was not used last.
@@ -57,7 +69,7 @@ impl<K: Copy> KeyPair<K> {
     /// The key of the bytes, which are read only where neither place remembers them.
     ///
     /// The condition is that each key it remembers is the one that this reader reads. Bytes that are read push out those that
-    /// were not used last. It fails where it is out of memory, and then remembers what it did.
+    /// were not used last. `AllocError`: out of memory; it then remembers what it did.
     pub fn key_of<R: KeyReader<K>>(&mut self, reader: &R, bytes: &[u8]) -> Result<K, AllocError>
         requires { AreRead (R.key_of reader.now) self.old }
         ensures value { IfOk result (λ key. key ≡ R.key_of reader.now bytes.now) }

@@ -10,7 +10,7 @@ pub trait KeyReader<K> {
     /// The key of the bytes, as of the front of a line: of `en`, `plain`, `auto`, `keep`, `-` with tabs between what plain
     /// numbers in English ask.
     ///
-    /// It fails only where it is out of memory.
+    /// `AllocError`: out of memory.
     fn read(&self, bytes: &[u8]) -> Result<K, AllocError>
         ensures value { IfOk result (λ key. key ≡ key_of self.now bytes.now) };
 }

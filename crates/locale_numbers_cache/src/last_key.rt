@@ -24,7 +24,7 @@ impl<K: Copy> Model for LastKey<K> {
 }
 
 impl<K: Copy> LastKey<K> {
-    /// One that remembers nothing yet. It takes no memory.
+    /// One that remembers nothing yet. It does not allocate.
     pub fn new(alloc: Global) -> Self
         ensures { result ≡ None }
     {
@@ -34,7 +34,7 @@ impl<K: Copy> LastKey<K> {
         }
     }
 
-    /// The key of the bytes, where these are the ones that it remembers. It takes no memory.
+    /// The key of the bytes, where these are the ones that it remembers. It does not allocate.
     pub fn known(&self, bytes: &[u8]) -> Option<&K>
         ensures { MatchOption result
             (remembers bytes.now self.now ≡ false)
@@ -49,7 +49,7 @@ impl<K: Copy> LastKey<K> {
 
     /// Remembers the bytes with their key, in place of what it did.
     ///
-    /// It fails where it is out of memory, and then remembers what it did.
+    /// `AllocError`: out of memory; it then remembers what it did.
     pub fn keep(&mut self, bytes: &[u8], key: K) -> Result<(), AllocError>
         ensures last { OnOk result (self.new ≡ Some (bytes.now, key)) }
         ensures err { OnErr result (self.new ≡ self.old) }

@@ -2,7 +2,7 @@ ghost use Rattle.std.specs.Prelude.{◌≡◌, Bool, true, false, MatchOption};
 
 /// One that makes what a cache keeps, as a formatter of English for what `en` prefers.
 ///
-/// What it makes for a key depends on the maker and the key alone, as a formatter does on a book and on preferences.
+/// What it makes for a key depends only on the maker and the key, as a formatter does on a book and on preferences.
 pub trait Maker<K, F> {
     // Whether something is made for the key.
     ghost finds: { Self → K → Bool };

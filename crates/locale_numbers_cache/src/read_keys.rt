@@ -1,6 +1,6 @@
-ghost use Rattle.std.specs.Prelude.{◌≡◌, ◌<◌, ◌≤◌, ℕ, List, length, true, None, slice_get, IfOk, IfSome, OnOk, OnErr, IsOk};
+ghost use Rattle.std.specs.Prelude.{◌≡◌, ◌<◌, ◌≤◌, ℕ, List, length, true, None, Some, slice_get, IfOk, IfSome, IsSome, OnOk, OnErr, IsOk, IsTrue};
 ghost use Rattle.std.specs.List.{All};
-ghost use Rattle.locale_numbers_cache.specs.LastRead.{AreRead, Uses, either_remembers, pair_at};
+ghost use Rattle.locale_numbers_cache.specs.LastRead.{AreRead, IsLastOf, Uses, either_remembers, pair_at};
 
 use crate::key_pair::KeyPair;
 use crate::key_reader::KeyReader;
@@ -30,57 +30,115 @@ fn pair_of(bytes: &[u8]) -> usize
 #[derive(Drop)]
 pub struct ReadKeys<K: Copy> {
     pairs: Vec<KeyPair<K>>,
+    /// The pair of the bytes that came last; no pair where they are too long to be kept.
+    last: usize,
+    /// The key of the bytes that came last.
+    latest: Option<K>,
 }
 
 impl<K: Copy> Model for ReadKeys<K> {
-    ghost use Rattle.std.specs.Prelude.{◌≡◌, ℕ, List, length};
-    ghost use Rattle.std.specs.Coded.{coded_list, coded_ℕ, coded×, coded_option};
-    ghost use Rattle.locale_numbers_cache.specs.LastRead.{Place};
+    ghost use Rattle.std.specs.Prelude.{◌≡◌, length};
+    ghost use Rattle.locale_numbers_cache.specs.LastRead.{IsLastAt, Remembered, remembered, remembered_code};
 
-    ghost Value = { List (Place K × Place K) };
+    ghost Value = { Remembered K };
 
-    ghost coded = { coded_list (coded× (coded_option (coded× (coded_list coded_ℕ) K.code)) (coded_option (coded× (coded_list coded_ℕ) K.code))) };
+    ghost coded = { remembered_code K.code };
 
-    ghost view = { λ r. r.pairs.items };
+    ghost view = { λ r. remembered r.pairs.items r.latest };
 
-    ghost invariant = { λ r. length r.pairs.items ≡ 512 };
+    ghost invariant = { λ r. (length r.pairs.items ≡ 512) × IsLastAt r.last r.pairs.items r.latest };
 }
 
 impl<K: Copy> ReadKeys<K> {
     /// Places that remember nothing yet: the first bytes that come are read.
     ///
-    /// It fails only where it is out of memory.
+    /// It allocates the places. `AllocError`: out of memory.
     pub fn new(alloc: Global) -> Result<Self, AllocError>
-        ensures empty { IfOk result (λ keys. All (λ pair. pair ≡ (None, None)) keys) }
+        ensures empty { IfOk result (λ keys. All (λ pair. pair ≡ (None, None)) keys.pairs) }
         // Whichever keys bytes have.
-        ensures sound { IfOk result (λ keys. (key_of : List ℕ → K) → All (AreRead key_of) keys) }
+        ensures sound { IfOk result (λ keys. (key_of : List ℕ → K) → All (AreRead key_of) keys.pairs) }
+        ensures none { IfOk result (λ keys. keys.latest ≡ None) }
     {
         let mut pairs = Vec::with_capacity(alloc, PAIRS)?;
         for _ in 0..PAIRS {
             pairs.push(KeyPair::new(alloc))?;
         }
-        Ok(ReadKeys { pairs })
+        Ok(ReadKeys {
+            pairs,
+            last: PAIRS,
+            latest: None,
+        })
     }
 
-    /// The key of the bytes, which are read only where their pair of places does not remember them: of `a` and then `a` the
-    /// first.
-    ///
-    /// The condition is that each key it remembers is the one that this reader reads. Bytes of more than 256 are read each time.
-    /// It fails where it is out of memory, and then remembers what it did.
-    pub fn key_of<R: KeyReader<K>>(&mut self, reader: &R, bytes: &[u8]) -> Result<K, AllocError>
-        requires { All (AreRead (R.key_of reader.now)) self.old }
-        ensures value { IfOk result (λ key. key ≡ R.key_of reader.now bytes.now) }
+    /// Whether these are the bytes that came last, and are kept: they are compared, with no hash.
+    fn is_last(&self, bytes: &[u8]) -> bool
+        ensures { IsTrue result → IsLastOf bytes.now self.now }
+    {
+        match self.pairs.get(self.last) {
+            Some(pair) => pair.is_last(bytes),
+            None => false,
+        }
+    }
+
+    /// Finds the key of bytes that did not come last, and makes it the latest.
+    fn find_other<R: KeyReader<K>>(&mut self, reader: &R, bytes: &[u8]) -> Result<(), AllocError>
+        requires { All (AreRead (R.key_of reader.now)) self.old.pairs }
+        ensures value { OnOk result (self.new.latest ≡ Some (R.key_of reader.now bytes.now)) }
         ensures used { OnOk result (length bytes.now ≤ 256 →
-            IfSome (slice_get self.old (pair_at bytes.now)) (λ old.
-            IfSome (slice_get self.new (pair_at bytes.now)) (λ new. Uses bytes.now (R.key_of reader.now bytes.now) old new))) }
-        ensures sound { All (AreRead (R.key_of reader.now)) self.new }
+            IfSome (slice_get self.old.pairs (pair_at bytes.now)) (λ old.
+            IfSome (slice_get self.new.pairs (pair_at bytes.now)) (λ new. Uses bytes.now (R.key_of reader.now bytes.now) old new))) }
+        ensures sound { All (AreRead (R.key_of reader.now)) self.new.pairs }
         ensures err { OnErr result (self.new ≡ self.old) }
         ensures room { length bytes.now ≤ 256 →
-            IfSome (slice_get self.old (pair_at bytes.now)) (λ pair. either_remembers bytes.now pair ≡ true) → IsOk result }
+            IfSome (slice_get self.old.pairs (pair_at bytes.now)) (λ pair. either_remembers bytes.now pair ≡ true) → IsOk result }
     {
         if bytes.len() > LONGEST {
-            return reader.read(bytes);
+            let key = reader.read(bytes)?;
+            self.latest = Some(key);
+            self.last = PAIRS;
+            return Ok(());
         }
-        self.pairs[pair_of(bytes)].key_of(reader, bytes)
+        let pair = pair_of(bytes);
+        match self.pairs[pair].key_of(reader, bytes) {
+            Ok(key) => {
+                self.latest = Some(key);
+                self.last = pair;
+                Ok(())
+            }
+            Err(refused) => Err(refused),
+        }
+    }
+
+    /// Finds the key of the bytes, which is then the latest. They are read only where their pair of places does not remember
+    /// them: of `a` and then `a` the first.
+    ///
+    /// The condition is that each key it remembers is the one that this reader reads. Bytes of more than 256 are read each time.
+    /// It allocates where they are read. `AllocError`: out of memory; it then remembers what it did.
+    pub fn find<R: KeyReader<K>>(&mut self, reader: &R, bytes: &[u8]) -> Result<(), AllocError>
+        requires { All (AreRead (R.key_of reader.now)) self.old.pairs }
+        ensures value { OnOk result (self.new.latest ≡ Some (R.key_of reader.now bytes.now)) }
+        ensures used { OnOk result (length bytes.now ≤ 256 →
+            IfSome (slice_get self.old.pairs (pair_at bytes.now)) (λ old.
+            IfSome (slice_get self.new.pairs (pair_at bytes.now)) (λ new. Uses bytes.now (R.key_of reader.now bytes.now) old new))) }
+        ensures sound { All (AreRead (R.key_of reader.now)) self.new.pairs }
+        ensures err { OnErr result (self.new ≡ self.old) }
+        ensures room { length bytes.now ≤ 256 →
+            IfSome (slice_get self.old.pairs (pair_at bytes.now)) (λ pair. either_remembers bytes.now pair ≡ true) → IsOk result }
+    {
+        if self.is_last(bytes) {
+            return Ok(());
+        }
+        self.find_other(reader, bytes)
+    }
+
+    /// The key that was found last: that of `a` after `find` of `a`. The condition is that one was found. It does not allocate.
+    pub fn latest(&self) -> &K
+        requires { IsSome self.now.latest }
+        ensures { self.now.latest ≡ Some result.now }
+    {
+        match &self.latest {
+            Some(key) => key,
+            None => unreachable!(),
+        }
     }
 }

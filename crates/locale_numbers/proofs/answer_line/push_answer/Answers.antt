@@ -1,3 +1,4 @@
+use Rattle.std.proofs.Common.{arith}
 use Rattle.std.specs.Prelude.{string_bytes, string_capacity}
 use Rattle.locale_numbers.proofs.AnsweringLemmas.{answer_fits, answer_put, on_ok_by}
 use Rattle.locale_numbers.proofs.answer_line.push_answer.Goals as goal
@@ -12,3 +13,6 @@ pub returns-clause-room : goal.returns-clause-room
 returns-clause-room g c = λ room.
     c.push_written.ensures.room
     (answer_fits _ (string_bytes c.args.out.now) _ (string_capacity c.args.out.now) _ c.in_ok-push_str.ensures.bytes c.in_ok-push_str.ensures.capacity room)
+
+pub returns-clause-capacity : goal.returns-clause-capacity
+returns-clause-capacity g c = on_ok_by c.push_written.result (λ more. omega (arith, more, c.in_ok-push_str.ensures.capacity)) c.push_written.ensures.capacity

@@ -11,3 +11,6 @@ returns-in-Err-clause-room g c = λ room.
     let alone = ap length (text_of_bytes (text_of (g.T.Writeable.events c.args.value.now))) in
     let same = ap length c.in_ok-reserve.ensures.bytes in
     absurd (omega (arith, room, needs, alone, same, c.in_ok-reserve.ensures.capacity))
+
+pub returns-in-Ok-clause-capacity : goal.returns-in-Ok-clause-capacity
+returns-in-Ok-clause-capacity g c = grind (arith, c.in-Ok.ensures.ok.capacity, c.in_ok-reserve.ensures.capacity)
