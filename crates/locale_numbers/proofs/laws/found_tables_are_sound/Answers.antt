@@ -1,4 +1,4 @@
-use Rattle.std.proofs.Common.{◌≡◌, ap, sym, ◌∙◌}
+use Rattle.std.proofs.Common.{ap, sym, ◌∙◌}
 use Rattle.std.specs.Result.{result_map_both}
 use Rattle.icu_decimal.specs.HeldCompact.{compact_tables_of}
 use Rattle.locale_numbers.proofs.FoundLemmas.{found_are, none_found}

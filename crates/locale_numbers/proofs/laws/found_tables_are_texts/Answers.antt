@@ -1,4 +1,4 @@
-use Rattle.std.proofs.Common.{◌≡◌, ap, sym, ◌∙◌}
+use Rattle.std.proofs.Common.{ap, sym, ◌∙◌}
 use Rattle.std.specs.Result.{result_map_both}
 use Rattle.icu_decimal.specs.HeldTables.{tables_of}
 use Rattle.icu_decimal.specs.ReadingLaws.{AreTables}

@@ -1,4 +1,4 @@
-use Rattle.std.proofs.Common.{◌≡◌, Err}
+use Rattle.std.proofs.Common.{Err}
 use Rattle.std.specs.Prelude.{IsErrOf}
 use Rattle.locale_numbers_lines.specs.declared.run_error.RunError.{RunError}
 use Rattle.locale_numbers.specs.declared.fault.ProgramFault.{ProgramFault}
