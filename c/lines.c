@@ -23,6 +23,8 @@ typedef struct {
 
 /* The words of fields, in the order of their numbers. */
 static const char *const GROUPINGS[] = {"auto", "never", "always", "min2", NULL};
+static const char *const SHOWN_FORMS[] = {"short", "long", NULL};
+static const char *const EXACT_FORMS[] = {"exact-short", "exact-long", NULL};
 static const char *const SIGNS[] = {"keep", "auto", "never", "always", "except-zero", "negative", NULL};
 static const char *const MODES[] = {"",           "expand",    "trunc",      "ceil",      "floor", "half-expand",
                                     "half-trunc", "half-ceil", "half-floor", "half-even", NULL};
@@ -67,20 +69,54 @@ static int are_options(const request *asked, legumeyet_options *options) {
     return mode.length == 0 || is_word(rest, "1");
 }
 
-/* The text for a request by the calls of a formatter: an error of theirs, or NO_CALL where they can't say what is asked. */
-static int32_t by_formatter(legumeyet_book *book, const request *asked, uint8_t *out, size_t *length) {
+/* The text for a request by the calls of a formatter of plain numbers. */
+static int32_t by_plain(legumeyet_book *book, const request *asked, const legumeyet_options *options, uint8_t *out, size_t *length) {
     legumeyet_decimal_formatter plain = {0};
-    legumeyet_options options = {0};
-    uint32_t grouping = number_of(asked->grouping, GROUPINGS);
-    int is_plain = is_word(asked->form, "plain"), is_read = is_word(asked->form, "read");
-    int32_t error = NO_CALL;
-    if (!are_options(asked, &options)) return NO_CALL;
-    if (is_plain || is_read) error = legumeyet_decimal_formatter_open(book, asked->tag.at, asked->tag.length, grouping, &plain);
-    if (error == 0 && is_plain)
-        error = legumeyet_decimal_formatter_format(&plain, asked->number.at, asked->number.length, &options, out, ROOM, length);
-    if (error == 0 && is_read) error = legumeyet_decimal_formatter_read(&plain, asked->number.at, asked->number.length, out, ROOM, length);
+    piece tag = asked->tag, number = asked->number;
+    int32_t error = legumeyet_decimal_formatter_open(book, tag.at, tag.length, number_of(asked->grouping, GROUPINGS), &plain);
+    if (error == 0 && is_word(asked->form, "read"))
+        error = legumeyet_decimal_formatter_read(&plain, number.at, number.length, out, ROOM, length);
+    else if (error == 0)
+        error = legumeyet_decimal_formatter_format(&plain, number.at, number.length, options, out, ROOM, length);
     legumeyet_decimal_formatter_close(&plain);
     return error;
+}
+
+/* The text for a number in compact form, and the value that it shows behind a tab. */
+static int32_t write_shown(legumeyet_compact_formatter *compact, piece number, const legumeyet_options *options, uint8_t *out, size_t *length) {
+    size_t value_length = 0;
+    int32_t error = legumeyet_compact_formatter_format(compact, number.at, number.length, options, out, ROOM, length);
+    if (error != 0) return error;
+    out[*length] = '\t';
+    *length += 1;
+    error = legumeyet_compact_formatter_shown(compact, number.at, number.length, options, out + *length, ROOM - *length, &value_length);
+    *length += value_length;
+    return error;
+}
+
+/* The text for a request by the calls of a formatter of compact numbers of a width. */
+static int32_t by_compact(legumeyet_book *book, const request *asked, uint32_t width, const legumeyet_options *options, uint8_t *out,
+                          size_t *length) {
+    legumeyet_compact_formatter compact = {0};
+    piece tag = asked->tag, number = asked->number;
+    int32_t error = legumeyet_compact_formatter_open(book, tag.at, tag.length, width, number_of(asked->grouping, GROUPINGS), &compact);
+    if (error == 0 && SHOWN_FORMS[number_of(asked->form, SHOWN_FORMS)] != NULL)
+        error = write_shown(&compact, number, options, out, length);
+    else if (error == 0)
+        error = legumeyet_compact_formatter_format_exact(&compact, number.at, number.length, options, out, ROOM, length);
+    legumeyet_compact_formatter_close(&compact);
+    return error;
+}
+
+/* The text for a request by the calls of a formatter: an error of theirs, or NO_CALL where they can't say what is asked. */
+static int32_t by_formatter(legumeyet_book *book, const request *asked, uint8_t *out, size_t *length) {
+    legumeyet_options options = {0};
+    uint32_t shown = number_of(asked->form, SHOWN_FORMS), exact = number_of(asked->form, EXACT_FORMS);
+    if (!are_options(asked, &options)) return NO_CALL;
+    if (is_word(asked->form, "plain") || is_word(asked->form, "read")) return by_plain(book, asked, &options, out, length);
+    if (SHOWN_FORMS[shown] != NULL) return by_compact(book, asked, shown, &options, out, length);
+    if (EXACT_FORMS[exact] != NULL) return by_compact(book, asked, exact, &options, out, length);
+    return NO_CALL;
 }
 
 /* The word of an answer that an error stands for. */
@@ -90,6 +126,8 @@ static const char *word_of(int32_t error) {
     case LEGUMEYET_TABLE: return "table";
     case LEGUMEYET_NUMBER: return "number";
     case LEGUMEYET_LIMIT: return "limit";
+    case LEGUMEYET_RANGE: return "range";
+    case LEGUMEYET_EXPONENT: return "exponent";
     case LEGUMEYET_UNREADABLE: return "unreadable";
     case LEGUMEYET_NOT_WRITTEN: return "not-written";
     default: return "no word";

@@ -11,13 +11,19 @@
 #include <vector>
 
 using legumeyet::Book;
+using legumeyet::CompactDecimalFormatter;
+using legumeyet::DecimalFormatter;
 using Words = std::vector<std::string>;
 
 // The words of fields, in the order of their numbers.
 static const Words GROUPINGS{"auto", "never", "always", "min2"};
+static const Words SHOWN_FORMS{"short", "long"};
+static const Words EXACT_FORMS{"exact-short", "exact-long"};
 static const Words SIGNS{"keep", "auto", "never", "always", "except-zero", "negative"};
 static const Words MODES{"-",           "expand",     "trunc",     "ceil",       "floor",
                          "half-expand", "half-trunc", "half-ceil", "half-floor", "half-even"};
+
+static bool is_in(const std::string &word, const Words &words) { return std::find(words.begin(), words.end(), word) != words.end(); }
 
 static uint32_t number_of(const std::string &word, const Words &words) {
     return static_cast<uint32_t>(std::find(words.begin(), words.end(), word) - words.begin());
@@ -42,23 +48,33 @@ static std::string word_of(int32_t error) {
     case LEGUMEYET_TABLE: return "table";
     case LEGUMEYET_NUMBER: return "number";
     case LEGUMEYET_LIMIT: return "limit";
+    case LEGUMEYET_RANGE: return "range";
+    case LEGUMEYET_EXPONENT: return "exponent";
     case LEGUMEYET_UNREADABLE: return "unreadable";
     case LEGUMEYET_NOT_WRITTEN: return "not-written";
     default: return "no word";
     }
 }
 
-// The text for the fields of a request by the call of a formatter.
+// The text for the fields of a request by the call of a formatter; for `short` and `long` with the value shown behind a tab.
 static std::string text_for(Book &book, const Words &fields, const legumeyet_options &options) {
-    legumeyet::DecimalFormatter plain(book, fields[0], number_of(fields[2], GROUPINGS));
-    return fields[1] == "read" ? plain.read(fields[5]) : plain.format(fields[5], options);
+    const std::string &form = fields[1], &number = fields[5];
+    const uint32_t grouping = number_of(fields[2], GROUPINGS);
+    if (is_in(form, SHOWN_FORMS)) {
+        CompactDecimalFormatter compact(book, fields[0], number_of(form, SHOWN_FORMS), grouping);
+        return compact.format(number, options) + '\t' + compact.shown(number, options);
+    }
+    if (is_in(form, EXACT_FORMS))
+        return CompactDecimalFormatter(book, fields[0], number_of(form, EXACT_FORMS), grouping).format_exact(number, options);
+    DecimalFormatter plain(book, fields[0], grouping);
+    return form == "read" ? plain.read(number) : plain.format(number, options);
 }
 
 // What the call of a formatter says to a request, as an answer; empty where none says what is asked.
 static std::string by_formatter(Book &book, const std::string &line) {
     const auto fields = pieces(line, '\t'), rounding = pieces(fields[4], ',');
-    const bool is_known = fields[1] == "plain" || fields[1] == "read", is_rounded = rounding.size() == 3;
-    if (!is_known || (is_rounded && rounding[2] != "1")) return "";
+    const bool is_rounded = rounding.size() == 3;
+    if (is_rounded && rounding[2] != "1") return "";
     legumeyet_options options{number_of(fields[3], SIGNS), number_of(rounding[is_rounded], MODES), 0};
     if (is_rounded) options.position = static_cast<int16_t>(std::stoi(rounding[0]));
     try {

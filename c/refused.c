@@ -38,6 +38,7 @@ static void call_all(void) {
     static const legumeyet_options ROUNDED = {LEGUMEYET_SIGN_AUTO, LEGUMEYET_ROUND_HALF_EVEN, 0};
     legumeyet_book book = {0};
     legumeyet_decimal_formatter plain = {0};
+    legumeyet_compact_formatter compact = {0};
     uint8_t out[64];
     legumeyet_interval parts[16];
     size_t length = 0, count = 0;
@@ -54,6 +55,19 @@ static void call_all(void) {
     wrong = wrong || count != 8 || parts[7].start != 23;
     TWICE(legumeyet_decimal_formatter_read(&plain, TEXT("-123,456,789.50"), out, sizeof out, &length));
     expect_text(out, length, "-123456789.50");
+    TWICE(legumeyet_compact_formatter_open(&book, TEXT("en-a-aa-b-bb-u-ca-gregory-nu-latn-x-y"), LEGUMEYET_WIDTH_SHORT, 3, &compact));
+    TWICE(legumeyet_compact_formatter_format(&compact, TEXT(DIGITS), &ROUNDED, out, sizeof out, &length));
+    expect_text(out, length, "-98,765,432,109,876,543 ks");
+    TWICE(legumeyet_compact_formatter_format_i64(&compact, -123456789012345678, -3, &ROUNDED, out, sizeof out, &length));
+    expect_text(out, length, "-123,456,789,012 ks");
+    TWICE(legumeyet_compact_formatter_format_parts(&compact, TEXT(DIGITS), &ROUNDED, out, sizeof out, &length, parts, 16, &count));
+    expect_text(out, length, "-98,765,432,109,876,543 ks");
+    wrong = wrong || count != 1 || parts[0].end != 1;
+    TWICE(legumeyet_compact_formatter_shown(&compact, TEXT(DIGITS), &ROUNDED, out, sizeof out, &length));
+    expect_text(out, length, "-98765432109876543c3");
+    TWICE(legumeyet_compact_formatter_format_exact(&compact, TEXT("-1234567890.5c3"), &ROUNDED, out, sizeof out, &length));
+    expect_text(out, length, "-1,234,567,890 ks");
+    expect_well(legumeyet_compact_formatter_close(&compact));
     expect_well(legumeyet_decimal_formatter_close(&plain));
     expect_well(legumeyet_book_close(&book));
 }

@@ -14,7 +14,8 @@ enum { ROOM = 64, LONG = 40000 };
 
 static const char BOOK[] =
     "[[[\"en\",\"\",\"latn\",\"-\",\"\",\"+\",\"\",\".\",\",\",3,3,1],[\"bad\",\"\",\"latn\",\"\",\"\",\"+\",\"\",\".\",\",\",3,3,1]],"
-    "[[\"latn\",\"0123456789\"]],[[\"en\",[]]],[[\"en\",\"\",[[3,3,[[\"other\",[\"\",\"K\"]]]],[6,6,[[\"other\",[\"\",\"M\"]]]]],null]],[]]";
+    "[[\"latn\",\"0123456789\"]],[[\"en\",[]]],[[\"en\",\"\",[[3,3,[[\"other\",[\"\",\"K\"]]]],[6,6,[[\"other\",[\"\",\"M\"]]]]],null]],"
+    "[[\"en\",\"\",[[3,3,[[\"other\",[\"\",\" thousand\"]]]]],null]]]";
 
 /* A book for each of its errors; the first is of bytes that are no text. */
 static const struct {
@@ -38,6 +39,7 @@ static const struct {
 
 static legumeyet_book book, closed_book;
 static legumeyet_decimal_formatter english, unreadable, closed;
+static legumeyet_compact_formatter short_english, long_english, closed_compact;
 static const legumeyet_options AS_GIVEN = {0, 0, 0};
 static uint8_t out[ROOM];
 static size_t length;
@@ -73,6 +75,22 @@ static int32_t format(const char *number, legumeyet_options options) {
 
 static int32_t read_back(legumeyet_decimal_formatter *formatter, const char *text) {
     return legumeyet_decimal_formatter_read(formatter, TEXT(text), out, sizeof out, &length);
+}
+
+static int32_t format_short(const char *number, legumeyet_options options) {
+    return legumeyet_compact_formatter_format(&short_english, TEXT(number), &options, out, sizeof out, &length);
+}
+
+static int32_t format_short_i64(int64_t mantissa, int16_t exponent) {
+    return legumeyet_compact_formatter_format_i64(&short_english, mantissa, exponent, &AS_GIVEN, out, sizeof out, &length);
+}
+
+static int32_t shown(const char *number, legumeyet_options options) {
+    return legumeyet_compact_formatter_shown(&short_english, TEXT(number), &options, out, sizeof out, &length);
+}
+
+static int32_t format_exact(const char *number, legumeyet_options options) {
+    return legumeyet_compact_formatter_format_exact(&short_english, TEXT(number), &options, out, sizeof out, &length);
 }
 
 static int32_t answer(const char *line) { return legumeyet_book_answer(&book, TEXT(line), out, sizeof out, &length); }
@@ -112,6 +130,26 @@ static void opens(void) {
     expect("over an open one", legumeyet_decimal_formatter_open(&book, TEXT("en"), 0, &english), LEGUMEYET_OK);
 }
 
+static int32_t open_compact(legumeyet_book *from, const char *tag, uint32_t width, uint32_t grouping, legumeyet_compact_formatter *formatter) {
+    return legumeyet_compact_formatter_open(from, TEXT(tag), width, grouping, formatter);
+}
+
+static void opens_compact(void) {
+    const uint32_t grouping = LEGUMEYET_GROUPING_MIN2;
+    expect("a tag", open_compact(&book, "e", 0, grouping, &short_english), LEGUMEYET_TAG);
+    expect("bytes", open_compact(&book, "\xff\xfe", 0, grouping, &short_english), LEGUMEYET_TAG);
+    expect("no table", open_compact(&book, "xx", 0, grouping, &short_english), LEGUMEYET_TABLE);
+    expect("no patterns", open_compact(&book, "bad", 0, grouping, &short_english), LEGUMEYET_TABLE);
+    expect("width 2", open_compact(&book, "en", 2, grouping, &short_english), LEGUMEYET_OPTION);
+    expect("grouping 4", open_compact(&book, "en", 0, 4, &short_english), LEGUMEYET_OPTION);
+    expect("of a closed book", open_compact(&closed_book, "en", 0, grouping, &short_english), LEGUMEYET_CLOSED);
+    expect("it stayed closed", legumeyet_compact_formatter_close(&short_english), LEGUMEYET_CLOSED);
+    expect("short", open_compact(&book, "en", LEGUMEYET_WIDTH_SHORT, LEGUMEYET_GROUPING_NEVER, &short_english), LEGUMEYET_OK);
+    expect("over an open one", open_compact(&book, "en", LEGUMEYET_WIDTH_SHORT, grouping, &short_english), LEGUMEYET_OK);
+    expect("long", open_compact(&book, "en", LEGUMEYET_WIDTH_LONG, grouping, &long_english), LEGUMEYET_OK);
+    expect("a refused one over it", open_compact(&book, "e", LEGUMEYET_WIDTH_LONG, grouping, &long_english), LEGUMEYET_TAG);
+}
+
 static void formats(void) {
     static char digits[LONG];
     static uint8_t wide[2 * LONG];
@@ -135,6 +173,49 @@ static void formats(void) {
     expect("30,000 digits", legumeyet_decimal_formatter_format(&english, (uint8_t *)digits, 30000, &AS_GIVEN, wide, sizeof wide, &needed),
            LEGUMEYET_OK);
     expect("30,000 digits", (int64_t)needed, 39999);
+}
+
+static void compacts(void) {
+    static char digits[LONG];
+    static uint8_t wide[LONG];
+    size_t needed = 0;
+    memset(digits, '9', sizeof digits);
+    expect_text("short", format_short("-1172700", AS_GIVEN), "-1.2M");
+    expect_text("a carry", format_short("999500", AS_GIVEN), "1M");
+    expect_text("no entry", format_short("950", options_of(LEGUMEYET_SIGN_ALWAYS, 0, 0)), "+950");
+    expect_text("rounded", format_short("-1172700", options_of(0, LEGUMEYET_ROUND_HALF_EVEN, 6)), "-1M");
+    expect_text("groups", format_short("12345678901", AS_GIVEN), "12,346M");
+    expect_text("an integer", format_short_i64(-11727, 2), "-1.2M");
+    expect_text("long", legumeyet_compact_formatter_format(&long_english, TEXT("1650"), &AS_GIVEN, out, sizeof out, &length), "1.6 thousand");
+    expect_text("the value shown", shown("-1172700", AS_GIVEN), "-1.2c6");
+    expect_text("the value shown", shown("950", AS_GIVEN), "950");
+    expect_text("the value shown", shown("999500", options_of(LEGUMEYET_SIGN_ALWAYS, 0, 0)), "+1c6");
+    expect_text("an exact form", format_exact("-1.20c6", AS_GIVEN), "-1.20M");
+    expect_text("an exact form", format_exact("0c6", AS_GIVEN), "0M");
+    expect_text("an exact form", format_exact("1.20c6", options_of(LEGUMEYET_SIGN_ALWAYS, LEGUMEYET_ROUND_HALF_EVEN, -1)), "+1.2M");
+    expect_error("no number", format_short("5.", AS_GIVEN), LEGUMEYET_NUMBER);
+    expect_error("no number", shown("\xff", AS_GIVEN), LEGUMEYET_NUMBER);
+    expect_error("an exponent", format_short("1e40000", AS_GIVEN), LEGUMEYET_LIMIT);
+    expect_error("an exponent of an integer", format_short_i64(10, INT16_MAX), LEGUMEYET_LIMIT);
+    expect_error("sign 6", shown("1", options_of(6, 0, 0)), LEGUMEYET_OPTION);
+    expect_error("another mark", format_exact("1.2e6", AS_GIVEN), LEGUMEYET_NUMBER);
+    expect_error("bytes", format_exact("1c3\xff", AS_GIVEN), LEGUMEYET_NUMBER);
+    expect_error("no text", format_exact("", AS_GIVEN), LEGUMEYET_NUMBER);
+    expect_error("an exponent above 255", format_exact("1c256", AS_GIVEN), LEGUMEYET_LIMIT);
+    expect_error("another exponent", format_exact("1.2c5", AS_GIVEN), LEGUMEYET_EXPONENT);
+    expect_error("no exponent", format_exact("1200", AS_GIVEN), LEGUMEYET_EXPONENT);
+    expect_error("rounding 10", format_exact("1c3", options_of(0, 10, 0)), LEGUMEYET_OPTION);
+    expect_error("what is shown", legumeyet_compact_formatter_format(&short_english, (uint8_t *)digits, 32768, &AS_GIVEN, out, ROOM, &length),
+                 LEGUMEYET_RANGE);
+    expect_error("the value shown", legumeyet_compact_formatter_shown(&short_english, (uint8_t *)digits, 32768, &AS_GIVEN, out, ROOM, &length),
+                 LEGUMEYET_RANGE);
+    memset(digits + 1, '0', 32767);
+    memcpy(digits + 32768, "c6", 2);
+    expect_error("an exact form", legumeyet_compact_formatter_format_exact(&short_english, (uint8_t *)digits, 32770, &AS_GIVEN, out, ROOM, &length),
+                 LEGUMEYET_RANGE);
+    expect("30,000 digits", legumeyet_compact_formatter_format(&short_english, (uint8_t *)digits, 30000, &AS_GIVEN, wide, sizeof wide, &needed),
+           LEGUMEYET_OK);
+    expect("30,000 digits", (int64_t)needed, 29994 + 9997 + 1);
 }
 
 static void reads(void) {
@@ -197,6 +278,26 @@ static void parts(void) {
     expect("no parts", (int64_t)count, 77);
 }
 
+static void compact_parts(void) {
+    legumeyet_interval found[2];
+    size_t count = 77;
+    memset(found, 7, sizeof found);
+    expect("no room for parts",
+           legumeyet_compact_formatter_format_parts(&short_english, TEXT("-1650"), &AS_GIVEN, out, sizeof out, &length, found, 0, &count),
+           LEGUMEYET_TOO_SMALL);
+    expect("the parts", (int64_t)count, 1);
+    expect("the part behind", (int64_t)found[0].kind, 0x07070707);
+    expect_text("the text with its parts",
+                legumeyet_compact_formatter_format_parts(&short_english, TEXT("-1650"), &AS_GIVEN, out, sizeof out, &length, found, 2, &count),
+                "-1.6K");
+    expect("the parts", (int64_t)count, 1);
+    expect("the sign", found[0].start == 0 && found[0].end == 1 && found[0].kind == LEGUMEYET_PART_MINUS_SIGN, 1);
+    expect("the part behind", (int64_t)found[1].kind, 0x07070707);
+    expect_error("no number",
+                 legumeyet_compact_formatter_format_parts(&short_english, TEXT("5."), &AS_GIVEN, out, sizeof out, &length, found, 2, &count),
+                 LEGUMEYET_NUMBER);
+}
+
 static void answers(void) {
     expect_text("a line", answer("en\tplain\tauto\tkeep\t-\t-987654.321"), "ok\t-987,654.321");
     expect_text("a short form", answer("en\tshort\tauto\tkeep\t-\t1650"), "ok\t1.6K\t1.6c3");
@@ -224,6 +325,9 @@ static void rooms(void) {
         expect_front(legumeyet_decimal_formatter_format(&english, TEXT("-1234.5"), &AS_GIVEN, out, room, &length), "-1,234.5", room);
         expect_front(legumeyet_decimal_formatter_read(&english, TEXT("-1,234.5"), out, room, &length), "-1234.5", room);
         expect_front(legumeyet_book_answer(&book, TEXT(LINE), out, room, &length), "ok\t-1,234.5", room);
+        expect_front(legumeyet_compact_formatter_format(&short_english, TEXT("-12345678901"), &AS_GIVEN, out, room, &length), "-12,346M", room);
+        expect_front(legumeyet_compact_formatter_shown(&short_english, TEXT("-1172700"), &AS_GIVEN, out, room, &length), "-1.2c6", room);
+        expect_front(legumeyet_compact_formatter_format_exact(&short_english, TEXT("-1.20c6"), &AS_GIVEN, out, room, &length), "-1.20M", room);
     }
 }
 
@@ -233,6 +337,8 @@ static void unpromised(void) {
     expect("a tag", legumeyet_decimal_formatter_open(&book, NOTHING, 0, &closed), LEGUMEYET_TAG);
     expect_error("a number", legumeyet_decimal_formatter_format(&english, NOTHING, &AS_GIVEN, out, ROOM, &length), LEGUMEYET_NUMBER);
     expect_error("a text", legumeyet_decimal_formatter_read(&english, NOTHING, out, ROOM, &length), LEGUMEYET_NOT_WRITTEN);
+    expect("a tag", legumeyet_compact_formatter_open(&book, NOTHING, 0, 0, &closed_compact), LEGUMEYET_TAG);
+    expect_error("a compact number", legumeyet_compact_formatter_format(&short_english, NOTHING, &AS_GIVEN, out, ROOM, &length), LEGUMEYET_NUMBER);
     expect("no room", legumeyet_decimal_formatter_format(&english, TEXT("1"), &AS_GIVEN, NOTHING, &length), LEGUMEYET_TOO_SMALL);
     expect_text("a line", legumeyet_book_answer(&book, NOTHING, out, ROOM, &length), "err\tshape");
     expect_text("the greatest room", legumeyet_decimal_formatter_format(&english, TEXT("1"), &AS_GIVEN, out, SIZE_MAX, &length), "1");
@@ -245,6 +351,17 @@ static void closes(void) {
     expect("the book again", legumeyet_book_close(&book), LEGUMEYET_CLOSED);
     expect_error("a line", answer("en\tplain\tauto\tkeep\t-\t1"), LEGUMEYET_CLOSED);
     expect_text("after its book", format("1234", AS_GIVEN), "1,234");
+    expect_text("after its book", format_short("1650", AS_GIVEN), "1.6K");
+    expect("short", legumeyet_compact_formatter_close(&short_english), LEGUMEYET_OK);
+    expect("short again", legumeyet_compact_formatter_close(&short_english), LEGUMEYET_CLOSED);
+    expect("long", legumeyet_compact_formatter_close(&long_english), LEGUMEYET_OK);
+    expect_error("a number", format_short("1", AS_GIVEN), LEGUMEYET_CLOSED);
+    expect_error("an integer", format_short_i64(1, 0), LEGUMEYET_CLOSED);
+    expect_error("the value shown", shown("1", AS_GIVEN), LEGUMEYET_CLOSED);
+    expect_error("an exact form", format_exact("1c3", AS_GIVEN), LEGUMEYET_CLOSED);
+    expect_error("its parts",
+                 legumeyet_compact_formatter_format_parts(&short_english, TEXT("1"), &AS_GIVEN, out, ROOM, &length, &none, 1, &count),
+                 LEGUMEYET_CLOSED);
     expect("plain", legumeyet_decimal_formatter_close(&english), LEGUMEYET_OK);
     expect("plain again", legumeyet_decimal_formatter_close(&english), LEGUMEYET_CLOSED);
     expect_error("format", format("1", AS_GIVEN), LEGUMEYET_CLOSED);
@@ -258,7 +375,7 @@ static void texts(void) {
     expect("version", legumeyet_version(), LEGUMEYET_VERSION);
     expect_text("a text", legumeyet_error_text(LEGUMEYET_TAG, out, ROOM, &length), "no locale tag");
     for (error = -1; error < 200; error++) {
-        int is_known = (error >= LEGUMEYET_MEMORY && error <= LEGUMEYET_NOT_WRITTEN) || (error >= LEGUMEYET_BOOK_JSON && error <= LEGUMEYET_BOOK_CYCLE);
+        int is_known = (error >= LEGUMEYET_MEMORY && error <= LEGUMEYET_EXPONENT) || (error >= LEGUMEYET_BOOK_JSON && error <= LEGUMEYET_BOOK_CYCLE);
         expect("a number's text", legumeyet_error_text(error, out, ROOM, &length), is_known ? LEGUMEYET_OK : LEGUMEYET_OPTION);
     }
     expect("no room", legumeyet_error_text(LEGUMEYET_TAG, out, 0, &length), LEGUMEYET_TOO_SMALL);
@@ -269,8 +386,11 @@ int main(void) {
     length = 77;
     books();
     opens();
+    opens_compact();
     formats();
+    compacts();
     parts();
+    compact_parts();
     reads();
     answers();
     rooms();

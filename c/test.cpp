@@ -3,10 +3,11 @@
 
 #include <iostream>
 
-using legumeyet::Book, legumeyet::DecimalFormatter;
+using legumeyet::Book, legumeyet::CompactDecimalFormatter, legumeyet::DecimalFormatter;
 
 static const std::string BOOK = R"([[["en","","latn","-","","+","",".",",",3,3,1],["bad","","latn","","","+","",".",",",3,3,1]],
-[["latn","0123456789"]],[["en",[]]],[["en","",[[3,3,[["other",["","K"]]]]],null]],[]])";
+[["latn","0123456789"]],[["en",[]]],[["en","",[[3,3,[["other",["","K"]]]],[6,6,[["other",["","M"]]]]],null]],
+[["en","",[[3,3,[["other",[""," thousand"]]]]],null]]])";
 
 static int wrong = 0;
 
@@ -52,6 +53,31 @@ static void parts(DecimalFormatter &english) {
     expect_error(LEGUMEYET_NUMBER, [&] { english.format_parts("5."); });
 }
 
+static void compacts(Book &book, CompactDecimalFormatter &english) {
+    const auto annotated = english.format_parts("-1650");
+    CompactDecimalFormatter long_english(book, "en", LEGUMEYET_WIDTH_LONG), never(book, "en", LEGUMEYET_WIDTH_SHORT, LEGUMEYET_GROUPING_NEVER);
+    expect(english.format("-1172700"), "-1.2M");
+    expect(english.format(16, 2), "1.6K");
+    expect(english.format("1250000", {LEGUMEYET_SIGN_ALWAYS, LEGUMEYET_ROUND_TRUNC, 6}), "+1M");
+    expect(english.format("12345678901"), "12,346M");
+    expect(never.format("12345678901"), "12346M");
+    expect(long_english.format("1650"), "1.6 thousand");
+    expect(annotated.text, "-1.6K");
+    expect(std::to_string(annotated.parts.size()), "1");
+    expect(std::to_string(annotated.parts[0].kind), std::to_string(LEGUMEYET_PART_MINUS_SIGN));
+    expect(english.shown("-1172700"), "-1.2c6");
+    expect(english.shown("950"), "950");
+    expect(english.format_exact("-1.20c6"), "-1.20M");
+    expect(english.format_exact(english.shown("1650"), {LEGUMEYET_SIGN_ALWAYS, LEGUMEYET_ROUND_KEEP, 0}), "+1.6K");
+    expect_error(LEGUMEYET_NUMBER, [&] { english.format("5."); });
+    expect_error(LEGUMEYET_RANGE, [&] { english.format(std::string(32768, '9')); });
+    expect_error(LEGUMEYET_EXPONENT, [&] { english.format_exact("1.2c5"); });
+    expect_error(LEGUMEYET_NUMBER, [&] { english.format_exact("1.2e6"); });
+    expect_error(LEGUMEYET_OPTION, [&] { CompactDecimalFormatter(book, "en", 2); });
+    expect_error(LEGUMEYET_TABLE, [&] { CompactDecimalFormatter(book, "bad"); });
+    expect_error(LEGUMEYET_TAG, [&] { CompactDecimalFormatter(book, "e"); });
+}
+
 static void reads(Book &book, DecimalFormatter &english) {
     const std::string long_number(1000, '1');
     expect(english.read("-1,234.50"), "-1234.50");
@@ -73,9 +99,12 @@ static void answers(Book &book) {
 int main() {
     Book first(BOOK), book(std::move(first)); // `first` is closed by that
     DecimalFormatter english(book, "en"), moved = std::move(english);
+    CompactDecimalFormatter short_english(book, "en"), moved_short = std::move(short_english);
     expect_error(LEGUMEYET_CLOSED, [&] { english.format("1"); });
     expect_error(LEGUMEYET_CLOSED, [&] { english.read("1"); });
+    expect_error(LEGUMEYET_CLOSED, [&] { short_english.format("1"); });
     expect_error(LEGUMEYET_CLOSED, [&] { DecimalFormatter(first, "en"); });
+    expect_error(LEGUMEYET_CLOSED, [&] { CompactDecimalFormatter(first, "en"); });
     expect_error(LEGUMEYET_CLOSED, [&] { first.answer(""); });
     expect_error(LEGUMEYET_BOOK_JSON, [] { Book("[1"); });
     expect_error(LEGUMEYET_BOOK_JSON, [] { Book(std::string_view{}); });
@@ -83,6 +112,7 @@ int main() {
     expect_error(LEGUMEYET_TABLE, [&] { DecimalFormatter(book, "xx"); });
     answers(book);
     reads(book, moved);
+    compacts(book, moved_short);
     book = Book("[[],[],[],[],[]]");
     formats(moved);
     parts(moved);

@@ -1,7 +1,7 @@
 /*
  * Uses handles in threads, for a tool that looks for races: a formatter that is opened here, and used and closed in another
- * thread; two formatters of one book, both used at once; and a book that another thread opens formatters of. The status is 1
- * where a text is wrong.
+ * thread, a plain and a compact one; two formatters of one book, both used at once; and a book that another thread opens formatters
+ * of. The status is 1 where a text is wrong.
  */
 #include <legumeyet.h>
 #include <pthread.h>
@@ -12,7 +12,7 @@
 enum { TURNS = 200 };
 
 static const char BOOK[] = "[[[\"en\",\"\",\"latn\",\"-\",\"\",\"+\",\"\",\".\",\",\",3,3,1],[\"de\",\"\",\"latn\",\"-\",\"\",\"+\",\"\",\",\",\".\",3,3,1]],"
-                           "[[\"latn\",\"0123456789\"]],[],[],[]]";
+                           "[[\"latn\",\"0123456789\"]],[[\"en\",[]]],[[\"en\",\"\",[[6,6,[[\"other\",[\"\",\"M\"]]]]],null]],[]]";
 
 /* What a thread is given: a formatter, or a book and the tag that it opens one for. */
 typedef struct {
@@ -32,6 +32,20 @@ static int is_written(legumeyet_decimal_formatter *formatter, const char *wanted
            length == strlen(wanted) && memcmp(out, wanted, length) == 0;
 }
 
+/* Uses a formatter of compact numbers, and closes it. */
+static void *do_compact_work(void *given) {
+    static const legumeyet_options AS_GIVEN = {0, 0, 0};
+    legumeyet_compact_formatter *formatter = given;
+    uint8_t out[64];
+    size_t length = 0;
+    int turn, is_right = 1;
+    for (turn = 0; turn < TURNS; turn++)
+        is_right = is_right && legumeyet_compact_formatter_format(formatter, TEXT("-987654321.25"), &AS_GIVEN, out, sizeof out, &length) == 0 &&
+                   length == 5 && memcmp(out, "-988M", length) == 0;
+    is_right = is_right && legumeyet_compact_formatter_close(formatter) == 0;
+    return is_right ? given : NULL;
+}
+
 /* Opens what is not open, uses it, and closes it. */
 static void *do_work(void *given) {
     work *it = given;
@@ -49,14 +63,19 @@ int main(void) {
         {NULL, NULL, {0}, "-987.654.321,25", 0},
         {NULL, "en", {0}, "-987,654,321.25", 0},
     };
-    pthread_t threads[3];
+    legumeyet_compact_formatter compact = {0};
+    pthread_t threads[3], compact_thread;
+    void *done = NULL;
     int at, is_right = legumeyet_book_open(TEXT(BOOK), &book) == 0 &&
                        legumeyet_decimal_formatter_open(&book, TEXT("en"), 0, &works[0].formatter) == 0 &&
-                       legumeyet_decimal_formatter_open(&book, TEXT("de"), 0, &works[1].formatter) == 0;
+                       legumeyet_decimal_formatter_open(&book, TEXT("de"), 0, &works[1].formatter) == 0 &&
+                       legumeyet_compact_formatter_open(&book, TEXT("en"), LEGUMEYET_WIDTH_SHORT, 0, &compact) == 0;
     works[2].book = &book;
     for (at = 0; at < 3; at++)
         if (pthread_create(&threads[at], NULL, do_work, &works[at]) != 0) return 2;
+    if (pthread_create(&compact_thread, NULL, do_compact_work, &compact) != 0) return 2;
     for (at = 0; at < 3; at++) is_right = pthread_join(threads[at], NULL) == 0 && works[at].is_right && is_right;
+    is_right = pthread_join(compact_thread, &done) == 0 && done != NULL && is_right;
     is_right = legumeyet_book_close(&book) == 0 && is_right;
     return is_right ? 0 : 1;
 }

@@ -1,8 +1,8 @@
 /*
  * Legumeyet: numbers written as their readers write them, from C.
  *
- * A book of tables is opened from a JSON text. From a book formatters are opened, one for each locale tag. A formatter writes numbers
- * into bytes of the caller's:
+ * A book of tables is opened from a JSON text. From a book formatters are opened, one for each locale tag, of plain numbers or of
+ * compact ones. A formatter writes numbers into bytes of the caller's:
  *
  *     legumeyet_book book = {0};
  *     legumeyet_decimal_formatter english = {0};
@@ -54,10 +54,11 @@ enum {
     LEGUMEYET_TABLE = 6,        /* the book lacks a table for the tag */
     LEGUMEYET_NUMBER = 7,       /* the text is no decimal number, as `5.` */
     LEGUMEYET_LIMIT = 8,        /* a digit of the number stands beyond the magnitudes -32768 to 32767 */
-    LEGUMEYET_RANGE = 9,        /* what the number is shown as in compact form reaches ten to the power 32768; no call answers it yet */
+    LEGUMEYET_RANGE = 9,        /* what the number is shown as in compact form, or an exact form, reaches ten to the power 32768 */
     LEGUMEYET_UTF8 = 10,        /* the text is not UTF-8 */
     LEGUMEYET_UNREADABLE = 11,  /* under the formatter's symbols two numbers may have one text */
     LEGUMEYET_NOT_WRITTEN = 12, /* the formatter writes no number so, as `98,7654` in English */
+    LEGUMEYET_EXPONENT = 13,    /* numbers of the magnitude of an exact form have another exponent, as 3 that of `1.2c5` in English */
     /* Why a text is no book: the first faulty entry decides, and of an entry the least number. */
     LEGUMEYET_BOOK_JSON = 101,      /* the bytes are no JSON, as `[1` */
     LEGUMEYET_BOOK_SHAPE = 102,     /* the value is not five arrays or six, as `[]`, or an entry has not its form */
@@ -78,6 +79,12 @@ enum {
     LEGUMEYET_GROUPING_NEVER = 1,  /* nowhere: `1234567` */
     LEGUMEYET_GROUPING_ALWAYS = 2, /* as AUTO */
     LEGUMEYET_GROUPING_MIN2 = 3    /* as AUTO, but only with two digits before the last separator: `1000`, `10,000` */
+};
+
+/* Which patterns compact numbers are written in. */
+enum {
+    LEGUMEYET_WIDTH_SHORT = 0, /* `1.6K` in English */
+    LEGUMEYET_WIDTH_LONG = 1   /* `1.6 thousand` */
 };
 
 /* Which sign is written; chosen by what the rounding left. */
@@ -125,6 +132,12 @@ typedef struct {
     void *content;
     bool is_open;
 } legumeyet_decimal_formatter;
+
+/* A formatter of compact numbers: `1.6K`. */
+typedef struct {
+    void *content;
+    bool is_open;
+} legumeyet_compact_formatter;
 
 /* What is made of a number before it is written: it is rounded, and then its sign is chosen. Zeroed, the number stays as it is. */
 typedef struct {
@@ -221,6 +234,72 @@ int32_t legumeyet_decimal_formatter_format_parts(legumeyet_decimal_formatter *fo
  */
 int32_t legumeyet_decimal_formatter_read(legumeyet_decimal_formatter *formatter, const uint8_t *text, size_t text_length, uint8_t *out,
                                          size_t room, size_t *length);
+
+/*
+ * Opens the formatter of compact numbers for a locale tag, short or long: those of `en` write 1650 as `1.6K` and as `1.6 thousand`.
+ *
+ * `width` is a LEGUMEYET_WIDTH. The grouping that compact numbers have by default is LEGUMEYET_GROUPING_MIN2: `1000T`, `10,000T`.
+ * It has its own copy of the tables. What `formatter` had open is closed, where the call answers 0.
+ *
+ * Answers 0; LEGUMEYET_CLOSED, of the book; LEGUMEYET_OPTION, of the width or the grouping; LEGUMEYET_TAG; LEGUMEYET_TABLE, where the
+ * book has no symbols, no digits, no plural rules or no patterns of the width for the tag; LEGUMEYET_MEMORY, also in place of the last
+ * two.
+ */
+int32_t legumeyet_compact_formatter_open(legumeyet_book *book, const uint8_t *tag, size_t tag_length, uint32_t width, uint32_t grouping,
+                                         legumeyet_compact_formatter *formatter);
+
+/* Closes a formatter. Answers 0; LEGUMEYET_CLOSED, where it was closed already. */
+int32_t legumeyet_compact_formatter_close(legumeyet_compact_formatter *formatter);
+
+/*
+ * Writes a decimal number that is given as text: `-1172700` as `-1.2M` in short English.
+ *
+ * The options change the number before it is shown: rounded at 6 it is `-1M`, and 950 with LEGUMEYET_SIGN_ALWAYS is `+950`.
+ *
+ * Answers 0; LEGUMEYET_CLOSED; LEGUMEYET_OPTION, of the sign or the rounding; LEGUMEYET_NUMBER; LEGUMEYET_LIMIT; LEGUMEYET_RANGE;
+ * LEGUMEYET_MEMORY, which a number of eight digits at most never takes; LEGUMEYET_TOO_SMALL.
+ */
+int32_t legumeyet_compact_formatter_format(legumeyet_compact_formatter *formatter, const uint8_t *number, size_t number_length,
+                                           const legumeyet_options *options, uint8_t *out, size_t room, size_t *length);
+
+/*
+ * Writes the number `mantissa` times ten to the power `exponent`: -11727 and 2 as `-1.2M` in short English.
+ *
+ * Answers as legumeyet_compact_formatter_format, but for LEGUMEYET_NUMBER.
+ */
+int32_t legumeyet_compact_formatter_format_i64(legumeyet_compact_formatter *formatter, int64_t mantissa, int16_t exponent,
+                                               const legumeyet_options *options, uint8_t *out, size_t room, size_t *length);
+
+/*
+ * Writes as legumeyet_compact_formatter_format does, and lists the parts of the text, which are those of its sign: of `-1.2M` the minus
+ * sign at 0 to 1. `intervals`, `intervals_room` and `count` are those of legumeyet_decimal_formatter_format_parts.
+ *
+ * Answers as legumeyet_compact_formatter_format; LEGUMEYET_MEMORY of any number.
+ */
+int32_t legumeyet_compact_formatter_format_parts(legumeyet_compact_formatter *formatter, const uint8_t *number, size_t number_length,
+                                                 const legumeyet_options *options, uint8_t *out, size_t room, size_t *length,
+                                                 legumeyet_interval *intervals, size_t intervals_room, size_t *count);
+
+/*
+ * Writes the value that the text of a number shows, so that a chart can place its label: of `-1172700` in short English `-1.2c6`, which
+ * is -1.2 times ten to the power 6. Without an exponent it is the number alone: `950`.
+ *
+ * Answers as legumeyet_compact_formatter_format; LEGUMEYET_MEMORY also where what is shown has more than eight digits.
+ */
+int32_t legumeyet_compact_formatter_shown(legumeyet_compact_formatter *formatter, const uint8_t *number, size_t number_length,
+                                          const legumeyet_options *options, uint8_t *out, size_t room, size_t *length);
+
+/*
+ * Writes an exact form, a significand with an exponent, its digits as they are given: `-1.20c6` as `-1.20M` in short English.
+ *
+ * What legumeyet_compact_formatter_shown writes is such a text. The options change the significand: rounded at -1 it is `-1.2M`.
+ *
+ * Answers 0; LEGUMEYET_CLOSED; LEGUMEYET_OPTION, of the sign or the rounding; LEGUMEYET_NUMBER, where the text is no compact number, as
+ * `1.2e6`; LEGUMEYET_LIMIT, also of an exponent above 255; LEGUMEYET_MEMORY, which a significand of eight digits at most never takes;
+ * LEGUMEYET_RANGE, where the magnitude of both together is above 32767; LEGUMEYET_EXPONENT; LEGUMEYET_TOO_SMALL.
+ */
+int32_t legumeyet_compact_formatter_format_exact(legumeyet_compact_formatter *formatter, const uint8_t *number, size_t number_length,
+                                                 const legumeyet_options *options, uint8_t *out, size_t room, size_t *length);
 
 /*
  * Writes what an answer of these calls means, in English: of LEGUMEYET_TAG `no locale tag`.

@@ -3,6 +3,8 @@
 //     legumeyet::Book book(json);
 //     legumeyet::DecimalFormatter english(book, "en");
 //     english.format("-987654.321");                             // -987,654.321
+//     legumeyet::CompactDecimalFormatter short_english(book, "en");
+//     short_english.format("-987654.321");                       // -988K
 //
 // Each call throws a legumeyet::Error where the function of legumeyet.h that it stands for answers one; std::bad_alloc may come too.
 // As there, a book or a formatter may go to another thread, and is used by one call at a time, so no call is const.
@@ -81,8 +83,25 @@ struct Annotated {
     std::vector<legumeyet_interval> parts;
 };
 
+namespace inner {
+
+// The same with parts: `call` takes the last six arguments of such a function.
+template <class Call> Annotated annotated(Call call) {
+    Annotated found{std::string(), std::vector<legumeyet_interval>(16)};
+    size_t count = 0;
+    found.text = written([&](auto... out) {
+        found.parts.resize(std::max(found.parts.size(), count));
+        return call(out..., found.parts.data(), found.parts.size(), &count);
+    });
+    found.parts.resize(count);
+    return found;
+}
+
+} // namespace inner
+
 // A book of tables, of its JSON text.
 class Book : inner::Owned<legumeyet_book, legumeyet_book_close> {
+    friend class CompactDecimalFormatter;
     friend class DecimalFormatter;
 
   public:
@@ -115,21 +134,57 @@ class DecimalFormatter : inner::Owned<legumeyet_decimal_formatter, legumeyet_dec
 
     // The text of `format` with its parts, in order of their beginning.
     Annotated format_parts(std::string_view number, const legumeyet_options &options = {}) {
-        Annotated found{std::string(), std::vector<legumeyet_interval>(16)};
-        size_t count = 0;
-        found.text = inner::written([&](auto... out) {
-            found.parts.resize(std::max(found.parts.size(), count));
-            return legumeyet_decimal_formatter_format_parts(&handle, inner::bytes(number), number.size(), &options, out...,
-                                                            found.parts.data(), found.parts.size(), &count);
+        return inner::annotated([&](auto... out) {
+            return legumeyet_decimal_formatter_format_parts(&handle, inner::bytes(number), number.size(), &options, out...);
         });
-        found.parts.resize(count);
-        return found;
     }
 
     // The number that is written so, as digits: `-1234.50` of `-1,234.50` in English.
     std::string read(std::string_view text) {
         return inner::written(
             [&](auto... out) { return legumeyet_decimal_formatter_read(&handle, inner::bytes(text), text.size(), out...); });
+    }
+};
+
+// The formatter of compact numbers for a locale tag, of a LEGUMEYET_WIDTH. It keeps nothing of the book.
+class CompactDecimalFormatter : inner::Owned<legumeyet_compact_formatter, legumeyet_compact_formatter_close> {
+  public:
+    CompactDecimalFormatter(Book &book, std::string_view tag, uint32_t width = LEGUMEYET_WIDTH_SHORT,
+                            uint32_t grouping = LEGUMEYET_GROUPING_MIN2) {
+        inner::expect_well(legumeyet_compact_formatter_open(&book.handle, inner::bytes(tag), tag.size(), width, grouping, &handle));
+    }
+
+    std::string format(std::string_view number, const legumeyet_options &options = {}) {
+        return inner::written([&](auto... out) {
+            return legumeyet_compact_formatter_format(&handle, inner::bytes(number), number.size(), &options, out...);
+        });
+    }
+
+    // The number `mantissa` times ten to the power `exponent`.
+    std::string format(int64_t mantissa, int16_t exponent, const legumeyet_options &options = {}) {
+        return inner::written(
+            [&](auto... out) { return legumeyet_compact_formatter_format_i64(&handle, mantissa, exponent, &options, out...); });
+    }
+
+    // The text of `format` with its parts, those of its sign.
+    Annotated format_parts(std::string_view number, const legumeyet_options &options = {}) {
+        return inner::annotated([&](auto... out) {
+            return legumeyet_compact_formatter_format_parts(&handle, inner::bytes(number), number.size(), &options, out...);
+        });
+    }
+
+    // The value that the text of `format` shows: `-1.2c6` of `-1.2M`.
+    std::string shown(std::string_view number, const legumeyet_options &options = {}) {
+        return inner::written([&](auto... out) {
+            return legumeyet_compact_formatter_shown(&handle, inner::bytes(number), number.size(), &options, out...);
+        });
+    }
+
+    // The text of a significand with an exponent, its digits as they are: `-1.20M` of `-1.20c6`.
+    std::string format_exact(std::string_view number, const legumeyet_options &options = {}) {
+        return inner::written([&](auto... out) {
+            return legumeyet_compact_formatter_format_exact(&handle, inner::bytes(number), number.size(), &options, out...);
+        });
     }
 };
 

@@ -1,6 +1,6 @@
 /*
  * Times the calls of legumeyet.h beside those of ICU4C, in turns, and prints the one over the other: below 1 this library is faster.
- * ICU4C's texts are UTF-16, as its calls for C write them.
+ * ICU4C's texts are UTF-16, as its calls for C write and read them; what it reads is an integer, and here the digits.
  *
  * usage: main BOOK [TURNS]
  */
@@ -10,6 +10,7 @@
 #include <stdlib.h>
 #include <string.h>
 #include <time.h>
+#include <unicode/unum.h>
 #include <unicode/unumberformatter.h>
 #include <unicode/ustring.h>
 
@@ -17,17 +18,20 @@ enum { ROOM = 128, DIGITS = 18, CALLS = 20000, HANDLES = 64 };
 
 static legumeyet_book book;
 static legumeyet_decimal_formatter plain;
+static legumeyet_compact_formatter compact;
 static const legumeyet_options AS_GIVEN = {0, 0, 0};
-static UNumberFormatter *icu_plain;
+static UNumberFormatter *icu_plain, *icu_compact;
+static UNumberFormat *icu_reader;
 static UFormattedNumber *icu_result;
 
-/* What is written: the digits, as a text and as an integer. */
+/* What is written: the digits, as a text and as an integer; and what is read: their text in English. */
 static const char *const NUMBER = "987654321987654321";
 static size_t count;
 static int64_t integer;
-static uint8_t out[ROOM];
-static UChar wide_out[ROOM];
-static size_t length;
+static uint8_t written[ROOM], out[ROOM];
+static UChar wide_written[ROOM], wide_out[ROOM];
+static size_t written_length, length;
+static int64_t wide_integer;
 static UErrorCode status;
 
 static void end(const char *what) {
@@ -53,6 +57,21 @@ static void integer_there(void) {
     unumf_resultToString(icu_result, wide_out, ROOM, &status);
 }
 
+static void short_here(void) {
+    if (legumeyet_compact_formatter_format(&compact, (const uint8_t *)NUMBER, count, &AS_GIVEN, out, ROOM, &length) != 0) end("compact");
+}
+
+static void short_there(void) {
+    unumf_formatDecimal(icu_compact, NUMBER, (int32_t)count, icu_result, &status);
+    unumf_resultToString(icu_result, wide_out, ROOM, &status);
+}
+
+static void read_here(void) {
+    if (legumeyet_decimal_formatter_read(&plain, written, written_length, out, ROOM, &length) != 0) end("read");
+}
+
+static void read_there(void) { wide_integer = unum_parseInt64(icu_reader, wide_written, (int32_t)written_length, NULL, &status); }
+
 typedef struct {
     const char *name;
     void (*here)(void), (*there)(void);
@@ -61,6 +80,8 @@ typedef struct {
 static const row ROWS[] = {
     {"text", text_here, text_there},
     {"integer", integer_here, integer_there},
+    {"short", short_here, short_there},
+    {"read", read_here, read_there},
 };
 
 enum { KINDS = sizeof ROWS / sizeof ROWS[0] };
@@ -88,16 +109,30 @@ static void expect_same(const char *what) {
     if (u_strncmp(wide, wide_out, wide_length) != 0 || wide_out[wide_length] != 0) end(what);
 }
 
-/* Makes the numbers of a row of the table, and sees that both sides write them alike. */
+/* Makes the text that is read: the integer as it was written last. */
+static void prepare_reading(void) {
+    memcpy(written, out, length);
+    written_length = length;
+    memcpy(wide_written, wide_out, sizeof wide_out);
+}
+
+/* Makes the numbers of a row of the table, and sees that both sides write them alike and read the same number. */
 static void prepare(size_t digits) {
     count = digits;
     integer = strtoll(NUMBER + DIGITS - digits, NULL, 10);
     text_there();
     text_here();
     expect_same("the texts differ");
+    short_there();
+    short_here();
+    expect_same("the short texts differ");
     integer_there();
     integer_here();
     expect_same("the texts of integers differ");
+    prepare_reading();
+    read_there();
+    read_here();
+    if (wide_integer != integer || length != digits || memcmp(out, NUMBER + DIGITS - digits, digits) != 0) end("what is read differs");
     if (U_FAILURE(status)) end(u_errorName(status));
 }
 
@@ -107,7 +142,11 @@ static void open_all(const char *path) {
     if (file == NULL || legumeyet_book_open(json, fread(json, 1, sizeof json, file), &book) != 0) end("the book can't be opened");
     fclose(file);
     if (legumeyet_decimal_formatter_open(&book, (const uint8_t *)"en", 2, LEGUMEYET_GROUPING_AUTO, &plain) != 0) end("plain");
+    if (legumeyet_compact_formatter_open(&book, (const uint8_t *)"en", 2, LEGUMEYET_WIDTH_SHORT, LEGUMEYET_GROUPING_MIN2, &compact) != 0)
+        end("compact");
     icu_plain = unumf_openForSkeletonAndLocale(u"", 0, "en", &status);
+    icu_compact = unumf_openForSkeletonAndLocale(u"compact-short", -1, "en", &status);
+    icu_reader = unum_open(UNUM_DECIMAL, NULL, 0, "en", NULL, &status);
     icu_result = unumf_openResult(&status);
     if (U_FAILURE(status)) end(u_errorName(status));
 }
@@ -115,10 +154,14 @@ static void open_all(const char *path) {
 /* What a formatter holds, beside its handle. */
 static void print_memory(void) {
     static legumeyet_decimal_formatter plains[HANDLES];
-    size_t start = mallinfo2().uordblks;
+    static legumeyet_compact_formatter compacts[HANDLES];
+    size_t start = mallinfo2().uordblks, held;
     int at;
     for (at = 0; at < HANDLES; at++) legumeyet_decimal_formatter_open(&book, (const uint8_t *)"en", 2, 0, &plains[at]);
-    printf("a formatter holds %zu bytes, a handle %zu\n", (mallinfo2().uordblks - start) / HANDLES, sizeof plain);
+    held = mallinfo2().uordblks - start;
+    printf("a formatter holds %zu bytes, a handle %zu\n", held / HANDLES, sizeof plain);
+    for (at = 0; at < HANDLES; at++) legumeyet_compact_formatter_open(&book, (const uint8_t *)"en", 2, LEGUMEYET_WIDTH_SHORT, 3, &compacts[at]);
+    printf("a short one holds %zu bytes\n", (mallinfo2().uordblks - start - held) / HANDLES);
 }
 
 int main(int words, char **word) {

@@ -5,7 +5,7 @@ from types import TracebackType
 from typing import Any, List, NamedTuple, Optional, Tuple, Type, TypeVar, Union
 
 from ._library import Handle, Options, annotated, expect_well, library, written
-from ._options import Grouping, Kind, Rounding, Sign
+from ._options import Grouping, Kind, Rounding, Sign, Width
 
 Self = TypeVar("Self", bound="Open")
 Number = Union[Decimal, int, str]
@@ -109,40 +109,27 @@ class Book(Open):
         return self._written(library.legumeyet_book_answer, given, len(given))
 
 
-class DecimalFormatter(Open):
-    """The formatter of plain numbers for a locale tag. It keeps nothing of the book.
+class Formatter(Open):
+    """What writes numbers: each kind has the library's calls."""
 
-    Raises `Error` 2 where the book is closed, 5 where the text is no locale tag, 6 where the book lacks a table for it, 1 where
-    memory was refused.
-
-    >>> book = Book('[[["de","","latn","-","","+","",",",".",3,3,1]],[["latn","0123456789"]],[],[],[]]')
-    >>> with DecimalFormatter(book, "de") as german:
-    ...     german.format(1234567), german.format(Decimal("0.50")), german.format(Decimal("2E+3"))
-    ('1.234.567', '0,50', '2.000')
-    """
-
-    _close = library.legumeyet_decimal_formatter_close
-
-    def __init__(self, book: Book, tag: Text, grouping: Grouping = Grouping.AUTO) -> None:
-        super().__init__()
-        given = encoded(tag)
-        with book._lock:
-            expect_well(library.legumeyet_decimal_formatter_open(book._handle, given, len(given), Grouping(grouping), self._handle))
+    _format: Any
+    _format_i64: Any
+    _format_parts: Any
 
     def format(self, number: Number, sign: Sign = Sign.KEEP, rounding: Rounding = Rounding.KEEP, position: int = 0) -> str:
         """The number's text. It is rounded at the position first: 0 is the ones, -2 the hundredths.
 
-        Raises `Error` 7 where the text is no number, 8 where a digit stands beyond the magnitudes -32768 to 32767, 2 where the
-        formatter is closed, 1 where memory was refused.
+        Raises `Error` 7 where the text is no number, 8 where a digit stands beyond the magnitudes -32768 to 32767, 9 where what is
+        shown in compact form does, 2 where the formatter is closed, 1 where memory was refused.
 
         >>> english.format("9.65", Sign.ALWAYS, Rounding.HALF_EVEN, -1)
         '+9.6'
         """
         options = options_of(sign, rounding, position)
         if is_small(number):
-            return self._written(library.legumeyet_decimal_formatter_format_i64, number, 0, options)
+            return self._written(type(self)._format_i64, number, 0, options)
         given = digits_of(number)
-        return self._written(library.legumeyet_decimal_formatter_format, given, len(given), options)
+        return self._written(type(self)._format, given, len(given), options)
 
     def format_parts(
         self, number: Number, sign: Sign = Sign.KEEP, rounding: Rounding = Rounding.KEEP, position: int = 0
@@ -155,9 +142,33 @@ class DecimalFormatter(Open):
         """
         options, given = options_of(sign, rounding, position), digits_of(number)
         with self._lock:
-            text, found = annotated(library.legumeyet_decimal_formatter_format_parts, self._handle, given, len(given), options)
+            text, found = annotated(type(self)._format_parts, self._handle, given, len(given), options)
         at = {byte: place for place, byte in enumerate([it for it, value in enumerate(text) if value & 0xC0 != 0x80] + [len(text)])}
         return text.decode(), [Part(Kind(it.kind), at[it.start], at[it.end]) for it in found]
+
+
+class DecimalFormatter(Formatter):
+    """The formatter of plain numbers for a locale tag. It keeps nothing of the book.
+
+    Raises `Error` 2 where the book is closed, 5 where the text is no locale tag, 6 where the book lacks a table for it, 1 where
+    memory was refused.
+
+    >>> book = Book('[[["de","","latn","-","","+","",",",".",3,3,1]],[["latn","0123456789"]],[],[],[]]')
+    >>> with DecimalFormatter(book, "de") as german:
+    ...     german.format(1234567), german.format(Decimal("0.50")), german.format(Decimal("2E+3"))
+    ('1.234.567', '0,50', '2.000')
+    """
+
+    _close = library.legumeyet_decimal_formatter_close
+    _format = library.legumeyet_decimal_formatter_format
+    _format_i64 = library.legumeyet_decimal_formatter_format_i64
+    _format_parts = library.legumeyet_decimal_formatter_format_parts
+
+    def __init__(self, book: Book, tag: Text, grouping: Grouping = Grouping.AUTO) -> None:
+        super().__init__()
+        given = encoded(tag)
+        with book._lock:
+            expect_well(library.legumeyet_decimal_formatter_open(book._handle, given, len(given), Grouping(grouping), self._handle))
 
     def read(self, text: Text) -> Decimal:
         """The number that is written so, with all digits that are shown.
@@ -173,3 +184,53 @@ class DecimalFormatter(Open):
         """
         given = encoded(text)
         return Decimal(self._written(library.legumeyet_decimal_formatter_read, given, len(given)))
+
+
+class CompactDecimalFormatter(Formatter):
+    """The formatter of compact numbers for a locale tag, short or long. It keeps nothing of the book. The parts that it lists are
+    those of the sign.
+
+    Raises as `DecimalFormatter`.
+
+    >>> short_english.format(-1172700), short_english.format(Decimal("950.5"), Sign.ALWAYS)
+    ('-1.2M', '+950')
+    >>> short_english.format_parts("-1650")
+    ('-1.6K', [Part(kind=<Kind.MINUS_SIGN: 1>, start=0, end=1)])
+    """
+
+    _close = library.legumeyet_compact_formatter_close
+    _format = library.legumeyet_compact_formatter_format
+    _format_i64 = library.legumeyet_compact_formatter_format_i64
+    _format_parts = library.legumeyet_compact_formatter_format_parts
+
+    def __init__(self, book: Book, tag: Text, width: Width = Width.SHORT, grouping: Grouping = Grouping.MIN2) -> None:
+        super().__init__()
+        given = encoded(tag)
+        asked = Width(width), Grouping(grouping)
+        with book._lock:
+            expect_well(library.legumeyet_compact_formatter_open(book._handle, given, len(given), *asked, self._handle))
+
+    def shown(self, number: Number, sign: Sign = Sign.KEEP, rounding: Rounding = Rounding.KEEP, position: int = 0) -> str:
+        """The value that the text of `format` shows: a significand, and behind `c` an exponent where it is not 0. Raises as `format`.
+
+        >>> short_english.shown(-1172700), short_english.shown(950)
+        ('-1.2c6', '950')
+        """
+        options, given = options_of(sign, rounding, position), digits_of(number)
+        return self._written(library.legumeyet_compact_formatter_shown, given, len(given), options)
+
+    def format_exact(self, number: str, sign: Sign = Sign.KEEP, rounding: Rounding = Rounding.KEEP, position: int = 0) -> str:
+        """The text of a significand with an exponent, its digits as they are; it is the significand that is rounded.
+
+        Raises `Error` 7 where the text is no such number, 8 where a digit of the significand stands beyond the magnitudes -32768 to
+        32767, or the exponent is above 255, 9 where the magnitude of both together is above 32767, 13 where numbers of this magnitude
+        have another exponent, 2 where the formatter is closed, 1 where memory was refused.
+
+        >>> short_english.format_exact("-1.20c6")
+        '-1.20M'
+        >>> short_english.format_exact("1.2c5")
+        Traceback (most recent call last):
+        legumeyet.Error: 13: an exponent that numbers of this magnitude have not
+        """
+        options, given = options_of(sign, rounding, position), encoded(number)
+        return self._written(library.legumeyet_compact_formatter_format_exact, given, len(given), options)

@@ -49,6 +49,7 @@ def load() -> ctypes.CDLL:
     handle, number, size = ctypes.POINTER(Handle), ctypes.c_uint32, ctypes.c_size_t
     given = [ctypes.c_char_p, size]
     written = [ctypes.c_char_p, size, ctypes.POINTER(size)]
+    listed = [ctypes.POINTER(Interval), size, ctypes.POINTER(size)]
     options = ctypes.POINTER(Options)
     integer = [ctypes.c_int64, ctypes.c_int16]
     for name, arguments in {
@@ -59,8 +60,15 @@ def load() -> ctypes.CDLL:
         "decimal_formatter_close": [handle],
         "decimal_formatter_format": [handle, *given, options, *written],
         "decimal_formatter_format_i64": [handle, *integer, options, *written],
-        "decimal_formatter_format_parts": [handle, *given, options, *written, ctypes.POINTER(Interval), size, ctypes.POINTER(size)],
+        "decimal_formatter_format_parts": [handle, *given, options, *written, *listed],
         "decimal_formatter_read": [handle, *given, *written],
+        "compact_formatter_open": [handle, *given, number, number, handle],
+        "compact_formatter_close": [handle],
+        "compact_formatter_format": [handle, *given, options, *written],
+        "compact_formatter_format_i64": [handle, *integer, options, *written],
+        "compact_formatter_format_parts": [handle, *given, options, *written, *listed],
+        "compact_formatter_shown": [handle, *given, options, *written],
+        "compact_formatter_format_exact": [handle, *given, options, *written],
         "error_text": [ctypes.c_int32, *written],
         "version": [],
     }.items():

@@ -11,6 +11,13 @@ class Grouping(IntEnum):
     MIN2 = 3
 
 
+class Width(IntEnum):
+    """Which patterns compact numbers are written in: `1.6K`, or `1.6 thousand`."""
+
+    SHORT = 0
+    LONG = 1
+
+
 class Sign(IntEnum):
     """Which sign is written; it is chosen by what the rounding left."""
 

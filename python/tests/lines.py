@@ -7,9 +7,9 @@ import sys
 from decimal import Decimal
 
 import legumeyet
-from legumeyet import Book, DecimalFormatter, Grouping, Rounding, Sign
+from legumeyet import Book, CompactDecimalFormatter, DecimalFormatter, Grouping, Rounding, Sign, Width
 
-WORDS = {5: "tag", 6: "table", 7: "number", 8: "limit", 9: "range", 11: "unreadable", 12: "not-written"}
+WORDS = {5: "tag", 6: "table", 7: "number", 8: "limit", 9: "range", 11: "unreadable", 12: "not-written", 13: "exponent"}
 
 
 def option(kind, word):
@@ -29,7 +29,12 @@ def text_for(book, fields):
         return DecimalFormatter(book, tag, grouping).format(number, sign, rounding, int(position))
     if form == "read":
         return DecimalFormatter(book, tag, grouping).read(number)
-    raise KeyError(form)
+    is_exact, _, width = form.rpartition("-")
+    compact = CompactDecimalFormatter(book, tag, option(Width, width), grouping)
+    if is_exact:
+        return compact.format_exact(number, sign)
+    options = number, sign, rounding, int(position)
+    return f"{compact.format(*options)}\t{compact.shown(*options)}"
 
 
 def by_formatter(book, line):

@@ -9,17 +9,19 @@ import unittest
 from decimal import Decimal
 
 import legumeyet
-from legumeyet import Book, DecimalFormatter, Error, Grouping, Rounding, Sign, _formatters, _library
+from legumeyet import Book, CompactDecimalFormatter, DecimalFormatter, Error, Grouping, Rounding, Sign, Width, _formatters, _library
 
 JSON = """[[["en","","latn","-","","+","",".",",",3,3,1],["ar","","arab","-","","+","","٫","٬",3,3,1],
 ["bad","","latn","","","+","",".",",",3,3,1]],[["latn","0123456789"],["arab","٠١٢٣٤٥٦٧٨٩"]],
-[["en",[]]],[["en","",[[3,3,[["other",["","K"]]]]],null]],[]]"""
+[["en",[]]],[["en","",[[3,3,[["other",["","K"]]]],[6,6,[["other",["","M"]]]]],null]],
+[["en","",[[3,3,[["other",[""," thousand"]]]]],null]]]"""
 
 
 def load_tests(_loader, tests, _pattern):
     """The tests of this file, and the examples."""
     book = Book(JSON)
-    names = {"Book": Book, "Error": Error, "book": book, "english": DecimalFormatter(book, "en"), **vars(legumeyet)}
+    made = {"english": DecimalFormatter(book, "en"), "short_english": CompactDecimalFormatter(book, "en")}
+    names = {"Book": Book, "Error": Error, "book": book, **made, **vars(legumeyet)}
     for module in (legumeyet, _formatters, _library):
         tests.addTests(doctest.DocTestSuite(module, extraglobs=names))
     return tests
@@ -29,6 +31,7 @@ class Calls(unittest.TestCase):
     def setUp(self):
         self.book = Book(JSON)
         self.english = DecimalFormatter(self.book, "en")
+        self.short = CompactDecimalFormatter(self.book, "en")
 
     def refused(self, number, call, *words):
         """The call raises the error of this number."""
@@ -53,6 +56,36 @@ class Calls(unittest.TestCase):
             self.refused(8, self.english.format, number)
         for number in (1.5, None, b"1", [1]):
             self.assertRaises(TypeError, self.english.format, number)
+
+    def test_compact(self):
+        for number, text in [
+            (-1172700, "-1.2M"), (Decimal("999500"), "1M"), (Decimal("1.65E+3"), "1.6K"), ("950", "950"), (10**10, "10,000M"),
+            (-(2**63), "-9,223,372,036,855M"), (2**64, "18,446,744,073,710M"),
+        ]:
+            self.assertEqual(self.short.format(number), text)
+        self.assertEqual(self.short.format("-1250000", Sign.ALWAYS, Rounding.TRUNC, 6), "-1M")
+        self.assertEqual(CompactDecimalFormatter(self.book, "en", Width.LONG).format(1650), "1.6 thousand")
+        self.assertEqual(CompactDecimalFormatter(self.book, "en", grouping=Grouping.NEVER).format(10**10), "10000M")
+        self.assertEqual(self.short.format_parts(1650), ("1.6K", []))
+        self.assertEqual(self.short.format_parts("+1650"), ("+1.6K", [(2, 0, 1)]))
+        for number, value in [(-1172700, "-1.2c6"), (Decimal("950"), "950"), ("0.2222", "0.22"), (10**20, "100000000000000c6")]:
+            self.assertEqual(self.short.shown(number), value)
+            self.assertEqual(self.short.format_exact(value), self.short.format(number))
+        self.assertEqual(self.short.format_exact("-1.20c6", Sign.NEVER, Rounding.HALF_EVEN, -1), "1.2M")
+        nines = "9" * 32768
+        for number, call, words in [
+            (7, self.short.format, ("5.",)), (7, self.short.shown, (Decimal("NaN"),)), (8, self.short.format, ("1e40000",)),
+            (9, self.short.format, (nines,)), (9, self.short.shown, (nines,)), (9, self.short.format_parts, (nines,)),
+            (7, self.short.format_exact, ("1.2e6",)), (7, self.short.format_exact, ("\udcff",)), (8, self.short.format_exact, ("1c256",)),
+            (9, self.short.format_exact, (f"1{'0' * 32767}c6",)), (13, self.short.format_exact, ("1.2c5",)),
+        ]:
+            self.refused(number, call, *words)
+        self.assertRaises(TypeError, self.short.format_exact, 1)
+        self.assertRaises(TypeError, self.short.shown, 1.5)
+        self.assertRaises(ValueError, CompactDecimalFormatter, self.book, "en", 2)
+        self.assertRaises(ValueError, self.short.shown, 1, 6)
+        for number, tag in ((5, "e"), (5, "\udcff"), (6, "xx"), (6, "ar")):
+            self.refused(number, CompactDecimalFormatter, self.book, tag)
 
     def test_reads(self):
         for text, number in [("-987,654.321", "-987654.321"), ("1.50", "1.50"), ("-0", "-0"), ("0.00", "0.00"), (b"1,234", "1234")]:
@@ -114,6 +147,11 @@ class Calls(unittest.TestCase):
         self.refused(2, self.english.format, 1)
         self.refused(2, self.english.read, "1")
         self.refused(2, self.english.format_parts, "1")
+        self.assertEqual(self.short.format(1650), "1.6K")
+        self.short.close()
+        self.refused(2, CompactDecimalFormatter, self.book, "en")
+        for call in (self.short.format, self.short.format_parts, self.short.shown, self.short.format_exact):
+            self.refused(2, call, "1")
 
     def test_error_of_another_version(self):
         self.assertEqual((Error(99).number, Error(99).word), (99, "an error of another version"))
@@ -131,6 +169,7 @@ class Calls(unittest.TestCase):
     def test_lets_go(self):
         for _ in range(200):
             DecimalFormatter(Book(JSON), "en").format(1)
+            CompactDecimalFormatter(Book(JSON), "en").format(1)
         gc.collect()
 
 

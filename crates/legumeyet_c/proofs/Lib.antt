@@ -5,3 +5,4 @@ pub mod PartsLemmas
 pub mod PointerValues
 pub mod PuttingLemmas
 pub mod Sent
+pub mod WantedLemmas

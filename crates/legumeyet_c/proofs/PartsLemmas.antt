@@ -6,17 +6,9 @@ use Rattle.writeable.specs.AnnotatedText.{AnnotatedText, Interval as PartInterva
 use Rattle.writeable.specs.ListedParts.{interval_of}
 use Rattle.writeable.specs.declared.part.Part.{Part}
 use Rattle.legumeyet_c.specs.declared.intervals.Interval.{Interval}
-use Rattle.fixed_decimal.specs.Number.{Number}
-use Rattle.fixed_decimal.specs.SignedText.{ReadsSigned}
-use Rattle.fixed_decimal.specs.SignedValue.{SignedValue}
-use Rattle.icu_decimal.specs.PlainText.{Tables}
-use Rattle.legumeyet_c.specs.Numbers.{Gives, IsChangeFault, IsNumberFault}
-use Rattle.legumeyet_c.specs.Parts.{AnnotatesValue, Given, HasRoom, IsAnnotatedFault, IsPartsFault, IsPutInParts, WantsList, WritesParts, as_interval, given, listed_as, over, written_over}
-use Rattle.legumeyet_c.specs.Writing.{IsWritingFault}
-use Rattle.legumeyet_c.specs.declared.choices.Choices.{Choices}
+use Rattle.legumeyet_c.specs.Parts.{Given, HasRoom, IsPutInParts, as_interval, given, listed_as, over, written_over}
 use Rattle.legumeyet_c.specs.declared.call_error.CallError.{CallError}
-use Rattle.legumeyet_c.specs.declared.call_error.CallError.TheVariants.{Memory, Closed, TooSmall}
-use Rattle.legumeyet_c.proofs.PuttingLemmas.{number_fault_other}
+use Rattle.legumeyet_c.specs.declared.call_error.CallError.TheVariants.{TooSmall}
 
 -- the parts that a sink lists, as C has them
 listed_parts : (listed : List (ℕ × ℕ × Part)) (parts : List PartInterval) → map interval_of listed ≡ parts → map listed_as listed ≡ map as_interval parts
@@ -75,29 +67,7 @@ parts_by before after (Err error) text cause put = record {
   refused = λ other. let untouched = put.refused other in (cause error untouched.0, untouched.1);
 }
 
--- the text of a number that is there is what is said of the number that was given
-pub annotated_says : (open_tables : Option Tables) (choices : Option Choices) (is_given : SignedValue Number → Type 0) (number : Result (SignedValue Number) CallError)
-    → IfOk number (Gives choices is_given) → (text : AnnotatedText) → AnnotatesValue open_tables number text → WritesParts open_tables choices is_given text
-annotated_says None choices is_given number gives text says = says
-annotated_says (Some tables) choices is_given (Err cause) gives text says = absurd says
-annotated_says (Some tables) choices is_given (Ok value) gives text says = record { value = value; gives = gives; is = says }
-
--- and why there is none is a fault of the call
-pub annotated_fault : (open_tables : Option Tables) (choices : Option Choices) (given : List ℕ) (number : Result (SignedValue Number) CallError)
-    → IfOk number (Gives choices (ReadsSigned given)) → IfErr number (IsChangeFault choices (IsNumberFault given)) → (error : CallError) → IsAnnotatedFault open_tables number error
-    → IsPartsFault open_tables choices given error
-annotated_fault None choices given number gives caused error is = inl is
-annotated_fault (Some tables) choices given (Err cause) gives caused error is = inl (subst (λ (e : CallError). IsChangeFault choices (IsNumberFault given) e) (sym is) caused)
-annotated_fault (Some tables) choices given (Ok value) gives caused error is =
-    inr (record { text = _; writes = record { value = value; gives = gives; is = refl }; is = is })
-
--- no such fault is that it is too long
-pub parts_fault_other : (open_tables : Option Tables) (choices : Option Choices) (given : List ℕ) (error : CallError) → IsPartsFault open_tables choices given error → error ≢ TooSmall
-parts_fault_other None choices given error (inl is) = λ same. absurd (cc (is, same))
-parts_fault_other (Some tables) choices given error (inl caused) = number_fault_other choices given error caused
-parts_fault_other open_tables choices given error (inr wants) = let is = wants.is in λ same. absurd (cc (is, same))
-
--- the same of a result
+-- what holds of a result
 pub ok_by : {T : Type 0} {says saying : T → Type 0} (outcome : Result T CallError) → IfOk outcome says → ((x : T) → says x → saying x) → IfOk outcome saying
 ok_by (Ok x) said by = by x said
 ok_by (Err error) said by = tt

@@ -1,16 +1,16 @@
 -- Outcomes of calls that write, one by the other.
-use Rattle.std.proofs.Common.{◌≡◌, ◌≢◌, ℕ, ℤ, ◌-◌, ◌<◌, ◌≤◌, ◌^◌, List, ◌++◌, length, take, drop, min, Option, Some, None, Result, Ok, Err, IsOk, IfOk, IfErr, IsErrOf, refl, sym, subst}
+use Rattle.std.proofs.Common.{◌≡◌, ◌≢◌, ℕ, ℤ, ◌-◌, ◌<◌, ◌≤◌, ◌^◌, List, ◌++◌, length, take, drop, min, Option, Some, None, Result, Ok, Err, IsOk, IfOk, IfErr, IsErrOf, refl, sym, subst, inl, inr}
 use Rattle.std.proofs.Math.Nat.{lt_of_not-le}
 use Rattle.fixed_decimal.specs.Number.{Number}
 use Rattle.fixed_decimal.specs.SignedValue.{SignedValue}
-use Rattle.icu_decimal.specs.PlainText.{Tables, decimal_text}
+use Rattle.icu_decimal.specs.PlainText.{Tables}
 use Rattle.locale_numbers.specs.Book.{BookTables}
 use Rattle.legumeyet_c.specs.Answering.{IsAnswerFault}
 use Rattle.legumeyet_c.specs.Choices.{Changes}
-use Rattle.legumeyet_c.specs.Numbers.{Gives, IsChanged, IsChangeFault, IsNumberFault, IsScaledFault}
+use Rattle.legumeyet_c.specs.Numbers.{Gives, IsChanged, IsChangeFault, IsCompactNumberFault, IsNumberFault, IsScaledFault}
 use Rattle.legumeyet_c.specs.Putting.{IsPut, IsWhole, IsCut, IsUntouched}
 use Rattle.legumeyet_c.specs.Reading.{IsReadFault, IsUnread}
-use Rattle.legumeyet_c.specs.Writing.{IsValueFault, IsWritingFault, WritesDecimal, WritesValue}
+use Rattle.legumeyet_c.specs.Writing.{IsValueFault, IsWritingFault, Writes, WritesValue}
 use Rattle.legumeyet_c.specs.declared.choices.Choices.{Choices}
 use Rattle.legumeyet_c.specs.declared.call_error.CallError.{CallError}
 use Rattle.legumeyet_c.specs.declared.call_error.CallError.TheVariants.{TooSmall, Closed}
@@ -62,32 +62,42 @@ put_by before after was told (Err error) text cause put = record {
 }
 
 -- what was written by tables was written by the handle that has them open
-pub open_put : (open_tables : Option Tables) (tables : Tables) (number : Result (SignedValue Number) CallError) (before after : List ℕ) (was told : ℕ) (outcome : Result (Unit {0}) CallError)
-    → open_tables ≡ Some tables → IsPut (WritesValue (Some tables) number) (IsValueFault (Some tables) number) before after was told outcome
-    → IsPut (WritesValue open_tables number) (IsValueFault open_tables number) before after was told outcome
-open_put open_tables tables number before after was told outcome is put =
-    subst (λ (o : Option Tables). IsPut (WritesValue o number) (IsValueFault o number) before after was told outcome) (sym is) put
+pub open_put : {T N : Type 0} (says : T → N → List ℕ → Type 0) (fails : T → N → CallError → Type 0) (open_tables : Option T) (tables : T) (value : Result N CallError)
+    (before after : List ℕ) (was told : ℕ) (outcome : Result (Unit {0}) CallError)
+    → open_tables ≡ Some tables → IsPut (WritesValue says (Some tables) value) (IsValueFault fails (Some tables) value) before after was told outcome
+    → IsPut (WritesValue says open_tables value) (IsValueFault fails open_tables value) before after was told outcome
+open_put {T} says fails open_tables tables value before after was told outcome is put =
+    subst (λ (o : Option T). IsPut (WritesValue says o value) (IsValueFault fails o value) before after was told outcome) (sym is) put
 
 -- nothing is open
-pub closed_put : (open_tables : Option Tables) (number : Result (SignedValue Number) CallError) (out : List ℕ) (told : ℕ)
-    → open_tables ≡ None → IsPut (WritesValue open_tables number) (IsValueFault open_tables number) out out told told (Err Closed)
-closed_put open_tables number out told is =
-    put_refused (WritesValue open_tables number) (IsValueFault open_tables number) out told Closed (λ same. absurd (cc same))
-    (subst (λ (o : Option Tables). IsValueFault o number Closed) (sym is) refl)
+pub closed_put : {T N : Type 0} (says : T → N → List ℕ → Type 0) (fails : T → N → CallError → Type 0) (open_tables : Option T) (value : Result N CallError)
+    (out : List ℕ) (told : ℕ)
+    → open_tables ≡ None → IsPut (WritesValue says open_tables value) (IsValueFault fails open_tables value) out out told told (Err Closed)
+closed_put {T} says fails open_tables value out told is =
+    put_refused (WritesValue says open_tables value) (IsValueFault fails open_tables value) out told Closed (λ same. absurd (cc same))
+    (subst (λ (o : Option T). IsValueFault fails o value Closed) (sym is) refl)
 
--- the text of a number that is there is what is said of the number that was given
-pub value_says : (tables : Option Tables) (choices : Option Choices) (is_given : SignedValue Number → Type 0) (number : Result (SignedValue Number) CallError)
-    → IfOk number (Gives choices is_given) → (text : List ℕ) → WritesValue tables number text → WritesDecimal tables choices is_given text
-value_says None choices is_given number gives text says = says
-value_says (Some tables) choices is_given (Err cause) gives text says = absurd says
-value_says (Some tables) choices is_given (Ok value) gives text says = record { value = value; gives = gives; is = says }
+-- what is written for a value that is there is written for the value that was given
+pub value_says : {T N X : Type 0} (says : T → N → X → Type 0) (open_tables : Option T) (is_given : N → Type 0) (value : Result N CallError)
+    → IfOk value is_given → (text : X) → WritesValue says open_tables value text → Writes says open_tables is_given text
+value_says says None is_given value given text said = said
+value_says says (Some tables) is_given (Err cause) given text said = absurd said
+value_says says (Some tables) is_given (Ok value) given text said = record { value = value; given = given; said = said }
 
--- and why there is none is a fault of the call
-pub value_fault : (tables : Option Tables) (choices : Option Choices) (fault : CallError → Type 0) (number : Result (SignedValue Number) CallError)
-    → IfErr number (IsChangeFault choices fault) → (error : CallError) → IsValueFault tables number error → IsWritingFault tables choices fault error
-value_fault None choices fault number caused error is = is
-value_fault (Some tables) choices fault (Err cause) caused error is = subst (λ (e : CallError). IsChangeFault choices fault e) (sym is) caused
-value_fault (Some tables) choices fault (Ok value) caused error is = absurd is
+-- and why nothing is written is a fault of the call
+pub value_fault : {T N : Type 0} (fails : T → N → CallError → Type 0) (open_tables : Option T) (is_given : N → Type 0) (fault : CallError → Type 0) (value : Result N CallError)
+    → IfOk value is_given → IfErr value fault → (error : CallError) → IsValueFault fails open_tables value error → IsWritingFault fails open_tables is_given fault error
+value_fault fails None is_given fault value given caused error is = is
+value_fault fails (Some tables) is_given fault (Err cause) given caused error is = inl (subst fault (sym is) caused)
+value_fault fails (Some tables) is_given fault (Ok value) given caused error failed = inr (record { value = value; given = given; failed = failed })
+
+-- no such fault is that a text is too long, where none of both kinds is
+pub writing_fault_other : {T N : Type 0} (fails : T → N → CallError → Type 0) (open_tables : Option T) (is_given : N → Type 0) (fault : CallError → Type 0) (error : CallError)
+    → ((tables : T) (value : N) → fails tables value error → error ≢ TooSmall) → (fault error → error ≢ TooSmall)
+    → IsWritingFault fails open_tables is_given fault error → error ≢ TooSmall
+writing_fault_other fails None is_given fault error failing caused is = λ same. absurd (cc (is, same))
+writing_fault_other fails (Some tables) is_given fault error failing caused (inl cause) = caused cause
+writing_fault_other fails (Some tables) is_given fault error failing caused (inr failed) = failing tables failed.value failed.failed
 
 -- no fault of a text's number is that it is too long
 pub number_fault_other : (choices : Option Choices) (text : List ℕ) (error : CallError) → IsChangeFault choices (IsNumberFault text) error → error ≢ TooSmall
@@ -100,6 +110,11 @@ pub scaled_fault_other : (choices : Option Choices) (mantissa exponent : ℤ) (e
 scaled_fault_other None mantissa exponent error is = λ same. absurd (cc (is, same))
 scaled_fault_other (Some choices) mantissa exponent error caused =
     λ same. subst (λ (e : CallError). IsScaledFault mantissa exponent e) same caused
+
+-- nor of a compact number
+pub compact_fault_other : (choices : Option Choices) (text : List ℕ) (error : CallError) → IsChangeFault choices (IsCompactNumberFault text) error → error ≢ TooSmall
+compact_fault_other None text error is = λ same. absurd (cc (is, same))
+compact_fault_other (Some choices) text error caused = λ same. subst (λ (e : CallError). IsCompactNumberFault text e) same caused
 
 -- nor of a line
 pub answer_fault_other : (book : Option BookTables) (error : CallError) → IsAnswerFault book error → error ≢ TooSmall

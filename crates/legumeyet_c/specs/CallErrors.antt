@@ -6,7 +6,7 @@ use Rattle.locale_numbers.specs.BookError.{number_of as book_number}
 use Rattle.locale_numbers.specs.declared.BookError.{BookError}
 use Rattle.locale_numbers.specs.declared.BookError.TheVariants as book
 use Rattle.legumeyet_c.specs.declared.call_error.CallError.{CallError}
-use Rattle.legumeyet_c.specs.declared.call_error.CallError.TheVariants.{Memory, Closed, TooSmall, UnknownOption, Tag, Table, Number, Limit, Range, NoUtf8, Unreadable, NotWritten, Book}
+use Rattle.legumeyet_c.specs.declared.call_error.CallError.TheVariants.{Memory, Closed, TooSmall, UnknownOption, Tag, Table, Number, Limit, Range, NoUtf8, Unreadable, NotWritten, Exponent, Book}
 
 -- a book's number and 100; out of memory is told as one number, whatever it was wanted for
 abbrev pub book_answer : BookError → ℤ
@@ -27,6 +27,7 @@ number_of Range = pos 9
 number_of NoUtf8 = pos 10
 number_of Unreadable = pos 11
 number_of NotWritten = pos 12
+number_of Exponent = pos 13
 number_of (Book error) = book_answer error
 
 -- 0 of a call that was not refused
@@ -62,4 +63,5 @@ text_of Range = codes "what is shown reaches ten to the power 32768"
 text_of NoUtf8 = codes "no UTF-8"
 text_of Unreadable = codes "symbols under which two numbers may have one text"
 text_of NotWritten = codes "no number is written so"
+text_of Exponent = codes "an exponent that numbers of this magnitude have not"
 text_of (Book error) = book_text error

@@ -16,6 +16,8 @@ use Rattle.icu_decimal.specs.declared.options.GroupingStrategy.{GroupingStrategy
 use Rattle.icu_decimal.specs.declared.options.GroupingStrategy.TheVariants as grouping
 use Rattle.legumeyet_c.specs.declared.choices.Choices.{Choices}
 use Rattle.legumeyet_c.specs.declared.choices.Options.{Options}
+use Rattle.legumeyet_c.specs.declared.choices.Width.{Width}
+use Rattle.legumeyet_c.specs.declared.choices.Width.TheVariants.{Short, Long}
 
 -- the first keeps the sign as it is
 abbrev pub signs : List (Option SignDisplay)
@@ -29,6 +31,9 @@ modes = None ∷ Some (Unsigned Expand) ∷ Some (Unsigned Trunc) ∷ Some Ceil 
 abbrev pub groupings : List GroupingStrategy
 groupings = grouping.Auto ∷ grouping.Never ∷ grouping.Always ∷ grouping.Min2 ∷ []
 
+abbrev pub widths : List Width
+widths = Short ∷ Long ∷ []
+
 abbrev pub sign_of : ℕ → Option (Option SignDisplay)
 sign_of number = slice_get signs number
 
@@ -37,6 +42,9 @@ mode_of number = slice_get modes number
 
 abbrev pub grouping_of : ℕ → Option GroupingStrategy
 grouping_of number = slice_get groupings number
+
+abbrev pub width_of : ℕ → Option Width
+width_of number = slice_get widths number
 
 -- both, where each is known
 abbrev pub both : Option (Option SignDisplay) → Option (Option SignedRoundingMode) → ℤ → Option Choices

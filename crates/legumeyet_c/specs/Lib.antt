@@ -1,6 +1,8 @@
 pub mod Answering
 pub mod CallErrors
 pub mod Choices
+pub mod CompactWriting
+pub mod DecimalWriting
 pub mod Information
 pub mod Kinds
 pub mod Numbers
@@ -10,4 +12,5 @@ pub mod Parts
 pub mod Putting
 pub mod Reading
 pub mod Views
+pub mod Wanted
 pub mod Writing

@@ -1,7 +1,8 @@
 -- The number that a call is given, changed as its options say, or why there is none.
 -- Defined in include/legumeyet.h, and docs/numbers.md, "The text".
 -- Cited by the exports that write numbers.
-use Rattle.std.specs.Prelude.{◌≡◌, ℕ, ℤ, List, Option, Some, None}
+use Rattle.std.specs.Prelude.{◌≡◌, ◌⊎◌, ℕ, ℤ, List, Option, Some, None, IsUtf8}
+use Rattle.fixed_decimal.specs.CompactText.{CompactValue, IsBeyondCompact, IsNoCompactText, ReadsCompact, ReadsLongCompact}
 use Rattle.fixed_decimal.specs.Number.{Number}
 use Rattle.fixed_decimal.specs.Range.{IsLong}
 use Rattle.fixed_decimal.specs.Shifts.{IsShifted, KeepsPlaces}
@@ -51,3 +52,23 @@ abbrev pub IsScaledFault : ℤ → ℤ → CallError → Type 0
 IsScaledFault mantissa exponent Limit = IsTooHigh mantissa exponent
 IsScaledFault mantissa exponent Memory = IsLong (size_of mantissa)
 IsScaledFault mantissa exponent _ = ⊥
+
+-- ---- compact numbers
+
+-- the number that a text spells, its significand changed
+pub record IsCompactChanged (choices : Choices) (text : List ℕ) (value : CompactValue) : Type 0 where
+  pub given : CompactValue
+  pub reads : ReadsCompact text given
+  pub changes : Changes choices given.significand value.significand
+  pub exponent : value.exponent ≡ given.exponent
+
+abbrev pub GivesCompact : Option Choices → List ℕ → CompactValue → Type 0
+GivesCompact None text value = ⊥
+GivesCompact (Some choices) text value = IsCompactChanged choices text value
+
+-- why a text gives no compact number; memory is wanted only for more than eight digits
+abbrev pub IsCompactNumberFault : List ℕ → CallError → Type 0
+IsCompactNumberFault text NoNumber = ¬ (IsUtf8 text) ⊎ IsNoCompactText text
+IsCompactNumberFault text Limit = IsBeyondCompact text
+IsCompactNumberFault text Memory = ReadsLongCompact text
+IsCompactNumberFault text _ = ⊥

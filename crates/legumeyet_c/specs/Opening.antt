@@ -2,15 +2,19 @@
 -- Defined in include/legumeyet.h, docs/books.md, "Faults", and docs/formatters.md, "Choosing tables".
 -- Cited by the exports that open and close.
 use Rattle.std.specs.Prelude.{◌≡◌, ◌⊎◌, ℕ, List, Option, Some, None, Result, Ok, Err, IsOk, IfErr, IsUtf8}
+use Rattle.icu_decimal.specs.CompactTables.{CompactTables}
 use Rattle.icu_decimal.specs.PlainText.{Tables}
 use Rattle.icu_decimal.specs.declared.options.GroupingStrategy.{GroupingStrategy}
 use Rattle.serde_json.specs.Data.{Data}
 use Rattle.locale_numbers.specs.Book.{BookTables, IsBook}
 use Rattle.locale_numbers.specs.BookRefusal.{IsRefused}
 use Rattle.locale_numbers.specs.Json.{Reads}
-use Rattle.locale_numbers.specs.TagFormatters.{plain_for}
+use Rattle.locale_numbers.specs.TagFormatters.{plain_for, short_for, long_for}
 use Rattle.locale_numbers.specs.declared.BookError.{BookError}
+use Rattle.locale_numbers.specs.declared.FormatterError.{FormatterError}
 use Rattle.locale_numbers.specs.declared.FormatterError.TheVariants as formatter
+use Rattle.legumeyet_c.specs.declared.choices.Width.{Width}
+use Rattle.legumeyet_c.specs.declared.choices.Width.TheVariants.{Short, Long}
 use Rattle.legumeyet_c.specs.declared.call_error.CallError.{CallError}
 use Rattle.legumeyet_c.specs.declared.call_error.CallError.TheVariants.{Memory, Closed, UnknownOption, Tag, Table, Book}
 
@@ -34,7 +38,16 @@ pub record IsBookFault (json : List ℕ) (error : CallError) : Type 0 where
   pub refused : IsRefused json fault
   pub told : error ≡ Book fault
 
--- ---- formatters of plain numbers
+-- ---- formatters
+
+-- an open book has no formatter for a tag, of which it finds this; out of memory comes in place of any
+abbrev pub IsTagFault : {T : Type 0} → Result T FormatterError → List ℕ → CallError → Type 0
+IsTagFault found tag Tag = ¬ (IsUtf8 tag) ⊎ (found ≡ Err formatter.Tag)
+IsTagFault found tag Table = found ≡ Err formatter.Table
+IsTagFault found tag Memory = Unit {0}
+IsTagFault found tag _ = ⊥
+
+-- ---- of plain numbers
 
 -- the tables that a book has for a tag, with the strategy that is asked for
 pub record IsDecimalFor (book : BookTables) (tag : List ℕ) (strategy : GroupingStrategy) (tables : Tables) : Type 0 where
@@ -47,18 +60,41 @@ FindsDecimal None strategy tag tables = ⊥
 FindsDecimal (Some book) None tag tables = ⊥
 FindsDecimal (Some book) (Some strategy) tag tables = IsDecimalFor book tag strategy tables
 
--- a book that is open has no formatter for a tag
-abbrev pub IsTagFault : BookTables → List ℕ → CallError → Type 0
-IsTagFault book tag Tag = ¬ (IsUtf8 tag) ⊎ (plain_for book tag ≡ Err formatter.Tag)
-IsTagFault book tag Table = plain_for book tag ≡ Err formatter.Table
-IsTagFault book tag Memory = Unit {0}
-IsTagFault book tag _ = ⊥
-
 -- a closed book comes first, then an unknown grouping
 abbrev pub IsDecimalFault : Option BookTables → Option GroupingStrategy → List ℕ → CallError → Type 0
 IsDecimalFault None strategy tag error = error ≡ Closed
 IsDecimalFault (Some book) None tag error = error ≡ UnknownOption
-IsDecimalFault (Some book) (Some strategy) tag error = IsTagFault book tag error
+IsDecimalFault (Some book) (Some strategy) tag error = IsTagFault (plain_for book tag) tag error
+
+-- ---- of compact numbers
+
+-- what a book has for a tag in a width
+abbrev pub compact_for_width : Width → BookTables → List ℕ → Result CompactTables FormatterError
+compact_for_width Short book tag = short_for book tag
+compact_for_width Long book tag = long_for book tag
+
+-- tables with another strategy
+abbrev pub regrouped : GroupingStrategy → CompactTables → CompactTables
+regrouped strategy t = record t { plain = record t.plain { strategy = strategy } }
+
+-- the tables that a book has for a tag in a width, with the strategy that is asked for
+pub record IsCompactFor (book : BookTables) (tag : List ℕ) (width : Width) (strategy : GroupingStrategy) (tables : CompactTables) : Type 0 where
+  pub found : CompactTables
+  pub is_found : compact_for_width width book tag ≡ Ok found
+  pub is : tables ≡ regrouped strategy found
+
+abbrev pub FindsCompact : Option BookTables → Option Width → Option GroupingStrategy → List ℕ → CompactTables → Type 0
+FindsCompact None width strategy tag tables = ⊥
+FindsCompact (Some book) None strategy tag tables = ⊥
+FindsCompact (Some book) (Some width) None tag tables = ⊥
+FindsCompact (Some book) (Some width) (Some strategy) tag tables = IsCompactFor book tag width strategy tables
+
+-- a closed book comes first, then an unknown width or grouping
+abbrev pub IsCompactFault : Option BookTables → Option Width → Option GroupingStrategy → List ℕ → CallError → Type 0
+IsCompactFault None width strategy tag error = error ≡ Closed
+IsCompactFault (Some book) None strategy tag error = error ≡ UnknownOption
+IsCompactFault (Some book) (Some width) None tag error = error ≡ UnknownOption
+IsCompactFault (Some book) (Some width) (Some strategy) tag error = IsTagFault (compact_for_width width book tag) tag error
 
 -- ---- closing
 

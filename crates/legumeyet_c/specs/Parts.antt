@@ -1,22 +1,14 @@
 -- A text with its parts in what a caller gives to write to: as much of both as has room, and how much of both there is.
 -- Defined in include/legumeyet.h, and docs/formatters.md, "Parts".
--- Cited by `legumeyet_decimal_formatter_format_parts`.
-use Rattle.std.specs.Prelude.{◌≡◌, ◌≢◌, ◌⊎◌, ◌≤◌, ℕ, List, [], ◌∷◌, ◌++◌, length, map, take, drop, codes, if◌then◌else◌, Option, Some, None, Result, Ok, Err, IsOk, IfErr, IsErrOf}
+-- Cited by the exports that write a text with its parts.
+use Rattle.std.specs.Prelude.{◌≡◌, ◌≢◌, ◌≤◌, ℕ, List, ◌++◌, length, map, take, drop, codes, if◌then◌else◌, Result, IsOk, IfErr, IsErrOf}
 use Rattle.std.specs.Str.{bytes_eq}
-use Rattle.fixed_decimal.specs.Number.{Number}
-use Rattle.fixed_decimal.specs.SignedText.{ReadsSigned}
-use Rattle.fixed_decimal.specs.SignedValue.{SignedValue}
-use Rattle.icu_decimal.specs.PartIntervals.{decimal_annotated}
-use Rattle.icu_decimal.specs.PlainText.{Tables}
 use Rattle.writeable.specs.HeldParts.{HeldParts}
 use Rattle.writeable.specs.ListedParts.{interval_of}
 use Rattle.writeable.specs.declared.part.Part.{Part}
 use Rattle.writeable.specs.AnnotatedText.{AnnotatedText, Interval as PartInterval}
-use Rattle.legumeyet_c.specs.Numbers.{Gives, IsNumberFault}
-use Rattle.legumeyet_c.specs.Writing.{IsWritingFault}
-use Rattle.legumeyet_c.specs.declared.choices.Choices.{Choices}
 use Rattle.legumeyet_c.specs.declared.call_error.CallError.{CallError}
-use Rattle.legumeyet_c.specs.declared.call_error.CallError.TheVariants.{Memory, Closed, TooSmall}
+use Rattle.legumeyet_c.specs.declared.call_error.CallError.TheVariants.{TooSmall}
 use Rattle.legumeyet_c.specs.declared.intervals.Interval.{Interval}
 
 -- ---- the intervals of C
@@ -85,36 +77,3 @@ pub record IsPutInParts (says : AnnotatedText → Type 0) (fault : CallError →
   pub whole : IsOk outcome → IsWritten says (λ text. HasRoom text before) before after
   pub cut : IsErrOf outcome TooSmall → IsWritten says (λ text. ¬ (HasRoom text before)) before after
   pub refused : IfErr outcome (λ error. error ≢ TooSmall → fault error × (after ≡ before))
-
--- ---- what is said of a number
-
--- the plain text of what is made of the number that was given, with its parts
-pub record SaysAnnotated (tables : Tables) (choices : Option Choices) (is_given : SignedValue Number → Type 0) (text : AnnotatedText) : Type 0 where
-  pub value : SignedValue Number
-  pub gives : Gives choices is_given value
-  pub is : text ≡ decimal_annotated tables value
-
-abbrev pub WritesParts : Option Tables → Option Choices → (SignedValue Number → Type 0) → AnnotatedText → Type 0
-WritesParts None choices is_given text = ⊥
-WritesParts (Some tables) choices is_given text = SaysAnnotated tables choices is_given text
-
--- the same of a number that is there, or of why there is none
-abbrev pub AnnotatesValue : Option Tables → Result (SignedValue Number) CallError → AnnotatedText → Type 0
-AnnotatesValue None number text = ⊥
-AnnotatesValue (Some tables) (Err error) text = ⊥
-AnnotatesValue (Some tables) (Ok value) text = text ≡ decimal_annotated tables value
-
-abbrev pub IsAnnotatedFault : Option Tables → Result (SignedValue Number) CallError → CallError → Type 0
-IsAnnotatedFault None number error = error ≡ Closed
-IsAnnotatedFault (Some tables) (Err cause) error = error ≡ cause
-IsAnnotatedFault (Some tables) (Ok value) error = error ≡ Memory
-
--- a number is given, and memory for its text and parts is wanted
-pub record WantsList (tables : Option Tables) (choices : Option Choices) (number : List ℕ) (error : CallError) : Type 0 where
-  pub text : AnnotatedText
-  pub writes : WritesParts tables choices (ReadsSigned number) text
-  pub is : error ≡ Memory
-
--- as without parts, and out of memory also of a number that is given
-abbrev pub IsPartsFault : Option Tables → Option Choices → List ℕ → CallError → Type 0
-IsPartsFault tables choices number error = IsWritingFault tables choices (IsNumberFault number) error ⊎ WantsList tables choices number error

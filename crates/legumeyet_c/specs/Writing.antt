@@ -1,37 +1,54 @@
--- What a formatter behind a handle writes for a number, or why it writes none.
--- Defined in include/legumeyet.h, and docs/plain-text.md, "The text of a number".
--- Cited by the exports that write numbers.
-use Rattle.std.specs.Prelude.{◌≡◌, ℕ, List, Option, Some, None, Result, Ok, Err}
+-- What a formatter behind a handle writes for a value, a text or one with its parts, or why it writes nothing.
+-- Defined in include/legumeyet.h.
+-- Cited by the exports that write numbers; DecimalWriting.antt and CompactWriting.antt have what they say.
+use Rattle.std.specs.Prelude.{◌≡◌, ◌⊎◌, Option, Some, None, Result, Ok, Err}
 use Rattle.fixed_decimal.specs.Number.{Number}
 use Rattle.fixed_decimal.specs.SignedValue.{SignedValue}
-use Rattle.icu_decimal.specs.PlainText.{Tables, decimal_text}
 use Rattle.legumeyet_c.specs.Numbers.{Gives, IsChangeFault}
 use Rattle.legumeyet_c.specs.declared.choices.Choices.{Choices}
 use Rattle.legumeyet_c.specs.declared.call_error.CallError.{CallError}
 use Rattle.legumeyet_c.specs.declared.call_error.CallError.TheVariants.{Closed}
 
--- the plain text of what is made of the number that was given
-pub record SaysDecimal (tables : Tables) (choices : Option Choices) (is_given : SignedValue Number → Type 0) (text : List ℕ) : Type 0 where
-  pub value : SignedValue Number
-  pub gives : Gives choices is_given value
-  pub is : text ≡ decimal_text tables value
+-- ---- of the value that a call is given
 
-abbrev pub WritesDecimal : Option Tables → Option Choices → (SignedValue Number → Type 0) → List ℕ → Type 0
-WritesDecimal None choices is_given text = ⊥
-WritesDecimal (Some tables) choices is_given text = SaysDecimal tables choices is_given text
+-- what the tables say of the value that is given
+pub record SaysGiven {T N X : Type 0} (says : T → N → X → Type 0) (tables : T) (is_given : N → Type 0) (text : X) : Type 0 where
+  pub value : N
+  pub given : is_given value
+  pub said : says tables value text
 
--- a closed handle comes first
-abbrev pub IsWritingFault : Option Tables → Option Choices → (CallError → Type 0) → CallError → Type 0
-IsWritingFault None choices fault error = error ≡ Closed
-IsWritingFault (Some tables) choices fault error = IsChangeFault choices fault error
+-- a closed handle says nothing
+abbrev pub Writes : {T N X : Type 0} → (T → N → X → Type 0) → Option T → (N → Type 0) → X → Type 0
+Writes says None is_given text = ⊥
+Writes says (Some tables) is_given text = SaysGiven says tables is_given text
 
--- the same of a number that is there, or of why there is none
-abbrev pub WritesValue : Option Tables → Result (SignedValue Number) CallError → List ℕ → Type 0
-WritesValue None number text = ⊥
-WritesValue (Some tables) (Err error) text = ⊥
-WritesValue (Some tables) (Ok value) text = text ≡ decimal_text tables value
+-- why the tables say nothing of the value that is given
+pub record FailsGiven {T N : Type 0} (fails : T → N → CallError → Type 0) (tables : T) (is_given : N → Type 0) (error : CallError) : Type 0 where
+  pub value : N
+  pub given : is_given value
+  pub failed : fails tables value error
 
-abbrev pub IsValueFault : Option Tables → Result (SignedValue Number) CallError → CallError → Type 0
-IsValueFault None number error = error ≡ Closed
-IsValueFault (Some tables) (Err cause) error = error ≡ cause
-IsValueFault (Some tables) (Ok value) error = ⊥
+-- a closed handle comes first, then why no value is given, then why the one that is given is not written
+abbrev pub IsWritingFault : {T N : Type 0} → (T → N → CallError → Type 0) → Option T → (N → Type 0) → (CallError → Type 0) → CallError → Type 0
+IsWritingFault fails None is_given fault error = error ≡ Closed
+IsWritingFault fails (Some tables) is_given fault error = fault error ⊎ FailsGiven fails tables is_given error
+
+-- ---- of a number that is given, changed as options say
+
+abbrev pub WritesChanged : {T X : Type 0} → (T → SignedValue Number → X → Type 0) → Option T → Option Choices → (SignedValue Number → Type 0) → X → Type 0
+WritesChanged says tables choices is_given text = Writes says tables (Gives choices is_given) text
+
+abbrev pub IsChangedFault : {T : Type 0} → (T → SignedValue Number → CallError → Type 0) → Option T → Option Choices → (SignedValue Number → Type 0) → (CallError → Type 0) → CallError → Type 0
+IsChangedFault fails tables choices is_given fault error = IsWritingFault fails tables (Gives choices is_given) (IsChangeFault choices fault) error
+
+-- ---- of a value that is there, or of why there is none
+
+abbrev pub WritesValue : {T N X : Type 0} → (T → N → X → Type 0) → Option T → Result N CallError → X → Type 0
+WritesValue says None value text = ⊥
+WritesValue says (Some tables) (Err error) text = ⊥
+WritesValue says (Some tables) (Ok value) text = says tables value text
+
+abbrev pub IsValueFault : {T N : Type 0} → (T → N → CallError → Type 0) → Option T → Result N CallError → CallError → Type 0
+IsValueFault fails None value error = error ≡ Closed
+IsValueFault fails (Some tables) (Err cause) error = error ≡ cause
+IsValueFault fails (Some tables) (Ok value) error = fails tables value error

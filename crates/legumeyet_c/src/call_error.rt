@@ -32,6 +32,8 @@ pub enum CallError {
     Unreadable,
     /// No number is written so.
     NotWritten,
+    /// Numbers of this magnitude have another exponent.
+    Exponent,
     /// The bytes are no book.
     Book(BookError),
 }
@@ -94,6 +96,7 @@ impl CallError {
             CallError::NoUtf8 => 10,
             CallError::Unreadable => 11,
             CallError::NotWritten => 12,
+            CallError::Exponent => 13,
             CallError::Book(error) => book_number(error),
         }
     }
@@ -115,6 +118,7 @@ impl CallError {
             CallError::NoUtf8 => "no UTF-8",
             CallError::Unreadable => "symbols under which two numbers may have one text",
             CallError::NotWritten => "no number is written so",
+            CallError::Exponent => "an exponent that numbers of this magnitude have not",
             CallError::Book(error) => book_text(error),
         }
     }

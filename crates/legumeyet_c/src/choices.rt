@@ -1,7 +1,7 @@
 // The options of calls, by their numbers.
 
 ghost use Rattle.std.specs.Prelude.{◌≡◌};
-ghost use Rattle.legumeyet_c.specs.Choices.{Changes, RoundsAs, choices_of, grouping_of, mode_of, sign_of, signed_as};
+ghost use Rattle.legumeyet_c.specs.Choices.{Changes, RoundsAs, choices_of, grouping_of, mode_of, sign_of, signed_as, width_of};
 
 use fixed_decimal::{Decimal, SignDisplay, SignedRoundingMode, UnsignedRoundingMode};
 use icu_decimal::options::GroupingStrategy;
@@ -27,6 +27,15 @@ pub struct Choices {
     pub mode: Option<SignedRoundingMode>,
     /// Where it is rounded.
     pub position: i16,
+}
+
+/// Which patterns compact numbers are written in.
+#[derive(Clone, Copy, Debug, Drop, PartialEq, Eq)]
+pub enum Width {
+    /// `1.6K`.
+    Short,
+    /// `1.6 thousand`.
+    Long,
 }
 
 // The sign of a number.
@@ -73,6 +82,17 @@ pub(crate) fn grouping_by(number: u32) -> Option<GroupingStrategy>
         1 => Some(GroupingStrategy::Never),
         2 => Some(GroupingStrategy::Always),
         3 => Some(GroupingStrategy::Min2),
+        _ => None,
+    }
+}
+
+/// The width of a number: `Long` of 1, and none of 2.
+pub(crate) fn width_by(number: u32) -> Option<Width>
+    ensures { result ≡ width_of number }
+{
+    match number {
+        0 => Some(Width::Short),
+        1 => Some(Width::Long),
         _ => None,
     }
 }

@@ -1,8 +1,9 @@
 // What an open handle has.
 
 ghost use Rattle.std.specs.Prelude.{◌≡◌, Some, true};
-ghost use Rattle.legumeyet_c.specs.Kinds.{is_for_book, is_for_decimal, book_in, decimal_in};
+ghost use Rattle.legumeyet_c.specs.Kinds.{is_for_book, is_for_compact, is_for_decimal, book_in, compact_in, decimal_in};
 
+use crate::compact_tables::OwnedCompactTables;
 use crate::decimal_tables::DecimalTables;
 use locale_numbers::Book;
 
@@ -13,6 +14,8 @@ pub enum Content {
     Book(Book),
     /// What plain numbers are written with.
     Decimal(DecimalTables),
+    /// What compact numbers are written with.
+    Compact(OwnedCompactTables),
 }
 
 /// The book.
@@ -22,7 +25,7 @@ pub(crate) fn book_of(content: &Content) -> &Book
 {
     match content {
         Content::Book(book) => book,
-        Content::Decimal(_) => unreachable!(),
+        Content::Decimal(_) | Content::Compact(_) => unreachable!(),
     }
 }
 
@@ -33,6 +36,17 @@ pub(crate) fn decimal_of(content: &Content) -> &DecimalTables
 {
     match content {
         Content::Decimal(tables) => tables,
-        Content::Book(_) => unreachable!(),
+        Content::Book(_) | Content::Compact(_) => unreachable!(),
+    }
+}
+
+/// The tables of compact numbers.
+pub(crate) fn compact_of(content: &Content) -> &OwnedCompactTables
+    requires { is_for_compact (Some content.now) ≡ true }
+    ensures { compact_in (Some content.now) ≡ Some result.now }
+{
+    match content {
+        Content::Compact(tables) => tables,
+        Content::Book(_) | Content::Decimal(_) => unreachable!(),
     }
 }

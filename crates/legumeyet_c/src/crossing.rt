@@ -1,6 +1,6 @@
 //! A handle may be used in another thread than the one that opened it.
 
-use crate::handles::{BookHandle, DecimalHandle};
+use crate::handles::{BookHandle, CompactHandle, DecimalHandle};
 
 // Asks for no more than that.
 fn crosses<T: Send>(_value: &T) {}
@@ -12,5 +12,10 @@ pub fn book_crosses(book: &BookHandle) {
 
 /// So may a formatter.
 pub fn decimal_crosses(formatter: &DecimalHandle) {
+    crosses(formatter)
+}
+
+/// And one of compact numbers.
+pub fn compact_crosses(formatter: &CompactHandle) {
     crosses(formatter)
 }

@@ -5,11 +5,12 @@ ghost use Rattle.fixed_decimal.specs.SignedText.{ReadsSigned};
 ghost use Rattle.icu_decimal.specs.HeldTables.{tables_of};
 ghost use Rattle.locale_numbers.specs.TagFormatters.{plain_for};
 ghost use Rattle.legumeyet_c.specs.Choices.{choices_of, grouping_of};
+ghost use Rattle.legumeyet_c.specs.DecimalWriting.{HasNoFault, IsDecimalText};
 ghost use Rattle.legumeyet_c.specs.Numbers.{IsNumberFault, IsScaled, IsScaledFault};
 ghost use Rattle.legumeyet_c.specs.Opening.{FindsDecimal, IsClosing, IsDecimalFault, IsDecimalFor, IsOpening, IsTagFault};
 ghost use Rattle.legumeyet_c.specs.Putting.{Answers, IsPut};
 ghost use Rattle.legumeyet_c.specs.Views.{book_open, decimal_open};
-ghost use Rattle.legumeyet_c.specs.Writing.{IsValueFault, IsWritingFault, WritesDecimal, WritesValue};
+ghost use Rattle.legumeyet_c.specs.Writing.{IsChangedFault, IsValueFault, WritesChanged, WritesValue};
 
 use crate::call_error::{CallError, answer};
 use crate::choices::{Options, grouping_by};
@@ -31,7 +32,7 @@ fn formatter_for<'b>(
     tag: &[u8],
 ) -> Result<DecimalFormatter<'b>, CallError>
     ensures value { IfOk result (λ formatter. plain_for book.now tag.now ≡ Ok (tables_of formatter)) }
-    ensures fault { IfErr result (λ error. IsTagFault book.now tag.now error) }
+    ensures fault { IfErr result (λ error. IsTagFault (plain_for book.now tag.now) tag.now error) }
 {
     let Ok(tag) = str::from_utf8(tag) else {
         return Err(CallError::Tag);
@@ -52,7 +53,7 @@ fn tables_for(
     strategy: GroupingStrategy,
 ) -> Result<DecimalTables, CallError>
     ensures value { IfOk result (λ tables. IsDecimalFor book.now tag.now strategy tables) }
-    ensures fault { IfErr result (λ error. IsTagFault book.now tag.now error) }
+    ensures fault { IfErr result (λ error. IsTagFault (plain_for book.now tag.now) tag.now error) }
 {
     let formatter = formatter_for(alloc, book, tag)?;
     match DecimalTables::of(&formatter, strategy) {
@@ -108,7 +109,7 @@ fn write_number(
     length: &mut usize,
 ) -> Result<(), CallError>
     requires { IfErr number.now (λ error. error ≢ CallError.TooSmall) }
-    ensures { IsPut (WritesValue (Some tables.now) number.now) (IsValueFault (Some tables.now) number.now) out.old out.new length.old length.new result }
+    ensures { IsPut (WritesValue IsDecimalText (Some tables.now) number.now) (IsValueFault HasNoFault (Some tables.now) number.now) out.old out.new length.old length.new result }
 {
     match number {
         Ok(value) => put(&tables.formatter().format(value), out, length),
@@ -126,7 +127,7 @@ fn write_behind(
 ) -> Result<(), CallError>
     requires { IfErr number.now (λ error. error ≢ CallError.TooSmall) }
     ensures same { decimal_open formatter.new ≡ decimal_open formatter.old }
-    ensures told { IsPut (WritesValue (decimal_open formatter.old) number.now) (IsValueFault (decimal_open formatter.old) number.now) out.old out.new length.old length.new result }
+    ensures told { IsPut (WritesValue IsDecimalText (decimal_open formatter.old) number.now) (IsValueFault HasNoFault (decimal_open formatter.old) number.now) out.old out.new length.old length.new result }
 {
     let Some(content) = formatter.handle.take(alloc) else {
         return Err(CallError::Closed);
@@ -146,7 +147,7 @@ fn format(
     length: &mut usize,
 ) -> Result<(), CallError>
     ensures same { decimal_open formatter.new ≡ decimal_open formatter.old }
-    ensures told { IsPut (WritesDecimal (decimal_open formatter.old) (choices_of options.now) (ReadsSigned number.now)) (IsWritingFault (decimal_open formatter.old) (choices_of options.now) (IsNumberFault number.now)) out.old out.new length.old length.new result }
+    ensures told { IsPut (WritesChanged IsDecimalText (decimal_open formatter.old) (choices_of options.now) (ReadsSigned number.now)) (IsChangedFault HasNoFault (decimal_open formatter.old) (choices_of options.now) (ReadsSigned number.now) (IsNumberFault number.now)) out.old out.new length.old length.new result }
 {
     let number = number_of_text(alloc, number, options);
     write_behind(alloc, formatter, &number, out, length)
@@ -163,7 +164,7 @@ fn format_i64(
     length: &mut usize,
 ) -> Result<(), CallError>
     ensures same { decimal_open formatter.new ≡ decimal_open formatter.old }
-    ensures told { IsPut (WritesDecimal (decimal_open formatter.old) (choices_of options.now) (IsScaled mantissa exponent)) (IsWritingFault (decimal_open formatter.old) (choices_of options.now) (IsScaledFault mantissa exponent)) out.old out.new length.old length.new result }
+    ensures told { IsPut (WritesChanged IsDecimalText (decimal_open formatter.old) (choices_of options.now) (IsScaled mantissa exponent)) (IsChangedFault HasNoFault (decimal_open formatter.old) (choices_of options.now) (IsScaled mantissa exponent) (IsScaledFault mantissa exponent)) out.old out.new length.old length.new result }
 {
     let number = number_of_i64(alloc, mantissa, exponent, options);
     write_behind(alloc, formatter, &number, out, length)
@@ -244,7 +245,7 @@ pub extern "C" fn legumeyet_decimal_formatter_format(
     length: &mut usize,
 ) -> i32
     ensures same { decimal_open formatter.new ≡ decimal_open formatter.old }
-    ensures told { Answers (IsPut (WritesDecimal (decimal_open formatter.old) (choices_of options.now) (ReadsSigned number.now)) (IsWritingFault (decimal_open formatter.old) (choices_of options.now) (IsNumberFault number.now)) out.old out.new length.old length.new) result }
+    ensures told { Answers (IsPut (WritesChanged IsDecimalText (decimal_open formatter.old) (choices_of options.now) (ReadsSigned number.now)) (IsChangedFault HasNoFault (decimal_open formatter.old) (choices_of options.now) (ReadsSigned number.now) (IsNumberFault number.now)) out.old out.new length.old length.new) result }
 {
     answer(format(alloc, formatter, number, options, out, length))
 }
@@ -263,7 +264,7 @@ pub extern "C" fn legumeyet_decimal_formatter_format_i64(
     length: &mut usize,
 ) -> i32
     ensures same { decimal_open formatter.new ≡ decimal_open formatter.old }
-    ensures told { Answers (IsPut (WritesDecimal (decimal_open formatter.old) (choices_of options.now) (IsScaled mantissa exponent)) (IsWritingFault (decimal_open formatter.old) (choices_of options.now) (IsScaledFault mantissa exponent)) out.old out.new length.old length.new) result }
+    ensures told { Answers (IsPut (WritesChanged IsDecimalText (decimal_open formatter.old) (choices_of options.now) (IsScaled mantissa exponent)) (IsChangedFault HasNoFault (decimal_open formatter.old) (choices_of options.now) (IsScaled mantissa exponent) (IsScaledFault mantissa exponent)) out.old out.new length.old length.new) result }
 {
     answer(format_i64(alloc, formatter, mantissa, exponent, options, out, length))
 }

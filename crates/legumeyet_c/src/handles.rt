@@ -1,7 +1,7 @@
 // Handles of one kind of content each, as C has them.
 
 ghost use Rattle.std.specs.Prelude.{◌≡◌, true};
-ghost use Rattle.legumeyet_c.specs.Kinds.{is_for_book, is_for_decimal};
+ghost use Rattle.legumeyet_c.specs.Kinds.{is_for_book, is_for_compact, is_for_decimal};
 
 use crate::handle::Handle;
 
@@ -19,4 +19,12 @@ pub struct DecimalHandle {
     /// What stands behind it.
     pub handle: Handle,
     ghost kind: { is_for_decimal handle.pointer.value ≡ true },
+}
+
+/// A formatter of compact numbers, or a closed handle: `legumeyet_compact_formatter`.
+#[repr(C)]
+pub struct CompactHandle {
+    /// What stands behind it.
+    pub handle: Handle,
+    ghost kind: { is_for_compact handle.pointer.value ≡ true },
 }

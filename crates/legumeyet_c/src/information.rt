@@ -9,7 +9,7 @@ use crate::call_error::{CallError, answer};
 use crate::putting::put;
 use locale_numbers::BookError;
 
-/// The version of the header: it grows where a call or a number is added.
+/// The version of the header: another one would break programs, while calls and numbers that are added leave it.
 pub const VERSION: u32 = 1;
 
 // The error that has this number.
@@ -30,6 +30,7 @@ fn error_of(number: i32) -> Option<CallError>
         10 => Some(CallError::NoUtf8),
         11 => Some(CallError::Unreadable),
         12 => Some(CallError::NotWritten),
+        13 => Some(CallError::Exponent),
         101 => Some(CallError::Book(BookError::Json)),
         102 => Some(CallError::Book(BookError::Shape)),
         103 => Some(CallError::Book(BookError::Tag)),

@@ -1,15 +1,16 @@
 // The numbers that calls are given.
 
 ghost use Rattle.std.specs.Prelude.{◌≡◌, ◌+◌, ◌<◌, ◌≤◌, Some, None, true, false, IfOk, IfErr};
+ghost use Rattle.fixed_decimal.specs.CompactText.{ReadsCompact};
 ghost use Rattle.fixed_decimal.specs.Number.{place};
 ghost use Rattle.fixed_decimal.specs.Shifts.{KeepsPlaces, fall, rise};
 ghost use Rattle.fixed_decimal.specs.SignedText.{ReadsSigned};
 ghost use Rattle.legumeyet_c.specs.Choices.{choices_of};
-ghost use Rattle.legumeyet_c.specs.Numbers.{Gives, IsChangeFault, IsNumberFault, IsScaled, IsScaledFault};
+ghost use Rattle.legumeyet_c.specs.Numbers.{Gives, GivesCompact, IsChangeFault, IsCompactNumberFault, IsNumberFault, IsScaled, IsScaledFault};
 
 use crate::call_error::CallError;
 use crate::choices::{Choices, Options};
-use fixed_decimal::{Decimal, ParseError, UnsignedDecimal};
+use fixed_decimal::{CompactDecimal, Decimal, ParseError, UnsignedDecimal};
 use std::alloc::Global;
 
 // The number that a text spells.
@@ -18,6 +19,22 @@ fn read_number(alloc: Global, text: &[u8]) -> Result<Decimal, CallError>
     ensures fault { IfErr result (λ error. IsNumberFault text.now error) }
 {
     match Decimal::try_from_utf8(alloc, text) {
+        Ok(value) => Ok(value),
+        Err(ParseError::Syntax) => Err(CallError::Number),
+        Err(ParseError::Limit) => Err(CallError::Limit),
+        Err(ParseError::Memory) => Err(CallError::Memory),
+    }
+}
+
+// The compact number that a text spells.
+fn read_compact(alloc: Global, text: &[u8]) -> Result<CompactDecimal, CallError>
+    ensures value { IfOk result (λ value. ReadsCompact text.now value) }
+    ensures fault { IfErr result (λ error. IsCompactNumberFault text.now error) }
+{
+    let Ok(text) = str::from_utf8(text) else {
+        return Err(CallError::Number);
+    };
+    match CompactDecimal::try_from_str(alloc, text) {
         Ok(value) => Ok(value),
         Err(ParseError::Syntax) => Err(CallError::Number),
         Err(ParseError::Limit) => Err(CallError::Limit),
@@ -102,4 +119,20 @@ pub(crate) fn number_of_i64(
     let choices = known(options)?;
     let value = scaled(alloc, mantissa, exponent)?;
     Ok(choices.changed(value))
+}
+
+/// The compact number that a text spells, its significand rounded and with the sign that the options ask for.
+pub(crate) fn compact_of_text(
+    alloc: Global,
+    text: &[u8],
+    options: &Options,
+) -> Result<CompactDecimal, CallError>
+    ensures value { IfOk result (λ value. GivesCompact (choices_of options.now) text.now value) }
+    ensures fault { IfErr result (λ error. IsChangeFault (choices_of options.now) (IsCompactNumberFault text.now) error) }
+{
+    let choices = known(options)?;
+    let value = read_compact(alloc, text)?;
+    let exponent = value.exponent();
+    let significand = choices.changed(value.into_significand());
+    Ok(CompactDecimal::from_significand_and_exponent(significand, exponent))
 }

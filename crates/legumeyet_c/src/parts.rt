@@ -4,9 +4,12 @@ ghost use Rattle.std.specs.Prelude.{◌≡◌, ◌≢◌, ◌≤◌, ◌↔◌, 
 ghost use Rattle.fixed_decimal.specs.SignedText.{ReadsSigned};
 ghost use Rattle.icu_decimal.specs.PartIntervals.{decimal_annotated};
 ghost use Rattle.legumeyet_c.specs.Choices.{choices_of};
-ghost use Rattle.legumeyet_c.specs.Parts.{AnnotatesValue, IsAnnotatedFault, IsPartsFault, IsPutInParts, WritesParts, given, held_text, over};
+ghost use Rattle.legumeyet_c.specs.DecimalWriting.{IsDecimalAnnotated, WantsMemory};
+ghost use Rattle.legumeyet_c.specs.Numbers.{IsNumberFault};
+ghost use Rattle.legumeyet_c.specs.Parts.{IsPutInParts, given, held_text, over};
 ghost use Rattle.legumeyet_c.specs.Putting.{Answers};
 ghost use Rattle.legumeyet_c.specs.Views.{decimal_open};
+ghost use Rattle.legumeyet_c.specs.Writing.{IsChangedFault, IsValueFault, WritesChanged, WritesValue};
 
 use crate::call_error::{CallError, answer};
 use crate::choices::Options;
@@ -45,8 +48,8 @@ fn annotated_behind(
     number: &Result<Decimal, CallError>,
 ) -> Result<PartsSink, CallError>
     ensures same { decimal_open formatter.new ≡ decimal_open formatter.old }
-    ensures value { IfOk result (λ sink. AnnotatesValue (decimal_open formatter.old) number.now (held_text sink)) }
-    ensures fault { IfErr result (λ error. IsAnnotatedFault (decimal_open formatter.old) number.now error) }
+    ensures value { IfOk result (λ sink. WritesValue IsDecimalAnnotated (decimal_open formatter.old) number.now (held_text sink)) }
+    ensures fault { IfErr result (λ error. IsValueFault WantsMemory (decimal_open formatter.old) number.now error) }
 {
     let Some(content) = formatter.handle.take(alloc) else {
         return Err(CallError::Closed);
@@ -67,8 +70,8 @@ fn annotated_of(
     options: &Options,
 ) -> Result<PartsSink, CallError>
     ensures same { decimal_open formatter.new ≡ decimal_open formatter.old }
-    ensures value { IfOk result (λ sink. WritesParts (decimal_open formatter.old) (choices_of options.now) (ReadsSigned number.now) (held_text sink)) }
-    ensures fault { IfErr result (λ error. IsPartsFault (decimal_open formatter.old) (choices_of options.now) number.now error) }
+    ensures value { IfOk result (λ sink. WritesChanged IsDecimalAnnotated (decimal_open formatter.old) (choices_of options.now) (ReadsSigned number.now) (held_text sink)) }
+    ensures fault { IfErr result (λ error. IsChangedFault WantsMemory (decimal_open formatter.old) (choices_of options.now) (ReadsSigned number.now) (IsNumberFault number.now) error) }
 {
     let number = number_of_text(alloc, number, options);
     annotated_behind(alloc, formatter, &number)
@@ -82,8 +85,8 @@ fn lay_text(text: &str, out: &mut [u8]) -> bool
     copy_to_slice(text.as_bytes(), out).is_ok()
 }
 
-// Writes a text with its parts to what the caller gives.
-fn put_parts(
+/// Writes a text with its parts to what the caller gives. `TooSmall`: one of both needs more room.
+pub(crate) fn put_parts(
     sink: &PartsSink,
     out: &mut [u8],
     length: &mut usize,
@@ -118,7 +121,7 @@ fn format_parts(
     count: &mut usize,
 ) -> Result<(), CallError>
     ensures same { decimal_open formatter.new ≡ decimal_open formatter.old }
-    ensures told { IsPutInParts (WritesParts (decimal_open formatter.old) (choices_of options.now) (ReadsSigned number.now)) (IsPartsFault (decimal_open formatter.old) (choices_of options.now) number.now) (given out.old length.old intervals.old count.old) (given out.new length.new intervals.new count.new) result }
+    ensures told { IsPutInParts (WritesChanged IsDecimalAnnotated (decimal_open formatter.old) (choices_of options.now) (ReadsSigned number.now)) (IsChangedFault WantsMemory (decimal_open formatter.old) (choices_of options.now) (ReadsSigned number.now) (IsNumberFault number.now)) (given out.old length.old intervals.old count.old) (given out.new length.new intervals.new count.new) result }
 {
     match annotated_of(alloc, formatter, number, options) {
         Ok(sink) => put_parts(&sink, out, length, intervals, count),
@@ -142,7 +145,7 @@ pub extern "C" fn legumeyet_decimal_formatter_format_parts(
     count: &mut usize,
 ) -> i32
     ensures same { decimal_open formatter.new ≡ decimal_open formatter.old }
-    ensures told { Answers (IsPutInParts (WritesParts (decimal_open formatter.old) (choices_of options.now) (ReadsSigned number.now)) (IsPartsFault (decimal_open formatter.old) (choices_of options.now) number.now) (given out.old length.old intervals.old count.old) (given out.new length.new intervals.new count.new)) result }
+    ensures told { Answers (IsPutInParts (WritesChanged IsDecimalAnnotated (decimal_open formatter.old) (choices_of options.now) (ReadsSigned number.now)) (IsChangedFault WantsMemory (decimal_open formatter.old) (choices_of options.now) (ReadsSigned number.now) (IsNumberFault number.now)) (given out.old length.old intervals.old count.old) (given out.new length.new intervals.new count.new)) result }
 {
     answer(format_parts(
         alloc, formatter, number, options, out, length, intervals, count,

@@ -3,7 +3,7 @@
 //!
 //! usage: lines BOOK < LINES > ANSWERS
 
-use legumeyet::{Book, DecimalFormatter, Error, Grouping, Options, Rounding, Sign};
+use legumeyet::{Book, CompactDecimalFormatter, DecimalFormatter, Error, Grouping, Options, Rounding, Sign, Width};
 use std::error;
 use std::io::{self, BufRead, Write};
 
@@ -57,6 +57,23 @@ fn options_of(sign: &str, rounding: &str) -> Option<Options> {
     }
 }
 
+/// The width of a compact form, `exact-` or not.
+fn width_of(form: &str) -> Option<Width> {
+    match form.strip_prefix("exact-").unwrap_or(form) {
+        "short" => Some(Width::Short),
+        "long" => Some(Width::Long),
+        _ => None,
+    }
+}
+
+/// The text for a number in compact form; but for an exact form with the value shown behind a tab.
+fn compact_text(compact: &CompactDecimalFormatter, form: &str, number: &str, options: &Options) -> Result<String, Error> {
+    if form.starts_with("exact-") {
+        return compact.format_exact(number, options);
+    }
+    Ok(format!("{}\t{}", compact.format(number, options)?, compact.shown(number, options)?))
+}
+
 /// The text for a request by the call of a formatter, where one does what is asked.
 fn text_for(book: &Book, fields: &[&str]) -> Option<Result<String, Error>> {
     let [tag, form, grouping, sign, rounding, number] = *fields else { return None };
@@ -65,7 +82,10 @@ fn text_for(book: &Book, fields: &[&str]) -> Option<Result<String, Error>> {
     match form {
         "plain" => Some(plain().and_then(|it| it.format(number, &options))),
         "read" => Some(plain().and_then(|it| it.read(number))),
-        _ => None,
+        _ => {
+            let compact = CompactDecimalFormatter::new(book, tag, width_of(form)?, grouping);
+            Some(compact.and_then(|it| compact_text(&it, form, number, &options)))
+        }
     }
 }
 
@@ -76,6 +96,8 @@ fn word_of(error: Error) -> &'static str {
         Error::TABLE => "table",
         Error::NUMBER => "number",
         Error::LIMIT => "limit",
+        Error::RANGE => "range",
+        Error::EXPONENT => "exponent",
         Error::UNREADABLE => "unreadable",
         Error::NOT_WRITTEN => "not-written",
         _ => "no word",

@@ -22,10 +22,14 @@ impl Error {
     pub const NUMBER: Error = Error(7);
     /// A digit of the number stands beyond the magnitudes -32768 to 32767.
     pub const LIMIT: Error = Error(8);
+    /// What is shown in compact form, or an exact form, reaches ten to the power 32768.
+    pub const RANGE: Error = Error(9);
     /// Two numbers may have one text under the symbols.
     pub const UNREADABLE: Error = Error(11);
     /// No number is written so.
     pub const NOT_WRITTEN: Error = Error(12);
+    /// Numbers of the magnitude of an exact form have another exponent.
+    pub const EXPONENT: Error = Error(13);
     /// The bytes are no JSON.
     pub const BOOK_JSON: Error = Error(101);
     /// The value is not five arrays or six, or an entry has not its form.

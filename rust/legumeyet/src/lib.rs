@@ -24,11 +24,11 @@ mod owned;
 mod sys;
 
 pub use error::Error;
-pub use options::{Grouping, Kind, Options, Rounding, Sign};
+pub use options::{Grouping, Kind, Options, Rounding, Sign, Width};
 
 use std::ops::Range;
 
-use owned::{written, Owned};
+use owned::{annotated, written, Owned};
 
 /// A book of tables.
 pub struct Book(Owned);
@@ -79,27 +79,11 @@ impl DecimalFormatter {
 
     /// The text of `format` with its parts, by bytes, in order of their beginning. Refused as `format`.
     pub fn format_parts(&self, number: &str, options: &Options) -> Result<(String, Vec<(Kind, Range<usize>)>), Error> {
-        let options = options.numbers();
-        let (mut found, mut count) = (vec![sys::Interval::default(); 16], 0);
-        let text = written(|out, room, length| {
-            found.resize(found.len().max(count), sys::Interval::default());
-            // SAFETY: as for `Book::answer`; `found` has room for as many as it holds.
-            unsafe {
-                sys::legumeyet_decimal_formatter_format_parts(
-                    self.0.at(),
-                    number.as_ptr(),
-                    number.len(),
-                    &options,
-                    out,
-                    room,
-                    length,
-                    found.as_mut_ptr(),
-                    found.len(),
-                    &mut count,
-                )
-            }
-        })?;
-        Ok((text, found[..count].iter().map(|it| (Kind::of(it.kind), it.start..it.end)).collect()))
+        let (options, at, len) = (options.numbers(), number.as_ptr(), number.len());
+        // SAFETY: as for `Book::answer`; the memory for parts has the room that is passed.
+        annotated(|out, room, length, parts, places, count| unsafe {
+            sys::legumeyet_decimal_formatter_format_parts(self.0.at(), at, len, &options, out, room, length, parts, places, count)
+        })
     }
 
     /// The number that is written so, as digits: `-1,234.50` is `-1234.50` in English. Refused by `UNREADABLE`, `NOT_WRITTEN`, `MEMORY`.
@@ -107,6 +91,80 @@ impl DecimalFormatter {
         // SAFETY: as for `Book::answer`.
         written(|out, room, length| unsafe {
             sys::legumeyet_decimal_formatter_read(self.0.at(), text.as_ptr(), text.len(), out, room, length)
+        })
+    }
+}
+
+/// The formatter of compact numbers for a locale tag, short or long. It keeps nothing of the book.
+///
+/// ```
+/// use legumeyet::{Book, CompactDecimalFormatter, Grouping, Options, Width};
+///
+/// let json = br#"[[["en","","latn","-","","+","",".",",",3,3,1]],[["latn","0123456789"]],[["en",[]]],
+/// [["en","",[[3,3,[["other",["","K"]]]],[6,6,[["other",["","M"]]]]],null]],[]]"#;
+/// let english = CompactDecimalFormatter::new(&Book::from_json(json)?, "en", Width::Short, Grouping::Min2)?;
+/// assert_eq!(english.format("-1172700", &Options::default())?, "-1.2M");
+/// assert_eq!(english.shown("-1172700", &Options::default())?, "-1.2c6");
+/// assert_eq!(english.format_exact("-1.20c6", &Options::default())?, "-1.20M");
+/// # Ok::<(), legumeyet::Error>(())
+/// ```
+pub struct CompactDecimalFormatter(Owned);
+
+impl CompactDecimalFormatter {
+    /// The formatter of a tag; compact numbers usually have `Grouping::Min2`. Refused by `TAG`, `TABLE`, `MEMORY`.
+    pub fn new(book: &Book, tag: &str, width: Width, grouping: Grouping) -> Result<CompactDecimalFormatter, Error> {
+        let (width, grouping) = (width as u32, grouping as u32);
+        // SAFETY: as for `Book::from_json`; no other call has the book's handle.
+        let open =
+            |formatter| unsafe { sys::legumeyet_compact_formatter_open(book.0.at(), tag.as_ptr(), tag.len(), width, grouping, formatter) };
+        Owned::open(sys::legumeyet_compact_formatter_close, open).map(CompactDecimalFormatter)
+    }
+
+    /// The text of a number that is given as text: `-1172700` is `-1.2M` in short English. Refused by `NUMBER`, `LIMIT`, `RANGE`,
+    /// `MEMORY`.
+    pub fn format(&self, number: &str, options: &Options) -> Result<String, Error> {
+        let options = options.numbers();
+        // SAFETY: as for `Book::answer`.
+        written(|out, room, length| unsafe {
+            sys::legumeyet_compact_formatter_format(self.0.at(), number.as_ptr(), number.len(), &options, out, room, length)
+        })
+    }
+
+    /// The text of the number `mantissa` times ten to the power `exponent`. Refused by `LIMIT`, `RANGE`, `MEMORY`.
+    pub fn format_i64(&self, mantissa: i64, exponent: i16, options: &Options) -> Result<String, Error> {
+        let options = options.numbers();
+        // SAFETY: as for `Book::answer`.
+        written(|out, room, length| unsafe {
+            sys::legumeyet_compact_formatter_format_i64(self.0.at(), mantissa, exponent, &options, out, room, length)
+        })
+    }
+
+    /// The text of `format` with its parts, those of its sign, by bytes. Refused as `format`.
+    pub fn format_parts(&self, number: &str, options: &Options) -> Result<(String, Vec<(Kind, Range<usize>)>), Error> {
+        let (options, at, len) = (options.numbers(), number.as_ptr(), number.len());
+        // SAFETY: as for `DecimalFormatter::format_parts`.
+        annotated(|out, room, length, parts, places, count| unsafe {
+            sys::legumeyet_compact_formatter_format_parts(self.0.at(), at, len, &options, out, room, length, parts, places, count)
+        })
+    }
+
+    /// The value that the text of `format` shows, a significand and behind `c` an exponent where it is not 0: `-1.2c6`. Refused as
+    /// `format`.
+    pub fn shown(&self, number: &str, options: &Options) -> Result<String, Error> {
+        let options = options.numbers();
+        // SAFETY: as for `Book::answer`.
+        written(|out, room, length| unsafe {
+            sys::legumeyet_compact_formatter_shown(self.0.at(), number.as_ptr(), number.len(), &options, out, room, length)
+        })
+    }
+
+    /// The text of a significand with an exponent, its digits as they are: `-1.20c6` is `-1.20M` in short English. The options change
+    /// the significand. Refused by `NUMBER`, `LIMIT`, `RANGE`, `EXPONENT`, `MEMORY`.
+    pub fn format_exact(&self, number: &str, options: &Options) -> Result<String, Error> {
+        let options = options.numbers();
+        // SAFETY: as for `Book::answer`.
+        written(|out, room, length| unsafe {
+            sys::legumeyet_compact_formatter_format_exact(self.0.at(), number.as_ptr(), number.len(), &options, out, room, length)
         })
     }
 }

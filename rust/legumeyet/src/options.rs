@@ -14,6 +14,16 @@ pub enum Grouping {
     Min2 = 3,
 }
 
+/// Which patterns compact numbers are written in.
+#[derive(Clone, Copy, Debug, Default, PartialEq, Eq)]
+pub enum Width {
+    /// `1.6K`.
+    #[default]
+    Short = 0,
+    /// `1.6 thousand`.
+    Long = 1,
+}
+
 /// Which sign is written; it is chosen by what the rounding left.
 #[derive(Clone, Copy, Debug, Default, PartialEq, Eq)]
 pub enum Sign {

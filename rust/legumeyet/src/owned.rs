@@ -1,5 +1,6 @@
-use crate::{sys, Error};
+use crate::{sys, Error, Kind};
 use std::cell::UnsafeCell;
+use std::ops::Range;
 
 /// A handle that is closed when it is dropped. It is not `Sync`: one call at a time has it.
 pub(crate) struct Owned {
@@ -45,4 +46,16 @@ pub(crate) fn written(mut call: impl FnMut(*mut u8, usize, *mut usize) -> i32) -
     Error::check(number)?;
     out.truncate(length);
     Ok(String::from_utf8(out).expect("the library writes UTF-8"))
+}
+
+/// The same with parts: the call is also passed memory for them, their room, and where their count goes.
+pub(crate) fn annotated(
+    mut call: impl FnMut(*mut u8, usize, *mut usize, *mut sys::Interval, usize, *mut usize) -> i32,
+) -> Result<(String, Vec<(Kind, Range<usize>)>), Error> {
+    let (mut found, mut count) = (vec![sys::Interval::default(); 16], 0);
+    let text = written(|out, room, length| {
+        found.resize(found.len().max(count), sys::Interval::default());
+        call(out, room, length, found.as_mut_ptr(), found.len(), &mut count)
+    })?;
+    Ok((text, found[..count].iter().map(|it| (Kind::of(it.kind), it.start..it.end)).collect()))
 }

@@ -1,10 +1,11 @@
 //! Each call well and badly.
 
-use legumeyet::{Book, DecimalFormatter, Error, Grouping, Kind, Options, Rounding, Sign};
+use legumeyet::{Book, CompactDecimalFormatter, DecimalFormatter, Error, Grouping, Kind, Options, Rounding, Sign, Width};
 use std::thread;
 
 const JSON: &str = r#"[[["en","","latn","-","","+","",".",",",3,3,1],["bad","","latn","","","+","",".",",",3,3,1]],
-[["latn","0123456789"]],[["en",[]]],[["en","",[[3,3,[["other",["","K"]]]]],null]],[]]"#;
+[["latn","0123456789"]],[["en",[]]],[["en","",[[3,3,[["other",["","K"]]]],[6,6,[["other",["","M"]]]]],null]],
+[["en","",[[3,3,[["other",[""," thousand"]]]]],null]]]"#;
 const AS_GIVEN: Options = Options { sign: Sign::Keep, rounding: Rounding::Keep, position: 0 };
 
 fn book() -> Book {
@@ -13,6 +14,10 @@ fn book() -> Book {
 
 fn english() -> DecimalFormatter {
     DecimalFormatter::new(&book(), "en", Grouping::Auto).unwrap()
+}
+
+fn compact(width: Width) -> CompactDecimalFormatter {
+    CompactDecimalFormatter::new(&book(), "en", width, Grouping::Min2).unwrap()
 }
 
 #[test]
@@ -47,6 +52,31 @@ fn reads() {
     }
     let bad = DecimalFormatter::new(&book(), "bad", Grouping::Auto).unwrap();
     assert_eq!(bad.read("1"), Err(Error::UNREADABLE));
+}
+
+#[test]
+fn compact_numbers() {
+    let (short, nines) = (compact(Width::Short), "9".repeat(32768));
+    for (number, text, value) in [("-1172700", "-1.2M", "-1.2c6"), ("950", "950", "950"), ("12345678901", "12,346M", "12346c6")] {
+        assert_eq!(short.format(number, &AS_GIVEN).unwrap(), text);
+        assert_eq!(short.shown(number, &AS_GIVEN).unwrap(), value);
+        assert_eq!(short.format_exact(value, &AS_GIVEN).unwrap(), text);
+    }
+    assert_eq!(compact(Width::Long).format_i64(165, 1, &AS_GIVEN).unwrap(), "1.6 thousand");
+    let rounded = Options { sign: Sign::Always, rounding: Rounding::Trunc, position: 6 };
+    assert_eq!(short.format("1250000", &rounded).unwrap(), "+1M");
+    assert_eq!(short.format_parts("-1650", &AS_GIVEN).unwrap(), ("-1.6K".to_string(), vec![(Kind::MinusSign, 0..1)]));
+    assert_eq!(short.format("5.", &AS_GIVEN), Err(Error::NUMBER));
+    assert_eq!(short.format_i64(10, i16::MAX, &AS_GIVEN), Err(Error::LIMIT));
+    assert_eq!(short.format(&nines, &AS_GIVEN), Err(Error::RANGE));
+    assert_eq!(short.shown(&nines, &AS_GIVEN), Err(Error::RANGE));
+    assert_eq!(short.format_parts(&nines, &AS_GIVEN), Err(Error::RANGE));
+    for (number, error) in [("1.2e6", Error::NUMBER), ("1c256", Error::LIMIT), ("1.2c5", Error::EXPONENT)] {
+        assert_eq!(short.format_exact(number, &AS_GIVEN), Err(error), "{number}");
+    }
+    for (tag, error) in [("e", Error::TAG), ("xx", Error::TABLE), ("bad", Error::TABLE)] {
+        assert_eq!(CompactDecimalFormatter::new(&book(), tag, Width::Short, Grouping::Min2).err(), Some(error));
+    }
 }
 
 #[test]
@@ -98,6 +128,8 @@ fn threads() {
             thread::spawn(move || (0..1000).all(|_| formatter.format("1234", &AS_GIVEN).unwrap() == "1,234"))
         })
         .collect();
+    let short = CompactDecimalFormatter::new(&book, "en", Width::Short, Grouping::Min2).unwrap();
     thread::spawn(move || drop(book)).join().unwrap();
+    assert!(thread::spawn(move || short.format("1650", &AS_GIVEN).unwrap() == "1.6K").join().unwrap());
     assert!(workers.into_iter().all(|it| it.join().unwrap()));
 }

@@ -1,7 +1,8 @@
 use Rattle.std.proofs.Common.{w16, w64}
 use Rattle.std.proofs.lemmas.Int.{to_z-of_z}
 use Rattle.legumeyet_c.specs.Choices.{choices_of}
-use Rattle.legumeyet_c.specs.Numbers.{IsScaled, IsScaledFault}
+use Rattle.legumeyet_c.specs.DecimalWriting.{HasNoFault, IsDecimalText}
+use Rattle.legumeyet_c.specs.Numbers.{Gives, IsChangeFault, IsScaled, IsScaledFault}
 use Rattle.legumeyet_c.specs.Views.{decimal_open}
 use Rattle.legumeyet_c.proofs.PuttingLemmas.{other_fault, put_by, scaled_fault_other, value_fault, value_says}
 use Rattle.legumeyet_c.proofs.decimal_formatter.format_i64.Goals as goal
@@ -19,7 +20,10 @@ returns-clause-told c =
     let exponent = to_z-of_z w16 c.args.exponent c.ranges.exponent in
     let open_tables = decimal_open c.args.formatter.now in
     let choices = choices_of c.args.options.now in
+    let given = simp (mantissa, exponent) at c.number_of_i64-number.ensures.value in
+    let caused = simp (mantissa, exponent) at c.number_of_i64-number.ensures.fault in
+    let is_given = Gives choices (IsScaled c.args.mantissa c.args.exponent) in
     put_by _ _ _ _ _
-    (value_says open_tables choices (IsScaled c.args.mantissa c.args.exponent) c.number_of_i64-number.result (simp (mantissa, exponent) at c.number_of_i64-number.ensures.value))
-    (value_fault open_tables choices (IsScaledFault c.args.mantissa c.args.exponent) c.number_of_i64-number.result (simp (mantissa, exponent) at c.number_of_i64-number.ensures.fault))
+    (value_says IsDecimalText open_tables is_given c.number_of_i64-number.result given)
+    (value_fault HasNoFault open_tables is_given (IsChangeFault choices (IsScaledFault c.args.mantissa c.args.exponent)) c.number_of_i64-number.result given caused)
     c.write_behind.ensures.told
