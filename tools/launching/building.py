@@ -30,7 +30,7 @@ SHARES = {
     "fixed_decimal_unsigned": 120, "icu_locale_core_subtags": 45, "icu_locale_core_subtag_lists": 69, "icu_locale_core_langid": 266,
     "icu_locale_core_keywords_fields": 260, "fixed_decimal": 683, "icu_locale_core_preference_keywords": 512,
     "icu_locale_core_extensions": 185, "icu_locale_core_locale": 531, "icu_decimal_compact_value": 68,
-    "icu_locale_core_preferences": 112, "icu_locale_core": 51, "icu_decimal_provider": 107, "locale_numbers_parents": 106,
+    "icu_locale_core": 150, "icu_decimal_provider": 107, "locale_numbers_parents": 106,
     "icu_decimal_plurals": 118, "icu_decimal_plain": 327, "icu_decimal_patterns": 343, "icu_decimal_reading": 184, "icu_decimal_formatter": 68,
     "icu_decimal_compact": 200, "icu_decimal": 81, "locale_numbers_tables": 220, "locale_numbers_book": 140,
 }

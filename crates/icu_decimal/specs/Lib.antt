@@ -21,12 +21,12 @@ pub use Rattle.icu_decimal_plurals.specs.Operands
 pub use Rattle.icu_decimal_plurals.specs.Reading
 pub use Rattle.icu_decimal_plurals.specs.Rules
 pub use Rattle.icu_decimal_plurals.specs.Tokens
-pub use Rattle.icu_decimal_provider.specs.Choice
+pub use Rattle.icu_decimal_compact.specs.Choice
 pub use Rattle.icu_decimal_symbols.specs.Cow
 pub use Rattle.icu_decimal_symbols.specs.DataErrors
-pub use Rattle.icu_decimal_provider.specs.Identifiers
+pub use Rattle.icu_decimal_compact.specs.Identifiers
 pub use Rattle.icu_decimal_symbols.specs.Options
-pub use Rattle.icu_decimal_provider.specs.Preferences
+pub use Rattle.icu_decimal_compact.specs.Preferences
 pub use Rattle.icu_decimal_symbols.specs.Symbols
 pub use Rattle.icu_decimal_reading.specs.PlainReading
 pub use Rattle.icu_decimal_reading.specs.Readable
@@ -37,7 +37,7 @@ pub use Rattle.icu_decimal_compact_value.specs.ExactForms
 pub use Rattle.icu_decimal_compact_value.specs.Significand
 pub use Rattle.icu_decimal_compact_value.specs.ShownValue
 pub use Rattle.icu_decimal_plain.specs.Affixes
-pub use Rattle.icu_decimal_formatter.specs.FoundTables
+pub use Rattle.icu_decimal_compact.specs.FoundTables
 pub use Rattle.icu_decimal_plain.specs.Grouper
 pub use Rattle.icu_decimal_plain.specs.PartIntervals
 pub use Rattle.icu_decimal_plain.specs.PlainText
@@ -46,7 +46,7 @@ pub use Rattle.icu_decimal_compact.specs.HeldCompact
 pub use Rattle.icu_decimal_patterns.specs.HeldPattern
 pub use Rattle.icu_decimal_plain.specs.BorrowedTables
 pub use Rattle.icu_decimal_plain.specs.HeldAffixes
-pub use Rattle.icu_decimal_formatter.specs.HeldTables
+pub use Rattle.icu_decimal_compact.specs.HeldTables
 -- Equality of symbols, of patterns and of formatted numbers.
 pub use Rattle.icu_decimal_patterns.specs.SameElements
 pub use Rattle.icu_decimal_patterns.specs.SamePattern
@@ -65,9 +65,9 @@ pub use Rattle.icu_decimal_reading.specs.ReadingLaws
 pub use Rattle.icu_decimal_compact_value.specs.ExactLaws
 pub use Rattle.icu_decimal_compact_value.specs.ShownLaws
 pub use Rattle.icu_decimal_compact_value.specs.UnderTableLaws
-pub use Rattle.icu_decimal_provider.specs.Laws
+pub use Rattle.icu_decimal_compact.specs.TableLaws as Laws
 pub use Rattle.icu_decimal_symbols.specs.SameSymbolsLaws
 pub use Rattle.icu_decimal_plain.specs.GroupLaws
 pub use Rattle.icu_decimal_plain.specs.PartLaws
 pub use Rattle.icu_decimal_plain.specs.TextLaws
-pub use Rattle.icu_decimal_formatter.specs.FoundLaws
+pub use Rattle.icu_decimal_compact.specs.FoundLaws

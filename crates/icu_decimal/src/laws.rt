@@ -4,11 +4,11 @@
 pub use icu_decimal_compact::laws as compact;
 pub use icu_decimal_compact_value::laws as shown;
 pub use icu_decimal_patterns::laws as patterns;
-pub use icu_decimal_provider::laws as tables;
+pub use icu_decimal_compact::table_laws as tables;
 pub use icu_decimal_reading::laws as reading;
 
 /// Laws of plain text: groups, texts and parts, and the tables that equal preferences find.
 pub mod text {
-    pub use icu_decimal_formatter::laws::same_tables;
+    pub use icu_decimal_compact::formatter_laws::same_tables;
     pub use icu_decimal_plain::laws::{groups_law, parts_law, text_law};
 }

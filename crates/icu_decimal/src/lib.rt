@@ -24,14 +24,14 @@ pub mod plurals;
 pub mod provider;
 mod reading;
 
+pub use icu_decimal_compact::preferences;
+pub use icu_decimal_compact::preferences::DecimalFormatterPreferences;
 pub use icu_decimal_compact::{
-    AbstractFormatter, CompactDecimalFormatter, FormattedUnsigned, FormattedUnsignedCompactDecimal,
+    AbstractFormatter, CompactDecimalFormatter, DecimalFormatter, FormattedUnsigned,
+    FormattedUnsignedCompactDecimal,
 };
-pub use icu_decimal_formatter::DecimalFormatter;
 pub use icu_decimal_plain::{
     DecimalTables, FormattedDecimal, FormattedSign, FormattedUnsignedDecimal, grouper,
 };
-pub use icu_decimal_provider::preferences;
-pub use icu_decimal_provider::preferences::DecimalFormatterPreferences;
 pub use icu_decimal_symbols::{Cow, options, parts};
 pub use reading::{is_readable, read_plain, read_readable};

@@ -4,10 +4,10 @@ ghost use Rattle.std.specs.Prelude.{◌≡◌, ◌↔◌, true, false, IfOk, IsE
 ghost use Rattle.icu_decimal_reading.specs.PlainReading.{HasManyDigits, HasNoNumber, IsAnswered, IsPlainText, plain_reading};
 ghost use Rattle.icu_decimal_reading.specs.Readable.{is_readable_by};
 ghost use Rattle.icu_decimal_reading.specs.ReadingLaws.{AreTables};
-ghost use Rattle.icu_decimal_formatter.specs.HeldTables.{tables_of};
+ghost use Rattle.icu_decimal_compact.specs.HeldTables.{tables_of};
 
 use fixed_decimal::Decimal;
-use icu_decimal_formatter::DecimalFormatter;
+use icu_decimal_compact::DecimalFormatter;
 use icu_decimal_reading::ReadError;
 use std::alloc::Global;
 

@@ -13,3 +13,11 @@ pub mod PatternAt
 -- statements of laws
 pub mod AbstractLaws
 pub mod CompactLaws
+-- What formatters of plain text hold, and which tables are asked for, for the crates above.
+pub use Rattle.icu_decimal_formatter.specs.Choice
+pub use Rattle.icu_decimal_formatter.specs.FoundLaws
+pub use Rattle.icu_decimal_formatter.specs.FoundTables
+pub use Rattle.icu_decimal_formatter.specs.HeldTables
+pub use Rattle.icu_decimal_formatter.specs.Identifiers
+pub use Rattle.icu_decimal_formatter.specs.Preferences
+pub use Rattle.icu_decimal_formatter.specs.TableLaws

@@ -26,8 +26,8 @@ use icu_decimal_patterns::{
 };
 use icu_decimal_plain::FormattedSign;
 use icu_decimal_plurals::{PluralOperands, PluralRules, PluralsCardinalV1};
-use icu_decimal_provider::preferences::CompactDecimalFormatterPreferences;
-use icu_decimal_provider::provider::{
+use icu_decimal_formatter::preferences::CompactDecimalFormatterPreferences;
+use icu_decimal_formatter::provider::{
     DataProvider, DecimalDigitsV1, DecimalSymbolsV1, ParentProvider, load_by_locale,
 };
 use icu_decimal_symbols::DataError;

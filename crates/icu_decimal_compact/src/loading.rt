@@ -2,7 +2,7 @@
 ghost use Rattle.std.specs.Prelude.{◌≡◌};
 ghost use Rattle.std.specs.Result.{result_map_both};
 ghost use Rattle.icu_decimal_chains.specs.Chains.{chain};
-ghost use Rattle.icu_decimal_provider.specs.Choice.{first_found};
+ghost use Rattle.icu_decimal_formatter.specs.Choice.{first_found};
 ghost use Rattle.icu_decimal_formatter.specs.FoundTables.{found_tables};
 ghost use Rattle.icu_decimal_formatter.specs.HeldTables.{tables_of};
 ghost use Rattle.icu_decimal_compact.specs.FoundCompactTables.{rules_identifiers, with_plain};
@@ -12,8 +12,8 @@ use crate::compact_formatter::CompactDecimalFormatter;
 use icu_decimal_formatter::DecimalFormatter;
 use icu_decimal_patterns::CompactPatterns;
 use icu_decimal_plurals::{PluralRules, PluralsCardinalV1};
-use icu_decimal_provider::preferences::CompactDecimalFormatterPreferences;
-use icu_decimal_provider::provider::{
+use icu_decimal_formatter::preferences::CompactDecimalFormatterPreferences;
+use icu_decimal_formatter::provider::{
     DataProvider, DecimalDigitsV1, DecimalSymbolsV1, ParentProvider, load_by_chain,
 };
 use icu_decimal_symbols::DataError;

@@ -14,3 +14,7 @@ mod formatter;
 pub mod laws;
 
 pub use formatter::DecimalFormatter;
+
+// Where its tables come from, for the crates above.
+pub use icu_decimal_provider::laws as table_laws;
+pub use icu_decimal_provider::{preferences, provider};

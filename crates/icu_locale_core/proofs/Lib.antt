@@ -1,3 +1,11 @@
+-- Lemmas on preferences and data locales.
+pub mod DataTextLemmas
+pub mod KeywordLemmas
+pub mod KnownTruncations
+pub mod KnownValues
+pub mod LawLemmas
+pub mod SameLemmas
+pub mod WritingLemmas
 -- Lemmas on the grammar, for the crates above.
 pub use Rattle.icu_locale_core_grammar.proofs.CallerLemmas
 pub use Rattle.icu_locale_core_grammar.proofs.DataFaults

@@ -24,7 +24,7 @@ pub use Rattle.icu_locale_core_subtag_lists.specs.Laws as SetLaws
 pub use Rattle.icu_locale_core_keywords_fields.specs.Laws as EntryLaws
 pub use Rattle.icu_locale_core_langid.specs.SingleLaws
 pub use Rattle.icu_locale_core_locale.specs.ReadsBack
-pub use Rattle.icu_locale_core_preferences.specs.Laws as HeldPreferenceLaws
+pub mod HeldPreferenceLaws
 -- Subtags: what a rule is, raw forms, JSON texts, what an iterator has left.
 pub use Rattle.icu_locale_core_subtags.specs.SubtagRule
 pub use Rattle.icu_locale_core_subtags.specs.RawSubtag
@@ -68,9 +68,10 @@ pub use Rattle.icu_locale_core_keywords_fields.specs.Allocation as EntryAllocati
 pub use Rattle.icu_locale_core_extensions.specs.Allocation as ExtensionAllocation
 pub use Rattle.icu_locale_core_locale.specs.Allocation as TagAllocation
 -- Data locales, their text, and what a locale holds of a tag.
-pub use Rattle.icu_locale_core_preferences.specs.DataLocales
-pub use Rattle.icu_locale_core_preferences.specs.DataText
-pub use Rattle.icu_locale_core_preferences.specs.HeldTag
+pub mod DataLocales
+pub mod DataExtensions
+pub mod DataText
+pub mod HeldTag
 -- What the readers follow, piece by piece.
 pub use Rattle.icu_locale_core_grammar.specs.Stepping
 pub use Rattle.icu_locale_core_grammar.specs.TagStages

@@ -4,7 +4,8 @@
 //! `thai`. A keyword's type is a [`PreferenceKey`]: it knows its key, and which values state it.
 
 pub use icu_locale_core_preference_keywords::PreferenceKey;
-pub use icu_locale_core_preferences::{LocalePreferences, numbering_system};
+pub use crate::keywords::numbering_system;
+pub use crate::locale_preferences::LocalePreferences;
 
 /// The extensions that say what is preferred.
 pub mod extensions {

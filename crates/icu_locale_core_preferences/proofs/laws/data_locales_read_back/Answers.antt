@@ -1,5 +1,0 @@
-use Rattle.icu_locale_core_preferences.proofs.LawLemmas.{read_data_reads_back, normal_data_reads_back}
-use Rattle.icu_locale_core_preferences.proofs.laws.data_locales_read_back.Goals as goal
-
-pub returns : goal.returns
-returns c = record { read = read_data_reads_back; normal = normal_data_reads_back }

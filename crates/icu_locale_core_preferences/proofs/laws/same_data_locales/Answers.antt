@@ -1,8 +1,0 @@
-use Rattle.std.proofs.Common.{sym, ◌∙◌}
-use Rattle.icu_locale_core_preferences.proofs.SameLemmas.{data_decides}
-use Rattle.icu_locale_core_preferences.proofs.laws.same_data_locales.Goals as goal
-
-pub returns : goal.returns
-returns c =
-    let decides = data_decides c.args.one.now c.args.other.now in
-    (λ e. decides.0 (sym c.eq.ensures ∙ e), λ e. c.eq.ensures ∙ decides.1 e)

@@ -1,8 +1,0 @@
-use Rattle.std.proofs.Common.{sym, ◌∙◌}
-use Rattle.icu_locale_core_preferences.proofs.SameLemmas.{preferences_decide}
-use Rattle.icu_locale_core_preferences.proofs.laws.same_preferences.Goals as goal
-
-pub returns : goal.returns
-returns c =
-    let decides = preferences_decide c.args.first.now c.args.second.now in
-    (λ e. decides.0 (sym c.eq.ensures ∙ e), λ e. c.eq.ensures ∙ decides.1 e)
