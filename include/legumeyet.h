@@ -23,9 +23,11 @@
  * is not for callers. It may be used in another thread than the one that opened it, by one call at a time. Handles are free of each
  * other: a formatter has the tables that it needs, so its book may be closed before it.
  *
- * A call that answers no 0 leaves its handles as they were. Of the numbers that apply the first of the call's list is answered.
+ * A call that returns a number other than 0 leaves its handles as they were. Where several numbers apply, it returns the one that
+ * stands first in its list.
+ *
  * A call that takes `out`, `room` and `length` writes the text to the front of the `room` bytes at `out`, and its length in bytes to
- * `length`; bytes behind the text stay as they were. Where the text is longer than `room` it answers LEGUMEYET_TOO_SMALL, the `room`
+ * `length`; bytes behind the text stay as they were. Where the text is longer than `room` it returns LEGUMEYET_TOO_SMALL, the `room`
  * bytes are the first of the text, and `length` is what the text needs. Any other error leaves `out` and `length` as they were.
  * `out` may not overlap anything else that the call is given.
  */
@@ -43,7 +45,7 @@ extern "C" {
 /* The version of this header: functions and numbers are added, and none of them ever changes its meaning. */
 #define LEGUMEYET_VERSION 1
 
-/* What a call answers. */
+/* What a call returns. */
 enum {
     LEGUMEYET_OK = 0,           /* all is well */
     LEGUMEYET_MEMORY = 1,       /* memory was refused */
@@ -156,39 +158,39 @@ typedef struct {
 /*
  * Opens the book that a JSON text is; books/README.md says how such a text is made.
  *
- * What `book` had open is closed, where the call answers 0. `[[],[],[],[],[]]` is the shortest book.
+ * What `book` had open is closed, where the call returns 0. `[[],[],[],[],[]]` is the shortest book.
  *
- * Answers 0; LEGUMEYET_BOOK_JSON to LEGUMEYET_BOOK_CYCLE; LEGUMEYET_MEMORY.
+ * Returns 0; LEGUMEYET_BOOK_JSON to LEGUMEYET_BOOK_CYCLE; LEGUMEYET_MEMORY.
  */
 int32_t legumeyet_book_open(const uint8_t *json, size_t json_length, legumeyet_book *book);
 
 /*
  * Closes a book, and lets go of its memory. Its formatters stay as they are.
  *
- * Answers 0; LEGUMEYET_CLOSED, where it was closed already.
+ * Returns 0; LEGUMEYET_CLOSED, where it was closed already.
  */
 int32_t legumeyet_book_close(legumeyet_book *book);
 
 /*
  * Answers a request line, as docs/requests.md has it, without its line feed: `en`, `plain`, `auto`, `keep`, `-`, `-987654.321` with tabs
- * between by `ok`, a tab and `-987,654.321`. A line that is refused is answered by `err`, a tab and a word, and the call by 0.
+ * between by `ok`, a tab and `-987,654.321`. For a line that is refused the text is `err`, a tab and a word, and the call returns 0.
  *
- * Answers 0; LEGUMEYET_CLOSED; LEGUMEYET_MEMORY; LEGUMEYET_TOO_SMALL.
+ * Returns 0; LEGUMEYET_CLOSED; LEGUMEYET_MEMORY; LEGUMEYET_TOO_SMALL.
  */
 int32_t legumeyet_book_answer(legumeyet_book *book, const uint8_t *line, size_t line_length, uint8_t *out, size_t room, size_t *length);
 
 /*
  * Opens the formatter of plain numbers for a locale tag: that of `en` writes -1234.5 as `-1,234.5`, that of `ar-EG` as `-١٬٢٣٤٫٥`.
  *
- * It has its own copy of the tables. What `formatter` had open is closed, where the call answers 0.
+ * It has its own copy of the tables. What `formatter` had open is closed, where the call returns 0.
  *
- * Answers 0; LEGUMEYET_CLOSED, of the book; LEGUMEYET_OPTION, of the grouping; LEGUMEYET_TAG; LEGUMEYET_TABLE, where the book has no
+ * Returns 0; LEGUMEYET_CLOSED, of the book; LEGUMEYET_OPTION, of the grouping; LEGUMEYET_TAG; LEGUMEYET_TABLE, where the book has no
  * symbols or no digits for the tag; LEGUMEYET_MEMORY, also in place of the last two.
  */
 int32_t legumeyet_decimal_formatter_open(legumeyet_book *book, const uint8_t *tag, size_t tag_length, uint32_t grouping,
                                          legumeyet_decimal_formatter *formatter);
 
-/* Closes a formatter. Answers 0; LEGUMEYET_CLOSED, where it was closed already. */
+/* Closes a formatter. Returns 0; LEGUMEYET_CLOSED, where it was closed already. */
 int32_t legumeyet_decimal_formatter_close(legumeyet_decimal_formatter *formatter);
 
 /*
@@ -196,7 +198,7 @@ int32_t legumeyet_decimal_formatter_close(legumeyet_decimal_formatter *formatter
  *
  * With the rounding LEGUMEYET_ROUND_HALF_EVEN at -1 and the sign LEGUMEYET_SIGN_ALWAYS `9.75` is written `+9.8`.
  *
- * Answers 0; LEGUMEYET_CLOSED; LEGUMEYET_OPTION, of the sign or the rounding; LEGUMEYET_NUMBER; LEGUMEYET_LIMIT; LEGUMEYET_MEMORY, which
+ * Returns 0; LEGUMEYET_CLOSED; LEGUMEYET_OPTION, of the sign or the rounding; LEGUMEYET_NUMBER; LEGUMEYET_LIMIT; LEGUMEYET_MEMORY, which
  * a number of eight digits at most never takes; LEGUMEYET_TOO_SMALL.
  */
 int32_t legumeyet_decimal_formatter_format(legumeyet_decimal_formatter *formatter, const uint8_t *number, size_t number_length,
@@ -207,7 +209,7 @@ int32_t legumeyet_decimal_formatter_format(legumeyet_decimal_formatter *formatte
  *
  * With a negative exponent so many fraction digits are shown: 500 and -2 as `5.00`.
  *
- * Answers as legumeyet_decimal_formatter_format, but for LEGUMEYET_NUMBER.
+ * Returns as legumeyet_decimal_formatter_format, but for LEGUMEYET_NUMBER.
  */
 int32_t legumeyet_decimal_formatter_format_i64(legumeyet_decimal_formatter *formatter, int64_t mantissa, int16_t exponent,
                                                const legumeyet_options *options, uint8_t *out, size_t room, size_t *length);
@@ -216,11 +218,11 @@ int32_t legumeyet_decimal_formatter_format_i64(legumeyet_decimal_formatter *form
  * Writes as legumeyet_decimal_formatter_format does, and lists the parts of the text in order of their beginning: of `-1,234.5` the
  * minus sign at 0 to 1, the integer at 1 to 6, the group at 2 to 3, the decimal at 6 to 7 and the fraction at 7 to 8.
  *
- * `count` is how many parts there are. Where they are more than `intervals_room` the call answers LEGUMEYET_TOO_SMALL too, and the
- * first `intervals_room` of them stand at `intervals`; those behind the last part stay as they were. Where it answers
+ * `count` is how many parts there are. Where they are more than `intervals_room` the call returns LEGUMEYET_TOO_SMALL too, and the
+ * first `intervals_room` of them stand at `intervals`; those behind the last part stay as they were. Where it returns
  * LEGUMEYET_TOO_SMALL, `length` and `count` are what both need. Any other error leaves all as it was.
  *
- * Answers as legumeyet_decimal_formatter_format; LEGUMEYET_MEMORY of any number.
+ * Returns as legumeyet_decimal_formatter_format; LEGUMEYET_MEMORY of any number.
  */
 int32_t legumeyet_decimal_formatter_format_parts(legumeyet_decimal_formatter *formatter, const uint8_t *number, size_t number_length,
                                                  const legumeyet_options *options, uint8_t *out, size_t room, size_t *length,
@@ -229,7 +231,7 @@ int32_t legumeyet_decimal_formatter_format_parts(legumeyet_decimal_formatter *fo
 /*
  * Reads a text back as the one number that the formatter writes so, and writes it as digits: `-1,234.50` of English as `-1234.50`.
  *
- * Answers 0; LEGUMEYET_CLOSED; LEGUMEYET_UTF8; LEGUMEYET_UNREADABLE; LEGUMEYET_NOT_WRITTEN; LEGUMEYET_MEMORY, which a text with eight
+ * Returns 0; LEGUMEYET_CLOSED; LEGUMEYET_UTF8; LEGUMEYET_UNREADABLE; LEGUMEYET_NOT_WRITTEN; LEGUMEYET_MEMORY, which a text with eight
  * digits at most never takes; LEGUMEYET_TOO_SMALL.
  */
 int32_t legumeyet_decimal_formatter_read(legumeyet_decimal_formatter *formatter, const uint8_t *text, size_t text_length, uint8_t *out,
@@ -239,16 +241,16 @@ int32_t legumeyet_decimal_formatter_read(legumeyet_decimal_formatter *formatter,
  * Opens the formatter of compact numbers for a locale tag, short or long: those of `en` write 1650 as `1.6K` and as `1.6 thousand`.
  *
  * `width` is a LEGUMEYET_WIDTH. The grouping that compact numbers have by default is LEGUMEYET_GROUPING_MIN2: `1000T`, `10,000T`.
- * It has its own copy of the tables. What `formatter` had open is closed, where the call answers 0.
+ * It has its own copy of the tables. What `formatter` had open is closed, where the call returns 0.
  *
- * Answers 0; LEGUMEYET_CLOSED, of the book; LEGUMEYET_OPTION, of the width or the grouping; LEGUMEYET_TAG; LEGUMEYET_TABLE, where the
+ * Returns 0; LEGUMEYET_CLOSED, of the book; LEGUMEYET_OPTION, of the width or the grouping; LEGUMEYET_TAG; LEGUMEYET_TABLE, where the
  * book has no symbols, no digits, no plural rules or no patterns of the width for the tag; LEGUMEYET_MEMORY, also in place of the last
  * two.
  */
 int32_t legumeyet_compact_formatter_open(legumeyet_book *book, const uint8_t *tag, size_t tag_length, uint32_t width, uint32_t grouping,
                                          legumeyet_compact_formatter *formatter);
 
-/* Closes a formatter. Answers 0; LEGUMEYET_CLOSED, where it was closed already. */
+/* Closes a formatter. Returns 0; LEGUMEYET_CLOSED, where it was closed already. */
 int32_t legumeyet_compact_formatter_close(legumeyet_compact_formatter *formatter);
 
 /*
@@ -256,7 +258,7 @@ int32_t legumeyet_compact_formatter_close(legumeyet_compact_formatter *formatter
  *
  * The options change the number before it is shown: rounded at 6 it is `-1M`, and 950 with LEGUMEYET_SIGN_ALWAYS is `+950`.
  *
- * Answers 0; LEGUMEYET_CLOSED; LEGUMEYET_OPTION, of the sign or the rounding; LEGUMEYET_NUMBER; LEGUMEYET_LIMIT; LEGUMEYET_RANGE;
+ * Returns 0; LEGUMEYET_CLOSED; LEGUMEYET_OPTION, of the sign or the rounding; LEGUMEYET_NUMBER; LEGUMEYET_LIMIT; LEGUMEYET_RANGE;
  * LEGUMEYET_MEMORY, which a number of eight digits at most never takes; LEGUMEYET_TOO_SMALL.
  */
 int32_t legumeyet_compact_formatter_format(legumeyet_compact_formatter *formatter, const uint8_t *number, size_t number_length,
@@ -265,7 +267,7 @@ int32_t legumeyet_compact_formatter_format(legumeyet_compact_formatter *formatte
 /*
  * Writes the number `mantissa` times ten to the power `exponent`: -11727 and 2 as `-1.2M` in short English.
  *
- * Answers as legumeyet_compact_formatter_format, but for LEGUMEYET_NUMBER.
+ * Returns as legumeyet_compact_formatter_format, but for LEGUMEYET_NUMBER.
  */
 int32_t legumeyet_compact_formatter_format_i64(legumeyet_compact_formatter *formatter, int64_t mantissa, int16_t exponent,
                                                const legumeyet_options *options, uint8_t *out, size_t room, size_t *length);
@@ -274,7 +276,7 @@ int32_t legumeyet_compact_formatter_format_i64(legumeyet_compact_formatter *form
  * Writes as legumeyet_compact_formatter_format does, and lists the parts of the text, which are those of its sign: of `-1.2M` the minus
  * sign at 0 to 1. `intervals`, `intervals_room` and `count` are those of legumeyet_decimal_formatter_format_parts.
  *
- * Answers as legumeyet_compact_formatter_format; LEGUMEYET_MEMORY of any number.
+ * Returns as legumeyet_compact_formatter_format; LEGUMEYET_MEMORY of any number.
  */
 int32_t legumeyet_compact_formatter_format_parts(legumeyet_compact_formatter *formatter, const uint8_t *number, size_t number_length,
                                                  const legumeyet_options *options, uint8_t *out, size_t room, size_t *length,
@@ -284,7 +286,7 @@ int32_t legumeyet_compact_formatter_format_parts(legumeyet_compact_formatter *fo
  * Writes the value that the text of a number shows, so that a chart can place its label: of `-1172700` in short English `-1.2c6`, which
  * is -1.2 times ten to the power 6. Without an exponent it is the number alone: `950`.
  *
- * Answers as legumeyet_compact_formatter_format; LEGUMEYET_MEMORY also where what is shown has more than eight digits.
+ * Returns as legumeyet_compact_formatter_format; LEGUMEYET_MEMORY also where what is shown has more than eight digits.
  */
 int32_t legumeyet_compact_formatter_shown(legumeyet_compact_formatter *formatter, const uint8_t *number, size_t number_length,
                                           const legumeyet_options *options, uint8_t *out, size_t room, size_t *length);
@@ -294,7 +296,7 @@ int32_t legumeyet_compact_formatter_shown(legumeyet_compact_formatter *formatter
  *
  * What legumeyet_compact_formatter_shown writes is such a text. The options change the significand: rounded at -1 it is `-1.2M`.
  *
- * Answers 0; LEGUMEYET_CLOSED; LEGUMEYET_OPTION, of the sign or the rounding; LEGUMEYET_NUMBER, where the text is no compact number, as
+ * Returns 0; LEGUMEYET_CLOSED; LEGUMEYET_OPTION, of the sign or the rounding; LEGUMEYET_NUMBER, where the text is no compact number, as
  * `1.2e6`; LEGUMEYET_LIMIT, also of an exponent above 255; LEGUMEYET_MEMORY, which a significand of eight digits at most never takes;
  * LEGUMEYET_RANGE, where the magnitude of both together is above 32767; LEGUMEYET_EXPONENT; LEGUMEYET_TOO_SMALL.
  */
@@ -302,9 +304,9 @@ int32_t legumeyet_compact_formatter_format_exact(legumeyet_compact_formatter *fo
                                                  const legumeyet_options *options, uint8_t *out, size_t room, size_t *length);
 
 /*
- * Writes what an answer of these calls means, in English: of LEGUMEYET_TAG `no locale tag`.
+ * Writes what a number of these calls means, in English: of LEGUMEYET_TAG `no locale tag`.
  *
- * Answers 0; LEGUMEYET_OPTION, where `error` is 0, or none of the numbers above; LEGUMEYET_TOO_SMALL.
+ * Returns 0; LEGUMEYET_OPTION, where `error` is 0, or none of the numbers above; LEGUMEYET_TOO_SMALL.
  */
 int32_t legumeyet_error_text(int32_t error, uint8_t *out, size_t room, size_t *length);
 
