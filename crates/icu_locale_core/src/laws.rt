@@ -48,4 +48,4 @@ pub use icu_locale_core_locale::laws as locales;
 pub use icu_locale_core_preference_keywords::laws as keywords;
 
 // Of preferences and data locales.
-pub use crate::preference_laws as preferences;
+pub mod preferences;

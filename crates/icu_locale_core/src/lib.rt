@@ -23,7 +23,6 @@ pub mod laws;
 mod locale_preferences;
 mod making;
 pub mod parser;
-mod preference_laws;
 pub mod preferences;
 mod printing;
 mod reading;

@@ -1,6 +1,6 @@
 use Rattle.std.proofs.Common.{sym, ◌∙◌}
 use Rattle.icu_locale_core.proofs.SameLemmas.{preferences_decide}
-use Rattle.icu_locale_core.proofs.preference_laws.same_preferences.Goals as goal
+use Rattle.icu_locale_core.proofs.laws.preferences.same_preferences.Goals as goal
 
 pub returns : goal.returns
 returns c =

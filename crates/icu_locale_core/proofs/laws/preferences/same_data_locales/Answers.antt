@@ -1,6 +1,6 @@
 use Rattle.std.proofs.Common.{sym, ◌∙◌}
 use Rattle.icu_locale_core.proofs.SameLemmas.{data_decides}
-use Rattle.icu_locale_core.proofs.preference_laws.same_data_locales.Goals as goal
+use Rattle.icu_locale_core.proofs.laws.preferences.same_data_locales.Goals as goal
 
 pub returns : goal.returns
 returns c =
