@@ -1,5 +1,4 @@
--- What a language identifier prefers, and the data locale of it, of a language, a script and a region, and of `und` alone; and a data
--- locale cut by one part.
+-- What a language identifier prefers; data locales of one, of language, script and region, of `und`, and truncated.
 -- Defined in docs/tags.md, "Preferences" and "Data locales".
 -- Cited by the conversions into preferences and data locales, by their defaults, and by `DataLocale::truncated`.
 use Rattle.std.specs.Prelude.{[], Option, None, Some, if◌then◌else◌}
@@ -21,11 +20,12 @@ language_data id = language_priority (language_preferences id)
 abbrev pub triple_data : Text → Option Text → Option Text → DataLocaleMeaning
 triple_data language script region = language_data (with_parts language script region [])
 
--- the language `und` alone
+-- the language `und`, and nothing else
 abbrev pub unknown_data : DataLocaleMeaning
 unknown_data = triple_data unknown_language None None
 
--- the data locale without the first of subdivision, variant, region and script that it has; none where it has none of them
+-- the data locale without the first of subdivision, variant, region and script that it has; none where it has none of
+-- them
 abbrev pub truncated : DataLocaleMeaning → Option DataLocaleMeaning
 truncated d =
     if is_some d.subdivision then Some (record d { subdivision = None })

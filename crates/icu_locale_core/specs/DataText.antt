@@ -14,14 +14,14 @@ data_text d = normal_text (data_meaning d)
 
 -- ---- a part at a time
 
--- a piece behind what stands before it
+-- a piece behind what comes before it
 abbrev pub piece_tail : Option Text → Text
 piece_tail piece = flat_map hyphened (option_to_list piece)
 
 abbrev pub keyword_head : Text
 keyword_head = codes "-u-sd-"
 
--- the subdivision behind what stands before it
+-- the subdivision behind what comes before it
 abbrev pub subdivision_tail : Option Subdivision → Text
 subdivision_tail None = []
 subdivision_tail (Some s) = keyword_head ++ subdivision_text s

@@ -1,5 +1,5 @@
 -- What a locale holds of a tag: the tag, but that values of keywords have no piece `true`.
--- UTS 35, section 3.2.1, "Canonical Unicode Locale Identifiers"; docs/tags.md, "Keywords and fields as values" and "Preferences".
+-- UTS 35, section 3.2.1, canonical identifiers; docs/tags.md, "Keywords and fields as values" and "Preferences".
 -- Cited by the calls that make a locale of preferences or of a data locale, and by the laws on them.
 use Rattle.std.specs.Prelude.{Bool, false, List, [], ◌∷◌, Option, None, Some, map}
 use Rattle.icu_locale_core_grammar.specs.Subtags.{Text, is_true}

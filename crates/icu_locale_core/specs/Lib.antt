@@ -54,7 +54,7 @@ pub use Rattle.icu_locale_core_preference_keywords.specs.KeywordWords
 pub use Rattle.icu_locale_core_preference_keywords.specs.TypedKeywords
 pub use Rattle.icu_locale_core_preference_keywords.specs.OwnWords
 pub use Rattle.icu_locale_core_preference_keywords.specs.WordLaws
--- Extensions: one alone, all of a tag, when two are one.
+-- Extensions: one by itself, all of a tag, when two are one.
 pub use Rattle.icu_locale_core_extensions.specs.ExtensionText
 pub use Rattle.icu_locale_core_extensions.specs.SameExtension
 pub use Rattle.icu_locale_core_extensions.specs.SameExtensionLaws
@@ -62,7 +62,7 @@ pub use Rattle.icu_locale_core_extensions.specs.ExtensionsValue
 pub use Rattle.icu_locale_core_extensions.specs.ExtensionsOrder
 pub use Rattle.icu_locale_core_extensions.specs.ExtensionsText
 pub use Rattle.icu_locale_core_extensions.specs.RetainedByType
--- Which texts ask a reader for memory.
+-- On which texts a reader may allocate.
 pub use Rattle.icu_locale_core_langid.specs.Allocation as LanguageAllocation
 pub use Rattle.icu_locale_core_keywords_fields.specs.Allocation as EntryAllocation
 pub use Rattle.icu_locale_core_extensions.specs.Allocation as ExtensionAllocation

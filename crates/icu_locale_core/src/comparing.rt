@@ -10,9 +10,11 @@ use std::cmp::Ordering;
 use writeable::strict_cmp;
 
 impl DataLocale {
-    /// The order of two data locales, part by part: language, script, region, variant, subdivision. It takes no memory.
+    /// The order of two data locales, part by part: language, script, region, variant, subdivision. It does not
+    /// allocate.
     ///
-    /// None comes before some: `en` before `en-Latn`, and `en-US` before `en-Latn`. `Equal` exactly where they are equal.
+    /// None comes before some: `en` before `en-Latn`, and `en-US` before `en-Latn`. `Equal` exactly where they are
+    /// equal.
     pub fn total_cmp(&self, other: &Self) -> Ordering
         ensures { result ≡ data_locale_cmp self.now other.now }
     {
@@ -24,7 +26,7 @@ impl DataLocale {
             .then(self.subdivision.cmp(&other.subdivision))
     }
 
-    /// The byte order of the text against these bytes; the text is not built, and it takes no memory.
+    /// The byte order of the text against these bytes; the text is not built, and it does not allocate.
     ///
     /// `en-US` is `Greater` than `en+`, and `Less` than `en-US-u`.
     #[tactic(auto, using(writeable::proofs::AnnotatedTextLemmas::text_of_bytes))]

@@ -11,7 +11,8 @@ use icu_locale_core_preference_keywords::SubdivisionId;
 use icu_locale_core_subtags::{Language, Region, Script, Variant};
 use std::marker::Model;
 
-/// The locale that data is asked for: `en-US-u-sd-ustx` is the language `en`, the region `US` and the subdivision `ustx`.
+/// The locale that data is asked for: `en-US-u-sd-ustx` is the language `en`, the region `US` and the subdivision
+/// `ustx`.
 ///
 /// After ICU4X's type of this name; docs/preferences.md has the rules.
 #[derive(Clone, Copy, PartialEq, Eq, Hash)]
@@ -50,7 +51,7 @@ impl Model for DataLocale {
     } };
 }
 
-/// The language `und`, and nothing else. It takes no memory.
+/// The language `und`, and nothing else. It does not allocate.
 impl Default for DataLocale {
     ghost is_default = { λ d. d ≡ unknown_data };
 
@@ -60,7 +61,7 @@ impl Default for DataLocale {
 }
 
 impl DataLocale {
-    /// Whether this is the language `und`, and nothing else: `und` is, `en-US` is not. It takes no memory.
+    /// Whether this is the language `und`, and nothing else: `und` is, `en-US` is not. It does not allocate.
     pub fn is_unknown(&self) -> bool
         ensures { IsTrue result ↔ (self.now ≡ unknown_data) }
     {
@@ -71,8 +72,8 @@ impl DataLocale {
             && self.subdivision.is_none()
     }
 
-    /// The data locale without the first of subdivision, variant, region and script that it has: of `zh-Hant-TW` it is `zh-Hant`,
-    /// of that `zh`, and of `zh` none. It takes no memory.
+    /// The data locale without the first of subdivision, variant, region and script that it has: of `zh-Hant-TW` it is
+    /// `zh-Hant`, of that `zh`, and of `zh` none. It does not allocate.
     pub fn truncated(&self) -> Option<Self>
         ensures { result ≡ truncated self.now }
     {
@@ -104,7 +105,7 @@ impl DataLocale {
     }
 }
 
-/// The data locale of a language, a script and a region: of `en`, none and `US` it is `en-US`. It takes no memory.
+/// The data locale of a language, a script and a region: of `en`, none and `US` it is `en-US`. It does not allocate.
 impl From<(Language, Option<Script>, Option<Region>)> for DataLocale {
     ghost from_gives = { λ triple d. d ≡ triple_data triple.0 triple.1 triple.2 };
 
@@ -122,7 +123,7 @@ impl From<(Language, Option<Script>, Option<Region>)> for DataLocale {
 
 /// The language-first form of what the locale prefers: of `en-US-u-nu-thai-rg-gbeng-sd-ustx` it is `en-US-u-sd-ustx`.
 ///
-/// It takes no memory.
+/// It does not allocate.
 impl From<&Locale> for DataLocale {
     ghost from_gives = { λ locale d. d ≡ language_priority (locale_preferences_of locale.now) };
 
@@ -131,7 +132,7 @@ impl From<&Locale> for DataLocale {
     }
 }
 
-/// As of a borrowed locale. It takes no memory.
+/// As of a borrowed locale. It does not allocate.
 impl From<Locale> for DataLocale {
     ghost from_gives = { λ locale d. d ≡ language_priority (locale_preferences_of locale) };
 
@@ -140,7 +141,7 @@ impl From<Locale> for DataLocale {
     }
 }
 
-/// The identifier with its first variant alone: of `de-1996-fonipa` it is `de-1996`. It takes no memory.
+/// The identifier with only its first variant: of `de-1996-fonipa` it is `de-1996`. It does not allocate.
 impl From<&LanguageIdentifier> for DataLocale {
     ghost from_gives = { λ id d. d ≡ language_data id.now };
 
@@ -149,7 +150,7 @@ impl From<&LanguageIdentifier> for DataLocale {
     }
 }
 
-/// As of a borrowed identifier. It takes no memory.
+/// As of a borrowed identifier. It does not allocate.
 impl From<LanguageIdentifier> for DataLocale {
     ghost from_gives = { λ id d. d ≡ language_data id };
 

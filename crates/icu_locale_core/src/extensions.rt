@@ -1,7 +1,7 @@
 //! The extensions of a tag: behind the language part, each a singleton and its pieces.
 //!
-//! `en-a-foo-t-de-u-nu-thai-x-bar` has the extensions `a`, `t` and `u`, and the private subtag `bar`. [`Extensions`] has those of
-//! a locale, and [`ExtensionType`] names one of them.
+//! `en-a-foo-t-de-u-nu-thai-x-bar` has the extensions `a`, `t` and `u`, and the private subtag `bar`. [`Extensions`]
+//! has those of a locale, and [`ExtensionType`] names one of them.
 
 pub use icu_locale_core_extensions::{ExtensionType, Extensions};
 

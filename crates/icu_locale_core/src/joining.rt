@@ -6,7 +6,8 @@ ghost use Rattle.icu_locale_core_grammar.specs.PreferenceChanges.{joined_prefere
 use crate::locale_preferences::LocalePreferences;
 
 impl LocalePreferences {
-    /// Puts each part of the other that is there in place of this one's; the language `und` is not there. It takes no memory.
+    /// Puts each part of the other that is there in place of this one's; the language `und` is not there. It does not
+    /// allocate.
     ///
     /// `de-AT` extended by `und-CH-u-sd-chzh` is `de-CH-u-sd-chzh`. This rule is the project's own, and is associative.
     pub fn extend(&mut self, other: LocalePreferences)

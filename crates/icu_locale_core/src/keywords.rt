@@ -57,7 +57,7 @@ pub(crate) fn override_in(keywords: &Keywords) -> Option<SubdivisionId>
 
 /// The numbering system that the locale prefers: the value of its keyword `nu`, where that is one piece.
 ///
-/// Of `en-u-nu-thai` it is `thai`; of `en-u-nu-latn-thai`, `en-u-nu` and `en` there is none. It takes no memory.
+/// Of `en-u-nu-thai` it is `thai`; of `en-u-nu-latn-thai`, `en-u-nu` and `en` there is none. It does not allocate.
 pub fn numbering_system(locale: &Locale) -> Option<Subtag>
     ensures { result ≡ (preferences_of locale.now).numbering_system }
 {

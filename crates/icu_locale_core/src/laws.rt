@@ -1,6 +1,7 @@
 //! Laws: what holds of tags and of what they prefer, beside the clauses of the calls.
 //!
-//! Each is the contract of a function, which a proof has by calling it; it takes no memory. docs/tags.md, "Laws", lists them.
+//! Each is the contract of a function, which a proof has by calling it; it does not allocate. docs/tags.md, "Laws",
+//! lists them.
 
 /// Of the grammar: meanings, faults, normal text.
 pub mod grammar {

@@ -1,8 +1,8 @@
 //! Locale tags: read, changed, compared and printed, and what they prefer, after the ICU4X crate of this name.
 //!
-//! `en-Latn-US-u-nu-thai` is the language `en`, the script `Latn`, the region `US` and a keyword `nu` with the value `thai`.
-//! The rules are in docs/tags.md and docs/preferences.md. This crate has what a locale prefers and the locale that data is asked
-//! for; all else it re-exports from its inner crates, under ICU4X's paths.
+//! `en-Latn-US-u-nu-thai` is the language `en`, the script `Latn`, the region `US` and a keyword `nu` with the value
+//! `thai`. The rules are in docs/tags.md and docs/preferences.md. This crate has what a locale prefers and the locale
+//! that data is asked for; all else it re-exports from its inner crates, under ICU4X's paths.
 //!
 //! ```rust
 //! use icu_locale_core::Locale;

@@ -17,7 +17,8 @@ use icu_locale_core_preference_keywords::{
 use icu_locale_core_subtags::{Language, Region, Script, Variant};
 use std::marker::Model;
 
-/// What a locale prefers: its language, script, region and first variant, and the subdivisions of its keywords `sd` and `rg`.
+/// What a locale prefers: its language, script, region and first variant, and the subdivisions of its keywords `sd` and
+/// `rg`.
 ///
 /// Source: UTS 35, section 3.6, keys `rg` and `sd`.
 #[derive(Clone, Copy, Debug, PartialEq, Eq, Hash)]
@@ -54,7 +55,7 @@ impl Model for LocalePreferences {
     } };
 }
 
-/// The language `und`, and nothing else. It takes no memory.
+/// The language `und`, and nothing else. It does not allocate.
 impl Default for LocalePreferences {
     ghost is_default = { λ p. p ≡ no_preferences };
 
@@ -70,10 +71,10 @@ impl Default for LocalePreferences {
     }
 }
 
-/// What the locale prefers: of `de-fonipa-1996-u-rg-atzzzz-sd-ch` the language `de`, the variant `1996` and the region override
-/// `atzzzz`.
+/// What the locale prefers: of `de-fonipa-1996-u-rg-atzzzz-sd-ch` the language `de`, the variant `1996` and the region
+/// override `atzzzz`.
 ///
-/// A keyword `sd` or `rg` whose value is no subdivision, as `ch` here, counts as not there. It takes no memory.
+/// A keyword `sd` or `rg` whose value is no subdivision, as `ch` here, counts as not there. It does not allocate.
 impl From<&Locale> for LocalePreferences {
     ghost from_gives = { λ locale p. p ≡ locale_preferences_of locale.now };
 
@@ -86,8 +87,8 @@ impl From<&Locale> for LocalePreferences {
     }
 }
 
-/// The language, script, region and first variant of the identifier: of `de-fonipa-1996` they are `de` and `1996`. It takes no
-/// memory.
+/// The language, script, region and first variant of the identifier: of `de-fonipa-1996` they are `de` and `1996`. It
+/// does not allocate.
 impl From<&LanguageIdentifier> for LocalePreferences {
     ghost from_gives = { λ id p. p ≡ language_preferences id.now };
 
@@ -106,8 +107,8 @@ impl From<&LanguageIdentifier> for LocalePreferences {
 impl LocalePreferences {
     /// What the locale prefers, as `from`, where its keywords `sd` and `rg` are subdivisions or are not there.
     ///
-    /// `InvalidKeywordValue`: an `sd` or an `rg` is there and is no subdivision, as in `en-u-sd-12a` and `en-u-rg`. It takes no
-    /// memory.
+    /// `InvalidKeywordValue`: an `sd` or an `rg` is there and is no subdivision, as in `en-u-sd-12a` and `en-u-rg`. It
+    /// does not allocate.
     #[tactic(auto, using(crate::proofs::KeywordLemmas::subdivision_stated))]
     pub fn from_locale_strict(locale: &Locale) -> Result<Self, PreferencesParseError>
         ensures { MatchResult result (λ p. (fails_strictly locale.now ≡ false) × (p ≡ locale_preferences_of locale.now)) (λ e. (fails_strictly locale.now ≡ true) × (e ≡ PreferencesParseError.InvalidKeywordValue)) }
@@ -119,14 +120,14 @@ impl LocalePreferences {
         Ok(Self::from(locale))
     }
 
-    /// The language, `und` where it is not known: of `de-fonipa-1996` it is `de`. It takes no memory.
+    /// The language, `und` where it is not known: of `de-fonipa-1996` it is `de`. It does not allocate.
     pub fn language(&self) -> Language
         ensures { result ≡ self.now.language }
     {
         self.language
     }
 
-    /// The region of the language part, where there is one; neither `sd` nor `rg` changes it. It takes no memory.
+    /// The region of the language part, where there is one; neither `sd` nor `rg` changes it. It does not allocate.
     ///
     /// Of `en-US-u-rg-gbeng-sd-ustx` it is `US`, and of `de-fonipa-1996-u-rg-atzzzz-sd-ch` there is none.
     pub fn region(&self) -> Option<Region>
@@ -135,9 +136,9 @@ impl LocalePreferences {
         self.region
     }
 
-    /// The data locale with the language first: the region as it stands, and the subdivision of `sd`.
+    /// The data locale with the language first: the region as it is, and the subdivision of `sd`.
     ///
-    /// Of `en-US-u-rg-gbeng-sd-ustx` it is `en-US-u-sd-ustx`. It takes no memory.
+    /// Of `en-US-u-rg-gbeng-sd-ustx` it is `en-US-u-sd-ustx`. It does not allocate.
     pub fn to_data_locale_language_priority(self) -> DataLocale
         ensures { result ≡ language_priority self }
     {
@@ -152,8 +153,8 @@ impl LocalePreferences {
 
     /// The data locale with the region first: region and subdivision of the region override, where there is one.
     ///
-    /// Of `en-US-u-rg-gbeng-sd-ustx` it is `en-GB-u-sd-gbeng`; without `rg` it is the form with the language first. It takes no
-    /// memory.
+    /// Of `en-US-u-rg-gbeng-sd-ustx` it is `en-GB-u-sd-gbeng`; without `rg` it is the form with the language first. It
+    /// does not allocate.
     pub fn to_data_locale_region_priority(self) -> DataLocale
         ensures { result ≡ region_priority self }
     {

@@ -67,9 +67,9 @@ fn keywords_of(
 impl LocalePreferences {
     /// The locale that holds these preferences: its language part, and the keywords `rg` and `sd` that are there.
     ///
-    /// Of the preferences of `de-AT`, extended by those of `und-CH-u-sd-chzh`, it is `de-CH-u-sd-chzh`. A subdivision that spells
-    /// `true`, the region `TR` with the suffix `ue`, is left out of its keyword. `AllocError` is answered for memory alone, which a
-    /// variant, `rg` and `sd` take.
+    /// Of the preferences of `de-AT`, extended by those of `und-CH-u-sd-chzh`, it is `de-CH-u-sd-chzh`. A subdivision
+    /// that spells `true`, the region `TR` with the suffix `ue`, is left out of its keyword. `AllocError`: out of
+    /// memory. Only a variant, `rg` and `sd` allocate.
     pub fn to_locale(self, alloc: Global) -> Result<Locale, AllocError>
         ensures value { IfOk result (λ locale. locale ≡ held_tag (preference_tag self)) }
         ensures succeeds { self.variant ≡ None → self.region_override ≡ None → self.subdivision ≡ None → IsOk result }
@@ -99,8 +99,8 @@ impl LocalePreferences {
 impl DataLocale {
     /// The locale that this is: its language part, and the keyword `sd` where it has a subdivision.
     ///
-    /// `en-US-u-sd-ustx` is the locale of that text. A subdivision that spells `true`, the region `TR` with the suffix `ue`, is
-    /// left out of its keyword. `AllocError` is answered for memory alone, which a variant and a subdivision take.
+    /// `en-US-u-sd-ustx` is the locale of that text. A subdivision that spells `true`, the region `TR` with the suffix
+    /// `ue`, is left out of its keyword. `AllocError`: out of memory. Only a variant and a subdivision allocate.
     pub fn into_locale(self, alloc: Global) -> Result<Locale, AllocError>
         ensures value { IfOk result (λ locale. locale ≡ held_tag (data_meaning self)) }
         ensures succeeds { self.variant ≡ None → self.subdivision ≡ None → IsOk result }

@@ -1,7 +1,8 @@
 //! Reading tags piece by piece.
 //!
-//! [`SubtagIterator`] has the pieces of a text, and [`ParserMode`] says where a language part ends: `parse_language_identifier` in
-//! mode `Locale` reads `en-US` of `en-US-u-nu-thai`. The readers with a single variant take no memory.
+//! [`SubtagIterator`] has the pieces of a text, and [`ParserMode`] says where a language part ends:
+//! `parse_language_identifier` in mode `Locale` reads `en-US` of `en-US-u-nu-thai`. The readers with a single variant
+//! do not allocate.
 
 pub use icu_locale_core_grammar::ParseError;
 pub use icu_locale_core_langid::single::{

@@ -1,7 +1,7 @@
 //! What a locale prefers, and its keywords with a type of their own.
 //!
-//! `en-US-u-nu-thai-rg-gbeng` prefers the language `en`, the region `US`, the region override `gbeng` and the numbering system
-//! `thai`. A keyword's type is a [`PreferenceKey`]: it knows its key, and which values state it.
+//! `en-US-u-nu-thai-rg-gbeng` prefers the language `en`, the region `US`, the region override `gbeng` and the numbering
+//! system `thai`. A keyword's type is a [`PreferenceKey`]: it knows its key, and which values state it.
 
 pub use icu_locale_core_preference_keywords::PreferenceKey;
 pub use crate::keywords::numbering_system;

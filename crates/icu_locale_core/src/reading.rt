@@ -84,13 +84,13 @@ fn data_locale_of(locale: &Locale) -> Result<DataLocale, ParseError>
 }
 
 impl DataLocale {
-    /// The data locale that the text is, in either case: a tag of a language, and of a script, a region, a variant and `sd` where
-    /// they are asked for.
+    /// The data locale that the text is, in either case: a tag of a language, and of a script, a region, a variant and
+    /// `sd` where they are asked for.
     ///
-    /// `en-us-u-sd-ustx` reads as `en-US-u-sd-ustx`. The faults of a tag come first, as `Locale::try_from_str` names them.
-    /// `InvalidSubtag`: a second variant, as in `de-1996-fonipa`. `InvalidExtension`: anything else that a data locale does not
-    /// hold, as in `en-u-nu-latn`, `en-x-foo` and `en-u-sd-12a`. `Memory`: memory was refused, which is taken for variants and
-    /// extensions alone. Source: UTS 35, section 3.
+    /// `en-us-u-sd-ustx` reads as `en-US-u-sd-ustx`. The faults of a tag come first, as `Locale::try_from_str` names
+    /// them. `InvalidSubtag`: a second variant, as in `de-1996-fonipa`. `InvalidExtension`: anything else that a data
+    /// locale does not hold, as in `en-u-nu-latn`, `en-x-foo` and `en-u-sd-12a`. `Memory`: out of memory; it allocates
+    /// only for variants and extensions. Source: UTS 35, section 3.
     pub fn try_from_str(alloc: Global, s: &str) -> Result<Self, ParseError>
         ensures value { IfOk result (MeansDataLocale (pieces s.now)) }
         ensures fault { IfErr result (λ e. (e ≡ ParseError.Memory) ⊎ HasDataFault (pieces s.now) e) }
@@ -99,7 +99,8 @@ impl DataLocale {
         Self::try_from_utf8(alloc, s.as_bytes())
     }
 
-    /// The data locale that the bytes are, as `try_from_str`: `DE-1996` reads as `de-1996`.
+    /// The data locale that the bytes are, as `try_from_str`: `DE-1996` reads as `de-1996`. The errors are those of
+    /// `try_from_str`; it allocates where that does.
     pub fn try_from_utf8(alloc: Global, code_units: &[u8]) -> Result<Self, ParseError>
         ensures value { IfOk result (MeansDataLocale (pieces code_units.now)) }
         ensures fault { IfErr result (λ e. (e ≡ ParseError.Memory) ⊎ HasDataFault (pieces code_units.now) e) }

@@ -1,4 +1,4 @@
-//! What a tag prefers that was read without memory.
+//! What a tag prefers that was read without allocating.
 
 ghost use Rattle.std.specs.Prelude.{◌≡◌};
 ghost use Rattle.icu_locale_core_grammar.specs.SingleVariant.{keyword_entries, single_tag};
@@ -31,11 +31,12 @@ fn subdivision_under(key: &Key, keyword: &Option<(Key, Option<Subtag>)>) -> Opti
 }
 
 impl LocalePreferences {
-    /// What a tag of at most one variant and one keyword prefers, and its numbering system: what a `Locale` of the same text
-    /// prefers. It takes no memory.
+    /// What a tag of at most one variant and one keyword prefers, and its numbering system: what a `Locale` of the same
+    /// text prefers. It does not allocate.
     ///
-    /// Of the parts of `en-US-u-rg-gbeng` it is `en`, `US` and the region override `gbeng`, and no numbering system; of those of
-    /// `th-u-nu-thai` it is `th`, and `thai`. A keyword whose value does not read, as `nu` alone, counts as not there.
+    /// Of the parts of `en-US-u-rg-gbeng` it is `en`, `US` and the region override `gbeng`, and no numbering system; of
+    /// those of `th-u-nu-thai` it is `th`, and `thai`. A keyword whose value does not read, as `nu` without a value,
+    /// counts as not there.
     pub fn from_single_parts(parts: SingleParts) -> (Self, Option<Subtag>)
         ensures preferences { result.0 ≡ locale_preferences_of (single_tag (single parts)) }
         ensures numbering_system { result.1 ≡ (preferences_of (single_tag (single parts))).numbering_system }

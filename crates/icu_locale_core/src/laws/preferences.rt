@@ -47,21 +47,22 @@ pub fn preferences_are_normal(preferences: &LocalePreferences)
     subdivisions_are_normal(preferences.region_override);
 }
 
-/// A data locale that was read and printed reads back equal, and so does each one in normal form whose subdivision is not `true`.
+/// A data locale that was read and printed reads back equal, and so does each one in normal form whose subdivision is
+/// not `true`.
 pub fn data_locales_read_back()
     ensures read { ReadDataReadsBack }
     ensures normal { NormalDataReadsBack }
 {}
 
-/// The locale made of preferences has these preferences, and so has the locale made of a data locale, where no subdivision is
-/// `true`.
+/// The locale made of preferences has these preferences, and so has the locale made of a data locale, where no
+/// subdivision is `true`.
 pub fn locales_hold_preferences()
     ensures preferences { PreferencesAreHeld }
     ensures data_locale { DataIsHeld }
 {}
 
-/// An accepted text and its normal text prefer alike, a text that is a data locale is the one of its tag, and no tag prefers the
-/// subdivision `true`.
+/// An accepted text and its normal text prefer alike, a text that is a data locale is the one of its tag, and no tag
+/// prefers the subdivision `true`.
 pub fn accepted_texts_prefer_alike()
     ensures alike { AcceptedTextsPreferAlike }
     ensures data_locale { DataLocaleIsOfItsTag }
