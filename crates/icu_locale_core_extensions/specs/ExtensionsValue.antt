@@ -12,7 +12,7 @@ pub record ExtensionsValue : Type 0 where
 abbrev pub nothing : ExtensionsValue
 nothing = record { blocks = no_extensions; own = [] }
 
--- the extension `u` alone
+-- only the extension `u`
 abbrev pub only_unicode : UnicodeMeaning → ExtensionsValue
 only_unicode u = record { blocks = record { unicode = u; transform = no_transform; others = [] }; own = [] }
 

@@ -1,4 +1,4 @@
--- The singletons that have no rule of their own are a class of subtags: one letter or digit that is not `t`, `u` or `x`.
+-- The singletons that have no rule of their own are a class of subtags: a letter or digit but `t`, `u` and `x`.
 -- RFC 5646 (BCP 47), section 2.2.6; docs/tags.md, "Extensions".
 -- Cited by the impl of `SubtagRule` for these singletons, whose laws they are.
 use Rattle.std.proofs.Common.{◌≡◌, true, not, ◌||◌, length, ◌∙◌, arith}

@@ -1,4 +1,4 @@
--- What a closure leaves of extensions when it is asked once at each type, in order: `u`, `t`, `x`, and then each of the others.
+-- What a closure leaves of extensions when it is called once with each type, in order: `u`, `t`, `x`, then the others.
 -- Defined in docs/tags.md, "Extensions as values".
 -- Cited by `retain_by_type`.
 use Rattle.std.specs.Prelude.{◌≡◌, ℕ, Bool, List, [], ◌∷◌, length, map, if◌then◌else◌}
@@ -19,11 +19,11 @@ byte_of (b ∷ bs) = b
 abbrev pub other_type : Text → ExtensionType
 other_type singleton = Other (byte_of singleton)
 
--- what the closure is asked
+-- the types that the closure is called with
 abbrev pub asked_types : ExtensionsValue → List ExtensionType
 asked_types e = Unicode ∷ Transform ∷ Private ∷ map other_type (keys_of e.blocks.others)
 
--- the extensions at which the answer was true
+-- the extensions at which it returned true
 abbrev pub kept_extensions : Bool → Bool → Bool → List Bool → ExtensionsValue → ExtensionsValue
 kept_extensions u t x others e = record {
   blocks = record {
@@ -34,7 +34,7 @@ kept_extensions u t x others e = record {
   own = if x then e.own else [];
 }
 
--- `calls p type b q`: the closure as it is at p may answer b at the type, and is then q
+-- `calls p type b q`: the closure as it is at p may return b at the type, and is then q
 pub record IsRetainedByType {F : Type 0} (calls : F → ExtensionType → Bool → F → Type 0) (f : F) (before after : ExtensionsValue) : Type 0 where
   pub at_unicode : Bool
   pub at_transform : Bool

@@ -84,7 +84,7 @@ fn write_shown<B: Block, S: Sink>(block: &B, begins: bool, sink: &mut S) -> Resu
 
 /// Writes the text, with a hyphen before it unless it begins a text; nothing where there is no piece.
 ///
-/// It answers whether what comes next begins the text still.
+/// It returns whether what comes next still begins the text.
 #[tactic(auto, using(crate::proofs::BlockLemmas::shown, crate::proofs::BlockLemmas::unshown))]
 pub(crate) fn write_placed<B: Block, S: Sink>(
     block: &B,

@@ -41,7 +41,8 @@ pub enum Part {
     Other(Other),
 }
 
-/// The stage behind a singleton, before the first piece; `None` where the piece is no singleton, or is `x`.
+/// The stage behind a singleton, before the first piece; `None` where the piece is no singleton, or is `x`. It does not
+/// allocate.
 pub fn opened_body(alloc: Global, singleton: &[u8]) -> Option<BodyStage>
     ensures stage { option_map body_view result ≡ opens singleton.now }
     ensures key { IfSome result (λ b. body_key b ≡ lower singleton.now) }
@@ -58,8 +59,8 @@ pub fn opened_body(alloc: Global, singleton: &[u8]) -> Option<BodyStage>
     }
 }
 
-/// The stage after one more piece; a piece that does not fit leaves it as it was. `AllocError` is answered for memory alone,
-/// which a first key and a piece that does not fit do not take.
+/// The stage after one more piece; a piece that does not fit leaves it as it was. `AllocError`: out of memory. A first
+/// key and a piece that does not fit do not allocate.
 #[tactic(auto, unfolding(icu_locale_core_grammar::specs::TagStages::body_after))]
 pub fn body_after(
     alloc: Global,
@@ -90,8 +91,8 @@ pub fn body_after(
     }
 }
 
-/// The extension that was read; `None` where its last entry needs a value and has none. `AllocError` is answered for memory
-/// alone, which is taken for a last entry alone.
+/// The extension that was read; `None` where its last entry needs a value and has none. `AllocError`: out of memory. Of
+/// `u` and `t` it allocates only for a last entry.
 pub fn body_finish(alloc: Global, stage: BodyStage) -> Result<Option<Part>, AllocError>
     ensures part { IfOk result (λ part. option_map part_view part ≡ body_ends (body_view stage)) }
     ensures key { IfOk result (λ part. IfSome part (HasKey (body_key stage))) }

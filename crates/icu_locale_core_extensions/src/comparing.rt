@@ -44,7 +44,7 @@ impl Hash for Unicode {
 impl Unicode {
     /// The order of two extensions: the attributes, then the keywords; `Equal` exactly where they are equal.
     ///
-    /// `u-nu-thai` before `u-foo-nu-latn`, since no attribute comes before one. It takes no memory.
+    /// `u-nu-thai` before `u-foo-nu-latn`, since no attribute comes before one. It does not allocate.
     pub fn total_cmp(&self, other: &Self) -> Ordering
         ensures { result ≡ unicode_cmp self.now other.now }
     {
@@ -94,7 +94,7 @@ impl Hash for Transform {
 impl Transform {
     /// The order of two extensions: the language part, then the fields; `Equal` exactly where they are equal.
     ///
-    /// `t-m0-und` before `t-de`, since no language part comes before one. It takes no memory.
+    /// `t-m0-und` before `t-de`, since no language part comes before one. It does not allocate.
     pub fn total_cmp(&self, other: &Self) -> Ordering
         ensures { result ≡ transform_cmp self.now other.now }
     {
@@ -130,7 +130,7 @@ impl Hash for Other {
 impl Other {
     /// The order of two extensions: the singleton, then the pieces; `Equal` exactly where they are equal.
     ///
-    /// `a-foo` before `a-foo-bar`, and both before `b-bar`. It takes no memory.
+    /// `a-foo` before `a-foo-bar`, and both before `b-bar`. It does not allocate.
     pub fn total_cmp(&self, other: &Self) -> Ordering
         ensures { result ≡ entry_cmp self.now other.now }
     {
@@ -184,9 +184,10 @@ fn others_order(others: &[Other], against: &[Other]) -> Ordering
 }
 
 impl Extensions {
-    /// The order of two values, part by part: `u`, `t`, the private subtags, all others. It takes no memory.
+    /// The order of two values, part by part: `u`, `t`, the private subtags, all others. It does not allocate.
     ///
-    /// `u-nu-latn` before `u-nu-thai`, and `t-de` before `u-foo`, which has an attribute. `Equal` exactly where they are equal.
+    /// `u-nu-latn` before `u-nu-thai`, and `t-de` before `u-foo`, which has an attribute. `Equal` exactly where they
+    /// are equal.
     pub fn total_cmp(&self, other: &Self) -> Ordering
         ensures { result ≡ extensions_cmp self.now other.now }
     {

@@ -1,6 +1,6 @@
 //! The types of extensions, by their singletons.
 
-/// The type of an extension: the one that its singleton stands for, so of `a-foo` it is `Other(b'a')`.
+/// The type of an extension, which its singleton gives: of `a-foo` it is `Other(b'a')`.
 ///
 /// Source: UTS 35, section 3.2, and RFC 5646, section 2.2.6.
 #[derive(Clone, Copy, Debug, PartialEq, Eq, Hash)]

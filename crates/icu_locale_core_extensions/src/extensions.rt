@@ -12,8 +12,8 @@ use icu_locale_core_subtag_lists::Private;
 use std::alloc::{AllocError, Global};
 use std::marker::Model;
 
-/// The extensions of a locale: `u`, `t`, the private subtags, and all others in the order held. Those of `en-a-foo-u-nu-thai` are
-/// `a-foo` and `u-nu-thai`.
+/// The extensions of a locale: `u`, `t`, the private subtags, and all others in the order held. Those of
+/// `en-a-foo-u-nu-thai` are `a-foo` and `u-nu-thai`.
 #[derive(Drop)]
 pub struct Extensions {
     /// The extension `u`.
@@ -61,7 +61,7 @@ fn copied(alloc: Global, others: &[Other]) -> Result<Vec<Other>, AllocError>
 }
 
 impl Extensions {
-    /// No extension: `is_empty` is true, and they print nothing. It takes no memory.
+    /// No extension: `is_empty` is true, and they print nothing. It does not allocate.
     pub fn new(alloc: Global) -> Self
         ensures { result ≡ nothing }
     {
@@ -73,7 +73,7 @@ impl Extensions {
         }
     }
 
-    /// The extension `u` alone: of `u-nu-thai` they print `u-nu-thai`. It takes no memory.
+    /// The extensions of only this `u`: of `u-nu-thai` they print `u-nu-thai`. It does not allocate.
     pub fn from_unicode(alloc: Global, unicode: Unicode) -> Self
         ensures { result ≡ only_unicode unicode }
     {
@@ -82,7 +82,7 @@ impl Extensions {
         extensions
     }
 
-    /// Takes all extensions away: of `a-foo-u-nu-thai` nothing is left, and they print nothing. It takes no memory.
+    /// Removes all extensions: of `a-foo-u-nu-thai` nothing is left, and they print nothing. It does not allocate.
     pub fn clear(&mut self)
         ensures { self.new ≡ nothing }
     {
@@ -104,15 +104,15 @@ impl Extensions {
 
     /// Whether there is no extension: true of those of `en`, and false of those of `en-x-a`.
     ///
-    /// False also where another extension stands without a piece. It takes no memory.
+    /// False also where another extension is there without a piece. It does not allocate.
     pub fn is_empty(&self) -> bool
         ensures { IsTrue result ↔ (self.now ≡ nothing) }
     {
         self.has_none()
     }
 
-    /// Equal extensions: of `a-foo-u-nu-thai` another `a-foo-u-nu-thai`. `AllocError` is answered for memory alone, which is
-    /// taken only where there is an extension.
+    /// A copy: of `a-foo-u-nu-thai` it is `a-foo-u-nu-thai`. `AllocError`: out of memory. It allocates only where there
+    /// is an extension.
     pub fn try_clone(&self) -> Result<Self, AllocError>
         ensures succeeds { self.now ≡ nothing → IsOk result }
         ensures value { IfOk result (λ extensions. extensions ≡ self.now) }
@@ -130,8 +130,7 @@ impl Extensions {
     }
 }
 
-/// Puts one more extension that was read to the extensions. `AllocError` is answered for memory alone, and nothing is put then;
-/// none is taken for `u` and `t`.
+/// Adds an extension that was read. `AllocError`: out of memory; then nothing is added. `u` and `t` do not allocate.
 pub fn put_part(extensions: &mut Extensions, part: Part) -> Result<(), AllocError>
     ensures ok { OnOk result ((key : List ℕ) → HasKey key part → extensions.new ≡ put_extension key part extensions.old) }
     ensures err { OnErr result (extensions.new ≡ extensions.old) }

@@ -15,7 +15,7 @@ use std::cmp::Ordering;
 use std::fmt;
 use writeable::{CountSink, Error, LengthHint, Sink, Writeable, display};
 
-// How many of these extensions stand before `t`, as they are given: all before the first whose singleton is above `t`.
+// How many of these extensions come before `t`, as they are given: all before the first whose singleton is above `t`.
 fn before_transform(others: &[Other]) -> usize
     ensures value { result ≡ number_before others.now }
     ensures bound { result ≤ length others.now }
@@ -62,12 +62,13 @@ fn write_in_order<S: Sink>(
     write_placed(&extensions.private, begins, sink)
 }
 
-/// Writes the extensions `u` and `t`, all others and the private subtags in the order of a tag: `a-foo-t-de-u-nu-thai-z-bar-x-b`.
+/// Writes the extensions `u` and `t`, all others and the private subtags in the order of a tag:
+/// `a-foo-t-de-u-nu-thai-z-bar-x-b`.
 ///
-/// A hyphen stands before each piece, but before the first of all where it `begins` the text. The others stand as they are
-/// given, `t` and `u` before the first of them whose singleton is above `t`; an empty extension writes nothing. The sink has not
-/// refused yet. `Error`, only where the sink refused: it took a beginning. It takes no memory but the sink's. Source: UTS 35,
-/// section 3.2.1.
+/// Each piece has a hyphen before it, but not the first of all where it `begins` the text. The others keep their order;
+/// `t` and `u` come before the first of them whose singleton is above `t`. An empty extension writes nothing. The
+/// condition is that the sink has not refused yet. `Error`, only where the sink refused: it has taken a beginning. Only
+/// the sink may allocate. Source: UTS 35, section 3.2.1.
 pub fn write_extensions<S: Sink>(
     extensions: &Extensions,
     begins: bool,
@@ -95,7 +96,8 @@ fn text_length(extensions: &Extensions) -> Option<usize>
     }
 }
 
-/// The extensions in byte order of their singletons, and the private subtags: `u-nu-thai-x-foo`. Nothing where there are none.
+/// The extensions in byte order of their singletons, and the private subtags: `u-nu-thai-x-foo`. Nothing where there
+/// are none.
 ///
 /// It is what a tag has of them, without the hyphen before it. Source: UTS 35, section 3.2.1.
 impl Writeable for Extensions {

@@ -12,7 +12,7 @@ use icu_locale_core_subtags::Step;
 use icu_locale_core_subtags::unicode::{Attribute, AttributeRule};
 use std::alloc::{AllocError, Global};
 
-/// The attributes that stand before the keywords of `u`.
+/// The attributes before the keywords of `u`.
 pub struct AttributesHead;
 
 impl HeadReader for AttributesHead {
@@ -37,7 +37,7 @@ impl HeadReader for AttributesHead {
     }
 }
 
-/// The language part that may stand before the fields of `t`.
+/// The language part, if any, before the fields of `t`.
 pub struct LanguageHead;
 
 impl HeadReader for LanguageHead {
@@ -56,7 +56,7 @@ impl HeadReader for LanguageHead {
     }
 }
 
-/// The language part that was read, if there is one. It takes no memory.
+/// The language part that was read, if there is one. It does not allocate.
 pub(crate) fn settled_language(stage: Option<LanguageStage>) -> Option<LanguageIdentifier>
     ensures { result ≡ stage }
 {

@@ -6,8 +6,8 @@ ghost use Rattle.icu_locale_core_grammar.specs.WellFormed.{IsNormalPiece, AreLow
 use crate::other::Other;
 use icu_locale_core_subtags::laws::subtags_are_words;
 
-/// The singleton of another extension is a lower-case letter or digit that is not `t`, `u` or `x`, and each of its pieces is
-/// in normal case, 2 to 8 letters and digits.
+/// The singleton of another extension is a lower-case letter or digit that is not `t`, `u` or `x`, and each of its
+/// pieces is in normal case, 2 to 8 letters and digits.
 pub fn others_are_normal(other: &Other)
     ensures singleton { IsNormalPiece is_other lower other.now.0 }
     ensures pieces { AreLower is_other_piece other.now.1 }

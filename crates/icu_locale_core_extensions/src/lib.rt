@@ -1,4 +1,5 @@
-//! The extensions of a locale tag: `u` with attributes and keywords, `t` with a language part and fields, and any other.
+//! The extensions of a locale tag: `u` with attributes and keywords, `t` with a language part and fields, and any
+//! other.
 //!
 //! `u-foo-nu-thai` is the attribute `foo` and the keyword `nu` with the value `thai`. The rules are in docs/tags.md,
 //! "Extensions" and "Parts read alone".

@@ -9,7 +9,8 @@ ghost use Rattle.icu_locale_core_extensions.specs.Opening.{Opens, OpensOther};
 use crate::singleton::OtherSingleton;
 use icu_locale_core_subtags::SubtagIterator;
 
-/// Whether the piece is this one letter, in either case; the letter is given in lower case.
+/// Whether the piece is this one letter, in either case; the letter is given in lower case: true of `U` and `u`, false
+/// of `t` and `u`. It does not allocate.
 pub fn is_letter(piece: &[u8], letter: u8) -> bool
     ensures { result ≡ spells (letter ∷ []) piece.now }
 {

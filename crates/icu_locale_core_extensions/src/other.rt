@@ -71,14 +71,14 @@ impl Other {
         Ok(())
     }
 
-    /// The singleton as text, in lower case: of `A-Foo-bar` it is `a`.
+    /// The singleton as text, in lower case: of `A-Foo-bar` it is `a`. It does not allocate.
     pub fn get_ext_str(&self) -> &str
         ensures { result.now ≡ self.now.0 }
     {
         self.singleton.as_str()
     }
 
-    /// The singleton as a byte, in lower case: of `A-Foo-bar` it is `b'a'`.
+    /// The singleton as a byte, in lower case: of `A-Foo-bar` it is `b'a'`. It does not allocate.
     pub fn get_ext_byte(&self) -> u8
         ensures { self.now.0 ≡ result ∷ [] }
     {
@@ -86,14 +86,14 @@ impl Other {
         self.get_ext_str().as_bytes()[0]
     }
 
-    /// The type of the extension: of `A-Foo-bar` it is `Other(b'a')`.
+    /// The type of the extension: of `A-Foo-bar` it is `Other(b'a')`. It does not allocate.
     pub fn get_ext(&self) -> ExtensionType
         ensures { result ≡ other_type self.now.0 }
     {
         ExtensionType::Other(self.get_ext_byte())
     }
 
-    /// The subtags one after another: `foo` and then `bar` of `a-foo-bar`.
+    /// The subtags one after another: `foo` and then `bar` of `a-foo-bar`. It does not allocate.
     pub fn iter(&self) -> slice::Iter<'_, Subtag>
         ensures rest { iter_rest result ≡ self.now.1 }
         ensures len { length (iter_rest result) ≡ length self.now.1 }
@@ -102,8 +102,7 @@ impl Other {
         self.as_slice().iter()
     }
 
-    /// An equal extension: of `a-foo` another `a-foo`. `AllocError` is answered for memory alone, and without a subtag none is
-    /// taken.
+    /// A copy: of `a-foo` it is `a-foo`. `AllocError`: out of memory. It does not allocate where there is no subtag.
     pub fn try_clone(&self) -> Result<Self, AllocError>
         ensures succeeds { self.now.1 ≡ [] → IsOk result }
         ensures value { IfOk result (λ other. other ≡ self.now) }
@@ -118,21 +117,22 @@ impl Other {
         })
     }
 
-    /// The subtags: `foo`, `bar` of `a-foo-bar`.
+    /// The subtags: `foo`, `bar` of `a-foo-bar`. It does not allocate.
     pub fn as_slice(&self) -> &[Subtag]
         ensures { result.now ≡ self.now.1 }
     {
         self.subtags.as_slice()
     }
 
-    /// Whether it has no subtag; then it prints nothing. False of `a-foo`, and of each that was read.
+    /// Whether it has no subtag; then it prints nothing. False of `a-foo`, and of each one that was read. It does not
+    /// allocate.
     pub fn is_empty(&self) -> bool
         ensures { result ≡ (length self.now.1 == 0) }
     {
         self.subtags.is_empty()
     }
 
-    /// Takes all subtags away, and leaves the singleton: `a-foo` then prints nothing. It takes no memory.
+    /// Removes all subtags, and leaves the singleton: `a-foo` then prints nothing. It does not allocate.
     pub fn clear(&mut self)
         ensures { self.new ≡ (self.old.0, []) }
     {
@@ -175,7 +175,8 @@ impl Other {
         Self::try_from_utf8(alloc, s.as_bytes())
     }
 
-    /// The extension in these bytes, as `try_from_str`.
+    /// The extension in these bytes, as `try_from_str`: `A-Foo-bar` has `a` and `foo`, `bar`. The errors are those of
+    /// `try_from_str`; it allocates where that does.
     pub fn try_from_utf8(alloc: Global, code_units: &[u8]) -> Result<Self, ParseError>
         ensures value { IfOk result (ReadsOther code_units.now) }
         ensures fault { IfErr result (IsRefused (ReadsOther code_units.now)) }
@@ -203,7 +204,7 @@ pub(crate) fn other_after(mut other: Other, piece: &[u8]) -> Result<Step<Other>,
     }
 }
 
-// Where an extension of this singleton goes into a list of extensions; `None` where one stands there.
+// The index at which an extension of this singleton belongs in a list of extensions; `None` where one is there already.
 fn place_of(others: &[Other], singleton: &OtherSingleton) -> Option<usize>
     ensures { MatchOption result (IsThere singleton.now others.now) (λ place. IsPlaceOf singleton.now others.now place) }
 {
@@ -217,7 +218,7 @@ fn place_of(others: &[Other], singleton: &OtherSingleton) -> Option<usize>
     Some(others.len())
 }
 
-// Puts an extension into a list by its singleton, unless one stands there: then the list stays as it is.
+// Puts an extension into a list by its singleton, unless one is there already: then the list stays as it is.
 pub(crate) fn put_other(others: &mut Vec<Other>, other: Other) -> Result<(), AllocError>
     ensures ok { OnOk result (others.new.items ≡ put_first other others.old.items) }
     ensures err { OnErr result (others.new.items ≡ others.old.items) }

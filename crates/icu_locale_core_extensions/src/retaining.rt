@@ -1,4 +1,4 @@
-//! Keeping the extensions at whose types a closure answers true.
+//! Keeping the extensions at whose types a closure returns true.
 
 ghost use Rattle.std.specs.Prelude.{◌≡◌};
 ghost use Rattle.icu_locale_core_keywords_fields.specs.Retained.{IsRetained};
@@ -8,7 +8,7 @@ use crate::extension_type::ExtensionType;
 use crate::extensions::Extensions;
 use crate::other::Other;
 
-// Keeps those at whose types the closure answers true.
+// Keeps those at whose types the closure returns true.
 fn retain_others<F: FnMut(ExtensionType) -> bool + Drop>(others: &mut Vec<Other>, mut keep: F)
     requires { F.IsAlwaysCallable keep }
     ensures { IsRetained (λ p singleton b q. F.step p (other_type singleton) b q) keep others.old.items others.new.items }
@@ -24,11 +24,12 @@ fn retain_others<F: FnMut(ExtensionType) -> bool + Drop>(others: &mut Vec<Other>
 }
 
 impl Extensions {
-    /// Keeps the extensions at whose types `predicate` answers true, and takes the subtags of `u`, `t` and `x` away elsewhere.
+    /// Keeps the extensions at whose types `predicate` returns true, and removes the subtags of `u`, `t` and `x`
+    /// elsewhere.
     ///
-    /// It is asked once at each type, also where there is none of it: at `u`, `t`, `x`, and then at each other as it stands. The
-    /// condition is that it may be called at any time. Of `a-foo-u-nu-thai`, where it keeps `u` alone, `u-nu-thai` is left. It
-    /// takes no memory.
+    /// It is called once with each type, also where there is none of it: with `u`, `t`, `x`, and then with each other
+    /// in its order. The condition is that it may be called at any time. Of `a-foo-u-nu-thai`, where it keeps only `u`,
+    /// `u-nu-thai` is left. It does not allocate.
     pub fn retain_by_type<F: FnMut(ExtensionType) -> bool + Drop>(&mut self, mut predicate: F)
         requires { F.IsAlwaysCallable predicate }
         ensures { IsRetainedByType (λ p asked b q. F.step p asked b q) predicate self.old self.new }

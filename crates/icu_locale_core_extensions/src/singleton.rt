@@ -16,7 +16,7 @@ pub struct OtherRule;
 /// The singleton of an extension that has no rule of its own: `a`.
 pub(crate) type OtherSingleton = SubtagOf<OtherRule, 1>;
 
-/// Whether the bytes are one letter or digit.
+/// Whether the bytes are one letter or digit: true of `a` and `1`, false of `ab`. It does not allocate.
 pub fn is_one_character(text: &[u8]) -> bool
     ensures { result ≡ is_singleton text.now }
 {

@@ -77,7 +77,7 @@ fn cloned_language(
 }
 
 impl Transform {
-    /// No language part and no field: `is_empty` is true. It takes no memory.
+    /// No language part and no field: `is_empty` is true. It does not allocate.
     pub fn new(alloc: Global) -> Self
         ensures { result ≡ no_transform }
     {
@@ -87,14 +87,15 @@ impl Transform {
         }
     }
 
-    /// Whether it has neither a language part nor a field; then it prints nothing. False of `t-de`.
+    /// Whether it has neither a language part nor a field; then it prints nothing. False of `t-de`. It does not
+    /// allocate.
     pub fn is_empty(&self) -> bool
         ensures { result ≡ is_empty_transform self.now }
     {
         self.lang.is_none() && self.fields.is_empty()
     }
 
-    /// Takes the language part and all fields away: of `t-de-m0-und` nothing is left. It takes no memory.
+    /// Removes the language part and all fields: of `t-de-m0-und` nothing is left. It does not allocate.
     pub fn clear(&mut self)
         ensures { self.new ≡ no_transform }
     {
@@ -102,7 +103,7 @@ impl Transform {
         self.fields.clear();
     }
 
-    /// An equal extension: of `t-de` another `t-de`. `AllocError` is answered for memory alone, and an empty one takes none.
+    /// A copy: of `t-de` it is `t-de`. `AllocError`: out of memory. An empty one does not allocate.
     pub fn try_clone(&self) -> Result<Self, AllocError>
         ensures succeeds { self.now ≡ no_transform → IsOk result }
         ensures value { IfOk result (λ transform. transform ≡ self.now) }
@@ -125,7 +126,8 @@ impl Transform {
         Self::try_from_utf8(alloc, s.as_bytes())
     }
 
-    /// The extension in these bytes, as `try_from_str`.
+    /// The extension in these bytes, as `try_from_str`: `T-De` has the language `de`. The errors are those of
+    /// `try_from_str`; it allocates where that does.
     pub fn try_from_utf8(alloc: Global, code_units: &[u8]) -> Result<Self, ParseError>
         ensures value { IfOk result (ReadsTransform code_units.now) }
         ensures fault { IfErr result (IsRefused (ReadsTransform code_units.now)) }

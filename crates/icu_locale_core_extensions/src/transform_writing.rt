@@ -64,7 +64,8 @@ impl Block for Transform {
     }
 }
 
-/// `t`, the language part in lower case and the fields, with hyphens between them: `t-de-latn-m0-true`. Nothing where it is empty.
+/// `t`, the language part in lower case and the fields, with hyphens between them: `t-de-latn-m0-true`. Nothing where
+/// it is empty.
 impl Writeable for Transform {
     ghost use Rattle.std.specs.Prelude.{◌≡◌, ◌<◌, ◌^◌, Some, length};
     ghost use Rattle.writeable.specs.AnnotatedText.{bytes, text_of};

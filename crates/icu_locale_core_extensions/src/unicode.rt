@@ -69,7 +69,7 @@ fn read_body(alloc: Global, body: SubtagIterator<'_>) -> Result<Unicode, ParseEr
 }
 
 impl Unicode {
-    /// No attribute and no keyword: `is_empty` is true. It takes no memory.
+    /// No attribute and no keyword: `is_empty` is true. It does not allocate.
     pub fn new(alloc: Global) -> Self
         ensures { result ≡ no_unicode }
     {
@@ -79,14 +79,14 @@ impl Unicode {
         }
     }
 
-    /// Whether it has neither attribute nor keyword; then it prints nothing. False of `u-foo`.
+    /// Whether it has neither attribute nor keyword; then it prints nothing. False of `u-foo`. It does not allocate.
     pub fn is_empty(&self) -> bool
         ensures { result ≡ is_empty_unicode self.now }
     {
         self.attributes.is_empty() && self.keywords.is_empty()
     }
 
-    /// Takes all attributes and keywords away: of `u-foo-nu-thai` nothing is left. It takes no memory.
+    /// Removes all attributes and keywords: of `u-foo-nu-thai` nothing is left. It does not allocate.
     pub fn clear(&mut self)
         ensures { self.new ≡ no_unicode }
     {
@@ -94,8 +94,7 @@ impl Unicode {
         self.attributes.clear();
     }
 
-    /// An equal extension: of `u-nu-thai` another `u-nu-thai`. `AllocError` is answered for memory alone, and an empty one takes
-    /// none.
+    /// A copy: of `u-nu-thai` it is `u-nu-thai`. `AllocError`: out of memory. An empty one does not allocate.
     pub fn try_clone(&self) -> Result<Self, AllocError>
         ensures succeeds { self.now ≡ no_unicode → IsOk result }
         ensures value { IfOk result (λ unicode. unicode ≡ self.now) }
@@ -108,10 +107,10 @@ impl Unicode {
         })
     }
 
-    /// Puts the attributes and keywords of the other extension into this one; of equal keys the other's value stands.
+    /// Adds the attributes and keywords of the other extension to this one; of equal keys the other's value is kept.
     ///
-    /// `u-foo-nu-thai` with `u-bar-nu-latn` becomes `u-bar-foo-nu-latn`. `AllocError` is answered for memory alone, and leaves
-    /// the extension; where either is empty, none is taken.
+    /// `u-foo-nu-thai` with `u-bar-nu-latn` becomes `u-bar-foo-nu-latn`. `AllocError`: out of memory; the extension is
+    /// then as before. It does not allocate where either is empty.
     pub fn extend(&mut self, other: Unicode) -> Result<(), AllocError>
         ensures succeeds { other ≡ no_unicode → IsOk result }
         ensures empty { self.old ≡ no_unicode → IsOk result }
@@ -143,7 +142,8 @@ impl Unicode {
         Self::try_from_utf8(alloc, s.as_bytes())
     }
 
-    /// The extension in these bytes, as `try_from_str`.
+    /// The extension in these bytes, as `try_from_str`: `u-FOO` has the attribute `foo`. The errors are those of
+    /// `try_from_str`; it allocates where that does.
     pub fn try_from_utf8(alloc: Global, code_units: &[u8]) -> Result<Self, ParseError>
         ensures value { IfOk result (ReadsUnicode code_units.now) }
         ensures fault { IfErr result (IsRefused (ReadsUnicode code_units.now)) }
