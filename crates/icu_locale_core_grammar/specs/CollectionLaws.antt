@@ -9,7 +9,7 @@ use Rattle.icu_locale_core_grammar.specs.Collections.{Entry, contains_text, Rise
 abbrev pub SetsContain : Type 0
 SetsContain = (q : Text) (ts : List Text) → contains_text q (set_of ts) ≡ contains_text q ts
 
--- it is listed in byte order, and no text stands twice
+-- it is listed in byte order, and no text occurs twice
 abbrev pub SetsRise : Type 0
 SetsRise = (ts : List Text) → Rises (set_of ts)
 

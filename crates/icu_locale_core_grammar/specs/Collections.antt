@@ -22,7 +22,7 @@ Each test ts = AllByRecursion (λ t. test t ≡ true) ts
 abbrev pub contains_text : Text → List Text → Bool
 contains_text t ts = list_any (same_text t) ts
 
--- no text stands twice
+-- no text occurs twice
 abbrev pub AreApart : List Text → Type 0
 AreApart ts = IsDistinct same_text ts
 
@@ -55,7 +55,7 @@ abbrev pub put_first : Entry → List Entry → List Entry
 put_first e [] = e ∷ []
 put_first e (f ∷ fs) = match_ordering (text_cmp e.0 f.0) (e ∷ f ∷ fs) (f ∷ fs) (f ∷ put_first e fs)
 
--- the entries as a map: of equal keys the first stands
+-- the entries as a map: of equal keys the first is kept
 abbrev pub map_of : List Entry → List Entry
 map_of es = fold (λ m e. put_first e m) [] es
 

@@ -1,5 +1,4 @@
--- How extensions are put together: a head and then entries, a key and its values each; a front, then blocks, a singleton
--- and its pieces each, then a private part.
+-- How extensions are put together: a head, keys with values; a front, blocks of singleton and pieces, a private part.
 -- UTS 35, sections 3.2, 3.6 and 3.7, and RFC 5646 (BCP 47), section 2.2.6; docs/tags.md, "Extensions".
 -- Cited by the grammar of whole tags, and by every reader of an extension or of a part of one.
 use Rattle.std.specs.Prelude.{◌≡◌, ◌≢◌, Bool, true, not, List, [], ◌∷◌, ◌++◌, map, filter, fold, flat_map}

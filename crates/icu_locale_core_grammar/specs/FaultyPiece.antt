@@ -42,12 +42,12 @@ module _ {M : Type 0} (Means : List Text → M → Type 0) where
     pub begins : BeginsSome front
     pub stops : GoesOn front place → ⊥
 
-  -- a singleton that already stands comes where a new one could
+  -- a singleton that is there already comes where a new one could
   abbrev pub IsDuplicate : List Text → Option Text → Type 0
   IsDuplicate front None = ⊥
   IsDuplicate front (Some p) = IsAccepted front × (is_singleton p ≡ true) × (contains_text (lower p) (map lower front) ≡ true)
 
-  -- the name of the fault by its place: within an extension where a single character stands before it
+  -- the name of the fault by its place: within an extension where a single character comes before it
   abbrev pub IsNamed : ParseError → List Text → Option Text → Type 0
   IsNamed InvalidLanguage front place = front ≡ []
   IsNamed InvalidSubtag front place = (front ≢ []) × (list_any is_single front ≡ false)

@@ -1,5 +1,5 @@
--- What a text is answered with, as one computation: its meaning, or the fault.
--- Defined in docs/tags.md, "Rows"; that this answer is the meaning's, or the fault's, is a law.
+-- What a text gives, as one computation: its meaning, or the fault.
+-- Defined in docs/tags.md, "Rows"; that this result is the meaning's, or the fault's, is a law.
 -- Cited by the rows that hold the definitions.
 use Rattle.std.specs.Prelude.{List, [], ◌∷◌, Option, None, Some, Result, Ok, Err}
 use Rattle.icu_locale_core_grammar.specs.declared.error.ParseError.{ParseError}
@@ -14,17 +14,17 @@ use Rattle.icu_locale_core_grammar.specs.TagStages.{language_after, language_end
 
 -- over any steps: where they end, and the fault of a stage that does not go on
 module _ {S M : Type 0} (step : S → Text → Option S) (ends : S → Option M) (fault : S → Option Text → ParseError) where
-  -- the answer at the end of the pieces
+  -- the result at the end of the pieces
   abbrev pub end_answer : S → Option M → Result M ParseError
   end_answer s None = Err (fault s None)
   end_answer s (Some m) = Ok m
 
-  -- the answer from a stage on
+  -- the result from a stage on
   abbrev pub answer_from : S → List Text → Result M ParseError
   answer_from s [] = end_answer s (ends s)
   answer_from s (p ∷ ps) = elim (step s p) [ None ↦ Err (fault s (Some p)) | Some t ↦ answer_from t ps ]
 
--- an answer that is shown by a text
+-- a result that is shown by a text
 abbrev pub shown_by : {M : Type 0} → (M → Text) → Result M ParseError → Result Text ParseError
 shown_by show (Ok m) = Ok (show m)
 shown_by show (Err e) = Err e

@@ -16,7 +16,7 @@ pub record WrittenLanguage : Type 0 where
 abbrev pub spelled_language : WrittenLanguage → List Text
 spelled_language w = w.language ∷ (option_to_list w.script ++ (option_to_list w.region ++ w.variants))
 
--- each part is of its class, and no variant stands twice
+-- each part is of its class, and no variant occurs twice
 pub record IsLanguagePart (w : WrittenLanguage) : Type 0 where
   pub language : is_language w.language ≡ true
   pub script : IfSome w.script (λ p. is_script p ≡ true)

@@ -1,5 +1,4 @@
--- What a tag means: its language part, its attributes and keywords, its inner language part and fields, its other extensions
--- by singleton, and its private subtags.
+-- What a tag means: language part, attributes, keywords, inner language, fields, other extensions, private subtags.
 -- UTS 35, sections 3.2, 3.6 and 3.7; docs/tags.md, "Meaning".
 -- Cited by every reader of a tag, and by the laws on tags.
 use Rattle.std.specs.Prelude.{◌≡◌, true, false, List, [], Option, None, map}

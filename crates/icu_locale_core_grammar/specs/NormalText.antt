@@ -1,4 +1,4 @@
--- The normal text of a meaning: its parts in normal case, sets and maps in byte order, extensions by singleton, `x` last.
+-- The normal text of a meaning: parts in normal case, sets and maps in byte order, extensions by singleton, `x` last.
 -- UTS 35, section 3.2.1, "Canonical Unicode Locale Identifiers"; docs/tags.md, "Normal text".
 -- Cited by all that writes a tag or a part of one, and by the laws on the round trip.
 use Rattle.std.specs.Prelude.{ℕ, Bool, true, false, List, [], ◌∷◌, ◌++◌, Option, None, Some, map, take, drop, option_to_list, flat_map, if◌then◌else◌}
@@ -51,7 +51,7 @@ other_block o = one_block o.0 o.1 (other o.1)
 abbrev pub other_blocks : List Entry → List (Block Part)
 other_blocks os = flat_map other_block os
 
--- how many of the other extensions stand before the first whose singleton is above `t`
+-- how many of the other extensions come before the first whose singleton is above `t`
 abbrev pub before_transform : List Entry → ℕ
 before_transform os = position_or_len (λ o. is_lt (text_cmp transform_text o.0)) os
 

@@ -77,7 +77,7 @@ ValueReadsBack = (vs : List Text) → AllByRecursion IsNormalValue vs → MeansV
 
 -- ---- parts of extensions
 
--- keywords are what stands behind `u` without an attribute, and fields what stands behind `t` without a language
+-- keywords are what follows `u` without an attribute, and fields what follows `t` without a language
 abbrev pub KeywordsStandAlone : Type 0
 KeywordsStandAlone = (ps : List Text) (es : List Entry) → MeansKeywords ps es ↔ MeansUnicode ps (record { head = []; entries = es })
 

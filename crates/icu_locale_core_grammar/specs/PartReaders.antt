@@ -1,4 +1,4 @@
--- What the readers of a part of a tag accept: an extension with its singleton, keywords, fields, attributes or a value alone.
+-- What the readers of a part of a tag accept: an extension with its singleton, keywords, fields, attributes, a value.
 -- UTS 35, sections 3.6 and 3.7; docs/tags.md, "Parts read alone".
 -- Cited by the readers of these parts, and by the laws on them.
 use Rattle.std.specs.Prelude.{◌≡◌, ◌≢◌, Bool, true, false, List, [], ◌∷◌, ◌++◌, Option, None, Some, map, flat_map, if◌then◌else◌}

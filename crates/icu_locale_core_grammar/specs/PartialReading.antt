@@ -1,4 +1,4 @@
--- Reading that leaves a rest: the longest front that is accepted and does not go on, or what stands before a single character.
+-- Reading that leaves a rest: the longest accepted front that does not go on, or what precedes a single character.
 -- Defined in docs/tags.md, "Modes".
 -- Cited by the readers of a language identifier with a mode.
 use Rattle.std.specs.Prelude.{◌≡◌, List, [], ◌∷◌, ◌++◌, take, drop}
@@ -19,7 +19,7 @@ module _ {M : Type 0} (Means : List Text → M → Type 0) where
     pub meant : Means taken m
     pub longest : IsLongest taken rest
 
--- what stands before the first piece of one character, and the rest with it
+-- what precedes the first piece of one character, and the rest with it
 abbrev pub before_single : List Text → List Text
 before_single ps = take (position_or_len is_single ps) ps
 

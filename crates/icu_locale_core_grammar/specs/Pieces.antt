@@ -12,7 +12,7 @@ hyphen = 45
 abbrev pub is_hyphen : ℕ → Bool
 is_hyphen b = b == hyphen
 
--- what stands between the hyphens of a text
+-- what is between the hyphens of a text
 abbrev pub pieces : Text → List Text
 pieces text = slice_split is_hyphen text
 

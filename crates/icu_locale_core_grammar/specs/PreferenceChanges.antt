@@ -7,7 +7,7 @@ use Rattle.icu_locale_core_grammar.specs.Collections.{Entry, value_at, first_the
 use Rattle.icu_locale_core_grammar.specs.Meaning.{TagMeaning, no_transform}
 use Rattle.icu_locale_core_grammar.specs.TagPreferences.{Subdivision, subdivision_text, override_key, subdivision_key, numbering_key, keyword_piece, keyword_subdivision, LocalePreferencesMeaning}
 
--- the language that stands for none
+-- the language that means none
 abbrev pub unknown_language : Text
 unknown_language = codes "und"
 

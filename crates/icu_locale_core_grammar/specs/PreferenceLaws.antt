@@ -1,4 +1,4 @@
--- What holds of preferences: written as a tag they read back, a tag and its normal text have the same, and nothing adds nothing.
+-- What holds of preferences: written as a tag they read back, a tag and its normal text have the same, none adds none.
 -- Defined in docs/tags.md, "Preferences".
 -- Cited by the functions of the module of laws on preferences.
 use Rattle.std.specs.Prelude.{◌≡◌, true, List, None, Some, IfSome}

@@ -1,7 +1,6 @@
--- A tag of at most one variant and at most one keyword with at most one piece of a value, and nothing else: all of it has a
--- size that is known before it is read.
+-- A tag with nothing but at most one variant and one keyword of at most one piece: its size is known before it is read.
 -- Defined in docs/tags.md, "One variant and one keyword".
--- Cited by the readers that take no memory.
+-- Cited by the readers that do not allocate.
 use Rattle.std.specs.Prelude.{◌≡◌, Bool, true, false, ◌||◌, List, [], ◌∷◌, ◌++◌, Option, None, Some, option_to_list, if◌then◌else◌}
 use Rattle.std.specs.List.{list_any}
 use Rattle.icu_locale_core_grammar.specs.declared.error.ParseError.{ParseError}

@@ -1,4 +1,4 @@
--- Reading a list of pieces one at a time: a step gives the next stage or none, and a stage may be an end with a meaning.
+-- Reading pieces one at a time: a step gives the next stage or none, and a stage may be an end with a meaning.
 -- Defined in docs/tags.md, "Stages"; that the steps read the grammar and no more is the law of every reader.
 -- Cited by the functions that read tags, and by the laws on reading.
 use Rattle.std.specs.Prelude.{◌≡◌, Bool, true, not, ◌&&◌, List, [], ◌∷◌, ◌++◌, Option, None, Some, is_some, option_map, if◌then◌else◌}
@@ -57,7 +57,8 @@ headed_ends ends (InEntry h es e full) = if full then Some (record { head = h; e
 
 -- ---- a front, blocks, a private part
 
--- `AtBlock`: a singleton has come; the list is of the earlier ones, in lower case. `InBlock`: at least one piece behind it
+-- `AtBlock`: a singleton has come; the list is of the earlier ones, in lower case. `InBlock`: at least one piece behind
+-- it
 pub data WholeStage (L I E B : Type 0) : Type 0 where
   InFront : L → WholeStage L I E B
   AtBlock : I → List Text → E → Text → B → WholeStage L I E B
@@ -110,7 +111,7 @@ whole_ends front_ends body_ends put none (InPrivate i e own) = private_ends i e 
 
 -- ---- the fault at a stage
 
--- a singleton that has come already stands where the block may end
+-- a singleton that is there already comes where the block may end
 abbrev pub is_repeated : {V : Type 0} → List Text → Option V → Text → Bool
 is_repeated seen v p = is_some v && (is_singleton p && contains_text (lower p) seen)
 

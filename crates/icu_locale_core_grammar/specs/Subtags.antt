@@ -11,7 +11,7 @@ use Rattle.std.specs.Cmp.Lexicographic.{pointwise}
 abbrev pub Text : Type 0
 Text = List ℕ
 
--- letters and digits alone
+-- only letters and digits
 abbrev pub is_plain : Text → Bool
 is_plain p = list_all is_ascii_alphanumeric p
 
@@ -47,7 +47,7 @@ is_variant p = has_characters 5 8 p || (has_characters 4 4 p && begins_with_digi
 abbrev pub is_singleton : Text → Bool
 is_singleton p = has_characters 1 1 p
 
--- what stands alone between its hyphens: no class but the singletons and the private pieces takes one character
+-- a single character between hyphens: no class but the singletons and the private pieces takes one character
 abbrev pub is_single : Text → Bool
 is_single p = length p == 1
 

@@ -93,6 +93,6 @@ IsPrinted text printed = IsShown MeansTag normal_text text printed
 abbrev pub IsRefused : Text → ParseError → Type 0
 IsRefused text e = HasFault MeansTag (pieces text) e
 
--- the computed answer is right
+-- the computed result is right
 abbrev pub AnswersAreRight : Type 0
 AnswersAreRight = (text : Text) → MatchResult (answer_to text) (IsPrinted text) (IsRefused text)

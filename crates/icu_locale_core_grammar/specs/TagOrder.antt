@@ -1,5 +1,4 @@
--- The order of values: language first, then script, region and variants, then the extensions; `None` before `Some`, lists by
--- their first difference.
+-- The order of values: language, script, region, variants, extensions; `None` before `Some`, lists by first difference.
 -- Defined in docs/tags.md, "Orders".
 -- Cited by `total_cmp` of every value, and by the laws that these orders are total and tell all values apart.
 use Rattle.std.specs.Prelude.{List, Option}

@@ -19,7 +19,7 @@ abbrev pub has_none : List Text → Bool
 has_none [] = true
 has_none (t ∷ ts) = false
 
--- a script stands right behind the language, a region before any variant, and a variant that is not there yet anywhere
+-- a script comes right behind the language, a region before any variant, and a variant that is not there yet anywhere
 abbrev pub fits_script : LanguageId → Text → Bool
 fits_script id p = (is_none id.script && (is_none id.region && has_none id.variants)) && is_script p
 

@@ -1,5 +1,4 @@
--- A meaning in normal form: each part is of its class and in its normal case, sets and maps are in order, no list is empty
--- that may not be.
+-- A meaning in normal form: parts of their class in normal case, sets and maps in order, no list empty that may not be.
 -- UTS 35, section 3.2.1, "Canonical Unicode Locale Identifiers"; docs/tags.md, "Well-formed".
 -- Cited by the law that these are the meanings which their normal text gives back, and by the test of it.
 use Rattle.std.specs.Prelude.{◌≡◌, ◌≢◌, Bool, true, false, List, [], IfSome}

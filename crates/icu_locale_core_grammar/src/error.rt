@@ -19,10 +19,10 @@ pub enum ParseError {
     /// A piece is at fault within an extension, or the tag ends within one: `en-u`, `en-a-toolongpiece`.
     #[error("Invalid extension")]
     InvalidExtension,
-    /// A singleton that already stands comes where a new one could: `en-a-foo-a-bar`.
+    /// A singleton that is there already comes where a new one could: `en-a-foo-a-bar`.
     #[error("Duplicated extension")]
     DuplicatedExtension,
-    /// A request for memory was refused, as one for the variant of `de-1996`.
+    /// Out of memory: the variant of `de-1996` allocates.
     #[error("Out of memory")]
     Memory,
 }

@@ -1,6 +1,6 @@
 //! Rows of the grammar: texts with the normal text that they have, and texts with their fault.
 //!
-//! Each clause is a fact on the definitions alone, and a wrong definition does not survive it.
+//! Each clause is a fact on only the definitions, which a wrong definition would contradict.
 ghost use Rattle.std.specs.Prelude.{codes};
 ghost use Rattle.icu_locale_core_grammar.specs.FaultyPiece.{HasFault};
 ghost use Rattle.icu_locale_core_grammar.specs.KnownRows.{language_text, single_text, language_first_text, region_first_text};
@@ -17,33 +17,33 @@ pub fn printed_rows()
     ensures script_region_variants { IsPrinted (codes "en-latn-us-fonipa-1996") (codes "en-Latn-US-1996-fonipa") }
     // extensions by singleton; a private subtag may be any letter, and twice
     ensures blocks_in_order { IsPrinted (codes "en-b-foo-a-bar-x-B-a") (codes "en-a-bar-b-foo-x-b-a") }
-    // of two equal keys the first stands
+    // of two equal keys the first is kept
     ensures first_of_equal_keys { IsPrinted (codes "en-u-ca-buddhist-ca-coptic") (codes "en-u-ca-buddhist") }
     // `true` is left out of a keyword's value
     ensures true_left_out { IsPrinted (codes "EN-u-nu-true") (codes "en-u-nu") }
     // all is lower case within `t`, and a field without a value shows `true`
     ensures inner_lower { IsPrinted (codes "en-t-DE-Latn-m0-true") (codes "en-t-de-latn-m0-true") }
-    // a digit is a singleton too, and stands before the letters
+    // a digit is a singleton too, and comes before the letters
     ensures digit_singletons { IsPrinted (codes "und-a-foo-1-bar") (codes "und-1-bar-a-foo") }
-    // `t` and `u` stand before the first other singleton above `t`
+    // `t` and `u` come before the first other singleton above `t`
     ensures extensions_around_transform { IsPrinted (codes "en-z-foo-u-nu-t-it-s-bar") (codes "en-s-bar-t-it-u-nu-z-foo") }
-    // the first of equal keys stands even where its value is empty
+    // the first of equal keys is kept even where its value is empty
     ensures key_stands_where_empty { IsPrinted (codes "en-u-nu-nu-thai") (codes "en-u-nu") }
     // `true` is left out anywhere in a value
     ensures true_within_value { IsPrinted (codes "en-u-nu-foo-TRUE-bar") (codes "en-u-nu-foo-bar") }
     // an attribute may be `true`, and attributes are a set
     ensures true_is_an_attribute { IsPrinted (codes "en-u-true-foo-TRUE") (codes "en-u-foo-true") }
-    // attributes stand in order, before keywords by key
+    // attributes come in order, before keywords by key
     ensures attributes_before_keys { IsPrinted (codes "en-u-foo-bar-nu-latn-ca-hebrew") (codes "en-u-bar-foo-ca-hebrew-nu-latn") }
     // a key may begin with a digit
     ensures key_with_digit { IsPrinted (codes "en-u-1a-foo") (codes "en-u-1a-foo") }
-    // fields stand by key, and the first of equal keys stands
+    // fields come in order of their keys, and the first of equal keys is kept
     ensures fields_in_order { IsPrinted (codes "en-t-m0-foo-k0-bar-M0-other") (codes "en-t-k0-bar-m0-foo") }
-    // `t` may have fields alone
+    // `t` may have only fields
     ensures field_without_inner { IsPrinted (codes "und-t-h0-hybrid") (codes "und-t-h0-hybrid") }
-    // `t` may have a language part alone
+    // `t` may have only a language part
     ensures inner_without_field { IsPrinted (codes "und-t-de-1996-1994") (codes "und-t-de-1994-1996") }
-    // a private part may stand right behind the language
+    // a private part may come right behind the language
     ensures private_alone { IsPrinted (codes "en-X-A-12345678") (codes "en-x-a-12345678") }
     // a region may be three digits, and a variant may begin with one
     ensures region_of_digits { IsPrinted (codes "es-419-1ABC") (codes "es-419-1abc") }
@@ -55,7 +55,7 @@ pub fn printed_rows()
     // a language, a script, a region and a keyword
     ensures whole_tag { IsPrinted (codes "en-Latn-US-u-nu-thai") (codes "en-Latn-US-u-nu-thai") }
 
-    // within `x` a letter may stand twice
+    // within `x` a letter may occur twice
     ensures private_twice { IsPrinted (codes "en-x-a-a") (codes "en-x-a-a") }
 {}
 
@@ -73,9 +73,9 @@ pub fn refused_rows()
     ensures language_with_digit { IsRefused (codes "e1") InvalidLanguage }
     // an empty piece is a piece
     ensures empty_piece { IsRefused (codes "en-") InvalidSubtag }
-    // a variant stands twice
+    // a variant occurs twice
     ensures repeated_variant { IsRefused (codes "de-1996-1996") InvalidSubtag }
-    // a variant stands twice, but for its case
+    // a variant occurs twice, whatever its case
     ensures repeated_variant_case { IsRefused (codes "de-fonipa-FONIPA") InvalidSubtag }
     // nine characters and more are no subtag
     ensures too_long { IsRefused (codes "en-toolongpiece") InvalidSubtag }
@@ -107,21 +107,21 @@ pub fn refused_rows()
     ensures too_long_within { IsRefused (codes "en-a-toolongpiece") InvalidExtension }
     // no private subtag
     ensures ends_behind_x { IsRefused (codes "en-x") InvalidExtension }
-    // a variant stands twice within `t`
+    // a variant occurs twice within `t`
     ensures repeated_variant_within { IsRefused (codes "und-t-de-1996-1996") InvalidExtension }
     // a second region within `t`
     ensures region_twice_within { IsRefused (codes "und-t-de-us-gb") InvalidExtension }
     // a keyword's key ends with a letter
     ensures key_of_digit_within { IsRefused (codes "en-u-a1-foo") InvalidExtension }
-    // a singleton stands twice
+    // a singleton occurs twice
     ensures repeated_singleton { IsRefused (codes "en-a-foo-a-bar") DuplicatedExtension }
-    // a singleton stands twice, but for its case
+    // a singleton occurs twice, whatever its case
     ensures repeated_singleton_case { IsRefused (codes "en-a-foo-u-nu-A-bar") DuplicatedExtension }
-    // `u` stands twice
+    // `u` occurs twice
     ensures repeated_unicode { IsRefused (codes "en-u-nu-u-ca") DuplicatedExtension }
-    // `t` stands twice
+    // `t` occurs twice
     ensures repeated_transform { IsRefused (codes "en-t-de-t-fr") DuplicatedExtension }
-    // a digit stands twice as a singleton
+    // a digit occurs twice as a singleton
     ensures repeated_digit { IsRefused (codes "en-1-foo-1-bar") DuplicatedExtension }
     // the first fault counts: the second `a` comes later
     ensures repeated_behind_fault { IsRefused (codes "en-a-foo-toolongpiece-a-bar") InvalidExtension }
@@ -133,7 +133,7 @@ pub fn language_rows()
     ensures case_by_place { IsShown MeansLanguage language_text (codes "EN-lATN-us-FONIPA-1996") (codes "en-Latn-US-1996-fonipa") }
     // a region without a script
     ensures region_alone { IsShown MeansLanguage language_text (codes "de-at") (codes "de-AT") }
-    // a language alone
+    // only a language
     ensures undetermined { IsShown MeansLanguage language_text (codes "und") (codes "und") }
 {}
 
@@ -203,14 +203,14 @@ pub fn language_first_rows()
     ensures two_pieces_do_not_read { IsShown MeansTag language_first_text (codes "en-u-sd-ustx-gbeng") (codes "en") }
     // a region of digits
     ensures digits_in_front { IsShown MeansTag language_first_text (codes "es-u-rg-419abc") (codes "es") }
-    // the first of equal keys stands even where it does not read
+    // the first of equal keys is kept even where it does not read
     ensures first_key_does_not_read { IsShown MeansTag language_first_text (codes "en-u-rg-rg-gbeng") (codes "en") }
     // nothing else is asked for
     ensures all_else_left_out { IsShown MeansTag language_first_text (codes "en-u-foo-ca-hebrew-nu-thai-t-de-x-bar") (codes "en") }
     // a letter and digits are no region
     ensures digits_and_letters_do_not_read { IsShown MeansTag language_first_text (codes "en-u-sd-u12abc") (codes "en") }
 
-    // of two subdivisions the first stands
+    // of two subdivisions the first is kept
     ensures first_subdivision { IsShown MeansTag language_first_text (codes "en-u-sd-ustx-sd-gbeng") (codes "en-u-sd-ustx") }
 {}
 
@@ -228,13 +228,13 @@ pub fn region_first_rows()
     ensures two_pieces_do_not_read { IsShown MeansTag region_first_text (codes "en-u-sd-ustx-gbeng") (codes "en") }
     // a region of digits
     ensures digits_in_front { IsShown MeansTag region_first_text (codes "es-u-rg-419abc") (codes "es-419-u-sd-419abc") }
-    // the first of equal keys stands even where it does not read
+    // the first of equal keys is kept even where it does not read
     ensures first_key_does_not_read { IsShown MeansTag region_first_text (codes "en-u-rg-rg-gbeng") (codes "en") }
     // nothing else is asked for
     ensures all_else_left_out { IsShown MeansTag region_first_text (codes "en-u-foo-ca-hebrew-nu-thai-t-de-x-bar") (codes "en") }
     // a letter and digits are no region
     ensures digits_and_letters_do_not_read { IsShown MeansTag region_first_text (codes "en-u-sd-u12abc") (codes "en") }
 
-    // of two subdivisions the first stands
+    // of two subdivisions the first is kept
     ensures first_subdivision { IsShown MeansTag region_first_text (codes "en-u-sd-ustx-sd-gbeng") (codes "en-u-sd-ustx") }
 {}

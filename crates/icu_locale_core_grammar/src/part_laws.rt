@@ -1,4 +1,4 @@
-//! Laws of the parts of a tag that are read alone: each is the contract of a function that does nothing.
+//! Laws of the parts of a tag that are read by themselves: each is the contract of a function that does nothing.
 ghost use Rattle.std.specs.Prelude.{[], false, true, None, Some};
 ghost use Rattle.icu_locale_core_grammar.specs.Subtags.{is_key, is_field_key};
 ghost use Rattle.icu_locale_core_grammar.specs.LanguagePart.{MeansLanguage, MeansInner};
@@ -13,8 +13,8 @@ ghost use Rattle.icu_locale_core_grammar.specs.PartLaws.{IsOne, LeavesOne, Takes
 ghost use Rattle.icu_locale_core_grammar.specs.PartLaws.{TransformReadsBack, PrivateReadsBack, OtherReadsBack, AttributesReadBack, KeywordsReadBack, FieldsReadBack, ValueReadsBack, KeywordsStandAlone, FieldsStandAlone};
 ghost use Rattle.icu_locale_core_grammar.specs.PartLaws.{SubdivisionsAreSpelled, DataReadsBack, SingleHasMeaningOrFault, SingleIsTag};
 
-/// The stages of each part read its grammar: with `DE`, `at` those of a language identifier find the language `de` and the region
-/// `AT`.
+/// The stages of each part read its grammar: with `DE`, `at` those of a language identifier find the language `de` and
+/// the region `AT`.
 pub fn parts_are_read()
     ensures language { IsReader language_after None language_ends MeansLanguage }
     ensures inner { IsReader language_after None inner_ends MeansInner }
@@ -44,7 +44,8 @@ pub fn parts_have_one_meaning()
     ensures data_locale { IsOne MeansDataLocale }
 {}
 
-/// The pieces of each part are letters and digits, and such pieces are those of their text: `foo`, `bar` those of `foo-bar`.
+/// The pieces of each part are letters and digits, and such pieces are those of their text: `foo`, `bar` those of
+/// `foo-bar`.
 pub fn parts_are_plain()
     ensures language { TakesPlain MeansLanguage }
     ensures attributes { TakesPlain MeansAttributes }
@@ -58,8 +59,8 @@ pub fn parts_are_plain()
     ensures text { PlainPiecesReadBack }
 {}
 
-/// Each part in normal form has the meaning that its printed pieces have: a field `m0` without a value is what `m0`, `true`
-/// means.
+/// Each part in normal form has the meaning that its printed pieces have: a field `m0` without a value is what `m0`,
+/// `true` means.
 pub fn parts_read_back()
     ensures language { LanguageReadsBack }
     ensures attributes { AttributesReadBack }
@@ -73,22 +74,23 @@ pub fn parts_read_back()
     ensures data_locale { DataReadsBack }
 {}
 
-/// Keywords alone are what stands behind `u` without an attribute, and fields what stands behind `t` without a language:
+/// Keywords by themselves are what follows `u` without an attribute, and fields what follows `t` without a language:
 /// `nu-thai` are those of `u-nu-thai`, and `m0-und` those of `t-m0-und`.
 pub fn entries_stand_alone()
     ensures keywords { KeywordsStandAlone }
     ensures fields { FieldsStandAlone }
 {}
 
-/// Each list of pieces is a language identifier or has a fault, and a front of it is one or the first piece is at fault. `en`,
-/// `u`, `nu` has the fault `InvalidSubtag`, and its front `en` is one; of `abcd` the first piece is at fault.
+/// Each list of pieces is a language identifier or has a fault, and a front of it is one or the first piece is at
+/// fault. `en`, `u`, `nu` has the fault `InvalidSubtag`, and its front `en` is one; of `abcd` the first piece is at
+/// fault.
 pub fn languages_are_answered()
     ensures whole { LanguageHasMeaningOrFault }
     ensures front { LanguageHasFrontOrFault }
 {}
 
-/// Of a list of pieces one front is read at most, and one rest is left: of `en`, `us`, `u` as a language identifier `en`, `us` is
-/// read, and `u` is left.
+/// Of a list of pieces one front is read at most, and one rest is left: of `en`, `us`, `u` as a language identifier
+/// `en`, `us` is read, and `u` is left.
 pub fn fronts_are_one()
     ensures language { LeavesOne MeansLanguage }
     ensures tag { LeavesOne MeansTag }
@@ -99,15 +101,15 @@ pub fn subdivisions_are_spelled()
     ensures { SubdivisionsAreSpelled }
 {}
 
-/// Each list of pieces is a tag of one variant and one keyword or has a fault, and such a tag is a tag with that meaning:
-/// `en-u-nu` is one, and `de-1996-fonipa` has the fault `InvalidSubtag`.
+/// Each list of pieces is a tag of one variant and one keyword or has a fault, and such a tag is a tag with that
+/// meaning: `en-u-nu` is one, and `de-1996-fonipa` has the fault `InvalidSubtag`.
 pub fn single_tags_are_answered()
     ensures answered { SingleHasMeaningOrFault }
     ensures tag { SingleIsTag }
 {}
 
-/// Each list of pieces is a data locale or has a fault, one at most, and never both: `en-us-u-sd-ustx` is one, and `en-u-nu-latn`
-/// has the fault `InvalidExtension`.
+/// Each list of pieces is a data locale or has a fault, one at most, and never both: `en-us-u-sd-ustx` is one, and
+/// `en-u-nu-latn` has the fault `InvalidExtension`.
 pub fn data_locales_are_answered()
     ensures answered { DataHasMeaningOrFault }
     ensures one_fault { DataHasOneFault }

@@ -1,8 +1,8 @@
 //! Laws of preferences. Each function does nothing; its clause is the law.
 ghost use Rattle.icu_locale_core_grammar.specs.PreferenceLaws.{SubdivisionReadsBack, PreferencesReadBack, DataLocaleIsItself, AlikeTagsPreferAlike, NothingAddsNothing, JoinedThrice};
 
-/// Preferences written as a tag read back, and a data locale is the language-first form of itself: those of `en-US-u-sd-ustx` are
-/// written as this tag, and it prefers the same.
+/// Preferences written as a tag read back, and a data locale is the language-first form of itself: those of
+/// `en-US-u-sd-ustx` are written as this tag, and it prefers the same.
 pub fn preferences_read_back()
     ensures subdivision { SubdivisionReadsBack }
     ensures preferences { PreferencesReadBack }
@@ -14,8 +14,8 @@ pub fn alike_tags_prefer_alike()
     ensures { AlikeTagsPreferAlike }
 {}
 
-/// Joining with no preferences changes nothing, and of three the last that is there wins, in whatever order they are joined:
-/// `en-US` with `und-GB` and `de` is `de-GB`.
+/// Joining with no preferences changes nothing, and of three the last that is there wins, in whatever order they are
+/// joined: `en-US` with `und-GB` and `de` is `de-GB`.
 pub fn preferences_join()
     ensures nothing { NothingAddsNothing }
     ensures thrice { JoinedThrice }
