@@ -1,4 +1,4 @@
--- Where the reading of a head and entries may want memory: only a head that grows, a value that does, and an entry that is kept.
+-- Where the reading of a head and entries may allocate: only a growing head, a growing value and a kept entry.
 -- Defined in docs/tags.md, "Stages".
 -- Cited by the readers of keywords and fields, and by the functions that step along a head and entries.
 use Rattle.std.specs.Prelude.{Bool, false, not, ◌&&◌, ◌||◌, List, [], ◌∷◌}

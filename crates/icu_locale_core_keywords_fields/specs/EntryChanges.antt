@@ -7,7 +7,7 @@ use Rattle.std.specs.Ordering.{match_ordering}
 use Rattle.icu_locale_core_grammar.specs.Subtags.{Text, same_text}
 use Rattle.icu_locale_core_grammar.specs.Collections.{Entry, text_cmp, map_of, value_at}
 
--- the map with this value at the key, in place of the value that stood there
+-- the map with this value at the key, in place of the value that was there
 abbrev pub set_entry : Entry → List Entry → List Entry
 set_entry e [] = e ∷ []
 set_entry e (f ∷ fs) = match_ordering (text_cmp e.0 f.0) (e ∷ f ∷ fs) (e ∷ fs) (f ∷ set_entry e fs)
@@ -19,7 +19,7 @@ set_in_turn es e = set_entry e es
 abbrev pub without_key : Text → List Entry → List Entry
 without_key key es = filter (λ e. not (same_text key e.0)) es
 
--- both maps as one: of equal keys the one of `winners` stands
+-- both maps as one: of equal keys the one of `winners` is kept
 abbrev pub joined_maps : List Entry → List Entry → List Entry
 joined_maps winners es = map_of (winners ++ es)
 

@@ -8,7 +8,7 @@ use Rattle.icu_locale_core_grammar.specs.Pieces.{hyphened, joined_text}
 use Rattle.icu_locale_core_grammar.specs.NormalText.{entry_pieces}
 use Rattle.icu_locale_core_keywords_fields.specs.Values.{shown_value}
 
--- a value that stands alone
+-- the text of a value by itself
 abbrev pub value_text : Bool → List Text → Text
 value_text needs vs = joined_text (shown_value needs vs)
 
@@ -20,7 +20,7 @@ hyphened_value needs vs = flat_map hyphened (shown_value needs vs)
 abbrev pub entry_text : Bool → Entry → Text
 entry_text needs e = e.0 ++ hyphened_value needs e.1
 
--- a map that stands alone
+-- the text of a map by itself
 abbrev pub entries_text : Bool → List Entry → Text
 entries_text needs es = joined_text (entry_pieces needs es)
 

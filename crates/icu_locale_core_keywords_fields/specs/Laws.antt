@@ -1,5 +1,4 @@
--- What holds of maps that were changed, of texts that were written, and of comparisons, in words that know nothing of how
--- they are computed.
+-- What holds of changed maps, of written texts and of comparisons, without a word on how they are computed.
 -- Defined in docs/tags.md, "Laws".
 -- Cited by the functions of the module of laws.
 use Rattle.std.specs.Prelude.{◌≡◌, ◌↔◌, Bool, true, false, List, None, Some, if◌then◌else◌}

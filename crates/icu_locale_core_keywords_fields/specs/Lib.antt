@@ -9,7 +9,7 @@ pub mod Orders
 pub mod Steps
 pub mod HeadedView
 pub mod Allocation
--- Where a key stands in a map, for the proofs.
+-- The place of a key in a map, for the proofs.
 pub mod Places
 -- What the comparisons of this crate prove.
 pub mod OrderLaws

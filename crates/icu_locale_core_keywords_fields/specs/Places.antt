@@ -1,4 +1,4 @@
--- Where a key stands in a list of entries whose keys rise, or where it would.
+-- The place of a key in a list of entries whose keys rise, or the place where it belongs.
 -- Defined in docs/tags.md, "Keywords and fields as values".
 -- Cited by the search for a key, and by the proofs of the calls that use it.
 use Rattle.std.specs.Prelude.{ℕ, suc, ◌≡◌, ◌<◌, ◌≤◌, List, ◌∷◌, ◌++◌, length, take, drop, slice_index_or}
@@ -23,7 +23,7 @@ pub record IsFoundAt (key : Text) (es : List Entry) (i : ℕ) : Type 0 where
   pub below : AreBelow key (take i es)
   pub above : AreAbove key (drop (suc i) es)
 
--- no entry has this key, and one would stand at place i
+-- no entry has this key, and one belongs at place i
 pub record IsMissingAt (key : Text) (es : List Entry) (i : ℕ) : Type 0 where
   pub fits : i ≤ length es
   pub below : AreBelow key (take i es)

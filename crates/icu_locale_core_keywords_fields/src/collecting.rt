@@ -33,7 +33,7 @@ impl<K: EntryKind> ValueOf<K> {
         Ok(value)
     }
 
-    /// An equal value: of `abc-def` another `abc-def`. `AllocError`: out of memory. The empty value does not allocate.
+    /// A copy: of `abc-def` it is `abc-def`. `AllocError`: out of memory. The empty value does not allocate.
     pub fn try_clone(&self) -> Result<Self, AllocError>
         ensures succeeds { self.now ≡ [] → IsOk result }
         ensures value { IfOk result (λ v. v ≡ self.now) }
@@ -57,8 +57,8 @@ fn copied<T: Copy>(key: &T) -> T
 }
 
 impl<K: EntryKind> EntriesOf<K> {
-    /// The map of the entries; of equal keys the first stands: of `nu` with `thai`, `ca` with `buddhist` and `nu` with `latn` it
-    /// is `ca-buddhist-nu-thai`.
+    /// The map of the entries; of equal keys the first is kept: of `nu` with `thai`, `ca` with `buddhist` and `nu` with
+    /// `latn` it is `ca-buddhist-nu-thai`.
     ///
     /// The condition is that the iterator ends. `AllocError`: out of memory. Without an item it does not allocate.
     pub fn try_from_iter<I: IntoIterator<Item = (SubtagOf<K, 2>, ValueOf<K>)>>(
@@ -76,7 +76,7 @@ impl<K: EntryKind> EntriesOf<K> {
         Ok(map)
     }
 
-    /// An equal map: of `nu-thai` another `nu-thai`. `AllocError`: out of memory. The empty map does not allocate.
+    /// A copy: of `nu-thai` it is `nu-thai`. `AllocError`: out of memory. The empty map does not allocate.
     pub fn try_clone(&self) -> Result<Self, AllocError>
         ensures succeeds { self.now ≡ [] → IsOk result }
         ensures value { IfOk result (λ m. m ≡ self.now) }
@@ -88,10 +88,10 @@ impl<K: EntryKind> EntriesOf<K> {
         Ok(EntriesOf { entries })
     }
 
-    /// Puts the entries of the other map into this one; of equal keys the other's stands.
+    /// Adds the entries of the other map to this one; of equal keys the other's is kept.
     ///
-    /// `ca-buddhist-nu-thai` with `nu-latn` becomes `ca-buddhist-nu-latn`. `AllocError`: out of memory, and the map is as before.
-    /// It does not allocate where one of the two maps has all keys of the other.
+    /// `ca-buddhist-nu-thai` with `nu-latn` becomes `ca-buddhist-nu-latn`. `AllocError`: out of memory, and the map is
+    /// as before. It does not allocate where one of the two maps has all keys of the other.
     pub fn extend_from_keywords(&mut self, other: Self) -> Result<(), AllocError>
         ensures succeeds { other ≡ [] → IsOk result }
         ensures empty { self.old ≡ [] → IsOk result }

@@ -16,8 +16,8 @@ use std::alloc::{AllocError, Global};
 use std::marker::Model;
 use std::{mem, slice};
 
-/// Keywords or fields: a map from keys to values, listed in byte order of the keys. No key stands twice. `ca-buddhist-nu-thai`
-/// has `buddhist` at `ca` and `thai` at `nu`.
+/// Keywords or fields: a map from keys to values, listed in byte order of the keys. No key occurs twice.
+/// `ca-buddhist-nu-thai` has `buddhist` at `ca` and `thai` at `nu`.
 ///
 /// After ICU4X's `Keywords` and `Fields`.
 #[derive(Drop)]
@@ -68,7 +68,7 @@ impl<K: EntryKind> EntriesOf<K> {
         self.entries.as_slice()
     }
 
-    /// Where the key stands, or where it would.
+    /// The place of the key, or the place where it belongs.
     pub(crate) fn place_of(&self, key: &SubtagOf<K, 2>) -> Result<usize, usize>
         ensures { MatchResult result (λ place. IsFoundAt key.now self.now place) (λ place. IsMissingAt key.now self.now place) }
     {
@@ -109,7 +109,8 @@ impl<K: EntryKind> EntriesOf<K> {
         }
     }
 
-    /// The value of a key, if the map has the key: of `ca-buddhist-nu-thai` at `nu` it is `thai`, at `co` there is none.
+    /// The value of a key, if the map has the key: of `ca-buddhist-nu-thai` at `nu` it is `thai`, at `co` there is
+    /// none. It does not allocate.
     pub fn get(&self, key: &SubtagOf<K, 2>) -> Option<&ValueOf<K>>
         ensures { option_copied result ≡ value_at key.now self.now }
     {
@@ -119,7 +120,7 @@ impl<K: EntryKind> EntriesOf<K> {
         }
     }
 
-    /// Whether the map has the key: `nu-thai` has `nu`, and has no `ca`.
+    /// Whether the map has the key: `nu-thai` has `nu`, and has no `ca`. It does not allocate.
     pub fn contains_key(&self, key: &SubtagOf<K, 2>) -> bool
         ensures { result ≡ is_some (value_at key.now self.now) }
     {
@@ -128,8 +129,8 @@ impl<K: EntryKind> EntriesOf<K> {
 
     /// Sets the value of a key, and returns the value that it had, if any.
     ///
-    /// `nu` set to `latn` in `ca-buddhist-nu-thai` returns `thai` and leaves `ca-buddhist-nu-latn`. `AllocError`: out of
-    /// memory, and the map is as before. It does not allocate where the map has the key.
+    /// `nu` set to `latn` in `ca-buddhist-nu-thai` returns `thai` and leaves `ca-buddhist-nu-latn`. `AllocError`: out
+    /// of memory, and the map is as before. It does not allocate where the map has the key.
     pub fn set(
         &mut self,
         key: SubtagOf<K, 2>,
@@ -165,14 +166,15 @@ impl<K: EntryKind> EntriesOf<K> {
         mem::replace(self, Self::new(alloc))
     }
 
-    /// Whether the map has no entry: true of what `new` gives, and of the empty text.
+    /// Whether the map has no entry: true of what `new` gives, and of the empty text. It does not allocate.
     pub fn is_empty(&self) -> bool
         ensures { result ≡ (length self.now == 0) }
     {
         self.entries.is_empty()
     }
 
-    /// The entries one after another, in byte order of their keys, each a key and its value: two of `ca-coptic-nu-thai`.
+    /// The entries one after another, in byte order of their keys, each a key and its value: two of
+    /// `ca-coptic-nu-thai`. It does not allocate.
     pub fn iter(&self) -> slice::Iter<'_, (SubtagOf<K, 2>, ValueOf<K>)>
         ensures rest { iter_rest result ≡ self.now }
         ensures len { length (iter_rest result) ≡ length self.now }

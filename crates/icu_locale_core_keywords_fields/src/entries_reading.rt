@@ -1,4 +1,4 @@
-//! Reading keywords or fields that stand alone.
+//! Reading keywords or fields by themselves.
 
 ghost use Rattle.std.specs.Prelude.{◌≡◌, false, [], IfOk, IfErr, IsOk};
 ghost use Rattle.std.specs.Result.{IsErrOf};
@@ -16,11 +16,11 @@ use icu_locale_core_subtags::{Step, SubtagIterator};
 use std::alloc::Global;
 
 impl<K: EntryKind> EntriesOf<K> {
-    /// The map in this text: keys, each with the pieces of its value behind it; of equal keys the first stands.
+    /// The map in this text: keys, each with the pieces of its value behind it; of equal keys the first is kept.
     ///
     /// `NU-thai-ca-buddhist-nu-latn` has `ca` with `buddhist` and `nu` with `thai`; the empty text is the empty map.
-    /// `ParseError::InvalidExtension`: the text is no such list, or a field has no value. `ParseError::Memory`: out of memory.
-    /// It does not allocate where the first piece is no key, or a field has no piece of a value behind it.
+    /// `ParseError::InvalidExtension`: the text is no such list, or a field has no value. `ParseError::Memory`: out of
+    /// memory. It does not allocate where the first piece is no key, or a field has no piece of a value behind it.
     pub fn try_from_str(alloc: Global, s: &str) -> Result<Self, ParseError>
         ensures value { IfOk result (MeansEntries K.accepts K.needs (listed s.now)) }
         ensures fault { IfErr result (IsRefused (MeansEntries K.accepts K.needs (listed s.now))) }
@@ -30,7 +30,8 @@ impl<K: EntryKind> EntriesOf<K> {
         Self::try_from_utf8(alloc, s.as_bytes())
     }
 
-    /// The map in these bytes, as `try_from_str`.
+    /// The map in these bytes, as `try_from_str`: `NU-thai` has `nu` with `thai`. The errors are those of
+    /// `try_from_str`; it allocates where that does.
     pub fn try_from_utf8(alloc: Global, code_units: &[u8]) -> Result<Self, ParseError>
         ensures value { IfOk result (MeansEntries K.accepts K.needs (listed code_units.now)) }
         ensures fault { IfErr result (IsRefused (MeansEntries K.accepts K.needs (listed code_units.now))) }

@@ -115,8 +115,8 @@ fn entries_text_length<K: EntryKind>(map: &EntriesOf<K>) -> Option<usize>
 impl<K: EntryKind> EntriesOf<K> {
     /// Writes the entries in order of their keys, each subtag with a hyphen before it: `-ca-buddhist-nu-thai`.
     ///
-    /// The sink has not refused yet. `Error`, only where the sink refused: it took a beginning. It allocates only what the sink
-    /// does.
+    /// The condition is that the sink has not refused yet. `Error`, only where the sink refused: it has taken a
+    /// beginning. Only the sink may allocate.
     pub fn write_hyphened<S: Sink>(&self, sink: &mut S) -> Result<(), Error>
         requires { S.refused sink.old ≡ false }
         ensures ok { OnOk result (S.takes sink.old (bytes (hyphened_entries K.needs self.now)) sink.new) }
@@ -126,7 +126,8 @@ impl<K: EntryKind> EntriesOf<K> {
         write_entries(self.as_slice(), sink)
     }
 
-    /// How many bytes `write_hyphened` writes: 20 of `ca-buddhist-nu-thai`. `None` where a `usize` does not hold it.
+    /// How many bytes `write_hyphened` writes: 20 of `ca-buddhist-nu-thai`. `None` where a `usize` does not hold it. It
+    /// does not allocate.
     pub fn hyphened_length(&self) -> Option<usize>
         ensures { SomeIff result (length (hyphened_entries K.needs self.now) < 2 ^ 64) (length (hyphened_entries K.needs self.now)) }
     {

@@ -16,7 +16,7 @@ use std::alloc::{AllocError, Global};
 
 /// How the head before the entries is read, piece by piece; it may end anywhere.
 ///
-/// The head of `u` are attributes, that of `t` a language. A type that holds nothing stands for the way of reading.
+/// The head of `u` are attributes, that of `t` a language. An empty type names the way of reading.
 pub trait HeadReader {
     ghost use Rattle.std.specs.Prelude.{true, Bool, List, ℕ, Option};
 
@@ -39,7 +39,7 @@ pub trait HeadReader {
         ensures room { grows stage piece.now ≡ false → IsOk result };
 }
 
-/// No head: keywords or fields that stand alone.
+/// No head: keywords or fields by themselves.
 pub struct NoHead;
 
 impl HeadReader for NoHead {
@@ -70,7 +70,7 @@ fn read_key<K: EntryKind>(piece: &[u8]) -> Option<SubtagOf<K, 2>>
     SubtagOf::try_from_utf8(piece).ok()
 }
 
-/// The stage behind a head that has ended: the piece opens the first entry, or is refused.
+/// The stage behind a head that has ended: the piece opens the first entry, or does not fit.
 #[tactic(auto, unfolding(icu_locale_core_grammar::specs::Stepping::headed_after))]
 fn after_ended_head<H, K: EntryKind>(
     alloc: Global,
@@ -91,7 +91,7 @@ fn after_ended_head<H, K: EntryKind>(
     }
 }
 
-/// The stage behind an entry that is read: the piece goes into its value, or opens the next entry, or is refused.
+/// The stage behind an entry that is read: the piece goes into its value, or opens the next entry, or does not fit.
 #[tactic(auto, unfolding(icu_locale_core_grammar::specs::Stepping::headed_after))]
 fn after_entry<H: Drop, K: EntryKind>(
     alloc: Global,
@@ -125,8 +125,8 @@ fn after_entry<H: Drop, K: EntryKind>(
 
 /// The stage of a head and entries after a piece, or the stage as it was where the piece does not fit.
 ///
-/// Behind `nu-thai` the piece `latn` goes into the value, `ca` opens the next keyword, and `a` is refused. `AllocError`: out of
-/// memory. A first key does not allocate, nor does a refused piece behind a key.
+/// Behind `nu-thai` the piece `latn` goes into the value, `ca` opens the next keyword, and `a` is refused.
+/// `AllocError`: out of memory. A first key does not allocate, nor does a refused piece behind a key.
 #[tactic(auto, unfolding(icu_locale_core_grammar::specs::Stepping::headed_after))]
 pub fn headed_after<R: HeadReader, K: EntryKind>(
     alloc: Global,

@@ -1,5 +1,5 @@
-//! Laws of values and of maps: what holds of every one, and facts about the definitions, each proved as the contract of a
-//! function that does nothing.
+//! Laws of values and of maps: what holds of every one, and facts about the definitions, each proved as the contract of
+//! a function that does nothing.
 
 ghost use Rattle.icu_locale_core_grammar.specs.Collections.{Rises, keys_of};
 ghost use Rattle.icu_locale_core_keywords_fields.specs.Laws.{SettingSetsOne, RemovalTakesOne, JoiningPrefersOne, ValuesReadBack, KeywordsReadBack, FieldsReadBack, EqualityTells};
@@ -7,7 +7,7 @@ ghost use Rattle.icu_locale_core_keywords_fields.specs.Laws.{SettingSetsOne, Rem
 use crate::entries::EntriesOf;
 use crate::kind::EntryKind;
 
-/// The keys of a map rise in byte order: none stands twice. Those of `ca-buddhist-nu-thai` are `ca`, `nu`.
+/// The keys of a map rise in byte order: none occurs twice. Those of `ca-buddhist-nu-thai` are `ca`, `nu`.
 pub fn keys_rise<K: EntryKind>(map: &EntriesOf<K>)
     ensures { Rises (keys_of map.now) }
 {
@@ -20,8 +20,8 @@ pub fn setting()
     ensures { SettingSetsOne }
 {}
 
-/// A map without a key has at every other key what it had; its keys still rise: `ca-buddhist-nu-thai` without `nu` has `buddhist`
-/// at `ca`, and nothing at `nu`.
+/// A map without a key has at every other key what it had; its keys still rise: `ca-buddhist-nu-thai` without `nu` has
+/// `buddhist` at `ca`, and nothing at `nu`.
 pub fn removal()
     ensures { RemovalTakesOne }
 {}
@@ -32,8 +32,8 @@ pub fn joining()
     ensures { JoiningPrefersOne }
 {}
 
-/// A value that was read is in normal form, and the text of one in normal form reads back as it: `ABC-true` reads as `abc`, and
-/// so does `abc`.
+/// A value that was read is in normal form, and the text of one in normal form reads back as it: `ABC-true` reads as
+/// `abc`, and so does `abc`.
 pub fn values_read_back()
     ensures { ValuesReadBack }
 {}

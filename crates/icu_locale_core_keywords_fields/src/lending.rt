@@ -25,7 +25,8 @@ impl<K: EntryKind> EntriesOf<K> {
 
     /// The value of a key for writing, if the map has the key; what is written there is set at the key.
     ///
-    /// Of `nu-thai` at `nu` it is `thai`, and `abc` pushed there leaves `nu-thai-abc`; at `ca` there is none.
+    /// Of `nu-thai` at `nu` it is `thai`, and `abc` pushed there leaves `nu-thai-abc`; at `ca` there is none. It does
+    /// not allocate.
     pub fn get_mut(&mut self, key: &SubtagOf<K, 2>) -> Option<&mut ValueOf<K>>
         ensures* writes_back { sem 𝓛 (lends_get K.row K.needs K.SubtagRule self.entry key.now result) }
         ensures value { option_copied_mut result ≡ value_at key.now self.old }

@@ -1,4 +1,4 @@
-//! Where a key stands among entries whose keys rise, and entries set at their keys.
+//! The place of a key among entries whose keys rise, and entries set at their keys.
 
 ghost use Rattle.std.specs.Prelude.{◌≡◌, true, List, length, vec_len, vec_capacity, IfOk, OnOk, OnErr, IsOk, MatchResult, is_some, ◌≤◌, ◌<◌, fold};
 ghost use Rattle.std.specs.List.{count_by};
@@ -13,7 +13,7 @@ use icu_locale_core_subtags::SubtagOf;
 use std::alloc::AllocError;
 use std::mem;
 
-/// Where the key stands, or where it would.
+/// The place of the key, or the place where it belongs.
 pub(crate) fn place_in<K: EntryKind>(
     entries: &[(SubtagOf<K, 2>, ValueOf<K>)],
     key: &SubtagOf<K, 2>,

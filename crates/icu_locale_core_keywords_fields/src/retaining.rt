@@ -25,10 +25,10 @@ pub(crate) fn retain_pairs<X: Drop, Y: Drop, F: FnMut(&X) -> bool + Drop>(
 }
 
 impl EntriesOf<unicode::KeyRule> {
-    /// Keeps the entries at whose keys `keep` returns true. It is asked once at each key, in order.
+    /// Keeps the entries at whose keys `keep` returns true. It is called once with each key, in order.
     ///
-    /// The condition is that `keep` may be called at any time. Of `ca-buddhist-nu-thai`, where it keeps `nu` alone, `nu-thai`
-    /// is left. It does not allocate.
+    /// The condition is that `keep` may be called at any time. Of `ca-buddhist-nu-thai`, where it keeps only `nu`,
+    /// `nu-thai` is left. It does not allocate.
     pub fn retain_by_key<F: FnMut(&unicode::Key) -> bool + Drop>(&mut self, keep: F)
         requires { F.IsAlwaysCallable keep }
         ensures { IsRetained (CalledAt F.FnMut) keep self.old self.new }
@@ -38,10 +38,10 @@ impl EntriesOf<unicode::KeyRule> {
 }
 
 impl EntriesOf<transform::KeyRule> {
-    /// Keeps the entries at whose keys `keep` returns true. It is asked once at each key, in order.
+    /// Keeps the entries at whose keys `keep` returns true. It is called once with each key, in order.
     ///
-    /// The condition is that `keep` may be called at any time. Of `h0-hybrid-m0-und`, where it keeps `m0` alone, `m0-und` is
-    /// left. It does not allocate.
+    /// The condition is that `keep` may be called at any time. Of `h0-hybrid-m0-und`, where it keeps only `m0`,
+    /// `m0-und` is left. It does not allocate.
     pub fn retain_by_key<F: FnMut(&transform::Key) -> bool + Drop>(&mut self, keep: F)
         requires { F.IsAlwaysCallable keep }
         ensures { IsRetained (CalledAt F.FnMut) keep self.old self.new }

@@ -86,7 +86,7 @@ impl<K: EntryKind> ValueOf<K> {
         }
     }
 
-    /// The subtag of a value that has one alone: `abc` of `abc`, none of `abc-def`.
+    /// The subtag of a value that has exactly one: `abc` of `abc`, none of `abc-def`. It does not allocate.
     pub fn as_single_subtag(&self) -> Option<&Subtag>
         ensures { option_copied result ≡ one_piece self.now }
     {
@@ -96,14 +96,14 @@ impl<K: EntryKind> ValueOf<K> {
         }
     }
 
-    /// The subtag of a value that has one alone, as `as_single_subtag`.
+    /// The subtag of a value that has exactly one, as `as_single_subtag`: `abc` of `abc`. It does not allocate.
     pub fn into_single_subtag(self) -> Option<Subtag>
         ensures { result ≡ one_piece self }
     {
         self.as_single_subtag().copied()
     }
 
-    /// The subtags, none of which is `true`: of `abc-true-de` they are `abc`, `de`.
+    /// The subtags, none of which is `true`: of `abc-true-de` they are `abc`, `de`. It does not allocate.
     pub fn as_subtags_slice(&self) -> &[Subtag]
         ensures value { result.now ≡ self.now }
         ensures never_true { IsWithoutTrue result.now }
@@ -118,14 +118,16 @@ impl<K: EntryKind> ValueOf<K> {
         self.subtags.clear();
     }
 
-    /// The subtag at this place, from 0 on: of `abc-def` at 1 it is `def`, and at 2 there is none.
+    /// The subtag at this place, from 0 on: of `abc-def` at 1 it is `def`, and at 2 there is none. It does not
+    /// allocate.
     pub fn get_subtag(&self, index: usize) -> Option<&Subtag>
         ensures { option_copied result ≡ slice_get self.now index }
     {
         self.subtags.get(index)
     }
 
-    /// Removes the subtag at this place and returns it; `None`, and nothing is removed, where there is none.
+    /// Removes the subtag at this place and returns it; `None`, and nothing is removed, where there is none. Of
+    /// `abc-def` at 0 it returns `abc` and leaves `def`. It does not allocate.
     pub fn remove_subtag(&mut self, index: usize) -> Option<Subtag>
         ensures value { result ≡ slice_get self.old index }
         ensures rest { self.new ≡ remove self.old index }
@@ -137,21 +139,21 @@ impl<K: EntryKind> ValueOf<K> {
         }
     }
 
-    /// How many subtags the value has: 2 of `abc-def`.
+    /// How many subtags the value has: 2 of `abc-def`. It does not allocate.
     pub fn subtag_count(&self) -> usize
         ensures { result ≡ length self.now }
     {
         self.subtags.len()
     }
 
-    /// Whether the value has no subtag: true of `true`, which is left out, and false of `abc`.
+    /// Whether the value has no subtag: true of `true`, which is left out, and false of `abc`. It does not allocate.
     pub fn is_empty(&self) -> bool
         ensures { result ≡ (length self.now == 0) }
     {
         self.subtags.is_empty()
     }
 
-    /// The subtags one after another: of `abc-de` `abc`, and then `de`.
+    /// The subtags one after another: of `abc-de` `abc`, and then `de`. It does not allocate.
     pub fn iter(&self) -> slice::Iter<'_, Subtag>
         ensures rest { iter_rest result ≡ self.now }
         ensures len { length (iter_rest result) ≡ length self.now }

@@ -42,8 +42,9 @@ impl<K: EntryKind> ValueOf<K> {
 
     /// The value of this text: pieces of 3 to 8 letters and digits between hyphens, in lower case, without `true`.
     ///
-    /// `ABC-true-def` is `abc-def`, and the empty text the empty value. `ParseError::InvalidExtension`: a piece is of another
-    /// kind. `ParseError::Memory`: memory was refused; none is taken where the first piece is of another kind.
+    /// `ABC-true-def` is `abc-def`, and the empty text the empty value. `ParseError::InvalidExtension`: a piece is of
+    /// another kind. `ParseError::Memory`: out of memory. It does not allocate where the first piece is of another
+    /// kind.
     pub fn try_from_str(alloc: Global, s: &str) -> Result<Self, ParseError>
         ensures value { IfOk result (ReadsValue s.now) }
         ensures fault { IfErr result (IsRefused (ReadsValue s.now)) }
@@ -53,7 +54,8 @@ impl<K: EntryKind> ValueOf<K> {
         Self::try_from_utf8(alloc, s.as_bytes())
     }
 
-    /// The value of these bytes, as `try_from_str`.
+    /// The value of these bytes, as `try_from_str`: `ABC-true-def` is `abc-def`. The errors are those of
+    /// `try_from_str`; it allocates where that does.
     pub fn try_from_utf8(alloc: Global, code_units: &[u8]) -> Result<Self, ParseError>
         ensures value { IfOk result (ReadsValue code_units.now) }
         ensures fault { IfErr result (IsRefused (ReadsValue code_units.now)) }

@@ -14,8 +14,8 @@ use writeable::{Error, LengthHint, Sink, Writeable, display, strict_cmp};
 impl<K: EntryKind> ValueOf<K> {
     /// Writes the subtags, each with a hyphen before it: `-abc-def`. Of a field without a value it is `-true`.
     ///
-    /// The sink has not refused yet. `Error`, only where the sink refused: it took a beginning. It allocates only what the sink
-    /// does.
+    /// The condition is that the sink has not refused yet. `Error`, only where the sink refused: it has taken a
+    /// beginning. Only the sink may allocate.
     pub fn write_hyphened<S: Sink>(&self, sink: &mut S) -> Result<(), Error>
         requires { S.refused sink.old ≡ false }
         ensures ok { OnOk result (S.takes sink.old (bytes (hyphened_value K.needs self.now)) sink.new) }
@@ -37,7 +37,8 @@ impl<K: EntryKind> ValueOf<K> {
         strict_cmp(self, other.as_bytes()).is_eq()
     }
 
-    /// How many bytes `write_hyphened` writes: 8 of `abc-def`. `None` where a `usize` does not hold it.
+    /// How many bytes `write_hyphened` writes: 8 of `abc-def`. `None` where a `usize` does not hold it. It does not
+    /// allocate.
     pub fn hyphened_length(&self) -> Option<usize>
         ensures { SomeIff result (length (hyphened_value K.needs self.now) < 2 ^ 64) (length (hyphened_value K.needs self.now)) }
     {
