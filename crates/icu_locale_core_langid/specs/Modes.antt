@@ -1,4 +1,4 @@
--- What a reader of language identifiers takes in each mode, and how it refuses.
+-- What a reader of language identifiers takes in each mode, and its errors.
 -- Defined in docs/tags.md, "Modes".
 -- Cited by `parse_language_identifier` and `parse_language_identifier_from_iter`.
 use Rattle.std.specs.Prelude.{◌≡◌, Bool, true, false, List, [], ◌∷◌}
@@ -17,7 +17,7 @@ ReadsInMode LanguageIdentifier ps id rest = MeansLanguage ps id × (rest ≡ [])
 ReadsInMode Locale ps id rest = MeansLanguage (before_single ps) id × (rest ≡ from_single ps)
 ReadsInMode Partial ps id rest = ReadsFront MeansLanguage ps id rest
 
--- in this mode the pieces are refused with this fault
+-- in this mode the pieces have this fault
 abbrev pub HasFaultInMode : ParserMode → List Text → ParseError → Type 0
 HasFaultInMode LanguageIdentifier ps e = HasFault MeansLanguage ps e
 HasFaultInMode Locale ps e = HasFault MeansLanguage (before_single ps) e

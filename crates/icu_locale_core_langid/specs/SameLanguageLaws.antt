@@ -1,6 +1,6 @@
 -- The laws of `==` and of `hash` of language identifiers.
 -- Defined in docs/tags.md, "Orders".
--- Cited by the impls of `PartialEq`, `Eq` and `Hash` of `LanguageIdentifier`, whose laws it proves; `laws` cites the statements.
+-- Cited by `PartialEq`, `Eq` and `Hash` of `LanguageIdentifier`, whose laws it proves; `laws` cites the statements.
 use Rattle.std.proofs.Common.{◌≡◌, true, ◌&&◌, Option, None, Some, refl, ap, subst, Decides}
 use Rattle.std.specs.Cmp.{IsEquivalence, on_equiv, and_equiv}
 use Rattle.std.specs.Cmp.Lexicographic.{pointwise, bytes_decides, pointwise_decides, nat_list_eq_equiv, lists_equiv, options_equiv}

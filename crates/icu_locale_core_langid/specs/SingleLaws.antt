@@ -1,4 +1,4 @@
--- What holds of reading at most one variant and at most one keyword in each mode: a meaning or a fault, one, and never both.
+-- What holds of reading at most one variant and one keyword in each mode: one meaning or one fault, and never both.
 -- Defined in docs/tags.md, "One variant and one keyword" and "Modes".
 -- Cited by the functions of the module of laws.
 use Rattle.std.specs.Prelude.{◌≡◌, List, None, ◌⊎◌}

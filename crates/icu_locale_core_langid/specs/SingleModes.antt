@@ -1,4 +1,4 @@
--- What is read of a list of pieces as at most one variant and at most one keyword in each mode, and how it is refused.
+-- What each mode reads of a list of pieces as at most one variant and at most one keyword, and its faults.
 -- Defined in docs/tags.md, "One variant and one keyword" and "Modes".
 -- Cited by the readers of at most one variant that are given a mode, and by the laws on them.
 use Rattle.std.specs.Prelude.{◌≡◌, List, Option, None}
@@ -13,7 +13,7 @@ use Rattle.icu_locale_core_langid.specs.OneVariant.{MeansOneVariant, one_variant
 use Rattle.icu_locale_core_langid.specs.declared.modes.ParserMode.{ParserMode}
 use Rattle.icu_locale_core_langid.specs.declared.modes.ParserMode.TheVariants.{LanguageIdentifier, Locale, Partial}
 
--- ---- what a reader answers
+-- ---- what a reader returns
 
 -- four parts and a keyword as a meaning
 abbrev pub with_keyword : Text × Option Text × Option Text × Option Text → Option (Text × Option Text) → SingleMeaning
@@ -29,13 +29,13 @@ language_of m = one_variant m.language m.script m.region m.variant
 
 -- ---- in a mode
 
--- the pieces are read as m: mode Locale alone reads a keyword, and mode Partial leaves what stands behind the language part
+-- the pieces are read as m: only mode Locale reads a keyword, and mode Partial leaves what follows the language part
 abbrev pub MeansSingleInMode : ParserMode → List Text → SingleMeaning → Type 0
 MeansSingleInMode LanguageIdentifier ps m = MeansOneVariant ps (language_of m) × (m.keyword ≡ None)
 MeansSingleInMode Locale ps m = MeansSingle ps m
 MeansSingleInMode Partial ps m = ((rest : List Text) × ReadsFront MeansOneVariant ps (language_of m) rest) × (m.keyword ≡ None)
 
--- the pieces are refused with this fault
+-- the pieces have this fault
 abbrev pub HasSingleFaultInMode : ParserMode → List Text → ParseError → Type 0
 HasSingleFaultInMode LanguageIdentifier ps e = HasFault MeansOneVariant ps e
 HasSingleFaultInMode Locale ps e = HasSingleFault ps e

@@ -1,5 +1,5 @@
--- When pieces spell a language identifier that is given: part by part but for case, the variants in any order.
--- Defined in docs/tags.md, "Language identifiers as values"; that these are the pieces which mean it is proved, not believed.
+-- When pieces spell a language identifier that is given: part by part, whatever the case, the variants in any order.
+-- Defined in docs/tags.md, "Language identifiers as values"; that these are the pieces which mean it is proved.
 -- Cited by the private calls of `LanguageIdentifier::normalizing_eq`.
 use Rattle.std.specs.Prelude.{◌≡◌, Bool, true, false, not, ◌&&◌, List, [], ◌∷◌, ◌++◌, map}
 use Rattle.icu_locale_core_grammar.specs.Subtags.{Text, is_variant, lower}
@@ -11,7 +11,7 @@ pub record IsBehind (ts ps rest : List Text) : Type 0 where
   pub parts : ps ≡ front ++ rest
   pub same : map lower front ≡ map lower ts
 
--- the answer of a call that takes these texts from the pieces
+-- the result of a call that takes these texts from the pieces
 abbrev pub Takes : Bool → List Text → List Text → List Text → Type 0
 Takes true ts ps left = IsBehind ts ps left
 Takes false ts ps left = (rest : List Text) → IsBehind ts ps rest → ⊥
@@ -27,11 +27,11 @@ pub record SpellsSet (ps set : List Text) : Type 0 where
 abbrev pub is_among : List Text → Text → Bool
 is_among set p = is_variant p && contains_text (lower p) set
 
--- no piece stands twice
+-- no piece occurs twice
 abbrev pub stand_once : List Text → Bool
 stand_once [] = true
 stand_once (p ∷ ps) = not (contains_text (lower p) (map lower ps)) && stand_once ps
 
--- the text stands among the pieces
+-- the text is one of the pieces
 abbrev pub stands_in : List Text → Text → Bool
 stands_in ps v = contains_text (lower v) (map lower ps)

@@ -46,7 +46,8 @@ impl Hash for LanguageIdentifier {
 impl LanguageIdentifier {
     /// The order of two identifiers, part by part: the language, the script, the region, the variants.
     ///
-    /// None comes before some: `en` before `en-Latn`, and `en-US` before `en-Latn`. `Equal` exactly where they are equal.
+    /// None comes before some: `en` before `en-Latn`, and `en-US` before `en-Latn`. `Equal` exactly where they are
+    /// equal. It does not allocate.
     pub fn total_cmp(&self, other: &Self) -> Ordering
         ensures { result ≡ language_cmp self.now other.now }
     {
@@ -57,7 +58,7 @@ impl LanguageIdentifier {
             .then(self.variants.cmp(&other.variants))
     }
 
-    /// The byte order of the text against these bytes; the text is not built, and it takes no memory.
+    /// The byte order of the text against these bytes; the text is not built, and it does not allocate.
     ///
     /// `en-US` is `Greater` than `en+`, and `Less` than `en-US-x`.
     #[tactic(auto, using(writeable::proofs::AnnotatedTextLemmas::text_of_bytes))]

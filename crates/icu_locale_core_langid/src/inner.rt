@@ -45,10 +45,10 @@ fn write_inner_parts<S: Sink>(id: &LanguageIdentifier, sink: &mut S) -> Result<(
 }
 
 impl LanguageIdentifier {
-    /// Writes the identifier as it stands within `t`: each piece in lower case, with a hyphen before it.
+    /// Writes the identifier as it is written within `t`: each piece in lower case, with a hyphen before it.
     ///
-    /// Of `en-Latn-US` it writes `-en-latn-us`. The sink has not refused yet. `Error`, only where the sink refused: it took a
-    /// beginning. It takes no memory but the sink's.
+    /// Of `en-Latn-US` it writes `-en-latn-us`. The condition is that the sink has not refused yet. `Error`, only where
+    /// the sink refused: it has taken a beginning. Only the sink may allocate.
     #[tactic(auto, using(crate::proofs::LanguageTextLemmas::inner_joined))]
     pub fn write_inner_to<S: Sink>(&self, sink: &mut S) -> Result<(), Error>
         requires { S.refused sink.old ≡ false }
@@ -60,7 +60,8 @@ impl LanguageIdentifier {
         write_inner_parts(self, sink)
     }
 
-    /// How many bytes `write_inner_to` writes, where a `usize` holds the number: of `en-Latn-US` they are 11.
+    /// How many bytes `write_inner_to` writes, where a `usize` holds the number: of `en-Latn-US` they are 11. It does
+    /// not allocate.
     #[tactic(auto, using(crate::proofs::LanguageTextLemmas::inner_length))]
     pub fn inner_length(&self) -> Option<usize>
         ensures { SomeIff result (length (inner_text self.now) < 2 ^ 64) (length (inner_text self.now)) }

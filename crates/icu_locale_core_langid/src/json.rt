@@ -20,7 +20,7 @@ use serde_json::Value;
 use std::alloc::{AllocError, Global};
 use writeable::Writeable;
 
-/// The text of the value as a JSON value: `en-US` gives `"en-US"`. `AllocError` is answered for memory alone.
+/// The text of the value as a JSON value: `en-US` gives `"en-US"`. It allocates. `AllocError`: out of memory.
 pub fn json_of<T: Writeable>(alloc: Global, value: &T) -> Result<Value, AllocError>
     ensures { IfOk result (λ json. view json ≡ string (text_of (T.events value.now))) }
 {
@@ -28,7 +28,7 @@ pub fn json_of<T: Writeable>(alloc: Global, value: &T) -> Result<Value, AllocErr
 }
 
 impl LanguageIdentifier {
-    /// The text as a JSON value: `en-US` gives `"en-US"`. `AllocError` is answered for memory alone.
+    /// The text as a JSON value: `en-US` gives `"en-US"`. It allocates. `AllocError`: out of memory.
     #[tactic(auto, using(writeable::proofs::AnnotatedTextLemmas::text_of_bytes))]
     pub fn to_json(&self, alloc: Global) -> Result<Value, AllocError>
         ensures { IfOk result (λ value. view value ≡ string (language_text self.now)) }
@@ -38,7 +38,8 @@ impl LanguageIdentifier {
 
     /// The language identifier of the text in a JSON value, as `try_from_str`: `"EN-us"` gives `en-US`.
     ///
-    /// A value that is no text is refused as the empty text is: `InvalidLanguage`.
+    /// The errors are those of `try_from_str`. A value that is no text has the error of the empty text,
+    /// `InvalidLanguage`. It allocates only for variants.
     pub fn from_json(alloc: Global, value: &Value) -> Result<Self, ParseError>
         ensures value { IfOk result (λ id. MeansLanguage (pieces (json_text (view value.now))) id) }
         ensures fault { IfErr result (λ e. (e ≡ ParseError.Memory) ⊎ HasFault MeansLanguage (pieces (json_text (view value.now))) e) }

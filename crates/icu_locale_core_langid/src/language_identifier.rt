@@ -11,8 +11,8 @@ use std::marker::Model;
 
 /// A language, a script or none, a region or none, and a set of variants.
 ///
-/// `en-latn-us-fonipa-1996` is the language `en`, the script `Latn`, the region `US` and the variants `1996` and `fonipa`.
-/// Source: UTS 35, section 3.1, "Unicode Language Identifier".
+/// `en-latn-us-fonipa-1996` is the language `en`, the script `Latn`, the region `US` and the variants `1996` and
+/// `fonipa`. Source: UTS 35, section 3.1, "Unicode Language Identifier".
 #[derive(Drop)]
 pub struct LanguageIdentifier {
     /// The language; `und` where it is not known.
@@ -46,7 +46,8 @@ impl Model for LanguageIdentifier {
 }
 
 impl LanguageIdentifier {
-    /// The identifier of these three parts, without a variant: of `en`, no script and `US` it is `en-US`. It takes no memory.
+    /// The identifier of these three parts, without a variant: of `en`, no script and `US` it is `en-US`. It does not
+    /// allocate.
     pub fn from_triple(alloc: Global, triple: (Language, Option<Script>, Option<Region>)) -> Self
         ensures { result ≡ with_parts triple.0 triple.1 triple.2 [] }
     {
@@ -59,35 +60,35 @@ impl LanguageIdentifier {
         }
     }
 
-    /// The identifier of this language alone: of `en` it is `en`. It takes no memory.
+    /// The identifier of only this language: of `en` it is `en`. It does not allocate.
     pub fn from_language(alloc: Global, language: Language) -> Self
         ensures { result ≡ with_parts language None None [] }
     {
         Self::from_triple(alloc, (language, None, None))
     }
 
-    /// The language `und` with this script, or alone: of `Latn` it is `und-Latn`. It takes no memory.
+    /// The language `und` with this script, or only `und`: of `Latn` it is `und-Latn`. It does not allocate.
     pub fn from_script(alloc: Global, script: Option<Script>) -> Self
         ensures { result ≡ with_parts unknown_language script None [] }
     {
         Self::from_triple(alloc, (Language::default(), script, None))
     }
 
-    /// The language `und` with this region, or alone: of `US` it is `und-US`. It takes no memory.
+    /// The language `und` with this region, or only `und`: of `US` it is `und-US`. It does not allocate.
     pub fn from_region(alloc: Global, region: Option<Region>) -> Self
         ensures { result ≡ with_parts unknown_language None region [] }
     {
         Self::from_triple(alloc, (Language::default(), None, region))
     }
 
-    /// The language `und`, and nothing else: it prints as `und`. It takes no memory.
+    /// The language `und`, and nothing else: it prints as `und`. It does not allocate.
     pub fn unknown(alloc: Global) -> Self
         ensures { result ≡ with_parts unknown_language None None [] }
     {
         Self::from_language(alloc, Language::default())
     }
 
-    /// Whether this is the language `und`, and nothing else: `und` is, and `und-Latn` is not.
+    /// Whether this is the language `und`, and nothing else: `und` is, and `und-Latn` is not. It does not allocate.
     pub fn is_unknown(&self) -> bool
         ensures { IsTrue result ↔ (self.now ≡ with_parts unknown_language None None []) }
     {
@@ -97,7 +98,7 @@ impl LanguageIdentifier {
             && self.variants.is_empty()
     }
 
-    /// The language, the script and the region: of `en-US-1996` they are `en`, none and `US`.
+    /// The language, the script and the region: of `en-US-1996` they are `en`, none and `US`. It does not allocate.
     pub fn triple(&self) -> (Language, Option<Script>, Option<Region>)
         ensures language { result.0 ≡ self.now.language }
         ensures script { result.1 ≡ self.now.script }
@@ -106,8 +107,8 @@ impl LanguageIdentifier {
         (self.language, self.script, self.region)
     }
 
-    /// An equal identifier: of `en-US-1996` it is `en-US-1996`. `AllocError` is answered for memory alone, and without a variant none
-    /// is taken.
+    /// A copy: of `en-US-1996` it is `en-US-1996`. It allocates where there is a variant. `AllocError`: out of memory,
+    /// only there.
     pub fn try_clone(&self) -> Result<Self, AllocError>
         ensures succeeds { self.now.variants ≡ [] → IsOk result }
         ensures value { IfOk result (λ id. id ≡ self.now) }

@@ -20,8 +20,8 @@ use writeable::{Writeable, strict_cmp};
 
 /// The text of the value: these bytes themselves where they are it, else a new text.
 ///
-/// The value `en-US` gives a new text for `EN-us`, and borrows `en-US`. `Memory`, the only refusal: memory was refused, which is
-/// taken for a new text alone.
+/// The value `en-US` gives a new text for `EN-us`, and borrows `en-US`. `Memory`, the only error: out of memory. It
+/// allocates only for a new text.
 pub fn text_or_input<'a, T: Writeable>(
     alloc: Global,
     value: &T,
@@ -45,8 +45,8 @@ pub fn text_or_input<'a, T: Writeable>(
 impl LanguageIdentifier {
     /// The normal text of a text, borrowed where the text is normal.
     ///
-    /// `EN-us` gives a new `en-US`, and `en-US` gives itself. It refuses as `try_from_str` does; beside variants, memory is taken
-    /// for a new text alone.
+    /// `EN-us` gives a new `en-US`, and `en-US` gives itself. The errors are those of `try_from_str`. It allocates only
+    /// for variants and a new text.
     pub fn normalize(alloc: Global, input: &str) -> Result<CowStr<'_, Global>, ParseError>
         ensures value { IfOk result (λ text. (id : LanguageId) × MeansLanguage (pieces input.now) id × IsNormalized input.now (language_text id) text) }
         ensures fault { IfErr result (λ e. (e ≡ ParseError.Memory) ⊎ HasFault MeansLanguage (pieces input.now) e) }
@@ -55,7 +55,8 @@ impl LanguageIdentifier {
         Self::normalize_utf8(alloc, input.as_bytes())
     }
 
-    /// The normal text of the bytes of a text, as `normalize`.
+    /// The normal text of the bytes of a text, as `normalize`: `EN-us` gives a new `en-US`. The errors are those of
+    /// `normalize`; it allocates where that does.
     pub fn normalize_utf8(alloc: Global, input: &[u8]) -> Result<CowStr<'_, Global>, ParseError>
         ensures value { IfOk result (λ text. (id : LanguageId) × MeansLanguage (pieces input.now) id × IsNormalized input.now (language_text id) text) }
         ensures fault { IfErr result (λ e. (e ≡ ParseError.Memory) ⊎ HasFault MeansLanguage (pieces input.now) e) }

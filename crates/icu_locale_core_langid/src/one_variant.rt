@@ -1,4 +1,4 @@
-//! Reading a language identifier of at most one variant, without memory.
+//! Reading a language identifier of at most one variant; nothing allocates.
 
 ghost use Rattle.std.specs.Prelude.{◌≡◌, ◌&&◌, Some, None, option_map, is_none, MatchOption, MatchResult, if◌then◌else◌};
 ghost use Rattle.icu_locale_core_grammar.specs.Subtags.{title, upper, lower, is_variant};
@@ -11,10 +11,10 @@ use crate::language_identifier::LanguageIdentifier;
 use icu_locale_core_grammar::ParseError;
 use icu_locale_core_subtags::{Language, Region, Script, SubtagIterator, Variant};
 
-/// The parts of a language identifier of at most one variant: a language, a script or none, a region or none, and a variant
-/// or none. They are what the readers of one variant hold while they read, and what they answer.
+/// The parts of a language identifier of at most one variant: a language, a script or none, a region or none, and a
+/// variant or none. The readers of one variant hold them while they read, and return them.
 ///
-/// Those of `de-DE-1996` are `de`, no script, `DE` and `1996`. They take no memory.
+/// Those of `de-DE-1996` are `de`, no script, `DE` and `1996`. They need no allocation.
 pub type OneVariantParts = (Language, Option<Script>, Option<Region>, Option<Variant>);
 
 // The script that the piece is, right behind the language.
@@ -76,10 +76,10 @@ fn parts_after(parts: &OneVariantParts, piece: &[u8]) -> Option<OneVariantParts>
     }
 }
 
-/// The step that the readers of one variant share: the parts with one more piece, where `None` stands for no part yet.
+/// The step that the readers of one variant share: the parts with one more piece, where `None` means no part yet.
 ///
-/// `None` and `de` give `de`; behind it `DE` gives `de-DE`, and behind `de-1996` the second variant `fonipa` gives `None`, as
-/// any piece that does not fit there. It takes no memory. Source: UTS 35, section 3.1.
+/// `None` and `de` give `de`; behind it `DE` gives `de-DE`, and behind `de-1996` the second variant `fonipa` gives
+/// `None`, as any piece that does not fit there. It does not allocate. Source: UTS 35, section 3.1.
 pub fn one_variant_step(parts: &Option<OneVariantParts>, piece: &[u8]) -> Option<OneVariantParts>
     ensures { MatchOption result (one_variant_after (option_map parts_id parts.now) piece.now ≡ None) (λ next. one_variant_after (option_map parts_id parts.now) piece.now ≡ Some (Some (parts_id next))) }
 {
@@ -103,10 +103,10 @@ fn fault_of(parts: &Option<OneVariantParts>) -> ParseError
 }
 
 impl LanguageIdentifier {
-    /// The parts of the language identifier that the bytes are, where it has one variant at most. It takes no memory.
+    /// The parts of the language identifier that the bytes are, where it has one variant at most. It does not allocate.
     ///
-    /// `de-DE-1996` gives `de`, no script, `DE` and `1996`. `InvalidLanguage`: the first piece is no language. `InvalidSubtag`:
-    /// a later piece does not fit, or is a second variant, as in `de-1996-fonipa`.
+    /// `de-DE-1996` gives `de`, no script, `DE` and `1996`. `InvalidLanguage`: the first piece is no language.
+    /// `InvalidSubtag`: a later piece does not fit, or is a second variant, as in `de-1996-fonipa`.
     pub fn try_from_utf8_with_single_variant(
         code_units: &[u8],
     ) -> Result<OneVariantParts, ParseError>

@@ -79,9 +79,9 @@ fn leaves(mode: ParserMode, rest: &SubtagIterator<'_>) -> bool
 
 /// Reads a language identifier from the next pieces, as much as the mode says, and leaves the rest.
 ///
-/// Of the pieces `en`, `US`, `u`, `nu`, mode `Locale` reads `en-US` and leaves `u`, `nu`. `InvalidLanguage`: the first piece
-/// is no language, or there is none. `InvalidSubtag`: a later piece does not fit and the mode does not leave it. `Memory`:
-/// memory was refused, which is taken for variants alone. After a refusal all pieces are left.
+/// Of the pieces `en`, `US`, `u`, `nu`, mode `Locale` reads `en-US` and leaves `u`, `nu`. `InvalidLanguage`: the first
+/// piece is no language, or there is none. `InvalidSubtag`: a later piece does not fit and the mode does not leave it.
+/// `Memory`: out of memory; it allocates only for variants. After an error all pieces are left.
 pub fn parse_language_identifier_from_iter(
     alloc: Global,
     iter: &mut SubtagIterator<'_>,
@@ -107,9 +107,10 @@ pub fn parse_language_identifier_from_iter(
     }
 }
 
-/// Reads a language identifier from the pieces of a text, as much as the mode says; what is left is not looked at.
+/// Reads a language identifier from the pieces of a text, as much as the mode says; the rest is not read.
 ///
-/// Of `en-US-u-nu-thai`, mode `Locale` reads `en-US`. It refuses as `parse_language_identifier_from_iter` does.
+/// Of `en-US-u-nu-thai`, mode `Locale` reads `en-US`. The errors are those of `parse_language_identifier_from_iter`. It
+/// allocates only for variants.
 pub fn parse_language_identifier(
     alloc: Global,
     code_units: &[u8],

@@ -28,7 +28,8 @@ impl LanguageIdentifier {
         Self::try_from_utf8(alloc, s.as_bytes())
     }
 
-    /// The language identifier that the bytes are, as `try_from_str`.
+    /// The language identifier that the bytes are, as `try_from_str`: `EN-us` reads as `en-US`. The errors are those of
+    /// `try_from_str`; it allocates where that does.
     pub fn try_from_utf8(alloc: Global, code_units: &[u8]) -> Result<Self, ParseError>
         ensures value { IfOk result (λ id. MeansLanguage (pieces code_units.now) id) }
         ensures fault { IfErr result (λ e. (e ≡ ParseError.Memory) ⊎ HasFault MeansLanguage (pieces code_units.now) e) }

@@ -1,4 +1,4 @@
-//! Whether a text reads as a given language identifier, without memory.
+//! Whether a text reads as a given language identifier; nothing allocates.
 
 ghost use Rattle.std.specs.Prelude.{◌≡◌, ◌↔◌, [], ◌∷◌, map, option_to_list, IsTrue};
 ghost use Rattle.std.specs.List.{list_all};
@@ -48,7 +48,7 @@ fn stands_among(text: &[u8], pieces: SubtagIterator<'_>) -> bool
     false
 }
 
-// Whether no piece stands twice, but for case.
+// Whether no piece occurs twice, whatever its case.
 fn stand_apart(pieces: SubtagIterator<'_>) -> bool
     ensures { result ≡ stand_once pieces.entry }
 {
@@ -106,7 +106,8 @@ fn spell_set(pieces: &SubtagIterator<'_>, set: &Variants) -> bool
 }
 
 impl LanguageIdentifier {
-    /// Whether the text reads as this identifier: `EN-latn` and `en-Latn` do as `en-Latn`, `en` does not. It takes no memory.
+    /// Whether the text reads as this identifier: `EN-latn` and `en-Latn` do as `en-Latn`, `en` does not. It does not
+    /// allocate.
     pub fn normalizing_eq(&self, other: &str) -> bool
         ensures { IsTrue result ↔ MeansLanguage (pieces other.now) self.now }
     {

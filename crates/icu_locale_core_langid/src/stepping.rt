@@ -91,8 +91,8 @@ fn piece_after(id: LanguageStage, piece: &[u8]) -> Result<Step<LanguageStage>, A
 
 /// The language part with one more piece, `None` before its first piece; a piece that does not fit leaves it as it was.
 ///
-/// Behind `en` the piece `us` gives `en-US`, and the piece `u` is refused. `AllocError` is answered for memory alone, which
-/// is taken for one more variant alone.
+/// Behind `en` the piece `us` gives `en-US`, and the piece `u` does not fit. `AllocError`: out of memory. It allocates
+/// only for one more variant.
 pub fn language_after(
     alloc: Global,
     language: Option<LanguageStage>,

@@ -25,7 +25,8 @@ pub(crate) fn write_piece<S: Sink>(piece: &str, sink: &mut S) -> Result<(), Erro
 
 /// Writes a hyphen and the subtag, where there is one: `-US` of the region `US`, and nothing of none.
 ///
-/// The sink has not refused yet. It fails exactly where the sink refuses, and takes no memory but what the sink takes.
+/// The condition is that the sink has not refused yet. `Error` exactly where the sink refuses. Only the sink may
+/// allocate.
 #[tactic(auto, using(crate::proofs::LanguageTextLemmas::one_piece_events, crate::proofs::LanguageTextLemmas::no_piece_events))]
 pub fn write_optional<R: SubtagRule<N>, const N: usize, S: Sink>(
     subtag: Option<SubtagOf<R, N>>,

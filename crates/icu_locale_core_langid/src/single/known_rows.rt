@@ -1,4 +1,4 @@
-//! Rows of the definitions: what each mode reads of a text, and how it is refused. Each is the contract of a function that
+//! Rows of the definitions: what each mode reads of a text, or its fault. Each is the contract of a function that
 //! computes nothing.
 
 ghost use Rattle.std.specs.Prelude.{None, Some, codes};
@@ -25,7 +25,7 @@ pub fn read_rows()
     ensures transform_left { MeansSingleInMode Partial (pieces (codes "en-t-de")) (single (codes "en", None, None, None, None)) }
 {}
 
-/// How mode `Locale` refuses.
+/// The faults in mode `Locale`.
 pub fn locale_refused_rows()
     // a second variant
     ensures second_variant { HasSingleFaultInMode Locale (pieces (codes "de-1996-fonipa")) InvalidSubtag }
@@ -45,7 +45,7 @@ pub fn locale_refused_rows()
     ensures nothing { HasSingleFaultInMode Locale (pieces (codes "")) InvalidLanguage }
 {}
 
-/// How the other modes refuse.
+/// The faults in the other modes.
 pub fn other_refused_rows()
     // a singleton
     ensures singleton { HasSingleFaultInMode LanguageIdentifier (pieces (codes "en-US-u-nu-thai")) InvalidSubtag }

@@ -4,7 +4,7 @@ ghost use Rattle.icu_locale_core_langid.specs.SingleLaws.{HasMeaningOrFault, Has
 
 /// In each mode a list of pieces has a meaning or a fault, one of them, and never both.
 ///
-/// So a reader that answers nothing but the meaning or the fault accepts exactly what has a meaning.
+/// So a reader that returns only the meaning or the fault accepts exactly what has a meaning.
 pub fn modes_are_answered()
     ensures answered { HasMeaningOrFault }
     ensures one_meaning { HasOneMeaning }
@@ -12,8 +12,8 @@ pub fn modes_are_answered()
     ensures never_both { HasNeverBoth }
 {}
 
-/// What mode `LanguageIdentifier` reads, as `de-DE-1996`, each mode reads the same; and what mode `Locale` reads without a
-/// keyword, mode `LanguageIdentifier` reads the same.
+/// What mode `LanguageIdentifier` reads, as `de-DE-1996`, each mode reads the same; and what mode `Locale` reads
+/// without a keyword, mode `LanguageIdentifier` reads the same.
 pub fn modes_agree()
     ensures whole { ModesAgree }
     ensures keywordless { KeywordlessAgree }

@@ -1,7 +1,7 @@
-//! Tags of at most one variant and one keyword, read without memory.
+//! Tags of at most one variant and one keyword; reading them does not allocate.
 //!
-//! `en-US-u-nu-thai` is the language `en`, the region `US` and the keyword `nu` with the value `thai`, each of a size that is
-//! known before it is read. The rules are in docs/tags.md, "One variant and one keyword" and "Modes".
+//! `en-US-u-nu-thai` is the language `en`, the region `US` and the keyword `nu` with the value `thai`, each of a size
+//! that is known before it is read. The rules are in docs/tags.md, "One variant and one keyword" and "Modes".
 //!
 //! ```rust
 //! use icu_locale_core_langid::ParserMode;

@@ -68,14 +68,16 @@ fn read_language(from: SubtagIterator<'_>) -> Result<OneVariantParts, ParseError
     }
 }
 
-/// The parts that the pieces mean with at most one variant and at most one keyword, as the mode says. It takes no memory.
+/// The parts that the pieces mean with at most one variant and at most one keyword, as the mode says. It does not
+/// allocate.
 ///
 /// Of the pieces `en`, `US`, `u`, `nu`, `thai`, mode `Locale` reads `en`, `US` and the keyword `nu` with `thai`; mode
-/// `Partial` reads `en` and `US` and leaves the rest unread; mode `LanguageIdentifier` refuses `u`. The value `true` is left
-/// out. `InvalidLanguage`: the first piece is no language, or there is none; in mode `Partial` there is no other fault.
-/// `InvalidSubtag`: a later piece does not fit, or is a second variant, as in `de-1996-fonipa`; in mode `LanguageIdentifier`
-/// a singleton too. `InvalidExtension`, in mode `Locale` alone: the singleton of an extension that is not `u`, an attribute,
-/// a second key, a second piece of the value, or the end right behind `u`. Source: UTS 35, section 3.2; the modes are ICU4X's.
+/// `Partial` reads `en` and `US` and leaves the rest unread; in mode `LanguageIdentifier` `u` is a fault. The value
+/// `true` is left out. `InvalidLanguage`: the first piece is no language, or there is none; in mode `Partial` there is
+/// no other fault. `InvalidSubtag`: a later piece does not fit, or is a second variant, as in `de-1996-fonipa`; in mode
+/// `LanguageIdentifier` a singleton too. `InvalidExtension`, only in mode `Locale`: the singleton of an extension that
+/// is not `u`, an attribute, a second key, a second piece of the value, or the end right behind `u`. Source: UTS 35,
+/// section 3.2; the modes are ICU4X's.
 pub fn parse_locale_with_single_variant_single_keyword_unicode_extension_from_iter(
     iter: SubtagIterator<'_>,
     mode: ParserMode,
@@ -94,7 +96,8 @@ pub fn parse_locale_with_single_variant_single_keyword_unicode_extension_from_it
 
 /// The parts of these bytes, as `parse_locale_with_single_variant_single_keyword_unicode_extension_from_iter`.
 ///
-/// `en-US-u-nu-thai` in mode `Locale` gives `en`, no script, `US`, no variant, and `nu` with `thai`. It takes no memory.
+/// `en-US-u-nu-thai` in mode `Locale` gives `en`, no script, `US`, no variant, and `nu` with `thai`. The errors are
+/// those of that call. It does not allocate.
 pub fn parse_locale_with_single_variant_single_keyword_unicode_keyword_extension(
     code_units: &[u8],
     mode: ParserMode,
@@ -110,8 +113,8 @@ pub fn parse_locale_with_single_variant_single_keyword_unicode_keyword_extension
 /// The language part of these bytes with at most one variant: what
 /// `parse_locale_with_single_variant_single_keyword_unicode_keyword_extension` reads, without the keyword.
 ///
-/// `de-DE-1996-u-nu-latn` in mode `Locale` gives `de`, no script, `DE` and `1996`. It refuses as that call does, a second
-/// keyword too, and takes no memory.
+/// `de-DE-1996-u-nu-latn` in mode `Locale` gives `de`, no script, `DE` and `1996`. The errors are those of that call,
+/// also for a second keyword. It does not allocate.
 pub fn parse_language_identifier_with_single_variant(
     code_units: &[u8],
     mode: ParserMode,

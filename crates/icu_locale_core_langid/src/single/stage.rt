@@ -77,7 +77,7 @@ fn behind_language(parts: OneVariantParts, piece: &[u8]) -> Result<Stage, ParseE
     }
 }
 
-// In the language part: one more piece of it, or what stands behind it.
+// In the language part: one more piece of it, or what follows it.
 #[tactic(auto, using(crate::proofs::SingleStageLemmas::part_taken, crate::proofs::SingleStageLemmas::no_language))]
 fn in_language(front: Option<OneVariantParts>, piece: &[u8]) -> Result<Stage, ParseError>
     ensures { GoesOn (InLanguage (option_map parts_id front)) piece.now result }
