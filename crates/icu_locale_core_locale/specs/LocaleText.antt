@@ -9,7 +9,7 @@ use Rattle.icu_locale_core_grammar.specs.Meaning.{TagMeaning}
 use Rattle.icu_locale_core_langid.specs.LanguageText.{language_text}
 use Rattle.icu_locale_core_extensions.specs.ExtensionText.{extension_pieces}
 
--- what stands behind the language part
+-- what follows the language part
 abbrev pub locale_tail : TagMeaning → Text
 locale_tail m = flat_map hyphened (extension_pieces m.extensions m.private_use)
 

@@ -1,4 +1,4 @@
--- The locale of a language part alone.
+-- The locale of only a language part.
 -- Defined in docs/tags.md, "Meaning".
 -- Cited by the makers of locales, and by the test for `und`. When two locales are one, `SameLocale.antt` says.
 use Rattle.std.specs.Prelude.{[], None}
@@ -14,6 +14,6 @@ pub use Rattle.icu_locale_core_locale.specs.SameLocaleLaws.{locale_decides}
 abbrev pub language_alone : LanguageId → TagMeaning
 language_alone id = record { language = id; extensions = no_extensions; private_use = [] }
 
--- the language `und` alone
+-- the language `und`, and nothing else
 abbrev pub unknown_locale : TagMeaning
 unknown_locale = language_alone (with_parts unknown_language None None [])

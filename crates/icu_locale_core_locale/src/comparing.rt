@@ -39,7 +39,7 @@ impl Hash for Locale {
 }
 
 impl Locale {
-    /// The order of two locales, part by part: the language part, then the extensions. It takes no memory.
+    /// The order of two locales, part by part: the language part, then the extensions. It does not allocate.
     ///
     /// `en-US-u-nu-thai` before `en-Latn`, since no script comes before one. `Equal` exactly where they are equal.
     pub fn total_cmp(&self, other: &Self) -> Ordering
@@ -50,7 +50,7 @@ impl Locale {
             .then(self.extensions.total_cmp(&other.extensions))
     }
 
-    /// The byte order of the text against these bytes; the text is not built, and it takes no memory.
+    /// The byte order of the text against these bytes; the text is not built, and it does not allocate.
     ///
     /// `en-US` is `Greater` than `en+`, and `Less` than `en-US-x`.
     #[tactic(auto, using(writeable::proofs::AnnotatedTextLemmas::text_of_bytes))]

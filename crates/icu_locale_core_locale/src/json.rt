@@ -20,7 +20,7 @@ use serde_json::Value;
 use std::alloc::{AllocError, Global};
 
 impl Locale {
-    /// The text as a JSON value: `en-u-nu-thai` gives `"en-u-nu-thai"`. `AllocError` is answered for memory alone.
+    /// The text as a JSON value: `en-u-nu-thai` gives `"en-u-nu-thai"`. It allocates. `AllocError`: out of memory.
     #[tactic(auto, using(writeable::proofs::AnnotatedTextLemmas::text_of_bytes))]
     pub fn to_json(&self, alloc: Global) -> Result<Value, AllocError>
         ensures { IfOk result (λ value. view value ≡ string (normal_text self.now)) }
@@ -30,8 +30,8 @@ impl Locale {
 
     /// The locale of the text in a JSON value, as `try_from_str`: `"EN-u-NU-Thai"` gives `en-u-nu-thai`.
     ///
-    /// A value that is no text is refused as the empty text is: `InvalidLanguage`. Memory is taken for variants and extensions
-    /// alone.
+    /// The errors are those of `try_from_str`. A value that is no text has the error of the empty text,
+    /// `InvalidLanguage`. It allocates only for variants and extensions.
     pub fn from_json(alloc: Global, value: &Value) -> Result<Self, ParseError>
         ensures value { IfOk result (MeansTag (pieces (json_text (view value.now)))) }
         ensures fault { IfErr result (λ e. (e ≡ ParseError.Memory) ⊎ HasFault MeansTag (pieces (json_text (view value.now))) e) }

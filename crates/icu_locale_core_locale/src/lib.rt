@@ -1,7 +1,7 @@
 //! Whole locales: read from tags, compared and printed.
 //!
-//! `en-Latn-US-u-nu-thai` is the language `en`, the script `Latn`, the region `US` and a keyword `nu` with the value `thai`.
-//! The rules are in docs/tags.md.
+//! `en-Latn-US-u-nu-thai` is the language `en`, the script `Latn`, the region `US` and a keyword `nu` with the value
+//! `thai`. The rules are in docs/tags.md.
 //!
 //! ```rust
 //! use icu_locale_core_locale::Locale;

@@ -39,14 +39,14 @@ impl Model for Locale {
 }
 
 impl Locale {
-    /// The language `und`, and nothing else. It takes no memory.
+    /// The language `und`, and nothing else. It does not allocate.
     pub fn unknown(alloc: Global) -> Self
         ensures { result ≡ unknown_locale }
     {
         Self::from_id(alloc, LanguageIdentifier::unknown(alloc))
     }
 
-    /// The locale of this language identifier, without an extension: of `en-US` it is `en-US`. It takes no memory.
+    /// The locale of this language identifier, without an extension: of `en-US` it is `en-US`. It does not allocate.
     pub fn from_id(alloc: Global, id: LanguageIdentifier) -> Self
         ensures { result ≡ language_alone id }
     {
@@ -56,43 +56,43 @@ impl Locale {
         }
     }
 
-    /// The locale of this language alone: of `en` it is `en`. It takes no memory.
+    /// The locale of only this language: of `en` it is `en`. It does not allocate.
     pub fn from_language(alloc: Global, language: Language) -> Self
         ensures { result ≡ language_alone (with_parts language None None []) }
     {
         Self::from_id(alloc, LanguageIdentifier::from_language(alloc, language))
     }
 
-    /// The language `und` with this script, or alone: of `Latn` it is `und-Latn`. It takes no memory.
+    /// The language `und` with this script, or only `und`: of `Latn` it is `und-Latn`. It does not allocate.
     pub fn from_script(alloc: Global, script: Option<Script>) -> Self
         ensures { result ≡ language_alone (with_parts unknown_language script None []) }
     {
         Self::from_id(alloc, LanguageIdentifier::from_script(alloc, script))
     }
 
-    /// The language `und` with this region, or alone: of `US` it is `und-US`. It takes no memory.
+    /// The language `und` with this region, or only `und`: of `US` it is `und-US`. It does not allocate.
     pub fn from_region(alloc: Global, region: Option<Region>) -> Self
         ensures { result ≡ language_alone (with_parts unknown_language None region []) }
     {
         Self::from_id(alloc, LanguageIdentifier::from_region(alloc, region))
     }
 
-    /// The locale of these three parts: of `en`, no script and `US` it is `en-US`. It takes no memory.
+    /// The locale of these three parts: of `en`, no script and `US` it is `en-US`. It does not allocate.
     pub fn from_triple(alloc: Global, triple: (Language, Option<Script>, Option<Region>)) -> Self
         ensures { result ≡ language_alone (with_parts triple.0 triple.1 triple.2 []) }
     {
         Self::from_id(alloc, LanguageIdentifier::from_triple(alloc, triple))
     }
 
-    /// Whether this is the language `und`, and nothing else: false of `und-x-a`. It takes no memory.
+    /// Whether this is the language `und`, and nothing else: false of `und-x-a`. It does not allocate.
     pub fn is_unknown(&self) -> bool
         ensures { IsTrue result ↔ (self.now ≡ unknown_locale) }
     {
         self.id.is_unknown() && self.extensions.is_empty()
     }
 
-    /// An equal locale: of `en-u-nu-thai` another `en-u-nu-thai`. `AllocError` is answered for memory alone, and without a
-    /// variant and an extension none is taken.
+    /// A copy: of `en-u-nu-thai` it is `en-u-nu-thai`. `AllocError`: out of memory. It does not allocate where there is
+    /// no variant and no extension.
     pub fn try_clone(&self) -> Result<Self, AllocError>
         ensures succeeds { self.now.language.variants ≡ [] → extensions_of self.now ≡ nothing → IsOk result }
         ensures value { IfOk result (λ locale. locale ≡ self.now) }
@@ -115,7 +115,8 @@ impl Locale {
         Self::try_from_utf8(alloc, s.as_bytes())
     }
 
-    /// The locale that these bytes mean, as `try_from_str`.
+    /// The locale that these bytes mean, as `try_from_str`: `EN-u-NU-Thai` is `en-u-nu-thai`. The errors are those of
+    /// `try_from_str`; it allocates where that does.
     pub fn try_from_utf8(alloc: Global, code_units: &[u8]) -> Result<Self, ParseError>
         ensures value { IfOk result (MeansTag (pieces code_units.now)) }
         ensures fault { IfErr result (λ e. (e ≡ ParseError.Memory) ⊎ HasFault MeansTag (pieces code_units.now) e) }

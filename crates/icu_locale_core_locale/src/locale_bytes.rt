@@ -21,8 +21,8 @@ pub trait TryFromLocaleBytes {
     // what is kept of the meaning of a tag
     ghost part: { TagMeaning → Self };
 
-    /// Reads the whole tag, and leaves its extensions out. It refuses as `Locale::try_from_utf8` does, and takes memory only for
-    /// variants and extensions.
+    /// Reads the whole tag, and leaves its extensions out. The errors are those of `Locale::try_from_utf8`. It
+    /// allocates only for variants and extensions.
     fn try_from_locale_bytes(alloc: Global, v: &[u8]) -> Result<Self, ParseError>
     where
         Self: Sized,
@@ -36,8 +36,8 @@ impl TryFromLocaleBytes for LanguageIdentifier {
 
     /// The language part of the tag that these bytes are: of `en-US-u-nu-thai` it is `en-US`.
     ///
-    /// The extensions are read too: `en-u` is `InvalidExtension`. It refuses as `Locale::try_from_utf8` does, and takes memory
-    /// only for variants and extensions.
+    /// The extensions are read too: `en-u` is `InvalidExtension`. The errors are those of `Locale::try_from_utf8`. It
+    /// allocates only for variants and extensions.
     fn try_from_locale_bytes(alloc: Global, v: &[u8]) -> Result<Self, ParseError>
         ensures value { IfOk result (λ id. (m : TagMeaning) × MeansTag (pieces v.now) m × (id ≡ m.language)) }
         ensures fault { IfErr result (λ e. (e ≡ ParseError.Memory) ⊎ HasFault MeansTag (pieces v.now) e) }

@@ -19,8 +19,8 @@ use std::borrow::CowStr;
 impl Locale {
     /// The normal text of a text, borrowed where the text is normal.
     ///
-    /// `EN-us-u-NU-Thai` gives a new `en-US-u-nu-thai`, which gives itself. It refuses as `try_from_str` does; beside variants and
-    /// extensions, memory is taken only for a new text.
+    /// `EN-us-u-NU-Thai` gives a new `en-US-u-nu-thai`, which gives itself. The errors are those of `try_from_str`. It
+    /// allocates only for variants, extensions and a new text.
     pub fn normalize(alloc: Global, input: &str) -> Result<CowStr<'_, Global>, ParseError>
         ensures value { IfOk result (λ text. (m : TagMeaning) × MeansTag (pieces input.now) m × IsNormalized input.now (normal_text m) text) }
         ensures fault { IfErr result (λ e. (e ≡ ParseError.Memory) ⊎ HasFault MeansTag (pieces input.now) e) }
@@ -29,7 +29,8 @@ impl Locale {
         Self::normalize_utf8(alloc, input.as_bytes())
     }
 
-    /// The normal text of the bytes of a text, as `normalize`: `EN-u-NU-Thai` gives a new `en-u-nu-thai`.
+    /// The normal text of the bytes of a text, as `normalize`: `EN-u-NU-Thai` gives a new `en-u-nu-thai`. The errors
+    /// are those of `normalize`; it allocates where that does.
     pub fn normalize_utf8(alloc: Global, input: &[u8]) -> Result<CowStr<'_, Global>, ParseError>
         ensures value { IfOk result (λ text. (m : TagMeaning) × MeansTag (pieces input.now) m × IsNormalized input.now (normal_text m) text) }
         ensures fault { IfErr result (λ e. (e ≡ ParseError.Memory) ⊎ HasFault MeansTag (pieces input.now) e) }
@@ -41,7 +42,7 @@ impl Locale {
 
     /// Whether the text reads as this locale: `EN-u-NU-Thai` does as `en-u-nu-thai`, and `en` does not.
     ///
-    /// A text that is no tag does not. `AllocError` is answered for memory alone, which is taken where `try_from_str` takes it.
+    /// A text that is no tag does not. `AllocError`: out of memory. It allocates only where `try_from_str` does.
     pub fn normalizing_eq(&self, alloc: Global, other: &str) -> Result<bool, AllocError>
         ensures value { IfOk result (λ same. IsTrue same ↔ MeansTag (pieces other.now) self.now) }
         ensures room { tag_may_grow (pieces other.now) ≡ false → IsOk result }

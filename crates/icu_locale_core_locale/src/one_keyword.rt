@@ -1,4 +1,4 @@
-//! Reading a locale of at most one variant and one keyword, without memory.
+//! Reading a locale of at most one variant and one keyword; nothing allocates.
 
 ghost use Rattle.std.specs.Prelude.{MatchResult};
 ghost use Rattle.icu_locale_core_grammar.specs.Pieces.{pieces};
@@ -13,11 +13,11 @@ use icu_locale_core_langid::single::{
 };
 
 impl Locale {
-    /// The parts of the locale that the bytes are, where it has one variant and one keyword at most, and nothing else in its
-    /// extensions. It takes no memory.
+    /// The parts of the locale that the bytes are, where it has one variant and one keyword at most, and nothing else
+    /// in its extensions. It does not allocate.
     ///
-    /// `EN-us-u-NU-Thai` gives `en`, no script, `US`, no variant, and `nu` with `thai`. `InvalidLanguage`: the first piece is
-    /// no language. `InvalidSubtag`: a later piece of the language part does not fit, or is a second variant.
+    /// `EN-us-u-NU-Thai` gives `en`, no script, `US`, no variant, and `nu` with `thai`. `InvalidLanguage`: the first
+    /// piece is no language. `InvalidSubtag`: a later piece of the language part does not fit, or is a second variant.
     /// `InvalidExtension`: a second keyword or piece of a value, an attribute, or another extension. Source: UTS 35,
     /// section 3.2.
     pub fn try_from_utf8_with_single_variant_single_keyword_unicode_extension(

@@ -32,7 +32,8 @@ fn text_length(locale: &Locale) -> Option<usize>
     }
 }
 
-/// The language part, the extensions in byte order of their singletons, and the private subtags: `en-Latn-US-u-nu-thai-x-foo`.
+/// The language part, the extensions in byte order of their singletons, and the private subtags:
+/// `en-Latn-US-u-nu-thai-x-foo`.
 ///
 /// A locale that was read prints the normal text of what was read. Source: UTS 35, section 3.2.1.
 impl Writeable for Locale {

@@ -86,10 +86,10 @@ fn has_normal_parts(locale: &Locale) -> bool
 }
 
 impl Locale {
-    /// Whether the text reads back as this locale: true of every locale that was read. It takes no memory.
+    /// Whether the text reads back as this locale: true of every locale that was read. It does not allocate.
     ///
-    /// It may not be of one that was put together by hand: where another extension has no piece, where two of them have one
-    /// singleton or stand out of order, as `b-foo-a-bar`, and where a subtag of a value has 2 characters.
+    /// The text of a locale that was put together by hand may not be: another extension may have no piece, two of them
+    /// may have one singleton or be out of order, as `b-foo-a-bar`, and a subtag of a value may have 2 characters.
     #[tactic(auto, using(crate::proofs::WellFormedLemmas::reads_where_normal))]
     pub fn is_well_formed(&self) -> bool
         ensures { IsTrue result ↔ MeansTag (pieces (normal_text self.now)) self.now }

@@ -19,8 +19,8 @@ use icu_locale_core_grammar::ParseError;
 use icu_locale_core_subtags::SubtagIterator;
 use std::alloc::Global;
 
-/// The locale that these bytes mean; it refuses as `Locale::try_from_utf8` does, and takes memory for variants and extensions
-/// alone.
+/// The locale that these bytes mean. The errors are those of `Locale::try_from_utf8`. It allocates only for variants
+/// and extensions.
 pub fn parse_locale(alloc: Global, code_units: &[u8]) -> Result<Locale, ParseError>
     ensures value { IfOk result (MeansTag (pieces code_units.now)) }
     ensures fault { IfErr result (λ e. (e ≡ ParseError.Memory) ⊎ HasFault MeansTag (pieces code_units.now) e) }

@@ -11,7 +11,7 @@ use smallvec::SmallVec;
 use std::alloc::{AllocError, Global};
 use std::marker::Model;
 
-/// The singletons that have come, in lower case: up to 36 need no memory of their own, and there are no more.
+/// The singletons that have come, in lower case: up to 36 do not allocate, and there are no more.
 #[derive(Drop)]
 pub struct Singletons {
     kept: SmallVec<u8, 36>,
@@ -37,7 +37,7 @@ impl Singletons {
         }
     }
 
-    // Puts one more behind the others; below 36 no memory is taken.
+    // Adds one behind the others; below 36 it does not allocate.
     pub(crate) fn push(&mut self, singleton: u8) -> Result<(), AllocError>
         ensures ok { OnOk result (self.new ≡ self.old ++ singleton ∷ []) }
         ensures room { length self.old < 36 → IsOk result }

@@ -194,8 +194,8 @@ fn after_private(
     }
 }
 
-/// The stage after one more piece, or the fault there. `AllocError` is answered for memory alone, which is taken for one more
-/// variant, in an extension and for one that ends, where that has entries or no rule of its own, and for a private subtag.
+/// The stage after one more piece, or the fault there. `AllocError`: out of memory. It allocates only for one more
+/// variant, in an extension, for one that ends and has entries or no rule of its own, and for a private subtag.
 pub fn next_stage(
     alloc: Global,
     stage: LocaleStage,
@@ -272,7 +272,7 @@ fn ended_extension(alloc: Global, stage: ExtensionStage) -> Result<Attempt<Local
     }
 }
 
-/// The locale that was read, or the fault at the end. `AllocError` is answered for memory alone, which is taken for a last
+/// The locale that was read, or the fault at the end. `AllocError`: out of memory. It allocates only for a last
 /// extension that has entries or no rule of its own.
 pub fn finished(alloc: Global, stage: LocaleStage) -> Result<Attempt<Locale>, AllocError>
     ensures ends { IfOk result (Ends (stage_view stage)) }
