@@ -10,12 +10,12 @@ use Rattle.icu_locale_core_keywords_fields.specs.Values.{without_true}
 use Rattle.icu_locale_core_preference_keywords.specs.declared.error.PreferencesParseError.{PreferencesParseError}
 use Rattle.icu_locale_core_preference_keywords.specs.declared.error.PreferencesParseError.TheVariants.{InvalidKeywordValue}
 
--- what is stated is answered, and what states nothing is refused
+-- what is stated is returned, and what states nothing is an error
 abbrev pub IsReading : {A : Type 0} → Option A → Result A PreferencesParseError → Type 0
 IsReading stated answer =
     MatchResult answer (λ p. stated ≡ Some p) (λ e. (stated ≡ None) × (e ≡ InvalidKeywordValue))
 
--- what a preference answers to a keyword: nothing where the key is another's
+-- what a preference reads of a keyword: nothing where the key is another's
 abbrev pub keyword_answer : {A : Type 0} → Bool → Option A → Result (Option A) PreferencesParseError
 keyword_answer false stated = Ok None
 keyword_answer true (Some p) = Ok (Some p)
@@ -59,7 +59,7 @@ pub record IsOwnPiece {A : Type 0} (stated : List Text → Option A) (piece : A 
 abbrev pub stated_subdivision : List Text → Option Subdivision
 stated_subdivision vs = option_and_then subdivision_of (one_piece vs)
 
--- the key of a currency; those of `nu`, `sd` and `rg` stand with the preferences of a tag
+-- the key of a currency; those of `nu`, `sd` and `rg` are with the preferences of a tag
 abbrev pub currency_key : Text
 currency_key = codes "cu"
 

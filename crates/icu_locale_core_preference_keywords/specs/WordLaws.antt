@@ -1,6 +1,6 @@
 -- That the keys are keys, and that each word states its case: the proofs of what `OwnWords.antt` states.
 -- Defined in docs/tags.md, "Typed keywords".
--- Cited by the impls of `WordKeyword`, whose law they are; what a law cites stands in specs/.
+-- Cited by the impls of `WordKeyword`, whose law they are; what a law cites is in specs/.
 use Rattle.std.proofs.Common.{refl}
 use Rattle.icu_locale_core_preference_keywords.specs.KeywordWords.{first_day, measurement, currency_format, emoji, line_break, word_handling, case_first, numeric_ordering}
 use Rattle.icu_locale_core_preference_keywords.specs.declared.keywords.first_day.FirstDay.{FirstDay}

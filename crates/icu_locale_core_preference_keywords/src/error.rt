@@ -13,7 +13,7 @@ pub enum PreferencesParseError {
 }
 
 impl PreferencesParseError {
-    /// The number of the fault: 1 of `InvalidKeywordValue`, the only one. It takes no memory.
+    /// The number of the fault: 1 of `InvalidKeywordValue`, the only one. It does not allocate.
     pub fn number(&self) -> u8
         ensures { result ≡ 1 }
     {

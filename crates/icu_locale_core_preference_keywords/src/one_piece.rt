@@ -22,18 +22,18 @@ pub trait OnePiece: Copy {
     // the subtag that spells it
     ghost piece: { Self → List ℕ };
 
-    /// What the value states: a subdivision, of `ustx` it is `US` and `tx`. It takes no memory.
+    /// What the value states: a subdivision, of `ustx` it is `US` and `tx`. It does not allocate.
     fn stated_in(value: &Value) -> Option<Self>
         ensures { MatchOption result (stated value.now ≡ None) (λ own. (stated value.now ≡ Some own) × IsOwnPiece stated piece own) };
 
-    /// The subtag that spells it: `ustx` of the subdivision of `US` and `tx`. The condition is that this subtag is in lower case,
-    /// is not `true`, and states it again. It takes no memory.
+    /// The subtag that spells it: `ustx` of the subdivision of `US` and `tx`. The condition is that this subtag is in
+    /// lower case, is not `true`, and states it again. It does not allocate.
     fn subtag(self) -> Subtag
         requires { IsOwnPiece stated piece self }
         ensures { result ≡ piece self };
 }
 
-// The subtag of a value that has one alone; it is not `true`, since no value has that.
+// The subtag of a value that has exactly one; it is not `true`, since no value has that.
 fn piece_of(value: &Value) -> Option<Subtag>
     ensures { MatchOption result (one_piece value.now ≡ None) (λ piece. (one_piece value.now ≡ Some piece) × (is_true piece ≡ false)) }
 {

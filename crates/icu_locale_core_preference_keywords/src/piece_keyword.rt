@@ -20,7 +20,7 @@ pub trait PieceKey {
     // the key of the keyword
     ghost keyword: { List ℕ };
 
-    /// The key: `rg` of `RegionOverride`. It takes no memory.
+    /// The key: `rg` of `RegionOverride`. It does not allocate.
     fn key() -> Option<Key>
         ensures { result ≡ Some keyword };
 
@@ -101,8 +101,8 @@ impl<K: PieceKey, P: OnePiece> PreferenceKey for PieceKeyword<K, P> {
     }
 }
 
-/// What the one subtag of the value spells: a `NumberingSystem` of `thai`, a `RegionOverride` of `gbeng`. Other values, as
-/// `thai-latn` and the empty one, are `InvalidKeywordValue`. It takes no memory.
+/// What the one subtag of the value spells: a `NumberingSystem` of `thai`, a `RegionOverride` of `gbeng`. Other values,
+/// as `thai-latn` and the empty one, are `InvalidKeywordValue`. It does not allocate.
 impl<K: PieceKey, P: OnePiece> TryFrom<&Value> for PieceKeyword<K, P> {
     type Error = PreferencesParseError;
 
@@ -113,7 +113,7 @@ impl<K: PieceKey, P: OnePiece> TryFrom<&Value> for PieceKeyword<K, P> {
     }
 }
 
-/// What the subtag spells: of `gbeng` the region `GB` and the suffix `eng`. It takes no memory.
+/// What the subtag spells: of `gbeng` the region `GB` and the suffix `eng`. It does not allocate.
 impl<K: PieceKey, P: OnePiece> Deref for PieceKeyword<K, P> {
     type Target = P;
 

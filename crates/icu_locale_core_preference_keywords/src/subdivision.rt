@@ -9,7 +9,7 @@ use icu_locale_core_subtags::Region;
 use icu_locale_core_subtags::unicode::SubdivisionSuffix;
 use std::marker::Model;
 
-/// A subdivision: `ustx` is the region `US` and the suffix `tx`. Whether CLDR has it is not asked.
+/// A subdivision: `ustx` is the region `US` and the suffix `tx`. Whether CLDR has it is not checked.
 ///
 /// Source: UTS 35, section 3.6, `unicode_subdivision_id`.
 #[derive(Clone, Copy, PartialEq, Eq, PartialOrd, Ord, Hash)]
@@ -41,7 +41,7 @@ fn read_at(code_units: &[u8], n: usize) -> Option<SubdivisionId>
 }
 
 impl SubdivisionId {
-    /// The subdivision of this region and this suffix: of `US` and `tx` it is `ustx`. It takes no memory.
+    /// The subdivision of this region and this suffix: of `US` and `tx` it is `ustx`. It does not allocate.
     pub const fn new(region: Region, suffix: SubdivisionSuffix) -> Self
         ensures { result ≡ record { region = region; suffix = suffix } }
     {
@@ -50,8 +50,8 @@ impl SubdivisionId {
 
     /// The subdivision that the text spells: a region, and 1 to 4 letters and digits behind it.
     ///
-    /// `USTX` is region `US` and suffix `tx`, `419abc` region `419` and suffix `abc`. Any other text is `InvalidExtension`.
-    /// It takes no memory.
+    /// `USTX` is region `US` and suffix `tx`, `419abc` region `419` and suffix `abc`. Any other text is
+    /// `InvalidExtension`. It does not allocate.
     pub fn try_from_utf8(code_units: &[u8]) -> Result<Self, ParseError>
         ensures { MatchResult result (λ s. subdivision_of code_units.now ≡ Some s) (λ e. (subdivision_of code_units.now ≡ None) × (e ≡ ParseError.InvalidExtension)) }
     {
@@ -61,7 +61,8 @@ impl SubdivisionId {
         }
     }
 
-    /// The subdivision that the text spells, as `try_from_utf8`: `USTX` is region `US` and suffix `tx`.
+    /// The subdivision that the text spells, as `try_from_utf8`: `USTX` is region `US` and suffix `tx`. The errors are
+    /// those of `try_from_utf8`. It does not allocate.
     pub fn try_from_str(s: &str) -> Result<Self, ParseError>
         ensures { MatchResult result (λ d. subdivision_of s.now ≡ Some d) (λ e. (subdivision_of s.now ≡ None) × (e ≡ ParseError.InvalidExtension)) }
     {

@@ -23,7 +23,7 @@ impl SubdivisionId {
             .concat(self.suffix.to_tinystr())
     }
 
-    /// The text as one piece of a value, 3 to 7 letters and digits in lower case: `ustx`. It takes no memory.
+    /// The text as one piece of a value, 3 to 7 letters and digits in lower case: `ustx`. It does not allocate.
     pub fn into_subtag(self) -> Subtag
         ensures { result ≡ subdivision_text self }
     {

@@ -23,17 +23,17 @@ pub trait WordKeyword: Copy {
     // the key, the cases in their order, the word of each
     ghost words: { Words Self };
 
-    /// The key: `fw` of `FirstDay`. It takes no memory.
+    /// The key: `fw` of `FirstDay`. It does not allocate.
     fn key() -> &'static str
         ensures { result.now ≡ words.key };
 
-    /// The cases, in their order: `Sun` to `Sat` of `FirstDay`. It takes no memory.
+    /// The cases, in their order: `Sun` to `Sat` of `FirstDay`. It does not allocate.
     fn cases() -> &'static [Self]
     where
         Self: 'static,
         ensures { result.now ≡ words.cases };
 
-    /// The word of the case: `sun` of `FirstDay::Sun`. It takes no memory.
+    /// The word of the case: `sun` of `FirstDay::Sun`. It does not allocate.
     fn word(&self) -> &'static str
         ensures { result.now ≡ words.word self.now };
 
@@ -53,7 +53,7 @@ fn case_of<W: WordKeyword + 'static>(text: &str) -> Option<W>
     None
 }
 
-// The word that the value is, handed to the search for its case.
+// The word that the value is, passed to the search for its case.
 fn case_in<W: WordKeyword + 'static>(value: &Value) -> Option<W>
     ensures { result ≡ stated_case W.words value.now }
 {

@@ -24,7 +24,7 @@ pub enum CollationCaseFirst {
 }
 
 impl CollationCaseFirst {
-    /// The word of the order: `upper` of `Upper`. It takes no memory.
+    /// The word of the order: `upper` of `Upper`. It does not allocate.
     pub const fn as_str(&self) -> &'static str
         ensures { result.now ≡ case_first_word self.now }
     {
@@ -54,7 +54,7 @@ impl WordKeyword for CollationCaseFirst {
     }
 }
 
-/// The order whose word the value is: `upper` is `Upper`. Other values are `InvalidKeywordValue`. It takes no memory.
+/// The order whose word the value is: `upper` is `Upper`. Other values are `InvalidKeywordValue`. It does not allocate.
 impl TryFrom<&Value> for CollationCaseFirst {
     type Error = PreferencesParseError;
 
@@ -77,7 +77,7 @@ pub enum CollationNumericOrdering {
 }
 
 impl CollationNumericOrdering {
-    /// The word of the order: `true` of `True`. It takes no memory.
+    /// The word of the order: `true` of `True`. It does not allocate.
     pub const fn as_str(&self) -> &'static str
         ensures { result.now ≡ numeric_ordering_word self.now }
     {
@@ -106,7 +106,8 @@ impl WordKeyword for CollationNumericOrdering {
     }
 }
 
-/// The order whose word the value is: the empty value is `True`. Other values are `InvalidKeywordValue`. It takes no memory.
+/// The order whose word the value is: the empty value is `True`. Other values are `InvalidKeywordValue`. It does not
+/// allocate.
 impl TryFrom<&Value> for CollationNumericOrdering {
     type Error = PreferencesParseError;
 

@@ -17,7 +17,7 @@ use tinystr::TinyAsciiStr;
 /// The key `cu`.
 pub struct CurrencyKey;
 
-/// The currency, key `cu`: three letters in lower case, as `usd`. Whether ISO 4217 has the code is not asked.
+/// The currency, key `cu`: three letters in lower case, as `usd`. Whether ISO 4217 has the code is not checked.
 ///
 /// Values that are no three letters, as `us1` and `usd-eur`, are `InvalidKeywordValue`. Source: UTS 35, section 3.6.1.
 pub type CurrencyType = PieceKeyword<CurrencyKey, TinyAsciiStr<3>>;
@@ -35,7 +35,7 @@ impl PieceKey for CurrencyKey {
 }
 
 impl CurrencyType {
-    /// The code in upper case, as ISO 4217 has it: `USD` of `usd`. It takes no memory.
+    /// The code in upper case, as ISO 4217 has it: `USD` of `usd`. It does not allocate.
     pub fn iso_code(self) -> TinyAsciiStr<3>
         ensures { result ≡ upper self }
     {
@@ -55,7 +55,7 @@ pub enum CurrencyFormatStyle {
 }
 
 impl CurrencyFormatStyle {
-    /// The word of the style: `standard` of `Standard`. It takes no memory.
+    /// The word of the style: `standard` of `Standard`. It does not allocate.
     pub const fn as_str(&self) -> &'static str
         ensures { result.now ≡ currency_format_word self.now }
     {
@@ -84,7 +84,8 @@ impl WordKeyword for CurrencyFormatStyle {
     }
 }
 
-/// The style whose word the value is: `account` is `Account`. Other values are `InvalidKeywordValue`. It takes no memory.
+/// The style whose word the value is: `account` is `Account`. Other values are `InvalidKeywordValue`. It does not
+/// allocate.
 impl TryFrom<&Value> for CurrencyFormatStyle {
     type Error = PreferencesParseError;
 

@@ -24,7 +24,7 @@ pub enum EmojiPresentationStyle {
 }
 
 impl EmojiPresentationStyle {
-    /// The word of the style: `emoji` of `Emoji`. It takes no memory.
+    /// The word of the style: `emoji` of `Emoji`. It does not allocate.
     pub const fn as_str(&self) -> &'static str
         ensures { result.now ≡ emoji_word self.now }
     {
@@ -54,7 +54,7 @@ impl WordKeyword for EmojiPresentationStyle {
     }
 }
 
-/// The style whose word the value is: `text` is `Text`. Other values are `InvalidKeywordValue`. It takes no memory.
+/// The style whose word the value is: `text` is `Text`. Other values are `InvalidKeywordValue`. It does not allocate.
 impl TryFrom<&Value> for EmojiPresentationStyle {
     type Error = PreferencesParseError;
 

@@ -32,7 +32,7 @@ pub enum FirstDay {
 }
 
 impl FirstDay {
-    /// The word of the day: `sun` of `Sun`. It takes no memory.
+    /// The word of the day: `sun` of `Sun`. It does not allocate.
     pub const fn as_str(&self) -> &'static str
         ensures { result.now ≡ first_day_word self.now }
     {
@@ -74,7 +74,7 @@ impl WordKeyword for FirstDay {
     }
 }
 
-/// The day whose word the value is: `mon` is `Mon`. Other values are `InvalidKeywordValue`. It takes no memory.
+/// The day whose word the value is: `mon` is `Mon`. Other values are `InvalidKeywordValue`. It does not allocate.
 impl TryFrom<&Value> for FirstDay {
     type Error = PreferencesParseError;
 

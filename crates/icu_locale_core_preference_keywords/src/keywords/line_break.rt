@@ -24,7 +24,7 @@ pub enum LineBreakStyle {
 }
 
 impl LineBreakStyle {
-    /// The word of the style: `strict` of `Strict`. It takes no memory.
+    /// The word of the style: `strict` of `Strict`. It does not allocate.
     pub const fn as_str(&self) -> &'static str
         ensures { result.now ≡ line_break_word self.now }
     {
@@ -54,7 +54,7 @@ impl WordKeyword for LineBreakStyle {
     }
 }
 
-/// The style whose word the value is: `loose` is `Loose`. Other values are `InvalidKeywordValue`. It takes no memory.
+/// The style whose word the value is: `loose` is `Loose`. Other values are `InvalidKeywordValue`. It does not allocate.
 impl TryFrom<&Value> for LineBreakStyle {
     type Error = PreferencesParseError;
 
@@ -81,7 +81,7 @@ pub enum LineBreakWordHandling {
 }
 
 impl LineBreakWordHandling {
-    /// The word of the handling: `normal` of `Normal`. It takes no memory.
+    /// The word of the handling: `normal` of `Normal`. It does not allocate.
     pub const fn as_str(&self) -> &'static str
         ensures { result.now ≡ word_handling_word self.now }
     {
@@ -112,7 +112,8 @@ impl WordKeyword for LineBreakWordHandling {
     }
 }
 
-/// The handling whose word the value is: `keepall` is `KeepAll`. Other values are `InvalidKeywordValue`. It takes no memory.
+/// The handling whose word the value is: `keepall` is `KeepAll`. Other values are `InvalidKeywordValue`. It does not
+/// allocate.
 impl TryFrom<&Value> for LineBreakWordHandling {
     type Error = PreferencesParseError;
 

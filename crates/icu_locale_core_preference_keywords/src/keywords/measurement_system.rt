@@ -24,7 +24,7 @@ pub enum MeasurementSystem {
 }
 
 impl MeasurementSystem {
-    /// The word of the system: `metric` of `Metric`. It takes no memory.
+    /// The word of the system: `metric` of `Metric`. It does not allocate.
     pub const fn as_str(&self) -> &'static str
         ensures { result.now ≡ measurement_word self.now }
     {
@@ -54,7 +54,8 @@ impl WordKeyword for MeasurementSystem {
     }
 }
 
-/// The system whose word the value is: `metric` is `Metric`. Other values are `InvalidKeywordValue`. It takes no memory.
+/// The system whose word the value is: `metric` is `Metric`. Other values are `InvalidKeywordValue`. It does not
+/// allocate.
 impl TryFrom<&Value> for MeasurementSystem {
     type Error = PreferencesParseError;
 

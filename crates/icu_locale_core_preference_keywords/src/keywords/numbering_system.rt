@@ -15,7 +15,7 @@ use icu_locale_core_subtags::unicode::Key;
 /// The key `nu`.
 pub struct NumberingKey;
 
-/// The numbering system, key `nu`: the one subtag of the value, as `thai`. Whether CLDR has it is not asked.
+/// The numbering system, key `nu`: the one subtag of the value, as `thai`. Whether CLDR has it is not checked.
 ///
 /// Source: UTS 35, section 3.6.1.
 pub type NumberingSystem = PieceKeyword<NumberingKey, Subtag>;
@@ -42,7 +42,7 @@ fn is_left_out(subtag: &Subtag) -> bool
 
 /// The system that a value of this one subtag names: of `thai` it is `thai`.
 ///
-/// `InvalidKeywordValue`: the subtag is `true`, which values leave out. It takes no memory.
+/// `InvalidKeywordValue`: the subtag is `true`, which values leave out. It does not allocate.
 impl TryFrom<Subtag> for PieceKeyword<NumberingKey, Subtag> {
     type Error = PreferencesParseError;
 

@@ -12,7 +12,8 @@ pub struct OverrideKey;
 /// The key `sd`.
 pub struct RegionalKey;
 
-/// The region that takes the place of the locale's own, key `rg`: `gbeng` is England. Its text is not `true`, which no value has.
+/// The region that takes the place of the locale's own, key `rg`: `gbeng` is England. Its text is not `true`, which no
+/// value has.
 ///
 /// Source: UTS 35, section 3.6.1.
 pub type RegionOverride = PieceKeyword<OverrideKey, SubdivisionId>;
