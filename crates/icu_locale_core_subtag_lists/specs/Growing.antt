@@ -1,4 +1,4 @@
--- A set that is being read: its texts in the order in which they came, and those behind the first few in byte order besides.
+-- A set that is being read: its texts in the order in which they came, those behind the first few also in byte order.
 -- Defined in docs/tags.md, "Sets and lists as values".
 -- Cited by the calls of `GrowingSet`.
 use Rattle.std.specs.Prelude.{◌≡◌, ℕ, Bool, List, drop}

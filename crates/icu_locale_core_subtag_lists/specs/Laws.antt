@@ -1,4 +1,4 @@
--- What holds of sets and of private subtags, in words that know nothing of how they are searched and read.
+-- What holds of sets and of private subtags, without a word on how they are searched and read.
 -- Defined in docs/tags.md, "Laws".
 -- Cited by the functions of the module of laws.
 use Rattle.std.specs.Prelude.{◌≡◌, ◌≢◌, not, ◌&&◌, ◌||◌, List, [], ◌++◌}

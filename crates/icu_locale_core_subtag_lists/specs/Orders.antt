@@ -1,7 +1,6 @@
 -- The laws of comparing lists of texts, text by text in byte order.
 -- Defined in docs/tags.md, "Sets and maps".
--- Cited by the impls of `PartialOrd` and `Hash` of sets, of private subtags and of the values of keywords and fields, whose laws
--- it proves.
+-- Cited by `PartialOrd` and `Hash` of sets, private subtags and values of keywords and fields, whose laws it proves.
 use Rattle.std.specs.Prelude.{◌≡◌, true, List, Some, refl}
 use Rattle.std.proofs.Common.{ap, subst}
 use Rattle.std.specs.Cmp.{IsPartialOrder, Agrees}

@@ -7,16 +7,16 @@ use Rattle.icu_locale_core_grammar.specs.declared.error.ParseError.TheVariants.{
 use Rattle.icu_locale_core_grammar.specs.Subtags.{Text, is_attribute, is_private_piece, lower}
 use Rattle.icu_locale_core_grammar.specs.Collections.{Each, insert_text, set_of}
 
--- a growth was refused, or nothing is read
+-- out of memory, or nothing is read
 abbrev pub IsRefused : {M : Type 0} → (M → Type 0) → ParseError → Type 0
 IsRefused {M} Reads e = (e ≡ Memory) ⊎ ((e ≡ InvalidExtension) × ((m : M) → ¬ Reads m))
 
--- the first piece passes the test; without one that does, nothing is kept, and no memory is taken
+-- the first piece passes the test; without one that does, nothing is kept, and nothing allocates
 abbrev pub begins : (Text → Bool) → List Text → Bool
 begins test [] = false
 begins test (p ∷ ps) = test p
 
--- the first piece passes a test, and the one behind it another; else nothing is kept, and no memory is taken
+-- the first piece passes a test, and the one behind it another; else nothing is kept, and nothing allocates
 abbrev pub begins_behind : (Text → Bool) → (Text → Bool) → List Text → Bool
 begins_behind opens test [] = false
 begins_behind opens test (p ∷ ps) = opens p && begins test ps

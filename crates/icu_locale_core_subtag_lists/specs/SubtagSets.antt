@@ -1,4 +1,4 @@
--- A set without one of its texts, and what every set of subtags keeps: its texts rise, and each is a subtag in normal case.
+-- A set without one of its texts, and what every set of subtags keeps: its texts rise, each a subtag in normal case.
 -- UTS 35, section 3.2.1, "Canonical Unicode Locale Identifiers"; docs/tags.md, "Sets and maps".
 -- Cited by the calls of `SubtagSet`.
 use Rattle.std.specs.Prelude.{ℕ, Bool, not, List, filter}

@@ -23,8 +23,9 @@ pub type Attributes = SubtagSet<AttributeRule>;
 impl SubtagSet<AttributeRule> {
     /// The set of the attributes of this text, pieces of 3 to 8 letters and digits in either case between hyphens.
     ///
-    /// `foo-Bar-FOO` has `bar`, `foo`; the empty text has none. `InvalidExtension` where a piece is no attribute; `Memory`
-    /// where memory was refused, and none is taken where the first piece is no attribute. Source: UTS 35, section 3.6.
+    /// `foo-Bar-FOO` has `bar`, `foo`; the empty text has none. `InvalidExtension` where a piece is no attribute.
+    /// `Memory`: out of memory. It does not allocate where the first piece is no attribute. Source: UTS 35, section
+    /// 3.6.
     pub fn try_from_str(alloc: Global, s: &str) -> Result<Attributes, ParseError>
         ensures succeeds { s.now ≡ [] → IsOk result }
         ensures value { IfOk result (ReadsAttributes s.now) }
@@ -34,7 +35,8 @@ impl SubtagSet<AttributeRule> {
         Attributes::try_from_utf8(alloc, s.as_bytes())
     }
 
-    /// The set of the attributes of these bytes, as `try_from_str`.
+    /// The set of the attributes of these bytes, as `try_from_str`: `foo-Bar-FOO` has `bar`, `foo`. The errors are
+    /// those of `try_from_str`; it allocates where that does.
     pub fn try_from_utf8(alloc: Global, code_units: &[u8]) -> Result<Attributes, ParseError>
         ensures succeeds { code_units.now ≡ [] → IsOk result }
         ensures value { IfOk result (ReadsAttributes code_units.now) }
@@ -56,7 +58,7 @@ impl SubtagSet<AttributeRule> {
         Ok(attributes.settled())
     }
 
-    // A set of the same attributes that is to grow by many: what one more costs there is a logarithm of how many there are.
+    // A set of the same attributes that will grow by many: adding one costs the logarithm of their count.
     fn growing(&self) -> Result<GrowingSet<AttributeRule>, AllocError>
         ensures value { IfOk result (λ growing. growing ≡ self.now) }
         ensures rises { Rises self.now }
@@ -68,10 +70,10 @@ impl SubtagSet<AttributeRule> {
         Ok(growing)
     }
 
-    /// Puts the attributes of the other set into this one.
+    /// Adds the attributes of the other set to this one.
     ///
-    /// `bar`, `foo` with `baz`, `foo` becomes `bar`, `baz`, `foo`. `AllocError` is answered for memory alone, and the set is
-    /// then as before; where either set is empty, none is taken.
+    /// `bar`, `foo` with `baz`, `foo` becomes `bar`, `baz`, `foo`. `AllocError`: out of memory; the set is then as
+    /// before. It does not allocate where either set is empty.
     pub fn extend_from_attributes(&mut self, other: Attributes) -> Result<(), AllocError>
         ensures succeeds { other ≡ [] → IsOk result }
         ensures empty { self.old ≡ [] → IsOk result }

@@ -14,8 +14,8 @@ use tinystr::TinyAsciiStr;
 // How many of the subtags are looked through one by one.
 const FEW: usize = 16;
 
-/// A set of subtags of the rule R that is read piece by piece: what it costs to put one more in grows by the logarithm of how
-/// many there are, whatever order they come in. `settled` gives the set.
+/// A set of subtags of the rule R that is read piece by piece: the cost of adding one grows with the logarithm of their
+/// count, in whatever order they come. `settled` gives the set.
 #[derive(Drop)]
 pub struct GrowingSet<R: SubtagRule<8>> {
     // In the order in which they came.
@@ -37,7 +37,7 @@ impl<R: SubtagRule<8>> Model for GrowingSet<R> {
 }
 
 impl<R: SubtagRule<8>> GrowingSet<R> {
-    /// The empty set, of which `is_empty` is true. It takes no memory.
+    /// The empty set, of which `is_empty` is true. It does not allocate.
     pub fn new(alloc: Global) -> Self
         ensures { result ≡ [] }
     {
@@ -47,14 +47,14 @@ impl<R: SubtagRule<8>> GrowingSet<R> {
         }
     }
 
-    /// Whether there is no subtag, as in the set that `new` gives.
+    /// Whether there is no subtag, as in the set that `new` gives. It does not allocate.
     pub fn is_empty(&self) -> bool
         ensures { result ≡ (length self.now == 0) }
     {
         self.items.as_slice().is_empty()
     }
 
-    /// Whether the subtag is in the set: the set of `fonipa` has `fonipa`, and has no `1996`.
+    /// Whether the subtag is in the set: the set of `fonipa` has `fonipa`, and has no `1996`. It does not allocate.
     pub fn contains(&self, subtag: &SubtagOf<R, 8>) -> bool
         ensures { result ≡ contains_text subtag.now self.now }
     {
@@ -88,10 +88,10 @@ impl<R: SubtagRule<8>> GrowingSet<R> {
         }
     }
 
-    /// Puts the subtag into the set; answers whether the set changed.
+    /// Puts the subtag into the set, and returns whether the set changed.
     ///
-    /// `b` pushed into the set of `a`, `c` gives `a`, `b`, `c`. `AllocError` is answered for memory alone, and the set is then
-    /// as before; a subtag that is there already takes none.
+    /// `b` pushed into the set of `a`, `c` gives `a`, `b`, `c`. `AllocError`: out of memory; the set is then as before.
+    /// A subtag that is there already does not allocate.
     pub fn push(&mut self, subtag: SubtagOf<R, 8>) -> Result<bool, AllocError>
         ensures succeeds { contains_text subtag self.old ≡ true → IsOk result }
         ensures changed { IfOk result (λ changed. changed ≡ not (contains_text subtag self.old)) }
@@ -106,7 +106,7 @@ impl<R: SubtagRule<8>> GrowingSet<R> {
         Ok(true)
     }
 
-    /// The set: of `fonipa` and then `1996` it has `1996`, `fonipa`. It takes no memory.
+    /// The set: of `fonipa` and then `1996` it has `1996`, `fonipa`. It does not allocate.
     pub fn settled(self) -> SubtagSet<R>
         ensures { result ≡ self }
     {

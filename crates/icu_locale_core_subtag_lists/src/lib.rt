@@ -1,7 +1,7 @@
 //! Sets and lists of subtags: the variants and the attributes of a tag, and its private subtags.
 //!
-//! [`Variants`] and [`Attributes`] are sets, listed in byte order; [`Private`] is a list in the order written. The rules are
-//! in docs/tags.md, "Sets and maps" and "Parts read alone".
+//! [`Variants`] and [`Attributes`] are sets, listed in byte order; [`Private`] is a list in the order written. The
+//! rules are in docs/tags.md, "Sets and maps" and "Parts read alone".
 //!
 //! ```rust
 //! use icu_locale_core_subtag_lists::Attributes;

@@ -10,7 +10,8 @@ use writeable::{Error, Sink, Writeable};
 
 /// Writes a hyphen and the subtag: `-1996`.
 ///
-/// The sink has not refused yet. `Error`, only where the sink refused: it took a beginning. It takes no memory but the sink's.
+/// The condition is that the sink has not refused yet. `Error`, only where the sink refused: it has taken a beginning.
+/// Only the sink may allocate.
 pub fn write_piece<R: SubtagRule<N>, const N: usize, S: Sink>(
     piece: &SubtagOf<R, N>,
     sink: &mut S,
@@ -26,8 +27,8 @@ pub fn write_piece<R: SubtagRule<N>, const N: usize, S: Sink>(
 
 /// Writes the subtags into `sink`, each with a hyphen before it: `-1996-valencia`.
 ///
-/// The sink has not refused yet. `Ok`: the sink took them all behind what it held. `Error`, only where the sink refused: it took
-/// a beginning. It takes no memory but the sink's.
+/// The condition is that the sink has not refused yet. `Ok`: the sink took them all behind what it held. `Error`, only
+/// where the sink refused: it has taken a beginning. Only the sink may allocate.
 pub fn write_pieces<R: SubtagRule<8>, S: Sink>(
     pieces: &[SubtagOf<R, 8>],
     sink: &mut S,
@@ -43,7 +44,8 @@ pub fn write_pieces<R: SubtagRule<8>, S: Sink>(
     Ok(())
 }
 
-/// How many bytes `write_pieces` writes: for `1996`, `valencia` it is 14. `None` where a `usize` does not hold it.
+/// How many bytes `write_pieces` writes: for `1996`, `valencia` it is 14. `None` where a `usize` does not hold it. It
+/// does not allocate.
 pub fn pieces_length<R: SubtagRule<8>>(pieces: &[SubtagOf<R, 8>]) -> Option<usize>
     ensures { SomeIff result (length (flat_map hyphened pieces.now) < 2 ^ 64) (length (flat_map hyphened pieces.now)) }
 {
@@ -56,7 +58,8 @@ pub fn pieces_length<R: SubtagRule<8>>(pieces: &[SubtagOf<R, 8>]) -> Option<usiz
 
 /// Writes the first subtag, and the others with a hyphen before each: `1996-valencia`.
 ///
-/// The sink has not refused yet. `Error`, only where the sink refused: it took a beginning. It takes no memory but the sink's.
+/// The condition is that the sink has not refused yet. `Error`, only where the sink refused: it has taken a beginning.
+/// Only the sink may allocate.
 pub fn write_joined<R: SubtagRule<8>, S: Sink>(
     first: &SubtagOf<R, 8>,
     others: &[SubtagOf<R, 8>],
@@ -72,6 +75,7 @@ pub fn write_joined<R: SubtagRule<8>, S: Sink>(
 }
 
 /// How many bytes `write_joined` writes: for `1996` and `valencia` it is 13. `None` where a `usize` does not hold it.
+/// It does not allocate.
 pub fn joined_length<R: SubtagRule<8>>(
     first: &SubtagOf<R, 8>,
     others: &[SubtagOf<R, 8>],

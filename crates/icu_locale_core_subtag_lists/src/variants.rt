@@ -10,7 +10,7 @@ use std::alloc::{AllocError, Global};
 pub type Variants = SubtagSet<VariantRule>;
 
 impl SubtagSet<VariantRule> {
-    /// The set of this variant alone: of `FonIPA` it has `fonipa`. `AllocError` is answered for memory alone.
+    /// The set of only this variant: of `FonIPA` it has `fonipa`. It allocates. `AllocError`: out of memory.
     pub fn from_variant(alloc: Global, variant: Variant) -> Result<Variants, AllocError>
         ensures { IfOk result (λ set. set ≡ variant ∷ []) }
     {

@@ -49,7 +49,7 @@ fn is_singleton(piece: &[u8]) -> bool
 }
 
 impl Private {
-    /// No private subtags: `is_empty` is true of them. It takes no memory.
+    /// No private subtags: `is_empty` is true of them. It does not allocate.
     pub fn new(alloc: Global) -> Self
         ensures { result ≡ [] }
     {
@@ -58,7 +58,7 @@ impl Private {
         }
     }
 
-    /// This private subtag alone: `foo` gives `x-foo`. `AllocError` is answered for memory alone.
+    /// Only this private subtag: `foo` gives `x-foo`. It allocates. `AllocError`: out of memory.
     pub fn new_single(alloc: Global, subtag: Subtag) -> Result<Self, AllocError>
         ensures { IfOk result (λ private. private ≡ subtag ∷ []) }
     {
@@ -67,12 +67,12 @@ impl Private {
         Ok(private)
     }
 
-    /// The private subtags of this text: `x`, and 1 or more pieces of 1 to 8 letters and digits, in either case, with hyphens
-    /// between them.
+    /// The private subtags of this text: `x`, and 1 or more pieces of 1 to 8 letters and digits, in either case, with
+    /// hyphens between them.
     ///
-    /// `X-Foo-a` has `foo`, `a`. `InvalidExtension` where the text has another form, as `foo`, `x` and `x-toolongpiece`; `Memory`
-    /// where memory was refused, and none is taken where the first piece is not `x`, or no private subtag is right behind it.
-    /// Source: UTS 35, section 3.2.
+    /// `X-Foo-a` has `foo`, `a`. `InvalidExtension` where the text has another form, as `foo`, `x` and
+    /// `x-toolongpiece`. `Memory`: out of memory. It does not allocate where the first piece is not `x`, or no private
+    /// subtag is right behind it. Source: UTS 35, section 3.2.
     pub fn try_from_str(alloc: Global, s: &str) -> Result<Self, ParseError>
         ensures value { IfOk result (ReadsPrivate s.now) }
         ensures fault { IfErr result (IsRefused (ReadsPrivate s.now)) }
@@ -81,7 +81,8 @@ impl Private {
         Private::try_from_utf8(alloc, s.as_bytes())
     }
 
-    /// The private subtags of these bytes, as `try_from_str`.
+    /// The private subtags of these bytes, as `try_from_str`: `X-Foo-a` has `foo`, `a`. The errors are those of
+    /// `try_from_str`; it allocates where that does.
     pub fn try_from_utf8(alloc: Global, code_units: &[u8]) -> Result<Self, ParseError>
         ensures value { IfOk result (ReadsPrivate code_units.now) }
         ensures fault { IfErr result (IsRefused (ReadsPrivate code_units.now)) }
@@ -101,10 +102,11 @@ impl Private {
         Ok(private)
     }
 
-    /// The private subtags that these pieces are, without a singleton: `Foo`, `a` are `foo`, `a`, and no piece is the empty list.
+    /// The private subtags that these pieces are, without a singleton: `Foo`, `a` are `foo`, `a`, and no piece is the
+    /// empty list.
     ///
-    /// `InvalidExtension` where one is no private subtag; `Memory` where memory was refused, and none is taken where there is no
-    /// piece, or the first is no private subtag.
+    /// `InvalidExtension` where one is no private subtag. `Memory`: out of memory. It does not allocate where there is
+    /// no piece, or the first is no private subtag.
     pub fn try_from_iter(alloc: Global, iter: SubtagIterator<'_>) -> Result<Self, ParseError>
         ensures value { IfOk result (MeansOwn iter.entry) }
         ensures fault { IfErr result (IsRefused (MeansOwn iter.entry)) }
@@ -124,7 +126,7 @@ impl Private {
 
     /// Puts one more private subtag behind the others: `a` behind `foo` gives `foo`, `a`.
     ///
-    /// `AllocError` is answered for memory alone, and the list is then as before.
+    /// `AllocError`: out of memory; the list is then as before.
     pub fn push(&mut self, subtag: Subtag) -> Result<(), AllocError>
         ensures value { OnOk result (self.new ≡ self.old ++ subtag ∷ []) }
         ensures err { OnErr result (self.new ≡ self.old) }
@@ -134,7 +136,7 @@ impl Private {
         Ok(())
     }
 
-    /// The private subtags, in the order written: of `x-b-a` they are `b`, `a`.
+    /// The private subtags, in the order written: of `x-b-a` they are `b`, `a`. It does not allocate.
     pub fn as_slice(&self) -> &[Subtag]
         ensures value { result.now ≡ self.now }
         ensures lower { AreLower is_private_piece self.now }
@@ -142,7 +144,8 @@ impl Private {
         self.items.as_slice()
     }
 
-    /// The private subtags one after another, in the order written: of `x-foo-a` `foo`, and then `a`.
+    /// The private subtags one after another, in the order written: of `x-foo-a` `foo`, and then `a`. It does not
+    /// allocate.
     pub fn iter(&self) -> slice::Iter<'_, Subtag>
         ensures rest { iter_rest result ≡ self.now }
         ensures len { length (iter_rest result) ≡ length self.now }
@@ -151,43 +154,43 @@ impl Private {
         self.as_slice().iter()
     }
 
-    /// How many private subtags there are: 2 of `x-foo-a`.
+    /// How many private subtags there are: 2 of `x-foo-a`. It does not allocate.
     pub fn len(&self) -> usize
         ensures { result ≡ length self.now }
     {
         self.items.len()
     }
 
-    /// Whether there is no private subtag, as `new` gives them.
+    /// Whether there is no private subtag, as `new` gives them. It does not allocate.
     pub fn is_empty(&self) -> bool
         ensures { result ≡ (length self.now == 0) }
     {
         self.items.is_empty()
     }
 
-    /// The private subtag at this index, counted from 0: of `x-foo-a` at 1 it is `a`; `None` past the last.
+    /// The private subtag at this index, counted from 0: of `x-foo-a` at 1 it is `a`; `None` past the last. It does not
+    /// allocate.
     pub fn get(&self, index: usize) -> Option<&Subtag>
         ensures { option_copied result ≡ slice_get self.now index }
     {
         self.as_slice().get(index)
     }
 
-    /// The first private subtag, `foo` of `x-foo-a`; `None` where there is none.
+    /// The first private subtag, `foo` of `x-foo-a`; `None` where there is none. It does not allocate.
     pub fn first(&self) -> Option<&Subtag>
         ensures { option_copied result ≡ slice_get self.now 0 }
     {
         self.as_slice().first()
     }
 
-    /// Takes every private subtag away: `x-foo-a` then prints as the empty text. It takes no memory.
+    /// Removes every private subtag: `x-foo-a` then prints as the empty text. It does not allocate.
     pub fn clear(&mut self)
         ensures { self.new ≡ [] }
     {
         self.items.clear();
     }
 
-    /// The same private subtags: of `x-a-b` they are `a`, `b`. `AllocError` is answered for memory alone, and where there is none
-    /// no memory is taken.
+    /// A copy: of `x-a-b` it has `a`, `b`. `AllocError`: out of memory. It does not allocate where there is no subtag.
     pub fn try_clone(&self) -> Result<Self, AllocError>
         ensures succeeds { self.now ≡ [] → IsOk result }
         ensures value { IfOk result (λ private. private ≡ self.now) }

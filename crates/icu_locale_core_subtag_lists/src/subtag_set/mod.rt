@@ -18,8 +18,8 @@ use std::alloc::{AllocError, Global};
 use std::marker::Model;
 use std::{mem, slice};
 
-/// A set of subtags of the rule R, each of at most 8 characters: none of them twice, in byte order of their texts. Of the
-/// variants `fonipa` and `1996` it is `1996`, `fonipa`.
+/// A set of subtags of the rule R, each of at most 8 characters: none of them twice, in byte order of their texts. Of
+/// the variants `fonipa` and `1996` it is `1996`, `fonipa`.
 #[derive(Drop)]
 pub struct SubtagSet<R: SubtagRule<8>> {
     items: Vec<SubtagOf<R, 8>>,
@@ -37,7 +37,7 @@ impl<R: SubtagRule<8>> Model for SubtagSet<R> {
 }
 
 impl<R: SubtagRule<8>> SubtagSet<R> {
-    /// The empty set, of which `is_empty` is true. It takes no memory.
+    /// The empty set, of which `is_empty` is true. It does not allocate.
     pub fn new(alloc: Global) -> Self
         ensures { result ≡ [] }
     {
@@ -46,7 +46,7 @@ impl<R: SubtagRule<8>> SubtagSet<R> {
         }
     }
 
-    // The set of these subtags, of which none stands twice. It takes no memory.
+    // The set of these subtags, of which none occurs twice. It does not allocate.
     pub(crate) fn from_distinct(items: Vec<SubtagOf<R, 8>>) -> Self
         requires apart { AreApart items.items }
         requires each { AreNormalPieces R.accepts R.normal items.items }
@@ -57,15 +57,15 @@ impl<R: SubtagRule<8>> SubtagSet<R> {
         SubtagSet { items }
     }
 
-    // Whom the set asks for memory.
+    // The allocator of the set.
     pub(crate) fn allocator(&self) -> Global {
         *self.items.allocator()
     }
 
-    /// Puts the subtag into the set; answers whether the set changed.
+    /// Puts the subtag into the set, and returns whether the set changed.
     ///
-    /// `b` pushed into the set of `a`, `c` gives `a`, `b`, `c`. `AllocError` is answered for memory alone, and the set is
-    /// then as before; a subtag that is there already takes none.
+    /// `b` pushed into the set of `a`, `c` gives `a`, `b`, `c`. `AllocError`: out of memory; the set is then as before.
+    /// A subtag that is there already does not allocate.
     pub fn push(&mut self, subtag: SubtagOf<R, 8>) -> Result<bool, AllocError>
         ensures succeeds { contains_text subtag self.old ≡ true → IsOk result }
         ensures changed { IfOk result (λ changed. changed ≡ not (contains_text subtag self.old)) }
@@ -83,9 +83,9 @@ impl<R: SubtagRule<8>> SubtagSet<R> {
         }
     }
 
-    /// Takes the subtag out of the set; answers whether it was there.
+    /// Removes the subtag from the set, and returns whether it was there.
     ///
-    /// `b` taken out of the set of `a`, `b`, `c` leaves `a`, `c`. It takes no memory.
+    /// `b` removed from the set of `a`, `b`, `c` leaves `a`, `c`. It does not allocate.
     pub fn remove(&mut self, subtag: SubtagOf<R, 8>) -> bool
         ensures there { result ≡ contains_text subtag self.old }
         ensures value { self.new ≡ remove_text subtag self.old }
@@ -99,14 +99,14 @@ impl<R: SubtagRule<8>> SubtagSet<R> {
         }
     }
 
-    /// Whether the subtag is in the set: the set of `fonipa` has `fonipa`, and has no `1996`.
+    /// Whether the subtag is in the set: the set of `fonipa` has `fonipa`, and has no `1996`. It does not allocate.
     pub fn contains(&self, subtag: &SubtagOf<R, 8>) -> bool
         ensures { result ≡ contains_text subtag.now self.now }
     {
         place_of(self.items.as_slice(), subtag).is_ok()
     }
 
-    /// The subtags, in byte order: of the set of `fonipa` and `1996` they are `1996`, `fonipa`.
+    /// The subtags, in byte order: of the set of `fonipa` and `1996` they are `1996`, `fonipa`. It does not allocate.
     pub fn as_slice(&self) -> &[SubtagOf<R, 8>]
         ensures value { result.now ≡ self.now }
         ensures set { IsSubtagSet R.accepts R.normal self.now }
@@ -114,35 +114,36 @@ impl<R: SubtagRule<8>> SubtagSet<R> {
         self.items.as_slice()
     }
 
-    /// How many subtags there are: 1 in the set of `fonipa`.
+    /// How many subtags there are: 1 in the set of `fonipa`. It does not allocate.
     pub fn len(&self) -> usize
         ensures { result ≡ length self.now }
     {
         self.items.len()
     }
 
-    /// Whether there is no subtag, as in the set that `new` gives.
+    /// Whether there is no subtag, as in the set that `new` gives. It does not allocate.
     pub fn is_empty(&self) -> bool
         ensures { result ≡ (length self.now == 0) }
     {
         self.items.is_empty()
     }
 
-    /// The subtag at this index, counted from 0: of `1996`, `fonipa` at 1 it is `fonipa`, and at 2 there is none.
+    /// The subtag at this index, counted from 0: of `1996`, `fonipa` at 1 it is `fonipa`, and at 2 there is none. It
+    /// does not allocate.
     pub fn get(&self, index: usize) -> Option<&SubtagOf<R, 8>>
         ensures { option_copied result ≡ slice_get self.now index }
     {
         self.as_slice().get(index)
     }
 
-    /// The least subtag, `1996` of `fonipa` and `1996`; `None` where there is none.
+    /// The least subtag, `1996` of `fonipa` and `1996`; `None` where there is none. It does not allocate.
     pub fn first(&self) -> Option<&SubtagOf<R, 8>>
         ensures { option_copied result ≡ slice_get self.now 0 }
     {
         self.as_slice().first()
     }
 
-    /// The subtags one after another, in byte order: two of `fonipa` and `1996`.
+    /// The subtags one after another, in byte order: two of `fonipa` and `1996`. It does not allocate.
     pub fn iter(&self) -> slice::Iter<'_, SubtagOf<R, 8>>
         ensures rest { iter_rest result ≡ self.now }
         ensures len { length (iter_rest result) ≡ length self.now }
@@ -151,7 +152,7 @@ impl<R: SubtagRule<8>> SubtagSet<R> {
         self.as_slice().iter()
     }
 
-    /// Takes every subtag out; answers the set as it was: of `1996`, `fonipa` these two. It takes no memory.
+    /// Removes every subtag, and returns the set as it was: of `1996`, `fonipa` these two. It does not allocate.
     pub fn clear(&mut self) -> Self
         ensures value { result ≡ self.old }
         ensures empty { self.new ≡ [] }
@@ -160,8 +161,7 @@ impl<R: SubtagRule<8>> SubtagSet<R> {
         mem::replace(self, SubtagSet::new(alloc))
     }
 
-    /// An equal set: of `1996`, `fonipa` another with these two. `AllocError` is answered for memory alone, and the empty set takes
-    /// none.
+    /// A copy: of `1996`, `fonipa` a set of these two. `AllocError`: out of memory. The empty set does not allocate.
     pub fn try_clone(&self) -> Result<Self, AllocError>
         ensures succeeds { self.now ≡ [] → IsOk result }
         ensures value { IfOk result (λ set. set ≡ self.now) }

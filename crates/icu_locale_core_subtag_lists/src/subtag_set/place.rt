@@ -1,4 +1,4 @@
-//! Where a subtag stands in a set, or where it would stand.
+//! The place of a subtag in a set, or the place where it belongs.
 
 ghost use Rattle.std.specs.Prelude.{MatchResult};
 ghost use Rattle.icu_locale_core_grammar.specs.Collections.{Rises};
@@ -6,7 +6,7 @@ ghost use Rattle.icu_locale_core_subtag_lists.specs.Places.{StandsAt, BelongsAt}
 
 use icu_locale_core_subtags::{SubtagOf, SubtagRule};
 
-/// The place of the subtag, or the place where it would stand.
+/// The place of the subtag, or the place where it belongs.
 pub(crate) fn place_of<R: SubtagRule<8>>(
     items: &[SubtagOf<R, 8>],
     subtag: &SubtagOf<R, 8>,
