@@ -1,4 +1,4 @@
--- The text that a JSON value stands for: its own, and the empty text where it has none.
+-- The text of a JSON value: its own, and the empty text where it has none.
 -- Defined in docs/tags.md, "Subtags as values".
 -- Cited by `from_json` of every type of tags and their parts.
 use Rattle.std.specs.Prelude.{[], Option, None, Some}

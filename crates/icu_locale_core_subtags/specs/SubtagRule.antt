@@ -4,7 +4,7 @@
 use Rattle.std.specs.Prelude.{◌≡◌, ℕ, ◌<◌, ◌≤◌, Bool, true, length}
 use Rattle.icu_locale_core_grammar.specs.Subtags.{Text, is_plain, lower}
 
--- accepted texts are short words of letters and digits, and the normal case changes case alone, once
+-- accepted texts are short words of letters and digits, and the normal case changes only case, once
 pub record IsSubtagRule (capacity : ℕ) (accepts : Text → Bool) (normal : Text → Text) : Type 0 where
   pub some : (t : Text) → accepts t ≡ true → 0 < length t
   pub short : (t : Text) → accepts t ≡ true → length t ≤ capacity

@@ -15,14 +15,16 @@ use std::cmp::Ordering;
 use std::hash::{Hash, Hasher};
 
 impl<R: SubtagRule<N>, const N: usize> SubtagOf<R, N> {
-    /// The byte order of the text in normal case against the bytes: the region `US` is less than `us`.
+    /// The byte order of the text in normal case against the bytes: the region `US` is less than `us`. It does not
+    /// allocate.
     pub fn strict_cmp(&self, other: &[u8]) -> Ordering
         ensures { result ≡ text_cmp self.now other.now }
     {
         self.as_str().as_bytes().cmp(other)
     }
 
-    /// Whether the text reads as this subtag: the region `US` of `us`, and of no other text but `US`, `Us`, `uS`.
+    /// Whether the text reads as this subtag: the region `US` of `us`, and of no other text but `US`, `Us`, `uS`. It
+    /// does not allocate.
     pub fn normalizing_eq(&self, other: &str) -> bool
         ensures { IsTrue result ↔ ((R.accepts other.now ≡ true) × (R.normal other.now ≡ self.now)) }
     {

@@ -12,8 +12,8 @@ use crate::subtag_of::SubtagOf;
 use icu_locale_core_grammar::laws::sets_and_maps;
 use std::cmp::Ordering;
 
-/// A subtag is a word of 1 to N letters and digits, so it is one piece; and its text reads back as it, since its rule accepts
-/// the text and leaves its case: the script `Latn` is the one piece of `Latn`, and reads as `Latn`.
+/// A subtag is a word of 1 to N letters and digits, so it is one piece; and its text reads back as it, since its rule
+/// accepts the text and leaves its case: the script `Latn` is the one piece of `Latn`, and reads as `Latn`.
 #[tactic(auto, using(crate::specs::RuleLaws::small_from_rule, crate::proofs::PieceLemmas::plain_is_one_piece))]
 pub fn subtags_are_words<R: SubtagRule<N>, const N: usize>(subtag: &SubtagOf<R, N>)
     ensures accepted { R.accepts subtag.now ≡ true }
@@ -26,8 +26,8 @@ pub fn subtags_are_words<R: SubtagRule<N>, const N: usize>(subtag: &SubtagOf<R, 
     let _text = subtag.text;
 }
 
-/// The order of two subtags is that of their texts, and they tie exactly where they are equal: the language `de` is less than
-/// `en`.
+/// The order of two subtags is that of their texts, and they tie exactly where they are equal: the language `de` is
+/// less than `en`.
 pub fn order_is_of_texts<R: SubtagRule<N>, const N: usize>(
     one: &SubtagOf<R, N>,
     other: &SubtagOf<R, N>,
@@ -38,8 +38,8 @@ pub fn order_is_of_texts<R: SubtagRule<N>, const N: usize>(
     one.cmp(other)
 }
 
-/// Subtags that rise are a set: exactly such lists are their own set in the grammar of tags. `1996`, `fonipa` is one, and
-/// `fonipa`, `1996` is none.
+/// Subtags that rise are a set: exactly such lists are their own set in the grammar of tags. `1996`, `fonipa` is one,
+/// and `fonipa`, `1996` is none.
 pub fn rising_subtags_are_a_set<R: SubtagRule<N>, const N: usize>(subtags: &[SubtagOf<R, N>])
     ensures { Rises subtags.now ↔ (set_of subtags.now ≡ subtags.now) }
 {

@@ -21,14 +21,14 @@ impl<'a> Model for SubtagIterator<'a> {
     ghost view = { λ it. pieces_left it.rest };
 }
 
-/// Where the first hyphen stands, if there is one.
+/// The index of the first hyphen, if there is one.
 fn hyphen_in(text: &[u8]) -> Option<usize>
     ensures { result ≡ position is_hyphen text.now }
 {
     text.iter().position(|b| *b == b'-')
 }
 
-/// The first piece of a text, and what stands behind the hyphen that ends it.
+/// The first piece of a text, and what follows the hyphen that ends it.
 fn split_piece(text: &[u8]) -> (&[u8], Option<&[u8]>)
     ensures { pieces text.now ≡ result.0.now ∷ pieces_left result.1 }
 {
@@ -39,21 +39,21 @@ fn split_piece(text: &[u8]) -> (&[u8], Option<&[u8]>)
 }
 
 impl<'a> SubtagIterator<'a> {
-    /// The pieces of this text: of `en-US` they are `en`, `US`. It takes no memory.
+    /// The pieces of this text: of `en-US` they are `en`, `US`. It does not allocate.
     pub fn new(text: &'a [u8]) -> SubtagIterator<'a>
         ensures { result ≡ pieces text.now }
     {
         SubtagIterator { rest: Some(text) }
     }
 
-    /// The same pieces, from the same place on: behind `en` of `en-US` they are `US`.
+    /// The same pieces, from the same place on: behind `en` of `en-US` they are `US`. It does not allocate.
     pub fn again(&self) -> SubtagIterator<'a>
         ensures { result ≡ self.now }
     {
         SubtagIterator { rest: self.rest }
     }
 
-    /// The next piece, which stays: of `en-US` it is `en`, twice.
+    /// The next piece, which stays: of `en-US` it is `en`, twice. It does not allocate.
     pub fn peek(&self) -> Option<&'a [u8]>
         ensures { MatchOption result (self.now ≡ []) (λ piece. (others : List (List ℕ)) × (self.now ≡ piece.now ∷ others)) }
     {
@@ -61,7 +61,8 @@ impl<'a> SubtagIterator<'a> {
         Some(split_piece(rest).0)
     }
 
-    /// The pieces after the next one, and the next one: of `en-US` the pieces `US`, and `en`. `None` where none is left.
+    /// The pieces after the next one, and the next one: of `en-US` the pieces `US`, and `en`. `None` where none is
+    /// left. It does not allocate.
     pub fn next_const(self) -> (SubtagIterator<'a>, Option<&'a [u8]>)
         ensures { MatchOption result.1 ((self.entry ≡ []) × (result.0 ≡ [])) (λ piece. self.entry ≡ piece.now ∷ result.0) }
     {

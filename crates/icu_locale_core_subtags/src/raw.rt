@@ -13,7 +13,8 @@ use tinystr::TinyAsciiStr;
 impl<R: SubtagRule<N>, const N: usize> SubtagOf<R, N> {
     /// The subtag of a raw form, as `into_raw` gives it: for a region `[85, 83, 0]` is `US`.
     ///
-    /// A text that is not in normal case, as `[117, 115, 0]`, and any other bytes are the fault of the rule.
+    /// A text that is not in normal case, as `[117, 115, 0]`, and any other bytes have the error of the rule, for a
+    /// region `InvalidSubtag`. It does not allocate.
     pub fn try_from_raw(raw: [u8; N]) -> Result<Self, ParseError>
         ensures succeeds { IsOk result ↔ IsRawSubtag N R.accepts R.normal raw.entry }
         ensures value { IfOk result (λ subtag. subtag ≡ text_of raw.entry) }
@@ -32,7 +33,7 @@ impl<R: SubtagRule<N>, const N: usize> SubtagOf<R, N> {
         }
     }
 
-    /// The N bytes of the text in normal case and NULs: the region `US` is `[85, 83, 0]`.
+    /// The N bytes of the text in normal case and NULs: the region `US` is `[85, 83, 0]`. It does not allocate.
     pub fn into_raw(self) -> [u8; N]
         ensures { result ≡ padded N self }
     {

@@ -5,8 +5,8 @@ ghost use Rattle.std.specs.Prelude.{◌≡◌};
 use icu_locale_core_grammar::ParseError;
 use tinystr::TinyAsciiStr;
 
-/// A rule of subtags of at most N characters: which texts it accepts, the case that it gives them, and its fault. That of
-/// scripts, of 4 characters, accepts `LATN`, gives it the case of `Latn`, and has the fault `InvalidSubtag`.
+/// A rule of subtags of at most N characters: which texts it accepts, the case that it gives them, and its fault. That
+/// of scripts, of 4 characters, accepts `LATN`, gives it the case of `Latn`, and has the fault `InvalidSubtag`.
 pub trait SubtagRule<const N: usize> {
     ghost use Rattle.std.specs.Prelude.{◌≡◌, ℕ, Bool, List};
     ghost use Rattle.icu_locale_core_grammar.specs.declared.error.ParseError.{ParseError};
@@ -18,10 +18,10 @@ pub trait SubtagRule<const N: usize> {
     // the text in normal case
     ghost normal: { List ℕ → List ℕ };
 
-    // what a text that is not accepted answers
+    // the error of a text that is not accepted
     ghost fault: { ParseError };
 
-    // accepted texts are short words, and the normal case changes case alone
+    // accepted texts are short words, and the normal case changes only case
     ghost laws: { IsSubtagRule N accepts normal };
 
     /// Whether the text is accepted, in either case: `LATN` and `latn` are as scripts.

@@ -28,16 +28,17 @@ impl<R: SubtagRule<N>, const N: usize> Model for SubtagOf<R, N> {
 }
 
 impl<R: SubtagRule<N>, const N: usize> SubtagOf<R, N> {
-    /// The subtag of this text, in either case; the fault of the rule where the rule does not accept it.
+    /// The subtag of this text, in either case; the error of the rule where the rule does not accept it.
     ///
-    /// As a language `EN` is `en`, and `abcd` is `InvalidLanguage`. It takes no memory.
+    /// As a language `EN` is `en`, and `abcd` is `InvalidLanguage`. It does not allocate.
     pub fn try_from_str(s: &str) -> Result<Self, ParseError>
         ensures { MatchResult result (λ subtag. (R.accepts s.now ≡ true) × (subtag ≡ R.normal s.now)) (λ e. (R.accepts s.now ≡ false) × (e ≡ R.fault)) }
     {
         Self::try_from_utf8(s.as_bytes())
     }
 
-    /// The subtag of these bytes, as `try_from_str`.
+    /// The subtag of these bytes, as `try_from_str`: as a language `EN` is `en`. The errors are those of
+    /// `try_from_str`. It does not allocate.
     pub fn try_from_utf8(code_units: &[u8]) -> Result<Self, ParseError>
         ensures { MatchResult result (λ subtag. (R.accepts code_units.now ≡ true) × (subtag ≡ R.normal code_units.now)) (λ e. (R.accepts code_units.now ≡ false) × (e ≡ R.fault)) }
     {
@@ -50,14 +51,14 @@ impl<R: SubtagRule<N>, const N: usize> SubtagOf<R, N> {
         })
     }
 
-    /// The text in normal case: of the language that `EN` reads as it is `en`.
+    /// The text in normal case: of the language that `EN` reads as it is `en`. It does not allocate.
     pub fn as_str(&self) -> &str
         ensures { result.now ≡ self.now }
     {
         self.text.as_str()
     }
 
-    /// The text in normal case, in a value of its own: of the language `en` it is `en`.
+    /// The text in normal case, as an owned value: of the language `en` it is `en`. It does not allocate.
     pub fn to_tinystr(&self) -> TinyAsciiStr<N>
         ensures { result ≡ self.now }
     {
@@ -65,7 +66,7 @@ impl<R: SubtagRule<N>, const N: usize> SubtagOf<R, N> {
     }
 }
 
-/// As `try_from_str`.
+/// The subtag of this text, as `try_from_str`: as a language `EN` is `en`.
 impl<R: SubtagRule<N>, const N: usize> FromStr for SubtagOf<R, N> {
     type Err = ParseError;
 

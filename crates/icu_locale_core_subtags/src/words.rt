@@ -1,4 +1,4 @@
-//! Questions on texts that several rules ask.
+//! Tests of texts that several rules use.
 
 ghost use Rattle.std.specs.Prelude.{◌≡◌};
 ghost use Rattle.std.specs.List.{list_all};

@@ -51,7 +51,7 @@ impl Language {
         rule: PhantomData,
     };
 
-    /// Whether the language is `und`: of `und` and `UND`, not of `en`.
+    /// Whether the language is `und`: of `und` and `UND`, not of `en`. It does not allocate.
     pub fn is_unknown(&self) -> bool
         ensures { IsTrue result ↔ (self.now ≡ codes "und") }
     {

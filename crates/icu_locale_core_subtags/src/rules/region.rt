@@ -46,7 +46,7 @@ impl SubtagRule<3> for RegionRule {
 }
 
 impl Region {
-    /// Whether the region is of letters: `US` is, and `419` is not.
+    /// Whether the region is of letters: `US` is, and `419` is not. It does not allocate.
     pub fn is_alphabetic(&self) -> bool
         ensures { result ≡ list_all is_ascii_alphabetic self.now }
     {

@@ -16,7 +16,8 @@ use tinystr::TinyAsciiStr;
 /// 2 to 8 letters and digits, in lower case: `foo`.
 pub struct WordRule;
 
-/// A subtag of any kind: 2 to 8 letters and digits, in lower case. `Foo` reads as `foo`; other texts are `InvalidSubtag`.
+/// A subtag of any kind: 2 to 8 letters and digits, in lower case. `Foo` reads as `foo`; other texts are
+/// `InvalidSubtag`.
 ///
 /// Source: UTS 35, section 3.2, `other_extensions`.
 pub type Subtag = SubtagOf<WordRule, 8>;
@@ -46,7 +47,7 @@ impl SubtagRule<8> for WordRule {
 }
 
 impl Subtag {
-    /// The number of characters, 2 to 8: of `foobar` it is 6.
+    /// The number of characters, 2 to 8: of `foobar` it is 6. It does not allocate.
     pub fn len(&self) -> usize
         ensures value { result ≡ length self.now }
         ensures low { 2 ≤ result }
@@ -55,14 +56,15 @@ impl Subtag {
         self.text.len()
     }
 
-    /// The text in lower case, in a value of its own: of `FooBar` it is `foobar`.
+    /// The text in lower case, as an owned value: of `FooBar` it is `foobar`. It does not allocate.
     pub fn as_tinystr(&self) -> TinyAsciiStr<8>
         ensures { result ≡ self.now }
     {
         self.text
     }
 
-    /// Whether the text in lower case is this text: of `Foo` `eq_str("foo")` is true, and `eq_str("Foo")` is not.
+    /// Whether the text in lower case is this text: of `Foo` `eq_str("foo")` is true, and `eq_str("Foo")` is not. It
+    /// does not allocate.
     pub fn eq_str(&self, other: &str) -> bool
         ensures { IsTrue result ↔ (self.now ≡ other.now) }
     {
@@ -70,7 +72,7 @@ impl Subtag {
     }
 }
 
-/// As `try_from_str` of the text.
+/// The subtag of this text, as `try_from_str`: `Foo` gives `foo`, and `a` is `InvalidSubtag`.
 impl<const N: usize> TryFrom<TinyAsciiStr<N>> for Subtag {
     type Error = ParseError;
 

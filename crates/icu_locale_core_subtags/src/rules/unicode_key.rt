@@ -13,7 +13,8 @@ use tinystr::TinyAsciiStr;
 /// A letter or digit, and a letter, in lower case: `nu`.
 pub struct KeyRule;
 
-/// The key of a keyword: a letter or digit, and a letter, in lower case. `NU` reads as `nu`; other texts are `InvalidExtension`.
+/// The key of a keyword: a letter or digit, and a letter, in lower case. `NU` reads as `nu`; other texts are
+/// `InvalidExtension`.
 ///
 /// Source: UTS 35, section 3.2, `key`.
 pub type Key = SubtagOf<KeyRule, 2>;
