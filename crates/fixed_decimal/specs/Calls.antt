@@ -37,7 +37,7 @@ pub record RunsFrom (text : List ℕ) (calls : List Call) (new : SignedValue Num
   pub reads : ReadsSigned text read
   pub run : Run calls read new
 
--- the call is a rounding that may want memory, on this decimal; no other call may
+-- the call is a rounding that may allocate, on this decimal; no other call allocates
 abbrev pub MayGrowBy : Call → SignedValue Number → Type 0
 MayGrowBy (Round position mode increment) old = (increment ≡ MultiplesOf25) × MayGrowAt (place position) old.absolute.count
 MayGrowBy (MultiplyPow10 delta) old = ⊥
@@ -50,12 +50,12 @@ MayGrowBy (SetMaxPosition position) old = ⊥
 MayGrowBy (SetSign sign) old = ⊥
 MayGrowBy (ApplySignDisplay choice) old = ⊥
 
--- one of the calls may, on what those before it left
+-- one of the calls may allocate, on what those before it left
 abbrev pub MayGrowIn : List Call → SignedValue Number → Type 0
 MayGrowIn [] old = ⊥
 MayGrowIn (call ∷ calls) old = MayGrowBy call old ⊎ ((next : SignedValue Number) × (Makes call old next × MayGrowIn calls next))
 
--- the text spells a decimal on which the calls may want memory
+-- the text spells a decimal on which the calls may allocate
 pub record RunsLong (text : List ℕ) (calls : List Call) : Type 0 where
   pub read : SignedValue Number
   pub reads : ReadsSigned text read

@@ -14,7 +14,7 @@ abbrev pub StartsWithMark : List ℕ → Type 0
 StartsWithMark [] = Unit {0}
 StartsWithMark (c ∷ cs) = MarksExponent c
 
--- the text can stand behind the mark of a compact text
+-- the text can follow the mark of a compact text
 pub record IsCompactExponent (text : List ℕ) : Type 0 where
   pub some : 0 < length text
   pub are_digits : AreDigits text
@@ -28,7 +28,7 @@ IsNotCompact text = (front digits : List ℕ) → ¬ (SpellsCompact text front d
 abbrev pub IsNotScientific : List ℕ → Type 0
 IsNotScientific text = (left right : List ℕ) → ¬ (SpellsScientific text left right)
 
--- a refusal where a limit counts as syntax
+-- an error where a limit counts as syntax
 abbrev pub without_limit : ParseError → ParseError
 without_limit Limit = Syntax
 without_limit Syntax = Syntax

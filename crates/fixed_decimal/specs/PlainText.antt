@@ -1,4 +1,4 @@
--- A text without a letter that marks an exponent: what stands before and behind such a letter.
+-- A text without a letter that marks an exponent: what comes before such a letter and what follows it.
 -- Defined in docs/numbers.md, "Compact and scientific texts".
 -- Cited by the definitions of the compact and the scientific text.
 use Rattle.std.specs.Prelude.{◌≡◌, ℕ, ◌⊎◌, List, [], ◌∷◌}
@@ -12,7 +12,7 @@ compact_mark = 99
 abbrev pub MarksExponent : ℕ → Type 0
 MarksExponent c = (c ≡ compact_mark) ⊎ ((c ≡ small_mark) ⊎ (c ≡ capital_mark))
 
--- none of these letters stands in the text
+-- the text has none of these letters
 abbrev pub HasNoMark : List ℕ → Type 0
 HasNoMark [] = Unit {0}
 HasNoMark (c ∷ cs) = (¬ (MarksExponent c)) × HasNoMark cs

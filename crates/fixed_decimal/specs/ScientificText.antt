@@ -35,7 +35,8 @@ pub record ReadsLongScientific (text : List ℕ) : Type 0 where
   pub spells : SpellsScientific text left right
   pub long : ReadsLongSigned left ⊎ ReadsLongSigned right
 
--- the text has no `e` alone, or a side of it does not read, be it beyond the limits
+-- the text has not exactly one mark, an `e`, or a side of it does not read; a side beyond the limits does not read
+-- either
 abbrev pub IsNoScientificText : List ℕ → Type 0
 IsNoScientificText text = (v : ScientificValue) → ¬ (ReadsScientific text v)
 

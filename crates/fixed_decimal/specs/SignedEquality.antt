@@ -1,6 +1,6 @@
--- When `==` answers that two values are one: sign and absolute value, or significand and exponent, are equal.
+-- When `==` is true of two values: sign and absolute value, or significand and exponent, are equal.
 -- Defined in docs/numbers.md, "The number".
--- Cited by the equality of `Signed`, `FixedInteger`, `CompactDecimal` and `ScientificDecimal`, and by the laws that it is that of the printed texts.
+-- Cited by `==` of `Signed`, `FixedInteger`, `CompactDecimal`, `ScientificDecimal`, and by the laws on printed texts.
 use Rattle.std.specs.Prelude.{ℕ, ◌==◌, Bool}
 use Rattle.std.specs.Ordering.{eq_of_both, on}
 use Rattle.fixed_decimal_unsigned.specs.Equality.{are_equal}

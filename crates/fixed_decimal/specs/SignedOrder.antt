@@ -41,7 +41,7 @@ pub record IsNearestSigned (unit : ℕ) (n m : ℤ) (takes : ℤ → Type 0) : T
   pub nearest : (other : ℤ) → IsSignedMultiple unit other → gap n m ≤ gap n other
   pub tied : (other : ℤ) → IsSignedMultiple unit other → other ≢ m → gap n other ≡ gap n m → takes other
 
--- m is the multiple that the mode names; a mode that goes by size goes by that alone
+-- m is the multiple that the mode names; a mode that goes by size ignores the sign
 abbrev pub IsRoundedByOrder : SignedRoundingMode → ℕ → ℤ → ℤ → Type 0
 IsRoundedByOrder (Unsigned mode) unit n m = IsRounded mode unit (nat_abs n) (nat_abs m)
 IsRoundedByOrder Ceil unit n m = IsCeil unit n m

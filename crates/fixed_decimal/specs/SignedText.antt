@@ -1,6 +1,6 @@
 -- Which text spells which number with its sign: an unsigned number's text, with a plus or a minus before it or none.
 -- Defined in docs/numbers.md, "The text".
--- Cited by `try_from_str`, `try_from_utf8` and `assign_from_utf8` of `Decimal`, by `run_calls`, and by the printed text.
+-- Cited by `try_from_str`, `try_from_utf8`, `assign_from_utf8` of `Decimal`, by `run_calls` and the printed text.
 use Rattle.std.specs.Prelude.{◌≡◌, ℕ, List, [], ◌∷◌, ◌++◌}
 use Rattle.fixed_decimal_unsigned.specs.Number.{Number}
 use Rattle.fixed_decimal_unsigned.specs.NumberText.{minus, Reads, IsBeyond, IsNoText, text_of}
@@ -44,11 +44,11 @@ pub record ReadsLongerSigned (text : List ℕ) (other : ℕ) : Type 0 where
   pub reads : ReadsSigned text number
   pub longer : IsLonger other number.absolute.count
 
--- what stands behind a sign, or behind none, is no number's text
+-- what follows the sign, or the whole text where it has none, is no number's text
 abbrev pub IsNoSignedText : List ℕ → Type 0
 IsNoSignedText text = (sign : Sign) (rest : List ℕ) → text ≡ sign_text sign ++ rest → IsNoText rest
 
--- the text spells no decimal, be it that it spells one beyond the limits
+-- the text spells no decimal, or one beyond the limits
 abbrev pub ReadsNothing : List ℕ → Type 0
 ReadsNothing text = (number : SignedValue Number) → ¬ (ReadsSigned text number)
 

@@ -4,12 +4,12 @@
 use Rattle.std.specs.Prelude.{◌≡◌}
 use Rattle.fixed_decimal.specs.declared.sign.Sign.{Sign}
 
--- a sign, and what it stands before
+-- a sign, and the value behind it
 pub record SignedValue (T : Type 0) : Type 0 where
   pub sign : Sign
   pub absolute : T
 
--- the sign stays, and the absolute values stand so to each other
+-- the sign stays, and the relation holds of the absolute values
 pub record OnAbsolute {T : Type 0} (stand : T → T → Type 0) (old new : SignedValue T) : Type 0 where
   pub sign : new.sign ≡ old.sign
   pub absolute : stand old.absolute new.absolute

@@ -11,7 +11,7 @@ use Rattle.fixed_decimal.specs.SignedEquality.{are_equal_decimals, are_equal_com
 use Rattle.fixed_decimal.specs.SignedText.{ReadsSigned, IsBeyondSigned, signed_text_of}
 use Rattle.fixed_decimal.specs.SignedValue.{SignedValue}
 
--- a text has one reading, or one refusal
+-- a text has one reading, or one error
 pub record HasOneReading {V : Type 0} (Reading : V → Type 0) (Beyond : Type 0) : Type 0 where
   pub value : (a b : V) → Reading a → Reading b → a ≡ b
   pub limit : (a : V) → Reading a → ¬ Beyond
@@ -54,7 +54,7 @@ PrintedCompactsReadBack = ReadsBack IsCompact ReadsCompact compact_text_of
 abbrev pub PrintedScientificsReadBack : Type 0
 PrintedScientificsReadBack = ReadsBack IsScientific ReadsScientific scientific_text_of
 
--- `==` answers true for one value and no others, and for one printed text and no others
+-- `==` is true exactly of equal values, and exactly of equal printed texts
 pub record IsEqualityOfTexts {V : Type 0} (equal : V → V → Bool) (IsValue : V → Type 0) (printed : V → List ℕ) : Type 0 where
   pub values : (a b : V) → Decides (equal a b) (a ≡ b)
   pub texts : (a b : V) → IsValue a → IsValue b → Decides (equal a b) (printed a ≡ printed b)

@@ -11,8 +11,8 @@ use fixed_decimal_unsigned::{ConcatenateError, UnsignedDecimal};
 impl Signed<UnsignedDecimal> {
     /// The number times ten to the power `delta`, the digits shown with it: `-12` and 2 give `-1200`.
     ///
-    /// It is zero, shown `0` behind the sign, where an end of the range would pass magnitudes -32768 to 32767.
-    /// It takes no memory.
+    /// It is zero, shown `0` behind the sign, where an end of the range would pass magnitudes -32768 to 32767. It does
+    /// not allocate.
     pub fn multiplied_pow10(mut self, delta: i16) -> Decimal
         ensures { OnAbsolute (Shifts delta) self result }
     {
@@ -20,7 +20,7 @@ impl Signed<UnsignedDecimal> {
         self
     }
 
-    /// The number without the zeros that it begins with: `-012` gives `-12`. It takes no memory.
+    /// The number without the zeros that it begins with: `-012` gives `-12`. It does not allocate.
     pub fn trimmed_start(mut self) -> Decimal
         ensures { OnAbsolute TrimsStart self result }
     {
@@ -28,7 +28,7 @@ impl Signed<UnsignedDecimal> {
         self
     }
 
-    /// The number without the zeros that it ends in behind the point: `-1.20` gives `-1.2`. It takes no memory.
+    /// The number without the zeros that it ends in behind the point: `-1.20` gives `-1.2`. It does not allocate.
     pub fn trimmed_end(mut self) -> Decimal
         ensures { OnAbsolute TrimsEnd self result }
     {
@@ -36,9 +36,10 @@ impl Signed<UnsignedDecimal> {
         self
     }
 
-    /// The number without the zeros behind the point where there is no other digit behind it: `-1.00` gives `-1`, `-1.20` itself.
+    /// The number without the zeros behind the point where there is no other digit behind it: `-1.00` gives `-1`, and
+    /// `-1.20` stays.
     ///
-    /// It takes no memory.
+    /// It does not allocate.
     pub fn trimmed_end_if_integer(mut self) -> Decimal
         ensures { OnAbsolute TrimsWhole self result }
     {
@@ -48,7 +49,7 @@ impl Signed<UnsignedDecimal> {
 
     /// The number with zeros before it up to a position, or no more than it needs: `-12` and 4 give `-0012`.
     ///
-    /// A position of 0 or below changes nothing. It takes no memory.
+    /// A position of 0 or below changes nothing. It does not allocate.
     pub fn padded_start(mut self, position: i16) -> Decimal
         ensures { OnAbsolute (PadsStart (place position)) self result }
     {
@@ -58,7 +59,7 @@ impl Signed<UnsignedDecimal> {
 
     /// The number with zeros behind it down to a position, or no more than it needs: `-12` and -2 give `-12.00`.
     ///
-    /// A position above 0 changes nothing. It takes no memory.
+    /// A position above 0 changes nothing. It does not allocate.
     pub fn padded_end(mut self, position: i16) -> Decimal
         ensures { OnAbsolute (PadsEnd (place position)) self result }
     {
@@ -66,7 +67,7 @@ impl Signed<UnsignedDecimal> {
         self
     }
 
-    /// The number without the digits from a magnitude up: `-1234.5` and 2 give `-34.5`. It takes no memory.
+    /// The number without the digits from a magnitude up: `-1234.5` and 2 give `-34.5`. It does not allocate.
     pub fn with_max_position(mut self, position: i16) -> Decimal
         ensures { OnAbsolute (Cuts (place position)) self result }
     {
@@ -76,9 +77,9 @@ impl Signed<UnsignedDecimal> {
 
     /// The number with another one behind it, under the sign of this one: `-12` and `0.3` give `-12.3`.
     ///
-    /// `Overlap`, with both numbers, where neither is zero and the last digit of this number that is
-    /// not zero does not stand above the first one of `other`. `Memory`, with both, where memory was
-    /// refused; it is taken where the sum has more than eight digits, and neither number is zero.
+    /// `Overlap`, with both numbers, where neither is zero and the last digit of this number that is not zero is not
+    /// above the first one of `other`. `Memory`, with both: out of memory. It allocates only where the sum has more
+    /// than eight digits and neither number is zero.
     pub fn concatenated_end(
         mut self,
         other: UnsignedDecimal,

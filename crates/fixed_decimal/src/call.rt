@@ -31,17 +31,17 @@ pub enum Call {
     ApplySignDisplay(SignDisplay),
 }
 
-/// Why a run of calls stopped: `Parse` where the first text is `5.`.
+/// Why a run of calls failed: `Parse` where the first text is `5.`.
 #[derive(Clone, Copy, Debug, Drop, PartialEq, Eq, Error)]
 pub enum CallsError {
-    /// The first text spells no decimal, as `5.`, or one beyond the limits, as `1e32768`; nothing was written.
-    /// It is never for memory.
+    /// The first text spells no decimal, as `5.`, or one beyond the limits, as `1e32768`; nothing was written. Out of
+    /// memory is `Memory`.
     #[error("The text was not read as a decimal")]
     Parse,
     /// The sink refused, as one with room for two bytes refuses `+12.34`; it has taken a beginning of the text.
     #[error("The sink refused")]
     Write,
-    /// Memory for digits was refused, which `123456789` takes for its nine digits; nothing was written.
+    /// Out of memory: the nine digits of `123456789` allocate, eight do not; nothing was written.
     #[error("Memory for the digits was refused")]
     Memory,
 }
@@ -49,7 +49,7 @@ pub enum CallsError {
 impl CallsError {
     ghost use Rattle.fixed_decimal.specs.RefusalNumbers.{calls_error_number};
 
-    /// The number of the case: 1 for `Parse`, 2 for `Write`, 3 for `Memory`.
+    /// The number of the error: 1 of `Parse`, 2 of `Write`, 3 of `Memory`.
     pub fn number(&self) -> u8
         ensures { result ≡ calls_error_number self.now }
     {

@@ -62,11 +62,11 @@ fn read_start(alloc: Global, start: &[u8]) -> Result<Decimal, CallsError>
 
 /// Reads a decimal, makes the calls on it one after the other, and writes its text into `sink`.
 ///
-/// `12.345` with `Round` at -2 by `HalfEven`, and then `ApplySignDisplay(Always)`, writes `+12.34`. The sink
-/// has not refused yet. `Parse` exactly where the text spells no decimal within the limits (`5.`, `1e32768`);
-/// `Write` exactly where the sink refused, which has then taken a beginning of the text; `Memory` where memory
-/// was refused, for reading more than eight digits or for a rounding that wants it. After `Parse` and `Memory`
-/// the sink is as it was.
+/// `12.345` with `Round` at -2 by `HalfEven`, and then `ApplySignDisplay(Always)`, writes `+12.34`. The condition is
+/// that the sink has not refused yet. `Parse` exactly where the text spells no decimal within the limits (`5.`,
+/// `1e32768`). `Write` exactly where the sink refused; it has taken a beginning of the text. `Memory`: out of memory;
+/// only reading more than eight digits and a rounding to multiples of 25 allocate. After `Parse` and `Memory` the sink
+/// is as it was.
 pub fn run_calls<S: Sink>(
     alloc: Global,
     start: &[u8],

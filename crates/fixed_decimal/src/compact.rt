@@ -48,7 +48,7 @@ fn are_digits(text: &[u8]) -> bool
     true
 }
 
-// Whether a text can stand behind the mark of a compact text.
+// Whether a text can follow the mark of a compact text.
 fn is_compact_exponent(text: &[u8]) -> bool
     ensures { IsTrue result ↔ IsCompactExponent text.now }
 {
@@ -99,7 +99,7 @@ fn is_in_range(exponent: u8)
 {}
 
 impl CompactDecimal {
-    /// The decimal with this exponent shown beside it: 1.2 and 6 give `1.2c6`. It takes no memory.
+    /// The decimal with this exponent shown beside it: 1.2 and 6 give `1.2c6`. It does not allocate.
     pub fn from_significand_and_exponent(significand: Decimal, exponent: u8) -> CompactDecimal
         ensures { result ≡ record { significand = significand; exponent = exponent } }
     {
@@ -109,31 +109,31 @@ impl CompactDecimal {
         }
     }
 
-    /// The number before the exponent: 1.2 of `1.2c6`. It takes no memory.
+    /// The number before the exponent: 1.2 of `1.2c6`. It does not allocate.
     pub fn significand(&self) -> &Decimal
         ensures { result.now ≡ self.now.significand }
     {
         &self.significand
     }
 
-    /// The number before the exponent, moved out: 1.2 of `1.2c6`. It takes no memory.
+    /// The number before the exponent, moved out: 1.2 of `1.2c6`. It does not allocate.
     pub fn into_significand(self) -> Decimal
         ensures { result ≡ self.significand }
     {
         self.significand
     }
 
-    /// The exponent, from 0 to 255: 6 of `1.2c6`, and 0 of `1.2`. It takes no memory.
+    /// The exponent, from 0 to 255: 6 of `1.2c6`, and 0 of `1.2`. It does not allocate.
     pub fn exponent(&self) -> u8
         ensures { result ≡ self.now.exponent }
     {
         self.exponent
     }
 
-    /// The same number in a value of its own: of `1.2c6` another `1.2c6`.
+    /// A copy: of `1.2c6` it is `1.2c6`.
     ///
-    /// Memory is taken where the significand has more than eight digits, from the first to the last one that
-    /// is not zero; it is refused (`AllocError`) only there.
+    /// It allocates where the significand has more than eight digits, from the first to the last one that is not zero.
+    /// `AllocError`: out of memory, only there.
     pub fn try_clone(&self) -> Result<CompactDecimal, AllocError>
         ensures value { IfOk result (λ v. v ≡ self.now) }
         ensures room { OnErr result (IsLong self.now.significand.absolute.count) }
@@ -149,10 +149,9 @@ impl CompactDecimal {
 
     /// The number that a text spells, with its exponent: 1.2 and 6 of `1.2c6`.
     ///
-    /// `Syntax` where the text is not of this form (`1c`, `1c0`, `1c06`, `1e3`), `Limit` where the number
-    /// is beyond the limits of a decimal or the exponent above 255 (`1c256`), `Memory` where memory for
-    /// digits was refused; it is taken where there are more than eight, from the first to the last one that is
-    /// not zero.
+    /// `Syntax` where the text is not of this form (`1c`, `1c0`, `1c06`, `1e3`). `Limit` where the number is beyond the
+    /// limits of a decimal or the exponent above 255 (`1c256`). `Memory`: out of memory, only where there are more than
+    /// eight digits, from the first to the last one that is not zero.
     pub fn try_from_str(alloc: Global, text: &str) -> Result<CompactDecimal, ParseError>
         ensures syntax { IsErrOf result ParseError.Syntax → IsNoCompactText text.now }
         ensures limit { IsErrOf result ParseError.Limit → IsBeyondCompact text.now }

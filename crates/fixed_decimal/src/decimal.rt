@@ -27,7 +27,7 @@ fn split_sign(code_units: &[u8]) -> (Sign, &[u8])
 }
 
 impl Signed<UnsignedDecimal> {
-    /// A decimal of its sign and its absolute value: `Negative` and `12.3` give `-12.3`. It takes no memory.
+    /// A decimal of its sign and its absolute value: `Negative` and `12.3` give `-12.3`. It does not allocate.
     pub fn new(sign: Sign, absolute: UnsignedDecimal) -> Decimal
         ensures sign { result.sign ≡ sign }
         ensures value { result.absolute ≡ absolute }
@@ -35,14 +35,14 @@ impl Signed<UnsignedDecimal> {
         Signed { sign, absolute }
     }
 
-    /// The number zero without a sign, shown as `0`. It takes no memory.
+    /// The number zero without a sign, shown as `0`. It does not allocate.
     pub fn zero(alloc: Global) -> Decimal
         ensures { result ≡ record { sign = Sign.None; absolute = plain_zero } }
     {
         Decimal::new(Sign::None, UnsignedDecimal::zero(alloc))
     }
 
-    /// The number one without a sign, shown as `1`. It takes no memory.
+    /// The number one without a sign, shown as `1`. It does not allocate.
     pub fn one(alloc: Global) -> Decimal
         ensures { IsWhole 1 result }
     {
@@ -52,10 +52,10 @@ impl Signed<UnsignedDecimal> {
         }
     }
 
-    /// The same number in a value of its own: of `-012.30` another `-012.30`.
+    /// A copy: of `-012.30` it is `-012.30`.
     ///
-    /// Memory is taken where the number has more than eight digits, from the first to the last one that is
-    /// not zero; it is refused (`AllocError`) only there.
+    /// It allocates where the number has more than eight digits, from the first to the last one that is not zero.
+    /// `AllocError`: out of memory, only there.
     pub fn try_clone(&self) -> Result<Decimal, AllocError>
         ensures value { IfOk result (λ v. v ≡ self.now) }
         ensures room { OnErr result (IsLong self.now.absolute.count) }
@@ -67,9 +67,9 @@ impl Signed<UnsignedDecimal> {
 
     /// The number that a text spells, with its sign: `-12.30` is -12.3, shown from magnitude 1 down to -2.
     ///
-    /// `Syntax` where the text spells no number (`5.`, `--5`), `Limit` where it spells one that passes
-    /// magnitudes -32768 to 32767 (`1e32768`), `Memory` where memory for its digits was refused; it is
-    /// taken where there are more than eight, from the first to the last one that is not zero.
+    /// `Syntax` where the text spells no number (`5.`, `--5`). `Limit` where it spells one that passes magnitudes
+    /// -32768 to 32767 (`1e32768`). `Memory`: out of memory, only where there are more than eight digits, from the
+    /// first to the last one that is not zero.
     pub fn try_from_utf8(alloc: Global, code_units: &[u8]) -> Result<Decimal, ParseError>
         ensures syntax { IsErrOf result ParseError.Syntax → IsNoSignedText code_units.now }
         ensures limit { IsErrOf result ParseError.Limit → IsBeyondSigned code_units.now }
@@ -83,12 +83,12 @@ impl Signed<UnsignedDecimal> {
         }
     }
 
-    /// Puts the number that a text spells, with its sign, in place of this one: of `5` and the text `-12.30` it makes
-    /// `-12.30`, shown from magnitude 1 down to -2.
+    /// Replaces this number by the one that a text spells, with its sign: `5` and the text `-12.30` give `-12.30`,
+    /// shown from magnitude 1 down to -2.
     ///
-    /// The refusals are those of `try_from_utf8`, and the number is then as before. The memory that it has is used again:
-    /// more is taken only where the text spells a number of more than eight digits, from the first to the last one
-    /// that is not zero, and there is no room for so many.
+    /// The errors are those of `try_from_utf8`; after each the number is as before. The call reuses the memory of the
+    /// number. It allocates only where the text spells a number of more than eight digits, from the first to the last
+    /// one that is not zero, and of more digits than this number.
     pub fn assign_from_utf8(&mut self, code_units: &[u8]) -> Result<(), ParseError>
         ensures syntax { IsErrOf result ParseError.Syntax → IsNoSignedText code_units.now }
         ensures limit { IsErrOf result ParseError.Limit → IsBeyondSigned code_units.now }
@@ -107,8 +107,8 @@ impl Signed<UnsignedDecimal> {
         }
     }
 
-    /// The number that a text spells, and the refusals, as `try_from_utf8` has them of its bytes: `-12.30` is
-    /// -12.3, shown from magnitude 1 down to -2, and `5.` is `Syntax`.
+    /// The number that a text spells, and the errors, as `try_from_utf8` has them of its bytes: `-12.30` is -12.3,
+    /// shown from magnitude 1 down to -2, and `5.` is `Syntax`. It allocates where `try_from_utf8` does.
     pub fn try_from_str(alloc: Global, text: &str) -> Result<Decimal, ParseError>
         ensures syntax { IsErrOf result ParseError.Syntax → IsNoSignedText text.now }
         ensures limit { IsErrOf result ParseError.Limit → IsBeyondSigned text.now }

@@ -10,7 +10,7 @@ use thiserror::Error;
 pub struct LimitError;
 
 impl LimitError {
-    /// The number of the error, 1.
+    /// The number of the error: 1 of `LimitError`. It does not allocate.
     pub fn number(&self) -> u8
         ensures { result ≡ limit_error_number }
     {

@@ -56,9 +56,9 @@ impl TryFrom<Decimal> for FixedInteger {
 impl FixedInteger {
     /// The whole number that a text spells: `1e1` is `10`.
     ///
-    /// `Syntax` where the text spells no decimal, `Limit` where it spells one beyond the limits or one
-    /// that shows a digit behind the point (`1.0`, `10e-1`), `Memory` where memory for its digits was
-    /// refused; it is taken where there are more than eight, from the first to the last one that is not zero.
+    /// `Syntax` where the text spells no decimal. `Limit` where it spells one beyond the limits or one that shows a
+    /// digit behind the point (`1.0`, `10e-1`). `Memory`: out of memory, only where there are more than eight digits,
+    /// from the first to the last one that is not zero.
     pub fn try_from_utf8(alloc: Global, code_units: &[u8]) -> Result<FixedInteger, ParseError>
         ensures syntax { IsErrOf result ParseError.Syntax → IsNoSignedText code_units.now }
         ensures limit { IsErrOf result ParseError.Limit → IsBeyondInteger code_units.now }
@@ -75,8 +75,8 @@ impl FixedInteger {
         }
     }
 
-    /// The whole number that a text spells, and the refusals, as `try_from_utf8` has them of its bytes: `1e1`
-    /// is `10`, and `1.0` is `Limit`.
+    /// The whole number that a text spells, and the errors, as `try_from_utf8` has them of its bytes: `1e1` is `10`,
+    /// and `1.0` is `Limit`. It allocates where `try_from_utf8` does.
     pub fn try_from_str(alloc: Global, text: &str) -> Result<FixedInteger, ParseError>
         ensures syntax { IsErrOf result ParseError.Syntax → IsNoSignedText text.now }
         ensures limit { IsErrOf result ParseError.Limit → IsBeyondInteger text.now }
@@ -86,7 +86,7 @@ impl FixedInteger {
         FixedInteger::try_from_utf8(alloc, text.as_bytes())
     }
 
-    /// The whole number as a decimal: `-012` stays `-012`. It takes no memory.
+    /// The whole number as a decimal: `-012` stays `-012`. It does not allocate.
     pub fn into_decimal(self) -> Decimal
         ensures value { result ≡ self }
         ensures whole { ShowsNoFraction result }
@@ -110,10 +110,10 @@ impl FixedInteger {
         text_length(&self.decimal)
     }
 
-    /// The same number in a value of its own: of `-012` another `-012`.
+    /// A copy: of `-012` it is `-012`.
     ///
-    /// Memory is taken where the number has more than eight digits, from the first to the last one that is
-    /// not zero; it is refused (`AllocError`) only there.
+    /// It allocates where the number has more than eight digits, from the first to the last one that is not zero.
+    /// `AllocError`: out of memory, only there.
     pub fn try_clone(&self) -> Result<FixedInteger, AllocError>
         ensures value { IfOk result (λ v. v ≡ self.now) }
         ensures room { OnErr result (IsLong self.now.absolute.count) }
@@ -124,7 +124,7 @@ impl FixedInteger {
         Ok(FixedInteger { decimal })
     }
 
-    /// The whole number `integer`, without a sign: 250 is shown as `250`. It takes no memory.
+    /// The whole number `integer`, without a sign: 250 is shown as `250`. It does not allocate, and always succeeds.
     pub fn from_u8(alloc: Global, integer: u8) -> Result<FixedInteger, AllocError>
         ensures value { IfOk result (λ v. IsWhole integer v) }
         ensures succeeds { IsOk result }
@@ -133,7 +133,7 @@ impl FixedInteger {
         Ok(FixedInteger { decimal })
     }
 
-    /// The whole number `integer`, without a sign: 250 is shown as `250`. It takes no memory.
+    /// The whole number `integer`, without a sign: 250 is shown as `250`. It does not allocate, and always succeeds.
     pub fn from_u16(alloc: Global, integer: u16) -> Result<FixedInteger, AllocError>
         ensures value { IfOk result (λ v. IsWhole integer v) }
         ensures succeeds { IsOk result }
@@ -144,8 +144,8 @@ impl FixedInteger {
 
     /// The whole number `integer`, without a sign: 250 is shown as `250`.
     ///
-    /// Memory is taken where it has more than eight digits without the zeros at its end; it is refused
-    /// (`AllocError`) only there.
+    /// It allocates where it has more than eight digits without the zeros at its end. `AllocError`: out of memory, only
+    /// there.
     pub fn from_u32(alloc: Global, integer: u32) -> Result<FixedInteger, AllocError>
         ensures value { IfOk result (λ v. IsWhole integer v) }
         ensures room { OnErr result (IsLong integer) }
@@ -156,8 +156,8 @@ impl FixedInteger {
 
     /// The whole number `integer`, without a sign: 250 is shown as `250`.
     ///
-    /// Memory is taken where it has more than eight digits without the zeros at its end; it is refused
-    /// (`AllocError`) only there.
+    /// It allocates where it has more than eight digits without the zeros at its end. `AllocError`: out of memory, only
+    /// there.
     pub fn from_u64(alloc: Global, integer: u64) -> Result<FixedInteger, AllocError>
         ensures value { IfOk result (λ v. IsWhole integer v) }
         ensures room { OnErr result (IsLong integer) }
@@ -168,8 +168,8 @@ impl FixedInteger {
 
     /// The whole number `integer`, without a sign: 250 is shown as `250`.
     ///
-    /// Memory is taken where it has more than eight digits without the zeros at its end; it is refused
-    /// (`AllocError`) only there.
+    /// It allocates where it has more than eight digits without the zeros at its end. `AllocError`: out of memory, only
+    /// there.
     pub fn from_usize(alloc: Global, integer: usize) -> Result<FixedInteger, AllocError>
         ensures value { IfOk result (λ v. IsWhole integer v) }
         ensures room { OnErr result (IsLong integer) }
@@ -180,8 +180,8 @@ impl FixedInteger {
 
     /// The whole number `integer`, without a sign: 250 is shown as `250`.
     ///
-    /// Memory is taken where it has more than eight digits without the zeros at its end; it is refused
-    /// (`AllocError`) only there.
+    /// It allocates where it has more than eight digits without the zeros at its end. `AllocError`: out of memory, only
+    /// there.
     pub fn from_u128(alloc: Global, integer: u128) -> Result<FixedInteger, AllocError>
         ensures value { IfOk result (λ v. IsWhole integer v) }
         ensures room { OnErr result (IsLong integer) }
@@ -190,7 +190,8 @@ impl FixedInteger {
         Ok(FixedInteger { decimal })
     }
 
-    /// The whole number `integer`, with a minus below zero: -25 is shown as `-25`. It takes no memory.
+    /// The whole number `integer`, with a minus below zero: -25 is shown as `-25`. It does not allocate, and always
+    /// succeeds.
     pub fn from_i8(alloc: Global, integer: i8) -> Result<FixedInteger, AllocError>
         ensures value { IfOk result (λ v. IsSignedWhole integer v) }
         ensures succeeds { IsOk result }
@@ -199,7 +200,8 @@ impl FixedInteger {
         Ok(FixedInteger { decimal })
     }
 
-    /// The whole number `integer`, with a minus below zero: -25 is shown as `-25`. It takes no memory.
+    /// The whole number `integer`, with a minus below zero: -25 is shown as `-25`. It does not allocate, and always
+    /// succeeds.
     pub fn from_i16(alloc: Global, integer: i16) -> Result<FixedInteger, AllocError>
         ensures value { IfOk result (λ v. IsSignedWhole integer v) }
         ensures succeeds { IsOk result }
@@ -210,8 +212,8 @@ impl FixedInteger {
 
     /// The whole number `integer`, with a minus below zero: -25 is shown as `-25`.
     ///
-    /// Memory is taken where it has more than eight digits without the zeros at its end; it is refused
-    /// (`AllocError`) only there.
+    /// It allocates where it has more than eight digits without the zeros at its end. `AllocError`: out of memory, only
+    /// there.
     pub fn from_i32(alloc: Global, integer: i32) -> Result<FixedInteger, AllocError>
         ensures value { IfOk result (λ v. IsSignedWhole integer v) }
         ensures room { OnErr result (IsLong (size_of integer)) }
@@ -222,8 +224,8 @@ impl FixedInteger {
 
     /// The whole number `integer`, with a minus below zero: -25 is shown as `-25`.
     ///
-    /// Memory is taken where it has more than eight digits without the zeros at its end; it is refused
-    /// (`AllocError`) only there.
+    /// It allocates where it has more than eight digits without the zeros at its end. `AllocError`: out of memory, only
+    /// there.
     pub fn from_i64(alloc: Global, integer: i64) -> Result<FixedInteger, AllocError>
         ensures value { IfOk result (λ v. IsSignedWhole integer v) }
         ensures room { OnErr result (IsLong (size_of integer)) }
@@ -234,8 +236,8 @@ impl FixedInteger {
 
     /// The whole number `integer`, with a minus below zero: -25 is shown as `-25`.
     ///
-    /// Memory is taken where it has more than eight digits without the zeros at its end; it is refused
-    /// (`AllocError`) only there.
+    /// It allocates where it has more than eight digits without the zeros at its end. `AllocError`: out of memory, only
+    /// there.
     pub fn from_isize(alloc: Global, integer: isize) -> Result<FixedInteger, AllocError>
         ensures value { IfOk result (λ v. IsSignedWhole integer v) }
         ensures room { OnErr result (IsLong (size_of integer)) }
@@ -246,8 +248,8 @@ impl FixedInteger {
 
     /// The whole number `integer`, with a minus below zero: -25 is shown as `-25`.
     ///
-    /// Memory is taken where it has more than eight digits without the zeros at its end; it is refused
-    /// (`AllocError`) only there.
+    /// It allocates where it has more than eight digits without the zeros at its end. `AllocError`: out of memory, only
+    /// there.
     pub fn from_i128(alloc: Global, integer: i128) -> Result<FixedInteger, AllocError>
         ensures value { IfOk result (λ v. IsSignedWhole integer v) }
         ensures room { OnErr result (IsLong (size_of integer)) }

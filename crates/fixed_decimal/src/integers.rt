@@ -37,7 +37,7 @@ fn from_signed(alloc: Global, integer: i128) -> Result<Decimal, AllocError>
 }
 
 impl Signed<UnsignedDecimal> {
-    /// The whole number `integer`, without a sign: 250 is shown as `250`. It takes no memory.
+    /// The whole number `integer`, without a sign: 250 is shown as `250`. It does not allocate, and always succeeds.
     pub fn from_u8(alloc: Global, integer: u8) -> Result<Decimal, AllocError>
         ensures value { IfOk result (λ v. IsWhole integer v) }
         ensures succeeds { IsOk result }
@@ -45,7 +45,7 @@ impl Signed<UnsignedDecimal> {
         Decimal::from_u16(alloc, u16::from(integer))
     }
 
-    /// The whole number `integer`, without a sign: 250 is shown as `250`. It takes no memory.
+    /// The whole number `integer`, without a sign: 250 is shown as `250`. It does not allocate, and always succeeds.
     pub fn from_u16(alloc: Global, integer: u16) -> Result<Decimal, AllocError>
         ensures value { IfOk result (λ v. IsWhole integer v) }
         ensures succeeds { IsOk result }
@@ -55,8 +55,8 @@ impl Signed<UnsignedDecimal> {
 
     /// The whole number `integer`, without a sign: 250 is shown as `250`.
     ///
-    /// Memory is taken where it has more than eight digits without the zeros at its end; it is refused
-    /// (`AllocError`) only there.
+    /// It allocates where it has more than eight digits without the zeros at its end. `AllocError`: out of memory, only
+    /// there.
     pub fn from_u32(alloc: Global, integer: u32) -> Result<Decimal, AllocError>
         ensures value { IfOk result (λ v. IsWhole integer v) }
         ensures room { OnErr result (IsLong integer) }
@@ -66,8 +66,8 @@ impl Signed<UnsignedDecimal> {
 
     /// The whole number `integer`, without a sign: 250 is shown as `250`.
     ///
-    /// Memory is taken where it has more than eight digits without the zeros at its end; it is refused
-    /// (`AllocError`) only there.
+    /// It allocates where it has more than eight digits without the zeros at its end. `AllocError`: out of memory, only
+    /// there.
     pub fn from_u64(alloc: Global, integer: u64) -> Result<Decimal, AllocError>
         ensures value { IfOk result (λ v. IsWhole integer v) }
         ensures room { OnErr result (IsLong integer) }
@@ -77,8 +77,8 @@ impl Signed<UnsignedDecimal> {
 
     /// The whole number `integer`, without a sign: 250 is shown as `250`.
     ///
-    /// Memory is taken where it has more than eight digits without the zeros at its end; it is refused
-    /// (`AllocError`) only there.
+    /// It allocates where it has more than eight digits without the zeros at its end. `AllocError`: out of memory, only
+    /// there.
     pub fn from_usize(alloc: Global, integer: usize) -> Result<Decimal, AllocError>
         ensures value { IfOk result (λ v. IsWhole integer v) }
         ensures room { OnErr result (IsLong integer) }
@@ -88,8 +88,8 @@ impl Signed<UnsignedDecimal> {
 
     /// The whole number `integer`, without a sign: 250 is shown as `250`.
     ///
-    /// Memory is taken where it has more than eight digits without the zeros at its end; it is refused
-    /// (`AllocError`) only there.
+    /// It allocates where it has more than eight digits without the zeros at its end. `AllocError`: out of memory, only
+    /// there.
     pub fn from_u128(alloc: Global, integer: u128) -> Result<Decimal, AllocError>
         ensures value { IfOk result (λ v. IsWhole integer v) }
         ensures room { OnErr result (IsLong integer) }
@@ -101,7 +101,8 @@ impl Signed<UnsignedDecimal> {
         })
     }
 
-    /// The whole number `integer`, with a minus below zero: -25 is shown as `-25`. It takes no memory.
+    /// The whole number `integer`, with a minus below zero: -25 is shown as `-25`. It does not allocate, and always
+    /// succeeds.
     pub fn from_i8(alloc: Global, integer: i8) -> Result<Decimal, AllocError>
         ensures value { IfOk result (λ v. IsSignedWhole integer v) }
         ensures succeeds { IsOk result }
@@ -109,7 +110,8 @@ impl Signed<UnsignedDecimal> {
         Decimal::from_i16(alloc, integer as i16)
     }
 
-    /// The whole number `integer`, with a minus below zero: -25 is shown as `-25`. It takes no memory.
+    /// The whole number `integer`, with a minus below zero: -25 is shown as `-25`. It does not allocate, and always
+    /// succeeds.
     pub fn from_i16(alloc: Global, integer: i16) -> Result<Decimal, AllocError>
         ensures value { IfOk result (λ v. IsSignedWhole integer v) }
         ensures succeeds { IsOk result }
@@ -119,8 +121,8 @@ impl Signed<UnsignedDecimal> {
 
     /// The whole number `integer`, with a minus below zero: -25 is shown as `-25`.
     ///
-    /// Memory is taken where it has more than eight digits without the zeros at its end; it is refused
-    /// (`AllocError`) only there.
+    /// It allocates where it has more than eight digits without the zeros at its end. `AllocError`: out of memory, only
+    /// there.
     pub fn from_i32(alloc: Global, integer: i32) -> Result<Decimal, AllocError>
         ensures value { IfOk result (λ v. IsSignedWhole integer v) }
         ensures room { OnErr result (IsLong (size_of integer)) }
@@ -130,8 +132,8 @@ impl Signed<UnsignedDecimal> {
 
     /// The whole number `integer`, with a minus below zero: -25 is shown as `-25`.
     ///
-    /// Memory is taken where it has more than eight digits without the zeros at its end; it is refused
-    /// (`AllocError`) only there.
+    /// It allocates where it has more than eight digits without the zeros at its end. `AllocError`: out of memory, only
+    /// there.
     pub fn from_i64(alloc: Global, integer: i64) -> Result<Decimal, AllocError>
         ensures value { IfOk result (λ v. IsSignedWhole integer v) }
         ensures room { OnErr result (IsLong (size_of integer)) }
@@ -141,8 +143,8 @@ impl Signed<UnsignedDecimal> {
 
     /// The whole number `integer`, with a minus below zero: -25 is shown as `-25`.
     ///
-    /// Memory is taken where it has more than eight digits without the zeros at its end; it is refused
-    /// (`AllocError`) only there.
+    /// It allocates where it has more than eight digits without the zeros at its end. `AllocError`: out of memory, only
+    /// there.
     pub fn from_isize(alloc: Global, integer: isize) -> Result<Decimal, AllocError>
         ensures value { IfOk result (λ v. IsSignedWhole integer v) }
         ensures room { OnErr result (IsLong (size_of integer)) }
@@ -152,8 +154,8 @@ impl Signed<UnsignedDecimal> {
 
     /// The whole number `integer`, with a minus below zero: -25 is shown as `-25`.
     ///
-    /// Memory is taken where it has more than eight digits without the zeros at its end; it is refused
-    /// (`AllocError`) only there.
+    /// It allocates where it has more than eight digits without the zeros at its end. `AllocError`: out of memory, only
+    /// there.
     pub fn from_i128(alloc: Global, integer: i128) -> Result<Decimal, AllocError>
         ensures value { IfOk result (λ v. IsSignedWhole integer v) }
         ensures room { OnErr result (IsLong (size_of integer)) }

@@ -8,25 +8,24 @@ pub use fixed_decimal_unsigned::laws::{
     texts_read_once,
 };
 
-/// A text spells at most one decimal, and is not both within the limits and beyond them: `-12.30` spells -12.3
-/// alone, shown down to magnitude -2.
+/// A text spells at most one decimal, and is not both within the limits and beyond them: `-12.30` spells only -12.3,
+/// shown down to magnitude -2.
 pub fn decimal_texts_read_once()
     ensures { DecimalTextsReadOnce }
 {}
 
-/// A text spells at most one whole number, and is not both within the limits and beyond them: `1e1` spells 10
-/// alone.
+/// A text spells at most one whole number, and is not both within the limits and beyond them: `1e1` spells only 10.
 pub fn integer_texts_read_once()
     ensures { IntegerTextsReadOnce }
 {}
 
-/// A text spells at most one compact number, and is not both within the limits and beyond them: `1.20c6` spells
-/// 1.20 with the exponent 6 alone.
+/// A text spells at most one compact number, and is not both within the limits and beyond them: `1.20c6` spells only
+/// 1.20 with the exponent 6.
 pub fn compact_texts_read_once()
     ensures { CompactTextsReadOnce }
 {}
 
-/// A text spells at most one scientific number: `1.2e-06` spells 1.2 with the exponent -06 alone.
+/// A text spells at most one scientific number: `1.2e-06` spells only 1.2 with the exponent -06.
 pub fn scientific_texts_read_once()
     ensures { ScientificTextsReadOnce }
 {}

@@ -8,7 +8,7 @@ use fixed_decimal_unsigned::UnsignedRoundingMode;
 /// their names from ECMA-402's `roundingMode`.
 #[derive(Clone, Copy, Debug, Drop, PartialEq, Eq)]
 pub enum SignedRoundingMode {
-    /// By size alone, whatever the sign: at 0 by `Unsigned(Expand)`, `-7.3` becomes `-8`.
+    /// By size, whatever the sign: at 0 by `Unsigned(Expand)`, `-7.3` becomes `-8`.
     Unsigned(UnsignedRoundingMode),
     /// The next multiple that is not smaller: at 0, `-7.3` becomes `-7`, and `7.3` becomes `8`.
     Ceil,

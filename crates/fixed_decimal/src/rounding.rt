@@ -14,9 +14,9 @@ use std::sync::ledger::Ledger;
 impl Signed<UnsignedDecimal> {
     /// Rounds to a multiple of the increment at a position, and counts the turns of the loops over digits.
     ///
-    /// It answers and does what `round_with_mode_and_increment` does, in at most two more turns than the
-    /// number has digits, from the first to the last one that is not zero: `99.999` at 4 by `Expand` is
-    /// `10000`, in at most seven turns.
+    /// It returns and does what `round_with_mode_and_increment` does, in at most two more turns than the number has
+    /// digits, from the first to the last one that is not zero: `99.999` at 4 by `Expand` is `10000`, in at most seven
+    /// turns. It allocates where `round_with_mode_and_increment` does. `AllocError`: out of memory, only there.
     pub fn round_counted<L: Ledger>(
         &mut self,
         position: i16,
@@ -38,10 +38,9 @@ impl Signed<UnsignedDecimal> {
 
     /// Rounds to a multiple of the increment at a position: `-7.3` at -2 by `Ceil` to 25 is `-7.25`.
     ///
-    /// Zero stands in place of a multiple whose size reaches ten to the power 32768; the sign is kept.
-    /// Memory is wanted only where the multiple ends in 25 or 75 at the position, and the number has eight
-    /// digits or more, of which the last one that is not zero stands right above it; where it was refused
-    /// the number is as it was.
+    /// A multiple whose size reaches ten to the power 32768 becomes zero; the sign is kept. It allocates only where the
+    /// multiple ends in 25 or 75 at the position, and the number has eight digits or more, of which the last one that
+    /// is not zero is right above it. `AllocError`: out of memory; the number is then as it was.
     pub fn round_with_mode_and_increment(
         &mut self,
         position: i16,
@@ -59,7 +58,7 @@ impl Signed<UnsignedDecimal> {
             .round_with_mode_and_increment(position, by_size, increment)
     }
 
-    /// Rounds at a position as the mode says: `-7.3` at 0 by `HalfCeil` is `-7`. It takes no memory.
+    /// Rounds at a position as the mode says: `-7.3` at 0 by `HalfCeil` is `-7`. It does not allocate.
     pub fn round_with_mode(&mut self, position: i16, mode: SignedRoundingMode)
         ensures { RoundsSigned mode RoundingIncrement.MultiplesOf1 (place position) self.old self.new }
     {
@@ -67,7 +66,7 @@ impl Signed<UnsignedDecimal> {
         self.absolute.round_with_mode(position, by_size);
     }
 
-    /// Rounds at a position to the nearest multiple, a tie to the even one: `2.5` at 0 is `2`. It takes no memory.
+    /// Rounds at a position to the nearest multiple, a tie to the even one: `2.5` at 0 is `2`. It does not allocate.
     pub fn round(&mut self, position: i16)
         ensures { RoundsSigned (SignedRoundingMode.Unsigned UnsignedRoundingMode.HalfEven) RoundingIncrement.MultiplesOf1 (place position) self.old self.new }
     {
@@ -77,7 +76,7 @@ impl Signed<UnsignedDecimal> {
         );
     }
 
-    /// Rounds at a position away from zero: `-7.3` at 0 is `-8`. It takes no memory.
+    /// Rounds at a position away from zero: `-7.3` at 0 is `-8`. It does not allocate.
     pub fn expand(&mut self, position: i16)
         ensures { RoundsSigned (SignedRoundingMode.Unsigned UnsignedRoundingMode.Expand) RoundingIncrement.MultiplesOf1 (place position) self.old self.new }
     {
@@ -87,7 +86,7 @@ impl Signed<UnsignedDecimal> {
         );
     }
 
-    /// Rounds at a position towards zero: `-7.3` at 0 is `-7`. It takes no memory.
+    /// Rounds at a position towards zero: `-7.3` at 0 is `-7`. It does not allocate.
     pub fn trunc(&mut self, position: i16)
         ensures { RoundsSigned (SignedRoundingMode.Unsigned UnsignedRoundingMode.Trunc) RoundingIncrement.MultiplesOf1 (place position) self.old self.new }
     {
@@ -97,14 +96,14 @@ impl Signed<UnsignedDecimal> {
         );
     }
 
-    /// Rounds at a position upwards: `-7.3` at 0 is `-7`, and `7.3` is `8`. It takes no memory.
+    /// Rounds at a position upwards: `-7.3` at 0 is `-7`, and `7.3` is `8`. It does not allocate.
     pub fn ceil(&mut self, position: i16)
         ensures { RoundsSigned SignedRoundingMode.Ceil RoundingIncrement.MultiplesOf1 (place position) self.old self.new }
     {
         self.round_with_mode(position, SignedRoundingMode::Ceil);
     }
 
-    /// Rounds at a position downwards: `-7.3` at 0 is `-8`, and `7.3` is `7`. It takes no memory.
+    /// Rounds at a position downwards: `-7.3` at 0 is `-8`, and `7.3` is `7`. It does not allocate.
     pub fn floor(&mut self, position: i16)
         ensures { RoundsSigned SignedRoundingMode.Floor RoundingIncrement.MultiplesOf1 (place position) self.old self.new }
     {
@@ -113,7 +112,7 @@ impl Signed<UnsignedDecimal> {
 
     /// The number rounded to a multiple of the increment: `37.5` at 0 by `HalfEven` to 25 gives `50`.
     ///
-    /// The refusal for memory, which is wanted where `round_with_mode_and_increment` wants it, hands the number back.
+    /// It allocates where `round_with_mode_and_increment` does. `AllocFailed`: out of memory; it holds the number.
     pub fn rounded_with_mode_and_increment(
         mut self,
         position: i16,
@@ -132,7 +131,7 @@ impl Signed<UnsignedDecimal> {
         }
     }
 
-    /// The number rounded at a position as the mode says: `-7.3` at 0 by `HalfCeil` gives `-7`. It takes no memory.
+    /// The number rounded at a position as the mode says: `-7.3` at 0 by `HalfCeil` gives `-7`. It does not allocate.
     pub fn rounded_with_mode(mut self, position: i16, mode: SignedRoundingMode) -> Decimal
         ensures { RoundsSigned mode RoundingIncrement.MultiplesOf1 (place position) self result }
     {
@@ -140,7 +139,8 @@ impl Signed<UnsignedDecimal> {
         self
     }
 
-    /// The number rounded at a position to the nearest multiple, a tie to the even one: `2.5` at 0 gives `2`. It takes no memory.
+    /// The number rounded at a position to the nearest multiple, a tie to the even one: `2.5` at 0 gives `2`. It does
+    /// not allocate.
     pub fn rounded(mut self, position: i16) -> Decimal
         ensures { RoundsSigned (SignedRoundingMode.Unsigned UnsignedRoundingMode.HalfEven) RoundingIncrement.MultiplesOf1 (place position) self result }
     {
@@ -148,7 +148,7 @@ impl Signed<UnsignedDecimal> {
         self
     }
 
-    /// The number rounded at a position away from zero: `-7.3` at 0 gives `-8`. It takes no memory.
+    /// The number rounded at a position away from zero: `-7.3` at 0 gives `-8`. It does not allocate.
     pub fn expanded(mut self, position: i16) -> Decimal
         ensures { RoundsSigned (SignedRoundingMode.Unsigned UnsignedRoundingMode.Expand) RoundingIncrement.MultiplesOf1 (place position) self result }
     {
@@ -156,7 +156,7 @@ impl Signed<UnsignedDecimal> {
         self
     }
 
-    /// The number rounded at a position towards zero: `-7.3` at 0 gives `-7`. It takes no memory.
+    /// The number rounded at a position towards zero: `-7.3` at 0 gives `-7`. It does not allocate.
     pub fn trunced(mut self, position: i16) -> Decimal
         ensures { RoundsSigned (SignedRoundingMode.Unsigned UnsignedRoundingMode.Trunc) RoundingIncrement.MultiplesOf1 (place position) self result }
     {
@@ -164,7 +164,7 @@ impl Signed<UnsignedDecimal> {
         self
     }
 
-    /// The number rounded at a position upwards: `-7.3` at 0 gives `-7`. It takes no memory.
+    /// The number rounded at a position upwards: `-7.3` at 0 gives `-7`. It does not allocate.
     pub fn ceiled(mut self, position: i16) -> Decimal
         ensures { RoundsSigned SignedRoundingMode.Ceil RoundingIncrement.MultiplesOf1 (place position) self result }
     {
@@ -172,7 +172,7 @@ impl Signed<UnsignedDecimal> {
         self
     }
 
-    /// The number rounded at a position downwards: `-7.3` at 0 gives `-8`. It takes no memory.
+    /// The number rounded at a position downwards: `-7.3` at 0 gives `-8`. It does not allocate.
     pub fn floored(mut self, position: i16) -> Decimal
         ensures { RoundsSigned SignedRoundingMode.Floor RoundingIncrement.MultiplesOf1 (place position) self result }
     {

@@ -56,7 +56,7 @@ fn split_scientific(text: &[u8]) -> Option<(&[u8], &[u8])>
     Some((left, right))
 }
 
-// The refusal of a text by the refusal of a side of it: a side beyond the limits does not read.
+// The error of a text by the error of a side of it: a side beyond the limits does not read.
 fn refused_by(side: ParseError) -> ParseError
     ensures { result ≡ without_limit side }
 {
@@ -68,7 +68,7 @@ fn refused_by(side: ParseError) -> ParseError
 }
 
 impl ScientificDecimal {
-    /// The decimal with this exponent shown beside it: 1.2 and -6 give `1.2e-6`. It takes no memory.
+    /// The decimal with this exponent shown beside it: 1.2 and -6 give `1.2e-6`. It does not allocate.
     pub fn from(significand: Decimal, exponent: FixedInteger) -> ScientificDecimal
         ensures { result ≡ record { significand = significand; exponent = exponent } }
     {
@@ -80,9 +80,9 @@ impl ScientificDecimal {
 
     /// The number that a text spells, with its exponent: 1.2 and -6 of `1.2e-6`.
     ///
-    /// `Syntax` where the text has no `e`, another mark beside it, or a side that does not read, be it
-    /// beyond its limits (`1.2`, `1E3`, `1e2e3`, `1e0.5`); never `Limit`. `Memory` where memory for digits
-    /// was refused; it is taken where a side has more than eight, from the first to the last one that is not zero.
+    /// `Syntax` where the text has no `e`, another mark beside it, or a side that does not read or is beyond its limits
+    /// (`1.2`, `1E3`, `1e2e3`, `1e0.5`); never `Limit`. `Memory`: out of memory, only where a side has more than eight
+    /// digits, from the first to the last one that is not zero.
     pub fn try_from_utf8(alloc: Global, code_units: &[u8]) -> Result<ScientificDecimal, ParseError>
         ensures syntax { IsErrOf result ParseError.Syntax → IsNoScientificText code_units.now }
         ensures limit { ¬ (IsErrOf result ParseError.Limit) }
@@ -102,8 +102,8 @@ impl ScientificDecimal {
         }
     }
 
-    /// The number that a text spells, and the refusals, as `try_from_utf8` has them of its bytes: 1.2 and -6 of
-    /// `1.2e-6`, and `1.2` is `Syntax`.
+    /// The number that a text spells, and the errors, as `try_from_utf8` has them of its bytes: 1.2 and -6 of `1.2e-6`,
+    /// and `1.2` is `Syntax`. It allocates where `try_from_utf8` does.
     pub fn try_from_str(alloc: Global, text: &str) -> Result<ScientificDecimal, ParseError>
         ensures syntax { IsErrOf result ParseError.Syntax → IsNoScientificText text.now }
         ensures limit { ¬ (IsErrOf result ParseError.Limit) }
@@ -113,10 +113,10 @@ impl ScientificDecimal {
         ScientificDecimal::try_from_utf8(alloc, text.as_bytes())
     }
 
-    /// The same number in a value of its own: of `1.2e-6` another `1.2e-6`.
+    /// A copy: of `1.2e-6` it is `1.2e-6`.
     ///
-    /// Memory is taken where a part of it has more than eight digits, from the first to the last one that is
-    /// not zero; it is refused (`AllocError`) only there.
+    /// It allocates where a part of it has more than eight digits, from the first to the last one that is not zero.
+    /// `AllocError`: out of memory, only there.
     pub fn try_clone(&self) -> Result<ScientificDecimal, AllocError>
         ensures value { IfOk result (λ v. v ≡ self.now) }
         ensures room { OnErr result (IsLong self.now.significand.absolute.count ⊎ IsLong self.now.exponent.absolute.count) }

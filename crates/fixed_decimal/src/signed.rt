@@ -24,22 +24,22 @@ impl<T> Model for Signed<T> {
 }
 
 impl<T> Signed<T> {
-    /// The sign: `Negative` of `-12.3`. It takes no memory.
+    /// The sign: `Negative` of `-12.3`. It does not allocate.
     pub fn sign(&self) -> Sign
         ensures { result ≡ self.now.sign }
     {
         self.sign
     }
 
-    /// Puts another sign in place of the one that was there: `1729` with `Negative` becomes `-1729`. It takes
-    /// no memory.
+    /// Puts another sign in place of the one that was there: `1729` with `Negative` becomes `-1729`. It does not
+    /// allocate.
     pub fn set_sign(&mut self, sign: Sign)
         ensures { self.new ≡ record { sign = sign; absolute = self.old.absolute } }
     {
         self.sign = sign;
     }
 
-    /// The value with another sign: `1729` with `Negative` gives `-1729`. It takes no memory.
+    /// The value with another sign: `1729` with `Negative` gives `-1729`. It does not allocate.
     pub fn with_sign(self, sign: Sign) -> Signed<T>
         ensures { result ≡ record { sign = sign; absolute = self.absolute } }
     {
