@@ -7,7 +7,7 @@ use Rattle.std.specs.Prelude.{ℕ, zero, suc, ◌+◌, ◌/◌, ◌%◌, ◌^◌
 abbrev pub digit : ℕ → ℕ → ℕ
 digit count p = count / 10 ^ p % 10
 
--- the digits of a count at so many places from `base` up, the highest first
+-- the digits of a count at the given number of places from `base` up, the highest first
 abbrev pub digits_down : ℕ → ℕ → ℕ → List ℕ
 digits_down count base zero = []
 digits_down count base (suc k) = digit count (base + k) ∷ digits_down count base k

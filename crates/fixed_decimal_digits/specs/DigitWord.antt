@@ -4,23 +4,23 @@
 use Rattle.std.specs.Prelude.{◌≡◌, ℕ, zero, suc, ◌+◌, ◌-◌, ◌*◌, ◌/◌, ◌%◌, ◌^◌, ◌<◌, ◌≤◌, List, [], ◌∷◌, ◌++◌, slice_index}
 use Rattle.std.specs.Int.Digits.{number_from_digits, AllBelowBase}
 
--- the lowest digits of a word, so many
+-- the lowest digits of a word, as many as the count says
 abbrev pub word_digits : ℕ → ℕ → List ℕ
 word_digits word zero = []
 word_digits word (suc n) = word_digits (word / 16) n ++ (word % 16 ∷ [])
 
--- the lowest bytes of a word, so many
+-- the lowest bytes of a word, as many as the count says
 abbrev pub word_bytes : ℕ → ℕ → List ℕ
 word_bytes word zero = []
 word_bytes word (suc n) = word_bytes (word / 256) n ++ (word % 256 ∷ [])
 
--- a word of so many digits, which spell the number
+-- a word of the given number of digits, which spell the number
 pub record SpellsNumber (word count number : ℕ) : Type 0 where
   pub fits : word < 16 ^ count
   pub tens : AllBelowBase 10 (word_digits word count)
   pub value : number_from_digits 10 (word_digits word count) ≡ number
 
--- what is left of a word: so many digits, the first of them not zero, with so many zeros behind them
+-- what is left of a word: its digits, the first of them not zero, their count, and the count of zeros behind them
 pub record IsCutWord (word left count zeros : ℕ) : Type 0 where
   pub fits : left < 16 ^ count
   pub tens : AllBelowBase 10 (word_digits left count)

@@ -4,7 +4,7 @@
 use Rattle.std.specs.Prelude.{◌≡◌, ℕ, ◌+◌, ◌*◌, ◌/◌, ◌%◌, List, [], ◌∷◌, length, take, slice_index}
 use Rattle.std.specs.Int.Digits.{AllBelowBase}
 
--- the bytes of digits: behind an odd one, in the last byte, stands 0
+-- the bytes of digits: 0 follows an odd one in the last byte
 abbrev pub packed : List ℕ → List ℕ
 packed [] = []
 packed (d ∷ []) = (d * 16) ∷ []
@@ -18,7 +18,7 @@ halves (b ∷ bs) = (b / 16) ∷ (b % 16) ∷ halves bs
 abbrev pub digits_in : List ℕ → ℕ → List ℕ
 digits_in bytes count = take count (halves bytes)
 
--- so many digits lie in these bytes, and nothing else does
+-- these bytes hold the given number of digits, and nothing else
 pub record IsPacked (bytes : List ℕ) (count : ℕ) : Type 0 where
   pub tens : AllBelowBase 10 (digits_in bytes count)
   pub all : length (digits_in bytes count) ≡ count

@@ -1,4 +1,4 @@
--- The steps of a rounding: the two digits at the position, the part behind them against half a unit, and the choice between two multiples.
+-- The steps of a rounding: the digits at the position, the part below against half a unit, the choice of multiple.
 -- Defined in docs/numbers.md, "Rounding".
 -- Cited by the private functions that round, and by no public clause.
 use Rattle.std.specs.Prelude.{◌≡◌, ℕ, ◌+◌, ◌*◌, ◌%◌, ◌^◌, ◌<◌, ◌≤◌, Bool, true, false, List, length, slice_index}
@@ -9,11 +9,11 @@ use Rattle.std.specs.Int.Digits.{number_from_digits, AllBelowBase}
 use Rattle.fixed_decimal_digits.specs.declared.modes.UnsignedRoundingMode.{UnsignedRoundingMode}
 use Rattle.fixed_decimal_digits.specs.declared.modes.UnsignedRoundingMode.TheVariants.{Expand, Trunc, HalfExpand, HalfTrunc, HalfEven}
 
--- how a stands to b
+-- how a compares with b
 abbrev pub Compares : Ordering → ℕ → ℕ → Type 0
 Compares order a b = MatchOrdering order (a < b) (a ≡ b) (b < a)
 
--- whether the upper of two multiples is taken, where the rest stands so to half a unit
+-- whether the upper of two multiples is taken, where the rest compares so with half a unit
 abbrev pub takes_upper_of : UnsignedRoundingMode → Ordering → Bool → Bool
 takes_upper_of Expand half odd = true
 takes_upper_of Trunc half odd = false
@@ -27,7 +27,8 @@ takes_upper_of HalfEven Less odd = false
 takes_upper_of HalfEven Equal odd = odd
 takes_upper_of HalfEven Greater odd = true
 
--- the new digits spell the old ones with two more behind them, without a zero before the first or behind the last; so many places are left below
+-- the new digits spell the old ones with two more behind them, without a zero before the first or behind the last;
+-- `below` places are left below the last
 pub record IsAppended (old : List ℕ) (pair : ℕ) (new : List ℕ) (below : ℕ) : Type 0 where
   pub tens : AllBelowBase 10 new
   pub first : 0 < slice_index new 0

@@ -5,10 +5,10 @@ ghost use Rattle.fixed_decimal_digits.specs.DigitList.{count_of, IsTrimmed};
 
 use crate::digits::Digits;
 
-/// Whether digits whose first stands at a place spell the count that others spell: true of 1, 2 at 32769 and 1, 2 at 32769, and
-/// false of 1, 2 and of 1 there.
+/// Whether digits whose first is at a place spell the count that others spell: true of 1, 2 at 32769 and 1, 2 at 32769,
+/// and false of 1, 2 and of 1 there.
 ///
-/// The condition is that neither begins with a zero or ends in one. It takes no memory.
+/// The condition is that neither begins with a zero or ends in one. It does not allocate.
 #[tactic(auto, using(crate::proofs::SameCountLemmas::tops_decide, crate::proofs::SameCountLemmas::digits_decide))]
 pub fn is_same_count(digits: &Digits, top: u16, other: &Digits, other_top: u16) -> bool
     requires kept { IsTrimmed digits.now.items top }

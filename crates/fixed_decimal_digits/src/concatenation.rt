@@ -4,7 +4,8 @@ ghost use Rattle.std.specs.Prelude.{◌≡◌, ◌+◌, ◌<◌, ◌≤◌, ◌+
 use crate::digits::Digits;
 use std::alloc::AllocError;
 
-/// Adds so many zeros behind the digits: two behind 1 make 1, 0, 0. The condition is that there is room. It takes no memory.
+/// Adds `count` zeros behind the digits: two behind 1 make 1, 0, 0. The condition is that there is room. It does not
+/// allocate.
 #[tactic(auto, using(std::proofs::lemmas::Grind::replicate_next))]
 pub fn push_zeros(digits: &mut Digits, count: usize)
     requires { length digits.old.items + count ≤ digits.old.capacity }
@@ -40,10 +41,10 @@ fn push_all(digits: &mut Digits, other: &Digits)
     }
 }
 
-/// Adds so many zeros and then the digits of another list: one zero and 3 behind 1, 2 make 1, 2, 0, 3.
+/// Adds `zeros` zeros and then the digits of another list: one zero and 3 behind 1, 2 make 1, 2, 0, 3.
 ///
-/// The condition is that these are at most 65536. Memory is taken where all together are more than eight; it is refused
-/// (`AllocError`) only there, and then nothing is added.
+/// The condition is that these are at most 65536. It allocates where all together are more than eight. `AllocError`:
+/// out of memory, only there; then nothing is added.
 pub fn push_behind(digits: &mut Digits, zeros: usize, other: &Digits) -> Result<(), AllocError>
     requires { zeros + length other.now.items ≤ 65536 }
     ensures ok { OnOk result (digits.new.items ≡ digits.old.items ++ (replicate zeros 0 ++ other.now.items)) }
@@ -57,10 +58,11 @@ pub fn push_behind(digits: &mut Digits, zeros: usize, other: &Digits) -> Result<
     Ok(())
 }
 
-/// How many zeros stand between the last of some digits and the first of others: 1 between 1, 2 at 32769 and a digit at 32766.
+/// How many zeros are between the last of some digits and the first of others: 1 between 1, 2 at 32769 and a digit at
+/// 32766.
 ///
-/// Each is given with the place of its first digit. `None` where the first of the others does not stand below the last. It takes no
-/// memory.
+/// Each is given with the place of its first digit. `None` where the first of the others is not below the last. It does
+/// not allocate.
 pub fn zeros_between(digits: &Digits, top: u16, other_top: u16) -> Option<usize>
     requires { length digits.now.items ≤ top + 1 }
     ensures some { IfSome result (λ zeros. other_top + 1 + zeros + length digits.now.items ≡ top + 1) }

@@ -26,10 +26,10 @@ fn first_other(digits: &Digits, from: usize) -> usize
     index
 }
 
-/// Cuts the digits from a place up away: of 1, 2, 0, 4 at 32771, cut at 32770, 4 is left, and the answer is 32768.
+/// Cuts away the digits from a place up: of 1, 2, 0, 4 at 32771, cut at 32770, 4 is left, and the result is 32768.
 ///
-/// The answer is the new place of the first digit. The condition is that the digits neither begin with a zero nor end in one,
-/// which then holds of those that are left. It takes no memory.
+/// It returns the new place of the first digit. The condition is that the digits neither begin with a zero nor end in
+/// one, which then holds of those that are left. It does not allocate.
 #[tactic(auto, using(crate::proofs::CutLemmas::cut_none, crate::proofs::CutLemmas::cut_all, crate::proofs::CutLemmas::cut_made))]
 pub fn cut_above(digits: &mut Digits, top: u16, place: u16) -> u16
     requires { IsTrimmed digits.old.items top }

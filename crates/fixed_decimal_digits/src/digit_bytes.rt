@@ -9,7 +9,7 @@ use crate::digits::INLINE;
 use smallvec::SmallVec;
 use std::alloc::Global;
 
-// The lowest bytes of a word, so many as lie inline at most, the highest of them first.
+// The lowest `count` bytes of a word, at most as many as lie inline, the highest of them first.
 fn inline_bytes(alloc: Global, word: u64, count: usize) -> SmallVec<u8, INLINE>
     requires { count ≤ 4 }
     ensures items { result.items ≡ word_bytes word count }
@@ -25,7 +25,7 @@ fn inline_bytes(alloc: Global, word: u64, count: usize) -> SmallVec<u8, INLINE>
     }
 }
 
-// Puts the lowest bytes of a word, so many, the highest of them first, in place of those that are there. The memory stays.
+// Replaces the bytes by the lowest `count` bytes of a word, the highest of them first. The memory stays.
 #[tactic(auto, using(crate::proofs::WordLemmas::last_bytes))]
 pub fn assign_bytes(kept: &mut SmallVec<u8, INLINE>, word: u64, count: usize)
     requires few { count ≤ 8 }
@@ -44,7 +44,7 @@ pub fn assign_bytes(kept: &mut SmallVec<u8, INLINE>, word: u64, count: usize)
     }
 }
 
-/// The digit of a character: 7 of `7`. The condition is that the character is a digit. It takes no memory.
+/// The digit of a character: 7 of `7`. The condition is that the character is a digit. It does not allocate.
 pub fn digit_of(c: u8) -> u8
     requires { digit_value c < 10 }
     ensures { result ≡ digit_value c }
@@ -119,7 +119,7 @@ pub fn digits_between(bytes: &[u8]) -> [u8; 16]
     digits
 }
 
-// The first bytes, so many at most, with zeros behind them.
+// The first N bytes, or all where they are fewer, with zeros behind them.
 pub fn first_bytes<const N: usize>(bytes: &[u8]) -> [u8; N]
     ensures { take (length bytes.now) result ≡ take N bytes.now }
 {
@@ -129,7 +129,7 @@ pub fn first_bytes<const N: usize>(bytes: &[u8]) -> [u8; N]
     first
 }
 
-// Puts the first digits of a block, so many, into the front of a part. What stands behind them stays.
+// Puts the first `count` digits of a block into the front of a part. The rest of the part stays.
 pub fn put_front(part: &mut [u8], block: &[u8; 16], count: usize)
     requires block { count ≤ 16 }
     requires room { count ≤ length part.old }
@@ -157,7 +157,7 @@ pub fn set_byte(kept: &mut SmallVec<u8, INLINE>, index: usize, byte: u8)
     kept.as_mut_slice()[index] = byte;
 }
 
-// Takes the first bytes away.
+// Removes the first bytes.
 pub fn drop_bytes(kept: &mut SmallVec<u8, INLINE>, count: usize)
     requires { count ≤ length kept.old.items }
     ensures items { kept.new.items ≡ drop count kept.old.items }

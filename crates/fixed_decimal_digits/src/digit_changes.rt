@@ -1,4 +1,4 @@
-// Digits put behind a list of them, and taken away from either end.
+// Digits added to a list, and removed from either end.
 ghost use Rattle.std.specs.Prelude.{◌≡◌, ◌+◌, ◌%◌, ◌^◌, ◌<◌, ◌≤◌, [], ◌∷◌, ◌++◌, length, take, drop, map, IsOk, OnOk, OnErr};
 ghost use Rattle.std.specs.Char.{digit_value};
 ghost use Rattle.std.specs.Int.Digits.{AllBelowBase};
@@ -25,9 +25,10 @@ impl Digits {
         Ok(())
     }
 
-    /// Makes room for so many more digits: with room for two more behind 9, 0, 5, both are pushed and no memory is taken for them.
+    /// Makes room for `more` more digits: with room for two more behind 9, 0, 5, pushing both does not allocate.
     ///
-    /// The digits stay. Memory is taken where there is less room; where it is refused (`AllocError`) the list is as before.
+    /// The digits stay. It allocates where there is less room. `AllocError`: out of memory, only there; the list is
+    /// then as before.
     #[tactic(auto, using(crate::proofs::PackedChanges::bytes_length))]
     pub fn reserve(&mut self, more: usize) -> Result<(), AllocError>
         ensures items { self.new.items ≡ self.old.items }
@@ -42,7 +43,7 @@ impl Digits {
         self.kept.reserve(bytes - self.kept.len())
     }
 
-    // Makes room for so many digits in all, those that are there among them.
+    // Makes room for `count` digits in all, those that are there among them.
     pub(crate) fn make_room(&mut self, count: usize) -> Result<(), AllocError>
         ensures ok { OnOk result (count ≤ self.new.capacity) }
         ensures err { OnErr result (self.new ≡ self.old) }
@@ -52,7 +53,7 @@ impl Digits {
         self.reserve(more)
     }
 
-    // Puts the lowest digits of a word, so many, four bits each, in place of those that are there: there is room for them.
+    // Replaces the digits by the lowest `count` digits of a word, four bits each: there is room for them.
     fn put_word(&mut self, word: u64, count: usize)
         requires few { count ≤ 16 }
         requires fits { word < 16 ^ count }
@@ -68,10 +69,11 @@ impl Digits {
         self.count = count;
     }
 
-    /// Puts the lowest digits of a word, so many, four bits each, in place of those that are there: 9, 0, 5 of 0x905 and 3.
+    /// Replaces the digits by the lowest `count` digits of a word, four bits each: 9, 0, 5 of 0x905 and 3.
     ///
-    /// The condition is that these are digits, and all of the word. The memory that the digits have is used again; more is taken
-    /// where it has no room for these, and where that is refused (`AllocError`) the digits are as before.
+    /// The condition is that these are digits, at most sixteen, and all of the word. The call reuses the memory of the
+    /// digits, and allocates where that has no room for these. `AllocError`: out of memory, only there; the digits are
+    /// then as before.
     pub fn assign_word(&mut self, word: u64, count: usize) -> Result<(), AllocError>
         requires few { count ≤ 16 }
         requires fits { word < 16 ^ count }
@@ -114,7 +116,8 @@ impl Digits {
         self.count += 1;
     }
 
-    /// Adds a digit behind the last: 7 behind 9, 0, 5 makes 9, 0, 5, 7. The condition is that there is room. It takes no memory.
+    /// Adds a digit behind the last: 7 behind 9, 0, 5 makes 9, 0, 5, 7. The condition is that there is room. It does
+    /// not allocate.
     pub fn push_reserved(&mut self, digit: u8)
         requires ten { digit < 10 }
         requires room { length self.old.items < self.old.capacity }
@@ -180,7 +183,7 @@ impl Digits {
         self.count = len;
     }
 
-    // Keeps the first digits, so many as `len`.
+    // Keeps the first `len` digits.
     pub(crate) fn truncate(&mut self, len: usize)
         ensures items { self.new.items ≡ take len self.old.items }
         ensures capacity { self.new.capacity ≡ self.old.capacity }
@@ -196,7 +199,7 @@ impl Digits {
         }
     }
 
-    // Takes an even count of digits away from the front.
+    // Removes an even count of digits from the front.
     fn drop_even(&mut self, count: usize)
         requires within { count ≤ length self.old.items }
         requires even { count % 2 ≡ 0 }
@@ -207,7 +210,7 @@ impl Digits {
         self.count -= count;
     }
 
-    // Takes the first digit away: each other one moves up by half a byte.
+    // Removes the first digit: each other one moves up by half a byte.
     fn drop_one(&mut self)
         requires { 0 < length self.old.items }
         ensures items { self.new.items ≡ drop 1 self.old.items }
@@ -218,7 +221,7 @@ impl Digits {
         self.count -= 1;
     }
 
-    // Takes the first digits away, so many as `count`.
+    // Removes the first `count` digits.
     #[tactic(auto, using(crate::proofs::PackedChanges::dropped_twice))]
     pub(crate) fn drop_front(&mut self, count: usize)
         requires { count ≤ length self.old.items }
@@ -233,7 +236,7 @@ impl Digits {
         }
     }
 
-    /// Takes every digit away: none is left of 9, 0, 5. It takes no memory.
+    /// Removes every digit: none is left of 9, 0, 5. It does not allocate.
     pub fn clear(&mut self)
         ensures items { self.new.items ≡ [] }
         ensures capacity { self.new.capacity ≡ self.old.capacity }

@@ -26,7 +26,7 @@ impl<'l> Model for DigitRun<'l> {
 }
 
 impl Digits {
-    // The digits from an index on, so many at most.
+    // The digits from an index on, `most` at most.
     #[tactic(auto, using(crate::proofs::PackedChanges::run_is))]
     pub(crate) fn run(&self, from: usize, most: usize) -> DigitRun<'_>
         requires { most < 2 ^ 63 }
@@ -41,7 +41,7 @@ impl Digits {
         }
     }
 
-    // The digits from an index on, so many, at the front of a block.
+    // The `count` digits from an index on, at the front of a block.
     #[tactic(auto, using(crate::proofs::PackedChanges::bytes_length))]
     fn few(&self, index: usize, count: usize) -> [u8; 16]
         requires few { count ≤ 16 }
@@ -78,8 +78,8 @@ impl<'l> DigitRun<'l> {
         digits
     }
 
-    // Puts the digits that are left into the front of a part, as many as it holds, and returns how many. What stands behind
-    // them stays.
+    // Puts the digits that are left into the front of a part, as many as it holds, and returns how many. The rest of
+    // the part stays.
     pub fn next_few(&mut self, part: &mut [u8]) -> usize
         requires { length part.old ≤ 16 }
         ensures count { result ≡ min (length part.old) (length self.old) }

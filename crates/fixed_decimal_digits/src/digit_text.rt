@@ -7,7 +7,7 @@ use crate::digit_bytes::digit_of;
 use crate::digits::{BLOCK, Digits};
 use std::alloc::AllocError;
 
-// So many characters are looked at by one step.
+// How many characters one step looks at.
 const STRIDE: usize = 8;
 
 // Whether each character is a digit.
@@ -21,8 +21,8 @@ fn are_digits(text: &[u8]) -> bool
     all
 }
 
-/// How many characters whole words of digits make up, eight in each, that a text begins with: 64 of seventy ones, 0 of `1.5`. It
-/// takes no memory.
+/// How many characters whole words of digits make up, eight in each, that a text begins with: 64 of seventy ones, 0 of
+/// `1.5`. It does not allocate.
 pub fn digits_in_words(text: &[u8]) -> usize
     ensures within { result ≤ length text.now }
     ensures digits { AreDigits (take result text.now) }
@@ -88,10 +88,10 @@ fn push_text(digits: &mut Digits, text: &[u8])
     }
 }
 
-/// Puts the digits that two texts spell one behind the other in place of those that are there: 9, 0, 5 of `90` and `5`.
+/// Replaces the digits by those of two texts, one behind the other: 9, 0, 5 of `90` and `5`.
 ///
-/// The condition is that each byte is a digit. The memory that the digits have is used again; more is taken where it has no room
-/// for these, and where that is refused (`AllocError`) the digits are as before.
+/// The condition is that each byte is a digit. The call reuses the memory of the digits, and allocates where that has
+/// no room for these. `AllocError`: out of memory, only there; the digits are then as before.
 pub fn assign_texts(digits: &mut Digits, whole: &[u8], rest: &[u8]) -> Result<(), AllocError>
     requires whole_digits { AreDigits whole.now }
     requires rest_digits { AreDigits rest.now }

@@ -7,7 +7,7 @@ ghost use Rattle.fixed_decimal_digits.specs.DigitWord.{word_digits, SpellsNumber
 
 use crate::digit_bytes::digit_of;
 
-/// So many digits fit in a word.
+/// How many digits fit in a word.
 pub const WORD_DIGITS: usize = 16;
 
 /// A word with the digits that a text begins with behind its own, and how many these are: 0x125 and 2 of 0x1 and `25.`.
@@ -34,18 +34,19 @@ pub fn word_behind(word: u64, text: &[u8]) -> (u64, usize)
     (after, count)
 }
 
-/// A word without the zeros at both ends, how many digits it then has, and how many zeros stood behind the last.
+/// A word without the zeros at both ends, how many digits it then has, and how many zeros were behind the last.
 #[derive(Clone, Copy)]
 pub struct CutWord {
     /// The digits that are left.
     pub word: u64,
     /// How many these are.
     pub count: usize,
-    /// How many zeros stood behind them.
+    /// How many zeros were behind them.
     pub zeros: usize,
 }
 
-/// A word without the zeros at both ends: 0x25, of 2 digits, and 1 zero of 0x250. The condition is that its digits are below ten.
+/// A word without the zeros at both ends: 0x25, of 2 digits, and 1 zero of 0x250. The condition is that its digits are
+/// below ten.
 ///
 /// It does not allocate.
 #[tactic(auto, using(crate::proofs::CutWordLemmas::last_some))]

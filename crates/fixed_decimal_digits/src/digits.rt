@@ -1,4 +1,4 @@
-// The digits of a number: this file, `digit_changes.rt` and `digit_run.rt` alone know how they lie in memory.
+// The digits of a number: only this file, `digit_changes.rt` and `digit_run.rt` know how they lie in memory.
 ghost use Rattle.std.specs.Prelude.{◌≡◌, ◌==◌, ◌+◌, ◌%◌, ◌<◌, ◌≤◌, ◌↔◌, [], length, slice_index, take, drop, map, IsTrue, IfOk, OnErr};
 ghost use Rattle.std.specs.Bool.{Decides};
 ghost use Rattle.fixed_decimal_digits.specs.DigitText.{character};
@@ -11,18 +11,18 @@ use std::marker::Model;
 // How many bytes lie inline.
 pub const INLINE: usize = 4;
 
-// So many digits lie inline, and need no memory.
+// How many digits lie inline, without an allocation.
 pub const INLINE_DIGITS: usize = 8;
 
-/// So many digits are read, or written, by one step: those of thirty-two bytes.
+/// How many digits one step reads or writes: those of thirty-two bytes.
 pub const BLOCK: usize = 64;
 
-// So many digits are handed out by one step: those of eight bytes.
+// How many digits one step returns: those of eight bytes.
 pub const STEP: usize = 16;
 
 /// A list of digits from 0 to 9, two to a byte, the higher one in the upper half: 9, 0, 5.
 ///
-/// Up to eight digits need no memory.
+/// Up to eight digits do not allocate.
 #[derive(Debug, Drop)]
 pub struct Digits {
     pub(crate) kept: SmallVec<u8, INLINE>,
@@ -42,7 +42,7 @@ impl Model for Digits {
 }
 
 impl Digits {
-    /// No digits, of which there are 0. It takes no memory.
+    /// No digits, of which there are 0. It does not allocate.
     pub fn new(alloc: Global) -> Digits
         ensures items { result.items ≡ [] }
         ensures capacity { 8 ≤ result.capacity }
@@ -53,9 +53,9 @@ impl Digits {
         }
     }
 
-    /// No digits, with room for so many: with room for 12, twelve are pushed and no memory is taken for them.
+    /// No digits, with room for `count`: with room for 12, pushing twelve does not allocate.
     ///
-    /// Memory is taken where that is more than eight; it is refused (`AllocError`) only there.
+    /// It allocates where that is more than eight. `AllocError`: out of memory, only there.
     pub fn with_room(alloc: Global, count: usize) -> Result<Digits, AllocError>
         ensures items { IfOk result (λ d. d.items ≡ []) }
         ensures capacity { IfOk result (λ d. count ≤ d.capacity) }
@@ -66,7 +66,7 @@ impl Digits {
         Ok(digits)
     }
 
-    /// How many digits there are: 3 of 9, 0, 5. It takes no memory.
+    /// How many digits there are: 3 of 9, 0, 5. It does not allocate.
     #[tactic(auto, using(crate::proofs::PackedChanges::bytes_length))]
     pub fn len(&self) -> usize
         ensures value { result ≡ length self.now.items }
@@ -77,14 +77,15 @@ impl Digits {
         self.count
     }
 
-    /// Whether there is no digit: false of 0. It takes no memory.
+    /// Whether there is no digit: false of 0. It does not allocate.
     pub fn is_empty(&self) -> bool
         ensures { result ≡ (length self.now.items == 0) }
     {
         self.count == 0
     }
 
-    /// The digit at an index, counted from the first: 5 at 2 of 9, 0, 5. The condition is that there is one. It takes no memory.
+    /// The digit at an index, counted from the first: 5 at 2 of 9, 0, 5. The condition is that there is one. It does
+    /// not allocate.
     #[tactic(auto, using(crate::proofs::PackedChanges::bytes_length, crate::proofs::PackedChanges::upper_digit, crate::proofs::PackedChanges::lower_digit))]
     pub fn get(&self, index: usize) -> u8
         requires { index < length self.now.items }
@@ -95,7 +96,7 @@ impl Digits {
         if index % 2 == 0 { byte / 16 } else { byte % 16 }
     }
 
-    // Whether two digits that stand side by side, the first at an index, are both this one.
+    // Whether two digits side by side, the first at an index, are both this one.
     #[tactic(auto, using(crate::proofs::PackedChanges::bytes_length, crate::proofs::PackedChanges::both_digits))]
     pub(crate) fn are_both(&self, index: usize, digit: u8) -> bool
         requires within { index + 1 < length self.now.items }
@@ -128,7 +129,7 @@ impl Digits {
 
     /// The text of a block of digits, `BLOCK` of them from an even index on: of sixty-four ones, `1` sixty-four times.
     ///
-    /// The condition is that there are so many. It takes no memory.
+    /// The condition is that there are `BLOCK` digits from the index on. It does not allocate.
     #[tactic(auto, using(crate::proofs::PackedChanges::bytes_length))]
     pub fn block(&self, index: usize) -> [u8; 64]
         requires even { index % 2 ≡ 0 }
@@ -147,9 +148,9 @@ impl Digits {
         self.count == other.count && self.kept.as_slice() == other.kept.as_slice()
     }
 
-    /// The same digits in a list of their own: of 9, 0, 5 another 9, 0, 5.
+    /// A copy: of 9, 0, 5 it is 9, 0, 5.
     ///
-    /// Memory is taken where there are more than eight; it is refused (`AllocError`) only there.
+    /// It allocates where there are more than eight. `AllocError`: out of memory, only there.
     pub fn try_clone(&self) -> Result<Digits, AllocError>
         ensures value { IfOk result (λ d. d.items ≡ self.now.items) }
         ensures room { OnErr result (8 < length self.now.items) }

@@ -7,7 +7,7 @@ use std::alloc::AllocError;
 
 /// Puts the digits of a number into an empty list: 9, 0, 5 of 905.
 ///
-/// Memory is taken where there are more than eight; it is refused (`AllocError`) only there.
+/// It allocates where there are more than eight. `AllocError`: out of memory, only there.
 #[tactic(auto, using(std::proofs::lemmas::Int::Digits::number_push))]
 pub fn push_number(digits: &mut Digits, number: u128) -> Result<(), AllocError>
     requires { digits.old.items ≡ [] }
@@ -25,8 +25,8 @@ pub fn push_number(digits: &mut Digits, number: u128) -> Result<(), AllocError>
     Ok(())
 }
 
-/// A number without the zeros that it ends in, and how many these are: 25 and 1 of 250. The condition is that it is not 0. It
-/// takes no memory.
+/// A number without the zeros that it ends in, and how many these are: 25 and 1 of 250. The condition is that it is not
+/// 0. It does not allocate.
 #[tactic(auto, using(crate::proofs::WholeLemmas::zero_stripped, crate::proofs::WholeLemmas::zeros_few))]
 pub fn strip_zeros(number: u128) -> (u128, usize)
     requires { 0 < number }

@@ -1,7 +1,8 @@
 //! The digits of a number as they are kept, two to a byte: the inner crate of `fixed_decimal_unsigned`.
 //!
-//! `Digits` holds them from the highest to the lowest one that is not zero. They are made of a text or of a whole number, put
-//! behind others, cut, rounded, and shown one by one or in blocks; all else of a number stands above.
+//! `Digits` holds them from the highest to the lowest one that is not zero. They are made of a text or of a whole
+//! number, put behind others, cut, rounded, and shown one by one or in blocks; all else of a number is in the crates
+//! above.
 
 #![tactic(auto)]
 

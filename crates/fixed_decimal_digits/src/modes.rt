@@ -1,8 +1,8 @@
 ghost use Rattle.std.specs.Prelude.{◌≡◌};
 ghost use Rattle.fixed_decimal_digits.specs.Rounding.{increment_number};
 
-/// Which multiple a rounding takes, by size alone: at 0 by `Trunc`, `7.8` becomes `7`. The modes have their
-/// names from ECMA-402's `roundingMode`.
+/// Which multiple a rounding takes, by size: at 0 by `Trunc`, `7.8` becomes `7`. The modes have their names from
+/// ECMA-402's `roundingMode`.
 #[derive(Clone, Copy, Debug, Drop, PartialEq, Eq)]
 pub enum UnsignedRoundingMode {
     /// The next multiple away from zero: at 0, `7.3` becomes `8`.

@@ -6,7 +6,7 @@ use crate::digits::Digits;
 use crate::turns::Turns;
 use std::sync::ledger::Ledger;
 
-// Takes the zeros away that the digits end in.
+// Removes the zeros that the digits end in.
 #[tactic(auto, using(crate::proofs::LoopLemmas::zeros_more, crate::proofs::LoopLemmas::front_last, crate::proofs::DigitsLemmas::below_take))]
 pub fn drop_zeros<L: Ledger>(digits: &mut Digits, turns: &mut Turns<L>)
     requires tens { AllBelowBase 10 digits.old.items }
@@ -28,7 +28,7 @@ pub fn drop_zeros<L: Ledger>(digits: &mut Digits, turns: &mut Turns<L>)
     digits.truncate(count);
 }
 
-// How many digits stand before the pairs of nines that the digits end in. A turn that takes two digits counts as two.
+// How many digits come before the pairs of nines that the digits end in. A turn that takes two digits counts as two.
 #[tactic(auto, using(crate::proofs::LoopLemmas::nines_two))]
 fn count_before_nine_pairs<L: Ledger>(digits: &Digits, turns: &mut Turns<L>) -> usize
     ensures within { result ≤ length digits.now.items }
@@ -44,7 +44,7 @@ fn count_before_nine_pairs<L: Ledger>(digits: &Digits, turns: &mut Turns<L>) -> 
     count
 }
 
-// How many digits stand before the nines that the digits end in.
+// How many digits come before the nines that the digits end in.
 #[tactic(auto, using(crate::proofs::LoopLemmas::nines_more))]
 fn count_before_nines<L: Ledger>(digits: &Digits, turns: &mut Turns<L>) -> usize
     ensures within { result ≤ length digits.now.items }
@@ -64,7 +64,7 @@ fn count_before_nines<L: Ledger>(digits: &Digits, turns: &mut Turns<L>) -> usize
     count
 }
 
-// Adds one at the last digit. The answer is whether the number has a digit more before its first.
+// Adds one at the last digit, and returns whether the number has a digit more before its first.
 #[tactic(auto, using(crate::proofs::LoopLemmas::raised_value, crate::proofs::LoopLemmas::raised_last, crate::proofs::LoopLemmas::raised_below, crate::proofs::LoopLemmas::raised_first, crate::proofs::LoopLemmas::raised_length))]
 pub fn add_one<L: Ledger>(digits: &mut Digits, turns: &mut Turns<L>) -> bool
     requires tens { AllBelowBase 10 digits.old.items }

@@ -63,7 +63,7 @@ fn step_up(mode: UnsignedRoundingMode, half: Ordering, is_odd: bool, step: u8) -
     }
 }
 
-// Whether a pair behind some digits begins with a zero that no digit stands before.
+// Whether a pair behind some digits begins with a zero that has no digit before it.
 fn begins_with_zero(digits: &Digits, pair: u8) -> bool
     ensures none { IsTrue result → length digits.now.items ≡ 0 }
     ensures ten { IsTrue result → pair < 10 }
@@ -85,8 +85,8 @@ fn digits_added(pair: u8) -> usize
     if pair % 10 == 0 { 1 } else { 2 }
 }
 
-// Adds two digits, of which not both are zero, and no zero before the first digit or behind the last.
-// The answer is how many places of the two are left below the last digit.
+// Adds two digits, of which not both are zero, and no zero before the first digit or behind the last. It returns how
+// many places of the two are left below the last digit.
 fn push_pair(digits: &mut Digits, pair: u8) -> u32
     requires tens { AllBelowBase 10 digits.old.items }
     requires first { 0 < length digits.old.items → 0 < slice_index digits.old.items 0 }
@@ -108,8 +108,8 @@ fn push_pair(digits: &mut Digits, pair: u8) -> u32
     0
 }
 
-// Adds two digits, or one more than the digits before them where these are 100.
-// The answer is how many places stand below the last digit that is kept.
+// Adds two digits, or one more than the digits before them where these are 100. It returns how many places are below
+// the last digit that is kept.
 #[tactic(auto, using(crate::proofs::AppendLemmas::zeros_appended, crate::proofs::AppendLemmas::one_appended))]
 fn append_pair<L: Ledger>(digits: &mut Digits, pair: u8, turns: &mut Turns<L>) -> u32
     requires tens { AllBelowBase 10 digits.old.items }
@@ -140,12 +140,13 @@ fn append_pair<L: Ledger>(digits: &mut Digits, pair: u8, turns: &mut Turns<L>) -
     }
 }
 
-/// Rounds the digits of a number at a place: 9, 9 at 32768, rounded at 32768 by `Expand`, are 1, and the answer is 32770.
+/// Rounds the digits of a number at a place: 9, 9 at 32768, rounded at 32768 by `Expand`, are 1, and the result is
+/// 32770.
 ///
-/// The answer is the new place of the first digit, which may be past the last place. The condition is that the digits neither
-/// begin with a zero nor end in one, which then holds of the new ones. Memory is wanted only for a multiple that ends in 25 or 75
-/// and a last digit right above the place, the first at least eight above it; where it is refused (`AllocError`) the digits are as
-/// before.
+/// It returns the new place of the first digit, which may be past the last place. The condition is that the digits
+/// neither begin with a zero nor end in one, which then holds of the new ones. It allocates only for a multiple that
+/// ends in 25 or 75 and a last digit right above the place, the first at least eight above it. `AllocError`: out of
+/// memory, only there; the digits are then as before.
 pub fn round_digits<L: Ledger>(
     digits: &mut Digits,
     top: u32,
@@ -176,7 +177,7 @@ pub fn round_digits<L: Ledger>(
     Ok(top_of(digits, place + below))
 }
 
-// The place of the first digit, where the last stands at a place; that of the ones where there is no digit.
+// The place of the first digit, where the last is at a place; that of the ones where there is no digit.
 fn top_of(digits: &Digits, last: u32) -> u32
     requires last { last + length digits.now.items < 2 ^ 32 }
     ensures none { length digits.now.items ≡ 0 → result ≡ 32768 }

@@ -9,7 +9,8 @@ use crate::digits::Digits;
 use crate::modes::UnsignedRoundingMode;
 use std::cmp::Ordering;
 
-/// The digit at a place, where the first stands at `top`: 2 at 32768 of 1, 2 at 32769, and 0 where none stands. It takes no memory.
+/// The digit at a place, where the first is at `top`: 2 at 32768 of 1, 2 at 32769, and 0 where there is none. It does
+/// not allocate.
 #[tactic(auto, using(crate::proofs::CountLemmas::digit_over, crate::proofs::CountLemmas::digit_inside, crate::proofs::CountLemmas::digit_beyond))]
 pub fn digit_at_place(digits: &Digits, top: u32, place: u32) -> u8
     requires tens { AllBelowBase 10 digits.now.items }
@@ -40,7 +41,7 @@ pub fn pair_at(digits: &Digits, top: u32, place: u32) -> u8
     digit_at_place(digits, top, place + 1) * 10 + digit_at_place(digits, top, place)
 }
 
-// Whether a digit other than 0 stands below a place.
+// Whether a digit other than 0 is below a place.
 #[tactic(auto, using(crate::proofs::RoundingStepLemmas::below_some, crate::proofs::RoundingStepLemmas::below_none, crate::proofs::RoundingStepLemmas::below_zero))]
 pub fn has_below(digits: &Digits, top: u32, place: u32) -> bool
     requires trimmed { IsTrimmed digits.now.items top }
@@ -51,7 +52,7 @@ pub fn has_below(digits: &Digits, top: u32, place: u32) -> bool
     !digits.is_empty() && top + 1 < place + digits.len() as u32
 }
 
-// How the part below a place stands to half of what the place counts.
+// How the part below a place compares with half of what the place counts.
 #[tactic(auto, using(crate::proofs::RoundingStepLemmas::below_less, crate::proofs::RoundingStepLemmas::below_greater, crate::proofs::RoundingStepLemmas::below_middle))]
 pub fn compare_below(digits: &Digits, top: u32, place: u32) -> Ordering
     requires trimmed { IsTrimmed digits.now.items top }
@@ -75,7 +76,7 @@ pub fn compare_below(digits: &Digits, top: u32, place: u32) -> Ordering
     Ordering::Equal
 }
 
-// How twice a rest, so many counts over a multiple and a part below, stands to the step.
+// How twice a rest, `over` counts over a multiple and a part below, compares with the step.
 pub fn compare_half(over: u8, step: u8, below: Ordering, has_rest: bool) -> Ordering
     requires over { over < step }
     requires step { step < 100 }

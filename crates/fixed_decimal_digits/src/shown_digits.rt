@@ -11,13 +11,13 @@ use crate::digits::{Digits, STEP};
 use std::iter::{ExactSizeIterator, FusedIterator};
 use std::marker::Model;
 
-// So many digits are handed out one by one sooner than by one step.
+// How many digits are returned faster one by one than by one step.
 const FEW: usize = 4;
 
-/// The digits of a number at a range of magnitudes, from the highest to the lowest, each from 0 to 9: before the point of
-/// `012.30` they are 0, 1, 2, and behind it 3, 0.
+/// The digits of a number at a range of magnitudes, from the highest to the lowest, each from 0 to 9: before the point
+/// of `012.30` they are 0, 1, 2, and behind it 3, 0.
 ///
-/// It borrows the number, and takes no memory.
+/// It borrows the number, and does not allocate.
 #[derive(Debug, Drop)]
 pub struct ShownDigits<'l> {
     zeros_before: usize,
@@ -35,8 +35,8 @@ impl<'l> Model for ShownDigits<'l> {
     ghost invariant = { λ it. (it.zeros_before ≤ 65536) × (it.zeros_behind ≤ 65536) };
 }
 
-/// The digits of a count at so many places from `base` up, where the first that is kept stands at `top`: of 1, 2 at 32769, three
-/// from 32767 up are 1, 2, 0. It takes no memory.
+/// The digits of a count at `count` places from `base` up, where the first that is kept is at `top`: of 1, 2 at 32769,
+/// three from 32767 up are 1, 2, 0. It does not allocate.
 pub fn digits_at(digits: &Digits, top: u16, base: u16, count: u16) -> ShownDigits<'_>
     requires tens { AllBelowBase 10 digits.now.items }
     requires room { length digits.now.items ≤ top + 1 }
@@ -57,11 +57,11 @@ pub fn digits_at(digits: &Digits, top: u16, base: u16, count: u16) -> ShownDigit
 }
 
 impl<'l> ShownDigits<'l> {
-    /// Puts the next digits into the front of `block`, sixteen or all that are left where these are fewer, and answers how
-    /// many. What stands in `block` behind them stays.
+    /// Puts the next digits into the front of `block`, sixteen or all that are left where these are fewer, and returns
+    /// how many. The rest of `block` stays.
     ///
-    /// Each is from 0 to 9. Of `012.30` the digits before the point are 0, 1, 2, and the answer is 3; the next answer is 0.
-    /// A writer that takes sixteen digits by one call pays for one step, and not for sixteen. It takes no memory.
+    /// Each is from 0 to 9. Of `012.30` the digits before the point are 0, 1, 2: the first call returns 3, the next 0.
+    /// One call for sixteen digits costs one step, not sixteen. It does not allocate.
     pub fn next_block(&mut self, block: &mut [u8; 16]) -> usize
         ensures count { result ≡ min 16 (length self.old) }
         ensures taken { take result block.new ≡ take result self.old }

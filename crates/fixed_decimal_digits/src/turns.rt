@@ -24,7 +24,7 @@ impl<L: Ledger> Model for Turns<L> {
 }
 
 impl<L: Ledger> Turns<L> {
-    /// No turns yet, counted in the ledger of a blank: the count is 0. It takes no memory.
+    /// No turns yet, counted in the ledger of a blank: the count is 0. It does not allocate.
     ///
     /// The condition is that the blank has the name and the parts of L, and that there is a part.
     pub fn new(blank: Blank) -> Turns<L>
