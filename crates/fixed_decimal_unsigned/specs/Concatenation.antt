@@ -8,7 +8,7 @@ use Rattle.fixed_decimal_unsigned.specs.Range.{IsLong}
 use Rattle.fixed_decimal_unsigned.specs.declared.error.ConcatenateError.{ConcatenateError}
 use Rattle.fixed_decimal_unsigned.specs.declared.error.ConcatenateError.TheVariants.{Overlap, Memory}
 
--- the last digit of a that is not zero does not stand above the first one of b; neither is zero
+-- the last digit of a that is not zero is not above the first one of b; neither is zero
 pub record Overlaps (a b : Number) : Type 0 where
   pub last : ℕ
   pub first : ℕ
@@ -28,7 +28,7 @@ pub record MayWantMemory (a b : Number) : Type 0 where
   pub behind : 0 < b.count
   pub long : IsLong (a.count + b.count)
 
--- what a refusal hands back
+-- what an error returns to the caller
 abbrev pub handed_back : {T : Type 0} → ConcatenateError T → T
 handed_back (Overlap value) = value
 handed_back (Memory value) = value

@@ -1,4 +1,4 @@
--- When `==` answers that two numbers are one.
+-- When `==` is true of two numbers.
 -- Defined in docs/numbers.md, "The number".
 -- Cited by the equality of `UnsignedDecimal`, and by the law that it is that of the printed texts.
 use Rattle.std.specs.Prelude.{◌==◌, Bool}

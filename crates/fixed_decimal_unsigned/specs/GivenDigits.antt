@@ -1,4 +1,4 @@
--- Digits that are given one after another, from the highest to the lowest: the number that they spell, and how many they are.
+-- Digits given one after another, from the highest to the lowest: the number that they spell, and their count.
 -- Defined in docs/numbers.md, "Digits given".
 -- Cited by the calls of `GivenDigits`.
 use Rattle.std.specs.Prelude.{◌≡◌, ℕ, ◌+◌, ◌*◌, ◌%◌, ◌^◌, ◌<◌, ◌≤◌, List, length, slice_index}

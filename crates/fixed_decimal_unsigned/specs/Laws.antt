@@ -7,7 +7,7 @@ use Rattle.fixed_decimal_unsigned.specs.Equality.{are_equal}
 use Rattle.fixed_decimal_unsigned.specs.Number.{Number, IsNumber}
 use Rattle.fixed_decimal_unsigned.specs.NumberText.{Reads, IsBeyond, text_of}
 
--- a text has one reading, or one refusal
+-- a text has one reading, or one error
 pub record ReadsOnce (text : List ℕ) : Type 0 where
   pub number : (a b : Number) → Reads text a → Reads text b → a ≡ b
   pub limit : (a : Number) → Reads text a → ¬ (IsBeyond text)
@@ -23,7 +23,7 @@ PrintedTextsReadBack = (v : Number) → IsNumber v → Reads (text_of v) v
 abbrev pub EqualTextsAreEqualNumbers : Type 0
 EqualTextsAreEqualNumbers = (a b : Number) → IsNumber a → IsNumber b → text_of a ≡ text_of b → a ≡ b
 
--- `==` answers true for one number and no others
+-- `==` is true of one number and no others
 abbrev pub EqualityIsIdentity : Type 0
 EqualityIsIdentity = (a b : Number) → Decides (are_equal a b) (a ≡ b)
 

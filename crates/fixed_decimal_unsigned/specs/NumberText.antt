@@ -73,14 +73,16 @@ up_of parts = cond (mantissa_of parts == 0 || parts.negative) 0 (spelled parts.e
 abbrev pub down_of : Parts → ℕ
 down_of parts = cond (mantissa_of parts == 0) 0 (cond parts.negative (spelled parts.exponent) 0)
 
--- the exponent and both moved ends lie in magnitudes -32768 to 32767, where so many digits stand above and below the point
+-- the exponent and both moved ends lie in magnitudes -32768 to 32767, for these counts of digits above and below the
+-- point
 pub record AreEndsIn (above below up down : ℕ) : Type 0 where
   pub exponent_high : up ≤ 32767
   pub exponent_low : down ≤ 32768
   pub first : above + up ≤ 32768 + down
   pub last : below + down ≤ 32768 + up
 
--- the number of a mantissa with so many digits above and below the point: both ends moved, then widened to hold the ones
+-- the number of a mantissa with these counts of digits above and below the point: both ends moved, then widened to hold
+-- the ones
 abbrev pub number_at : ℕ → ℕ → ℕ → ℕ → ℕ → Number
 number_at mantissa above below up down = record {
   count = mantissa * 10 ^ (32768 + up - (below + down));

@@ -6,7 +6,7 @@ use crate::unsigned_decimal::UnsignedDecimal;
 use fixed_decimal_digits::{ONES, cut_above};
 
 impl UnsignedDecimal {
-    /// Cuts the digits from a magnitude up away: `1234.5` cut at 2 is `34.5`. It takes no memory.
+    /// Cuts away the digits from a magnitude up: `1234.5` cut at 2 is `34.5`. It does not allocate.
     pub fn set_max_position(&mut self, position: i16)
         ensures { Cuts (place position) self.old self.new }
     {
@@ -16,7 +16,7 @@ impl UnsignedDecimal {
         self.high = place.saturating_sub(1).max(ONES);
     }
 
-    /// The number without the digits from a magnitude up: `1234.5` and 2 give `34.5`. It takes no memory.
+    /// The number without the digits from a magnitude up: `1234.5` and 2 give `34.5`. It does not allocate.
     pub fn with_max_position(mut self, position: i16) -> UnsignedDecimal
         ensures { Cuts (place position) self result }
     {

@@ -14,13 +14,13 @@ pub enum ParseError {
     /// The text spells no number, as `5.`.
     #[error("Failed to parse the input string")]
     Syntax,
-    /// Memory for the digits was refused, which `123456789` takes for its nine digits.
+    /// Out of memory: the nine digits of `123456789` allocate, eight do not.
     #[error("Memory for the digits was refused")]
     Memory,
 }
 
 impl ParseError {
-    /// The number of the case: 1 for `Limit`, 2 for `Syntax`, 3 for `Memory`.
+    /// The number of the error: 1 of `Limit`, 2 of `Syntax`, 3 of `Memory`.
     pub fn number(&self) -> u8
         ensures { result ≡ parse_error_number self.now }
     {
@@ -40,21 +40,21 @@ impl From<AllocError> for ParseError {
     }
 }
 
-/// Why a number was not put behind another: `Overlap` of `0.3` behind `12.3`. The case holds what was handed
-/// in: `T` is one number, or both.
+/// Why a number was not put behind another: `Overlap` of `0.3` behind `12.3`. The case holds what was passed: `T` is
+/// one number, or both.
 #[derive(Debug, Drop, PartialEq, Eq, Error)]
 pub enum ConcatenateError<T> {
-    /// The last digit of the first number that is not zero does not stand above the first such digit of the
-    /// second: `0.3` behind `12.3`, or `12` behind `1`.
+    /// The last digit of the first number that is not zero is not above the first such digit of the second: `0.3`
+    /// behind `12.3`, or `12` behind `1`.
     #[error("The digits of the two numbers overlap")]
     Overlap(T),
-    /// Memory for the digits was refused, which `6789` behind `123450000` takes for the nine digits of both.
+    /// Out of memory: the nine digits of `6789` behind `123450000` allocate.
     #[error("Memory for the digits was refused")]
     Memory(T),
 }
 
 impl<T> ConcatenateError<T> {
-    /// The number of the case: 1 for `Overlap`, 2 for `Memory`.
+    /// The number of the error: 1 of `Overlap`, 2 of `Memory`.
     pub fn number(&self) -> u8
         ensures { result ≡ concatenate_error_number self.now }
     {

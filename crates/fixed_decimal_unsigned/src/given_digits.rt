@@ -12,7 +12,7 @@ use std::marker::Model;
 
 /// The digits that a number is made of, given one after another from the highest to the lowest: 0, 1, 2, 5 of `01.25`.
 ///
-/// Zeros in front and at the end take no room.
+/// Zeros in front and at the end need no room.
 #[derive(Debug, Drop)]
 pub struct GivenDigits {
     kept: Digits,
@@ -33,9 +33,9 @@ impl Model for GivenDigits {
 }
 
 impl GivenDigits {
-    /// No digits yet, with room for so many from the first to the last one that is not 0: 3 for `0125.00`.
+    /// No digits yet, with room for `room` digits from the first to the last one that is not 0: 3 for `0125.00`.
     ///
-    /// Memory is taken where that is more than eight; it is refused (`AllocError`) only there.
+    /// It allocates where that is more than eight. `AllocError`: out of memory, only there.
     pub fn with_room(alloc: Global, room: usize) -> Result<GivenDigits, AllocError>
         ensures value { IfOk result (λ d. d ≡ record { mantissa = 0; count = 0 }) }
         ensures room { OnErr result (8 < room) }
@@ -80,9 +80,9 @@ impl GivenDigits {
 
     /// Adds a digit behind the others: 3 behind 1, 2 makes 123 of 12.
     ///
-    /// The condition is that the digit is 0 to 9, and that fewer than 2^63 were given. Memory is taken where there are more than
-    /// eight digits from the first to the last one that is not 0, and these have no room yet; it is refused (`AllocError`) only
-    /// there, and then nothing is added.
+    /// The condition is that the digit is 0 to 9, and that fewer than 2^63 were given. It allocates where there are
+    /// more than eight digits from the first to the last one that is not 0, and these have no room yet. `AllocError`:
+    /// out of memory, only there; then nothing is added.
     pub fn push(&mut self, digit: u8) -> Result<(), AllocError>
         requires ten { digit < 10 }
         requires few { self.old.count < 2 ^ 63 }
@@ -97,10 +97,10 @@ impl GivenDigits {
         self.push_other(digit)
     }
 
-    /// The number of these digits, so many of them behind the point: of 0, 1, 2, 5 and 2 it is `01.25`.
+    /// The number of these digits, `fraction` of them behind the point: of 0, 1, 2, 5 and 2 it is `01.25`.
     ///
-    /// The condition is that at least one digit was given, and that `fraction` is at most as many. `None` exactly where a digit
-    /// would stand past magnitudes -32768 to 32767. It takes no memory.
+    /// The condition is that at least one digit was given, and that `fraction` is at most as many. `None` exactly where
+    /// a digit would be past magnitudes -32768 to 32767. It does not allocate.
     pub fn into_decimal(self, fraction: usize) -> Option<UnsignedDecimal>
         requires some { 0 < self.count }
         requires within { fraction ≤ self.count }

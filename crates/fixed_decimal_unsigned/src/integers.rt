@@ -58,7 +58,7 @@ fn from_whole(alloc: Global, number: u128) -> Result<UnsignedDecimal, AllocError
 }
 
 impl UnsignedDecimal {
-    /// The whole number `integer`: 250 is shown as `250`. It does not allocate.
+    /// The whole number `integer`: 250 is shown as `250`. It does not allocate, and always succeeds.
     pub fn from_u8(alloc: Global, integer: u8) -> Result<UnsignedDecimal, AllocError>
         ensures value { IfOk result (λ v. IsInteger integer v) }
         ensures succeeds { IsOk result }
@@ -66,7 +66,7 @@ impl UnsignedDecimal {
         from_whole(alloc, u128::from(integer))
     }
 
-    /// The whole number `integer`: 1729 is shown as `1729`. It does not allocate.
+    /// The whole number `integer`: 1729 is shown as `1729`. It does not allocate, and always succeeds.
     pub fn from_u16(alloc: Global, integer: u16) -> Result<UnsignedDecimal, AllocError>
         ensures value { IfOk result (λ v. IsInteger integer v) }
         ensures succeeds { IsOk result }

@@ -1,8 +1,8 @@
 // Laws on texts and numbers. No call is made: each clause is the law.
 ghost use Rattle.fixed_decimal_unsigned.specs.Laws.{TextsReadOnce, PrintedTextsReadBack, EqualTextsAreEqualNumbers, EqualityIsIdentity, EqualityIsThatOfTexts};
 
-/// A text spells at most one number, and is not both within the limits and beyond them: `12.30` spells 12.3
-/// alone, shown down to magnitude -2.
+/// A text spells at most one number, and is not both within the limits and beyond them: `12.30` spells only 12.3, shown
+/// down to magnitude -2.
 pub fn texts_read_once()
     ensures { TextsReadOnce }
 {}
@@ -18,8 +18,8 @@ pub fn equal_texts_are_equal_numbers()
     ensures { EqualTextsAreEqualNumbers }
 {}
 
-/// `==` answers true for one number and no others, and so for one printed text and no others: of `0.5` it is
-/// true for `5e-1`, and false for `0.50`.
+/// `==` is true of one number and no others, and so of one printed text and no others: of `0.5` it is true for `5e-1`,
+/// and false for `0.50`.
 pub fn equality_is_that_of_texts()
     ensures numbers { EqualityIsIdentity }
     ensures texts { EqualityIsThatOfTexts }

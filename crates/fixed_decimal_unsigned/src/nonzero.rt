@@ -6,7 +6,7 @@ use crate::places::magnitude_of;
 use crate::unsigned_decimal::UnsignedDecimal;
 
 impl UnsignedDecimal {
-    /// The magnitude of the first digit that is not zero: 1 of `012.30`, and 0 of zero. It takes no memory.
+    /// The magnitude of the first digit that is not zero: 1 of `012.30`, and 0 of zero. It does not allocate.
     pub fn nonzero_magnitude_start(&self) -> i16
         ensures zero { self.now.count ≡ 0 → result ≡ pos 0 }
         ensures value { 0 < self.now.count → IsFirstPlace self.now.count (place result) }
@@ -14,7 +14,7 @@ impl UnsignedDecimal {
         magnitude_of(self.top)
     }
 
-    /// The magnitude of the last digit that is not zero: -1 of `012.30`, and 0 of zero. It takes no memory.
+    /// The magnitude of the last digit that is not zero: -1 of `012.30`, and 0 of zero. It does not allocate.
     pub fn nonzero_magnitude_end(&self) -> i16
         ensures zero { self.now.count ≡ 0 → result ≡ pos 0 }
         ensures value { 0 < self.now.count → IsLastPlace self.now.count (place result) }

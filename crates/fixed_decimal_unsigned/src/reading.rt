@@ -19,6 +19,7 @@ use std::alloc::{AllocError, Global};
 const EXPONENT_CAP: usize = 65536;
 
 /// The number that digits spell, or 65536 where it is larger: 12 of `012`. The condition is that each byte is a digit.
+/// It does not allocate.
 #[tactic(auto, using(fixed_decimal_digits::proofs::DigitTextLemmas::digits_at, crate::proofs::SpelledLemmas::capped_more))]
 pub fn capped_number(text: &[u8]) -> usize
     requires { AreDigits text.now }
@@ -76,7 +77,7 @@ pub struct Ends {
     pub last: u16,
 }
 
-// Both ends of so many digits above and below the point, moved up or down.
+// Both ends of `above` digits above the point and `below` digits below it, moved up or down.
 pub fn moved_ends(above: usize, below: usize, up: usize, down: usize) -> Option<Ends>
     requires some { 0 < above + below }
     requires up { up ≤ 65536 }
@@ -141,7 +142,7 @@ fn without_leading_zeros<'a>(integer: &'a [u8], fraction: &'a [u8]) -> (&'a [u8]
     }
 }
 
-// Puts the digits that two texts spell one behind the other in place of those that are there.
+// Replaces the digits by those of two texts, one behind the other.
 fn gather(digits: &mut Digits, integer: &[u8], fraction: &[u8]) -> Result<(), AllocError>
     requires integer_digits { AreDigits integer.now }
     requires fraction_digits { AreDigits fraction.now }
@@ -182,7 +183,7 @@ pub struct Places {
     pub high: u16,
 }
 
-// The places of digits of which the last stands so many places above the end of their mantissa.
+// The places of digits of which the last is `zeros` places above the end of their mantissa.
 pub fn places_of(digits: &Digits, zeros: usize, ends: Ends) -> Places
     requires tens { AllBelowBase 10 digits.now.items }
     requires first { 0 < length digits.now.items → 0 < slice_index digits.now.items 0 }
@@ -205,7 +206,7 @@ pub fn places_of(digits: &Digits, zeros: usize, ends: Ends) -> Places
     }
 }
 
-// The number of digits of which the last stands so many places above the end of its mantissa.
+// The number of digits of which the last is `zeros` places above the end of its mantissa.
 pub fn assembled(digits: Digits, zeros: usize, ends: Ends) -> UnsignedDecimal
     requires tens { AllBelowBase 10 digits.items }
     requires first { 0 < length digits.items → 0 < slice_index digits.items 0 }
@@ -231,7 +232,7 @@ fn is_none(integer: &[u8], fraction: &[u8]) -> bool
     integer.is_empty() && fraction.is_empty()
 }
 
-// Puts the digits of a text's parts in place of those that are there, and answers their places.
+// Replaces the digits by those of a text's parts, and returns their places.
 fn read_parts(digits: &mut Digits, parts: &TextParts<'_>) -> Result<Places, ParseError>
     requires integer { AreDigits parts.now.integer.now }
     requires fraction { AreDigits parts.now.fraction.now }
@@ -257,7 +258,7 @@ fn read_parts(digits: &mut Digits, parts: &TextParts<'_>) -> Result<Places, Pars
     Ok(places_of(digits, zeros, ends))
 }
 
-// Puts the digits of a text in place of those that are there, and says their places.
+// Replaces the digits by those of a text, and returns their places.
 fn read_text(digits: &mut Digits, text: &[u8]) -> Result<Places, ParseError>
     ensures stored { IfOk result (λ p. IsStored digits.new.items p.top p.low p.high) }
     ensures value { IfOk result (λ p. Reads text.now (record { count = count_of digits.new.items p.top; low = p.low; high = p.high })) }
@@ -282,9 +283,9 @@ fn read_text(digits: &mut Digits, text: &[u8]) -> Result<Places, ParseError>
 impl UnsignedDecimal {
     /// The number that a text spells: `12.30` is 12.3, shown from magnitude 1 down to -2.
     ///
-    /// `Syntax` where the text spells no number (`5.`), `Limit` where it spells one that passes
-    /// magnitudes -32768 to 32767 (`1e32768`), `Memory`: out of memory. It allocates where there are
-    /// more than eight digits, from the first to the last one that is not zero.
+    /// `Syntax` where the text spells no number (`5.`). `Limit` where it spells one that passes magnitudes -32768 to
+    /// 32767 (`1e32768`). `Memory`: out of memory, only where there are more than eight digits, from the first to the
+    /// last one that is not zero.
     pub fn try_from_utf8(alloc: Global, code_units: &[u8]) -> Result<UnsignedDecimal, ParseError>
         ensures syntax { IsErrOf result ParseError.Syntax → IsNoText code_units.now }
         ensures limit { IsErrOf result ParseError.Limit → IsBeyond code_units.now }
@@ -303,11 +304,11 @@ impl UnsignedDecimal {
         }
     }
 
-    /// Puts the number that a text spells in place of this one: `12.30` in place of 5.
+    /// Replaces this number by the one that a text spells: 5 and `12.30` give `12.30`.
     ///
-    /// The errors are those of `try_from_utf8`, and then the number is as before. The memory that the number has is used again:
-    /// it allocates only where the text spells a number of more than eight digits, from the first to the last one that is not
-    /// zero, and of more than any number that this one has been.
+    /// The errors are those of `try_from_utf8`; after each the number is as before. The call reuses the memory of the
+    /// number. It allocates only where the text spells a number of more than eight digits, from the first to the last
+    /// one that is not zero, and of more digits than this number.
     pub fn assign_from_utf8(&mut self, code_units: &[u8]) -> Result<(), ParseError>
         ensures syntax { IsErrOf result ParseError.Syntax → IsNoText code_units.now }
         ensures limit { IsErrOf result ParseError.Limit → IsBeyond code_units.now }
@@ -327,8 +328,8 @@ impl UnsignedDecimal {
         }
     }
 
-    /// The number that a text spells, and the refusals, as `try_from_utf8` has them of its bytes: `12.30` is
-    /// 12.3, shown from magnitude 1 down to -2, and `5.` is `Syntax`.
+    /// The number that a text spells, and the errors, as `try_from_utf8` has them of its bytes: `12.30` is 12.3, shown
+    /// from magnitude 1 down to -2, and `5.` is `Syntax`. It allocates where `try_from_utf8` does.
     pub fn try_from_str(alloc: Global, text: &str) -> Result<UnsignedDecimal, ParseError>
         ensures syntax { IsErrOf result ParseError.Syntax → IsNoText text.now }
         ensures limit { IsErrOf result ParseError.Limit → IsBeyond text.now }

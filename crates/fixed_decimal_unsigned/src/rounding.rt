@@ -15,9 +15,9 @@ use std::sync::ledger::Ledger;
 impl UnsignedDecimal {
     /// Rounds to a multiple of the increment at a position, and counts the turns of the loops over digits.
     ///
-    /// It answers and does what `round_with_mode_and_increment` does, in at most two more turns than the
-    /// number has digits, from the first to the last one that is not zero: `99.999` at 4 by `Expand` is
-    /// `10000`, in at most seven turns.
+    /// It returns and does what `round_with_mode_and_increment` does, in at most two more turns than the number has
+    /// digits, from the first to the last one that is not zero: `99.999` at 4 by `Expand` is `10000`, in at most seven
+    /// turns. It allocates where `round_with_mode_and_increment` does. `AllocError`: out of memory, only there.
     pub fn round_counted<L: Ledger>(
         &mut self,
         position: i16,

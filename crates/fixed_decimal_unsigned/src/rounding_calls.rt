@@ -33,9 +33,9 @@ impl UnsignedDecimal {
 
     /// Rounds to a multiple of the increment at a position: `37.5` at 0 by `HalfEven` to 25 is `50`.
     ///
-    /// Zero stands in place of a multiple that reaches ten to the power 32768. Memory is wanted only where
-    /// the multiple ends in 25 or 75 at the position, and the number has eight digits or more, of which the
-    /// last one that is not zero stands right above it; where it was refused the number is as it was.
+    /// A multiple that reaches ten to the power 32768 becomes zero. It allocates only where the multiple ends in 25 or
+    /// 75 at the position, and the number has eight digits or more, of which the last one that is not zero is right
+    /// above it. `AllocError`: out of memory; the number is then as it was.
     pub fn round_with_mode_and_increment(
         &mut self,
         position: i16,
@@ -51,7 +51,7 @@ impl UnsignedDecimal {
         self.round_with_blank::<Brand>(position, mode, increment, Blank::new(1))
     }
 
-    /// Rounds at a position as the mode says: `7.5` at 0 by `HalfTrunc` is `7`. It takes no memory.
+    /// Rounds at a position as the mode says: `7.5` at 0 by `HalfTrunc` is `7`. It does not allocate.
     pub fn round_with_mode(&mut self, position: i16, mode: UnsignedRoundingMode)
         ensures { Rounds mode RoundingIncrement.MultiplesOf1 (place position) self.old self.new }
     {
@@ -62,21 +62,21 @@ impl UnsignedDecimal {
         );
     }
 
-    /// Rounds at a position to the nearest multiple, a tie to the even one: `2.5` at 0 is `2`. It takes no memory.
+    /// Rounds at a position to the nearest multiple, a tie to the even one: `2.5` at 0 is `2`. It does not allocate.
     pub fn round(&mut self, position: i16)
         ensures { Rounds UnsignedRoundingMode.HalfEven RoundingIncrement.MultiplesOf1 (place position) self.old self.new }
     {
         self.round_with_mode(position, UnsignedRoundingMode::HalfEven);
     }
 
-    /// Rounds at a position away from zero: `7.3` at 0 is `8`. It takes no memory.
+    /// Rounds at a position away from zero: `7.3` at 0 is `8`. It does not allocate.
     pub fn expand(&mut self, position: i16)
         ensures { Rounds UnsignedRoundingMode.Expand RoundingIncrement.MultiplesOf1 (place position) self.old self.new }
     {
         self.round_with_mode(position, UnsignedRoundingMode::Expand);
     }
 
-    /// Rounds at a position towards zero: `7.8` at 0 is `7`. It takes no memory.
+    /// Rounds at a position towards zero: `7.8` at 0 is `7`. It does not allocate.
     pub fn trunc(&mut self, position: i16)
         ensures { Rounds UnsignedRoundingMode.Trunc RoundingIncrement.MultiplesOf1 (place position) self.old self.new }
     {
@@ -85,7 +85,7 @@ impl UnsignedDecimal {
 
     /// The number rounded to a multiple of the increment: `37.5` at 0 by `HalfEven` to 25 gives `50`.
     ///
-    /// The refusal for memory, which is wanted where `round_with_mode_and_increment` wants it, hands the number back.
+    /// It allocates where `round_with_mode_and_increment` does. `AllocFailed`: out of memory; it holds the number.
     pub fn rounded_with_mode_and_increment(
         mut self,
         position: i16,
@@ -104,7 +104,7 @@ impl UnsignedDecimal {
         }
     }
 
-    /// The number rounded at a position as the mode says: `7.5` at 0 by `HalfTrunc` gives `7`. It takes no memory.
+    /// The number rounded at a position as the mode says: `7.5` at 0 by `HalfTrunc` gives `7`. It does not allocate.
     pub fn rounded_with_mode(mut self, position: i16, mode: UnsignedRoundingMode) -> UnsignedDecimal
         ensures { Rounds mode RoundingIncrement.MultiplesOf1 (place position) self result }
     {
@@ -112,7 +112,8 @@ impl UnsignedDecimal {
         self
     }
 
-    /// The number rounded at a position to the nearest multiple, a tie to the even one: `2.5` at 0 gives `2`. It takes no memory.
+    /// The number rounded at a position to the nearest multiple, a tie to the even one: `2.5` at 0 gives `2`. It does
+    /// not allocate.
     pub fn rounded(mut self, position: i16) -> UnsignedDecimal
         ensures { Rounds UnsignedRoundingMode.HalfEven RoundingIncrement.MultiplesOf1 (place position) self result }
     {
@@ -120,7 +121,7 @@ impl UnsignedDecimal {
         self
     }
 
-    /// The number rounded at a position away from zero: `7.3` at 0 gives `8`. It takes no memory.
+    /// The number rounded at a position away from zero: `7.3` at 0 gives `8`. It does not allocate.
     pub fn expanded(mut self, position: i16) -> UnsignedDecimal
         ensures { Rounds UnsignedRoundingMode.Expand RoundingIncrement.MultiplesOf1 (place position) self result }
     {
@@ -128,7 +129,7 @@ impl UnsignedDecimal {
         self
     }
 
-    /// The number rounded at a position towards zero: `7.8` at 0 gives `7`. It takes no memory.
+    /// The number rounded at a position towards zero: `7.8` at 0 gives `7`. It does not allocate.
     pub fn trunced(mut self, position: i16) -> UnsignedDecimal
         ensures { Rounds UnsignedRoundingMode.Trunc RoundingIncrement.MultiplesOf1 (place position) self result }
     {

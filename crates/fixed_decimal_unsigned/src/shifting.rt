@@ -50,8 +50,8 @@ impl UnsignedDecimal {
 
     /// Multiplies by ten to the power `delta`, the digits shown with it: `12` and 2 give `1200`.
     ///
-    /// The number becomes zero, shown `0`, where an end of the range would pass magnitudes -32768 to 32767.
-    /// It takes no memory.
+    /// The number becomes zero, shown `0`, where an end of the range would pass magnitudes -32768 to 32767. It does not
+    /// allocate.
     pub fn multiply_pow10(&mut self, delta: i16)
         ensures { Shifts delta self.old self.new }
     {
@@ -68,9 +68,10 @@ impl UnsignedDecimal {
         self.high = moved_place(self.high, delta).max(ONES);
     }
 
-    /// The number times ten to the power `delta`, the digits shown with it, as `multiply_pow10` has it: `12` and 2 give `1200`.
+    /// The number times ten to the power `delta`, the digits shown with it, as `multiply_pow10` has it: `12` and 2 give
+    /// `1200`.
     ///
-    /// It takes no memory.
+    /// It does not allocate.
     pub fn multiplied_pow10(mut self, delta: i16) -> UnsignedDecimal
         ensures { Shifts delta self result }
     {

@@ -12,7 +12,7 @@ use crate::reading::{Ends, Places, places_of};
 use fixed_decimal_digits::{Digits, ONES, WORD_DIGITS, cut_word, word_behind};
 use std::alloc::AllocError;
 
-// The digits of a short text in a word, and how many of them stand above and below the point.
+// The digits of a short text in a word, and how many of them are above and below the point.
 #[derive(Clone, Copy)]
 pub struct ShortText {
     pub word: u64,
@@ -21,7 +21,8 @@ pub struct ShortText {
 }
 
 impl ShortText {
-    // The digits of a text of sixteen characters at most that begins with a digit and has no exponent. Of another text it is `None`.
+    // The digits of a text of sixteen characters at most that begins with a digit and has no exponent. Of another text
+    // it is `None`.
     pub fn of(text: &[u8]) -> Option<ShortText>
         ensures { IfSome result (λ s. SpellsShort text.now s.word s.above s.below) }
     {
@@ -52,7 +53,7 @@ impl ShortText {
     }
 }
 
-// The places of the digits of a short text, which are put in place of those that are there.
+// Replaces the digits by those of a short text, and returns their places.
 pub fn read_short(digits: &mut Digits, short: ShortText) -> Result<Places, AllocError>
     requires some { 0 < short.above + short.below }
     requires few { short.above + short.below ≤ 16 }

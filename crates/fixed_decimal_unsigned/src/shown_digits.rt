@@ -5,15 +5,16 @@ use crate::unsigned_decimal::UnsignedDecimal;
 use fixed_decimal_digits::{ONES, ShownDigits, digits_at};
 
 impl UnsignedDecimal {
-    /// The digits shown before the point, from the highest to the ones: of `012.30` they are 0, 1, 2. It takes no memory.
+    /// The digits shown before the point, from the highest to the ones: of `012.30` they are 0, 1, 2. It does not
+    /// allocate.
     pub fn whole_digits(&self) -> ShownDigits<'_>
         ensures { result ≡ whole_digits self.now }
     {
         digits_at(&self.digits, self.top, ONES, self.high - (ONES - 1))
     }
 
-    /// The digits shown behind the point, from the tenths down: of `012.30` they are 3, 0, and of `12` there are none. It
-    /// takes no memory.
+    /// The digits shown behind the point, from the tenths down: of `012.30` they are 3, 0, and of `12` there are none.
+    /// It does not allocate.
     pub fn fraction_digits(&self) -> ShownDigits<'_>
         ensures { result ≡ fraction_digits self.now }
     {

@@ -15,22 +15,23 @@ fn end_below(digits: &Digits, top: u16, most: u16) -> u16
 }
 
 impl UnsignedDecimal {
-    /// Takes the zeros away that the number begins with: `012` becomes `12`. It takes no memory.
+    /// Removes the zeros that the number begins with: `012` becomes `12`. It does not allocate.
     pub fn trim_start(&mut self)
         ensures { TrimsStart self.old self.new }
     {
         self.high = self.top.max(ONES);
     }
 
-    /// Takes the zeros away that the number ends in behind the point: `1.20` becomes `1.2`, and `120` stays. It takes no memory.
+    /// Removes the zeros that the number ends in behind the point: `1.20` becomes `1.2`, and `120` stays. It does not
+    /// allocate.
     pub fn trim_end(&mut self)
         ensures { TrimsEnd self.old self.new }
     {
         self.low = end_below(&self.digits, self.top, ONES);
     }
 
-    /// Takes the zeros behind the point away where there is no other digit behind it: `1.00` becomes `1`, and
-    /// `1.20` stays. It takes no memory.
+    /// Removes the zeros behind the point where there is no other digit behind it: `1.00` becomes `1`, and `1.20`
+    /// stays. It does not allocate.
     pub fn trim_end_if_integer(&mut self)
         ensures { TrimsWhole self.old self.new }
     {
@@ -41,7 +42,7 @@ impl UnsignedDecimal {
 
     /// Shows zeros before the number up to a position, or no more than it needs: `12` and 4 give `0012`.
     ///
-    /// A position of 0 or below changes nothing. It takes no memory.
+    /// A position of 0 or below changes nothing. It does not allocate.
     pub fn pad_start(&mut self, position: i16)
         ensures { PadsStart (place position) self.old self.new }
     {
@@ -53,7 +54,7 @@ impl UnsignedDecimal {
 
     /// Shows zeros behind the number down to a position, or no more than it needs: `12` and -2 give `12.00`.
     ///
-    /// A position above 0 changes nothing. It takes no memory.
+    /// A position above 0 changes nothing. It does not allocate.
     pub fn pad_end(&mut self, position: i16)
         ensures { PadsEnd (place position) self.old self.new }
     {
@@ -63,7 +64,7 @@ impl UnsignedDecimal {
         }
     }
 
-    /// The number without the zeros that it begins with: `012` gives `12`. It takes no memory.
+    /// The number without the zeros that it begins with: `012` gives `12`. It does not allocate.
     pub fn trimmed_start(mut self) -> UnsignedDecimal
         ensures { TrimsStart self result }
     {
@@ -71,7 +72,7 @@ impl UnsignedDecimal {
         self
     }
 
-    /// The number without the zeros that it ends in behind the point: `1.20` gives `1.2`. It takes no memory.
+    /// The number without the zeros that it ends in behind the point: `1.20` gives `1.2`. It does not allocate.
     pub fn trimmed_end(mut self) -> UnsignedDecimal
         ensures { TrimsEnd self result }
     {
@@ -79,9 +80,10 @@ impl UnsignedDecimal {
         self
     }
 
-    /// The number without the zeros behind the point where there is no other digit behind it: `1.00` gives `1`, `1.20` itself.
+    /// The number without the zeros behind the point where there is no other digit behind it: `1.00` gives `1`, and
+    /// `1.20` stays.
     ///
-    /// It takes no memory.
+    /// It does not allocate.
     pub fn trimmed_end_if_integer(mut self) -> UnsignedDecimal
         ensures { TrimsWhole self result }
     {
@@ -91,7 +93,7 @@ impl UnsignedDecimal {
 
     /// The number with zeros before it up to a position, or no more than it needs: `12` and 4 give `0012`.
     ///
-    /// A position of 0 or below changes nothing. It takes no memory.
+    /// A position of 0 or below changes nothing. It does not allocate.
     pub fn padded_start(mut self, position: i16) -> UnsignedDecimal
         ensures { PadsStart (place position) self result }
     {
@@ -101,7 +103,7 @@ impl UnsignedDecimal {
 
     /// The number with zeros behind it down to a position, or no more than it needs: `12` and -2 give `12.00`.
     ///
-    /// A position above 0 changes nothing. It takes no memory.
+    /// A position above 0 changes nothing. It does not allocate.
     pub fn padded_end(mut self, position: i16) -> UnsignedDecimal
         ensures { PadsEnd (place position) self result }
     {

@@ -12,9 +12,8 @@ use std::ops::RangeInclusive;
 
 /// A decimal number without a sign, with the range of magnitudes that its text shows.
 ///
-/// Magnitudes are -32768 to 32767, and the range always holds 0, so `0.50` and `0.5` are two
-/// values of one number. Up to eight digits, counted from the highest to the lowest nonzero one,
-/// need no memory.
+/// Magnitudes are -32768 to 32767, and the range always holds 0, so `0.50` and `0.5` are two values of one number. Up
+/// to eight digits, from the first to the last one that is not zero, do not allocate.
 #[derive(Debug, Drop)]
 pub struct UnsignedDecimal {
     pub(crate) digits: Digits,
@@ -36,7 +35,7 @@ impl Model for UnsignedDecimal {
 }
 
 impl UnsignedDecimal {
-    /// The number zero, shown as `0`. It takes no memory.
+    /// The number zero, shown as `0`. It does not allocate.
     pub fn zero(alloc: Global) -> UnsignedDecimal
         ensures { result ≡ record { count = 0; low = 32768; high = 32768 } }
     {
@@ -48,7 +47,7 @@ impl UnsignedDecimal {
         }
     }
 
-    /// The number one, shown as `1`. It takes no memory.
+    /// The number one, shown as `1`. It does not allocate.
     pub fn one(alloc: Global) -> UnsignedDecimal
         ensures { IsInteger 1 result }
     {
@@ -62,7 +61,7 @@ impl UnsignedDecimal {
         }
     }
 
-    /// Whether the number is zero, whatever its range: true of `0` and of `0.00`. It takes no memory.
+    /// Whether the number is zero, whatever its range: true of `0` and of `0.00`. It does not allocate.
     pub fn is_zero(&self) -> bool
         ensures { result ≡ (self.now.count == 0) }
     {
@@ -71,7 +70,7 @@ impl UnsignedDecimal {
 
     /// The digit at a magnitude, from 0 to 9, and 0 outside of the range: of `12.3` it is 2 at 0 and 3 at -1.
     ///
-    /// It takes no memory.
+    /// It does not allocate.
     pub fn digit_at(&self, magnitude: i16) -> u8
         ensures value { result ≡ digit self.now.count (place magnitude) }
         ensures ten { result < 10 }
@@ -79,7 +78,7 @@ impl UnsignedDecimal {
         digit_at_place(&self.digits, self.top as u32, place_of(magnitude) as u32)
     }
 
-    /// The magnitudes that are shown, from the lowest to the highest: -1 to 2 of `012.3`. It takes no memory.
+    /// The magnitudes that are shown, from the lowest to the highest: -1 to 2 of `012.3`. It does not allocate.
     pub fn magnitude_range(&self) -> RangeInclusive<i16>
         ensures low { place (range_inclusive_start result) ≡ self.now.low }
         ensures high { place (range_inclusive_end result) ≡ self.now.high }
@@ -89,10 +88,10 @@ impl UnsignedDecimal {
         magnitude_of(self.low)..=magnitude_of(self.high)
     }
 
-    /// The same number in a value of its own: of `012.30` another `012.30`.
+    /// A copy: of `012.30` it is `012.30`.
     ///
-    /// Memory is taken where the number has more than eight digits, from the first to the last one that is
-    /// not zero; it is refused (`AllocError`) only there.
+    /// It allocates where the number has more than eight digits, from the first to the last one that is not zero.
+    /// `AllocError`: out of memory, only there.
     pub fn try_clone(&self) -> Result<UnsignedDecimal, AllocError>
         ensures value { IfOk result (λ v. v ≡ self.now) }
         ensures room { OnErr result (IsLong self.now.count) }

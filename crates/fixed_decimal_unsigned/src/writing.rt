@@ -11,7 +11,7 @@ use fixed_decimal_digits::{BLOCK, ONES};
 use std::fmt;
 use writeable::{Error, LengthHint, Sink, Writeable, display};
 
-// A text of so many bytes at most is written by one call of the sink.
+// How many bytes a text may have that one call of the sink writes.
 const SHORT: u16 = 32;
 
 // How many digits of a longer text are written by one call of the sink at most.
@@ -25,7 +25,7 @@ fn character_at(number: &UnsignedDecimal, place: u16) -> u8
     b'0' + number.digit_at(magnitude_of(place))
 }
 
-// Puts the characters of so many digits into a piece, from an index on: the highest first, down to the one at `base`.
+// Puts the characters of `size` digits into a piece, from an index on: the highest first, down to the one at `base`.
 fn spell(number: &UnsignedDecimal, base: u16, size: u16, piece: &mut [u8; 64], from: u16)
     requires room { from + size ≤ 64 }
     requires places { base + size ≤ 65536 }
@@ -80,7 +80,7 @@ fn block_at(number: &UnsignedDecimal, base: u16) -> Option<[u8; 64]>
     None
 }
 
-// A piece that begins with so many digits of a number, from the highest down to the one at `base`.
+// A piece that begins with `size` digits of a number, from the highest down to the one at `base`.
 fn piece_of(number: &UnsignedDecimal, base: u16, size: u16) -> [u8; 64]
     requires few { size ≤ 64 }
     requires places { base + size ≤ 65536 }
@@ -111,7 +111,7 @@ fn piece_size(number: &UnsignedDecimal, base: u16, left: u16) -> u16
     left.min(PIECE)
 }
 
-// Writes so many digits of a number, from the highest down to the one at `base`, by one call of the sink.
+// Writes `size` digits of a number, from the highest down to the one at `base`, by one call of the sink.
 fn write_piece<S: Sink>(
     number: &UnsignedDecimal,
     base: u16,
@@ -129,7 +129,7 @@ fn write_piece<S: Sink>(
     sink.write_str(ascii_text(&piece[..size as usize]))
 }
 
-// Writes so many digits of a number, from the highest down to the one at `base`.
+// Writes `count` digits of a number, from the highest down to the one at `base`.
 fn write_digits<S: Sink>(
     number: &UnsignedDecimal,
     base: u16,
@@ -151,7 +151,7 @@ fn write_digits<S: Sink>(
     Ok(())
 }
 
-// Writes a point, and so many digits behind it.
+// Writes a point, and `count` digits behind it.
 fn write_point<S: Sink>(
     number: &UnsignedDecimal,
     base: u16,
