@@ -1,4 +1,4 @@
--- Where grouping separators stand: the integer digits as a list of groups, cut from the right.
+-- The places of grouping separators: the integer digits as a list of groups, cut from the right.
 -- After UTS 35, part 3 (numbers), grouping of number patterns; docs/plain-text.md, "Groups".
 -- Cited by `grouper::check` and by the law of groups.
 use Rattle.std.specs.Prelude.{ℕ, ◌+◌, ◌-◌, ◌*◌, ◌/◌, ◌%◌, max, Bool, true, false, cond, not, ◌&&◌, ◌||◌, ◌==◌, nat_le, List, [], ◌∷◌, ◌++◌, length, take, drop, replicate, sum, flat_map, ℤ, pos, negsuc}
@@ -29,7 +29,8 @@ abbrev pub is_grouped : GroupingStrategy → GroupingSizes → ℕ → Bool
 is_grouped t s d =
     not (s.primary == 0) && (may_group t && nat_le (s.primary + least_front t s.min_grouping) d)
 
--- the sizes of the groups of d digits, from the left: the last group has p, each before it q, the first what is left, at least one
+-- the sizes of the groups of d digits, from the left: the last has p, each before it q, the first the rest, at least
+-- one
 abbrev pub cut_sizes : ℕ → ℕ → ℕ → List ℕ
 cut_sizes p q d =
     let k = (d - p - 1) / q in (d - p - k * q) ∷ (replicate k q ++ p ∷ [])
@@ -52,7 +53,8 @@ abbrev pub joined : {A : Type 0} → List A → List (List A) → List A
 joined separator [] = []
 joined separator (g ∷ gs) = g ++ flat_map (λ h. separator ++ h) gs
 
--- of groups of these sizes, one that is not the last ends with the digit at magnitude m: the groups after it have m digits together
+-- of groups of these sizes, one that is not the last ends with the digit at magnitude m: the groups after it have m
+-- digits together
 abbrev pub ends_at : List ℕ → ℕ → Bool
 ends_at [] m = false
 ends_at (n ∷ []) m = false
@@ -72,7 +74,7 @@ is_group_end s m = nat_le s.primary m && ((m - s.primary) % middle_size s == 0)
 abbrev pub separates : GroupingStrategy → GroupingSizes → ℕ → ℕ → Bool
 separates t s d m = is_grouped t s d && is_group_end s m
 
--- the same from the highest magnitude written, both signed: no separator stands in a fraction
+-- the same from the highest magnitude written, both signed: a fraction has no separator
 abbrev pub separates_at : GroupingStrategy → GroupingSizes → ℤ → ℤ → Bool
 separates_at t s (pos u) (pos m) = separates t s (u + 1) m
 separates_at t s (pos u) (negsuc m) = false

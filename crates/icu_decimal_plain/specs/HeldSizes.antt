@@ -1,4 +1,4 @@
--- The sizes of groups as the writer holds them: the first, so many middle ones, and the last; none where a size is 0.
+-- The sizes of groups as the writer holds them: the first, a count of middle ones, the last; none where a size is 0.
 -- Defined in docs/plain-text.md, "Groups".
 -- Cited by the view of the sizes that a writer goes over, and by no public clause.
 use Rattle.std.specs.Prelude.{ℕ, ◌==◌, cond, List, [], ◌∷◌, ◌++◌, replicate}

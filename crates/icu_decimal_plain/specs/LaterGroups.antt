@@ -1,6 +1,6 @@
--- What stands behind the first group: each group with the separator before it.
+-- What follows the first group: each group with the separator before it.
 -- Defined in docs/plain-text.md, "Groups".
--- Cited by private steps of the writer alone.
+-- Cited only by private steps of the writer.
 use Rattle.std.specs.Prelude.{ℕ, List, [], ◌∷◌, ◌++◌, codes, drop, map, take}
 use Rattle.writeable.specs.AnnotatedText.{Event}
 use Rattle.icu_decimal_plain.specs.Affixes.{as_part, decimal_part}

@@ -1,5 +1,5 @@
--- Where the parts of a number stand in its text: each with the byte at which it begins and the byte behind its last one.
--- Defined in docs/formatters.md, "Formatted numbers"; ICU4X names the parts, and docs/annotated-text.md says in which order they are listed.
+-- The places of a number's parts in its text: each with the byte at which it begins and the byte behind its last one.
+-- Defined in docs/formatters.md, "Formatted numbers"; their order in docs/annotated-text.md; ICU4X's names.
 -- Cited by the law of the parts.
 use Rattle.std.specs.Prelude.{ℕ, ◌+◌, ◌-◌, List, [], ◌∷◌, ◌++◌, length, map, flat_map, take, codes, Option, None, Some}
 use Rattle.std.specs.List.{range_with_len}
@@ -22,11 +22,11 @@ part_at n (b ∷ text) part = record { start = n; end = n + length (b ∷ text);
 abbrev pub groups_text : List ℕ → List (List (List ℕ)) → List ℕ
 groups_text separator gs = chained (joined (separator ∷ []) gs)
 
--- behind the first k of the groups stands a separator
+-- a separator follows the first k of the groups
 abbrev pub separator_at : ℕ → List ℕ → List (List (List ℕ)) → ℕ → List Interval
 separator_at n separator gs k = part_at (n + length (groups_text separator (take k gs))) separator (decimal_part (codes "group"))
 
--- the separators of groups that begin at byte n: behind the first group, behind the first two, and so on, but not behind all
+-- the separators of groups that begin at byte n: one follows the first group, one the first two, and so on, but not all
 abbrev pub separator_parts : ℕ → List ℕ → List (List (List ℕ)) → List Interval
 separator_parts n separator gs = flat_map (separator_at n separator gs) (range_with_len 1 (length gs - 1))
 
@@ -34,7 +34,7 @@ separator_parts n separator gs = flat_map (separator_at n separator gs) (range_w
 abbrev pub groups_of : Tables → List ℕ → List (List (List ℕ))
 groups_of t ds = groups t.strategy t.symbols.grouping_sizes (map (digit_text t.digits) ds)
 
--- `integer`, all that stands before the decimal separator, and `group` inside it
+-- `integer`, all before the decimal separator, and `group` inside it
 abbrev pub integer_parts : ℕ → Tables → List ℕ → List Interval
 integer_parts n t ds =
     part_at n (whole_text t ds) (decimal_part (codes "integer"))
@@ -78,7 +78,8 @@ decimal_parts t d =
 abbrev pub unit_text : Tables → List ℕ → Number → List ℕ → List ℕ
 unit_text t before v behind = before ++ (unsigned_text t v ++ behind)
 
--- with its sign: the parts of the number begin behind the prefix and the text before it, and the suffix stands behind all else
+-- with its sign: the parts of the number begin behind the prefix and the text before it, and the suffix follows all
+-- else
 abbrev pub unit_parts : Tables → List ℕ → SignedValue Number → List ℕ → List Interval
 unit_parts t before d behind =
     let affixes = affixes_of t.symbols.strings d.sign in

@@ -1,4 +1,4 @@
--- The intervals that are listed for a number are those of its parts, and no others; separators stand inside the integer digits.
+-- The intervals listed for a number are those of its parts, and no others; separators are inside the integer digits.
 -- Defined in docs/formatters.md, "Formatted numbers".
 -- Cited by `laws::parts_law`.
 use Rattle.std.specs.Prelude.{◌≡◌, ℕ, ◌<◌, List, ◌++◌, length, take, drop}
@@ -20,7 +20,7 @@ abbrev pub UnitHasParts : Type 0
 UnitHasParts = (t : Tables) (before : List ℕ) (d : SignedValue Number) (behind : List ℕ)
     → annotated (events_with_sign (λ number. bytes before ++ (unsigned_events number ++ bytes behind)) (formatted t d)) ≡ unit_annotated t before d behind
 
--- behind the text of the first k groups stands the separator, and behind it the text of the other groups
+-- the separator follows the text of the first k groups, and the text of the other groups follows it
 abbrev pub SeparatorsStandBetween : Type 0
 SeparatorsStandBetween = (separator : List ℕ) (gs : List (List (List ℕ))) (k : ℕ) → 0 < k → k < length gs
     → groups_text separator gs ≡ groups_text separator (take k gs) ++ (separator ++ groups_text separator (drop k gs))

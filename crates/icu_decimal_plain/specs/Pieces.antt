@@ -1,6 +1,6 @@
 -- Short texts as pieces, each in a word of four bytes.
 -- Defined in docs/plain-text.md, "Writing".
--- Cited by private steps of the writer alone.
+-- Cited only by private steps of the writer.
 use Rattle.std.specs.Prelude.{◌≡◌, ℕ, ◌<◌, ◌≤◌, List, [], IsUtf8, length, slice_index_or, take}
 use Rattle.icu_decimal_symbols.specs.Symbols.{Symbols}
 use Rattle.icu_decimal_plain.specs.declared.text_pieces.Piece.{Piece}

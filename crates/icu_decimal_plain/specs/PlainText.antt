@@ -1,5 +1,5 @@
--- The text of a number and its parts: the integer digits in groups, the fraction behind the decimal separator, between the affixes of the sign.
--- After UTS 35, part 3 (numbers), number symbols and patterns; docs/plain-text.md, "The text of a number", and docs/formatters.md, "Parts".
+-- The text of a number and its parts: digits in groups, decimal separator, fraction, and the affixes of the sign.
+-- After UTS 35, part 3 (numbers); docs/plain-text.md, "The text of a number", and docs/formatters.md, "Parts".
 -- Cited by the calls of `DecimalTables`, `FormattedDecimal` and `FormattedUnsignedDecimal`, and by the law of the text.
 use Rattle.std.specs.Prelude.{ℕ, List, [], ◌∷◌, ◌++◌, map, flat_map, slice_index, codes, encode_utf8, Option, None, Some}
 use Rattle.writeable.specs.AnnotatedText.{Event, bytes, opening, closing}
@@ -10,7 +10,7 @@ use Rattle.icu_decimal_symbols.specs.Symbols.{Symbols}
 use Rattle.icu_decimal_plain.specs.Affixes.{AffixTexts, WithSign, affixes_of, as_part, decimal_part, events_with_sign}
 use Rattle.icu_decimal_plain.specs.Grouper.{groups, joined}
 
--- what numbers are written with: symbols, the ten characters from zero up, and when separators stand
+-- what numbers are written with: symbols, the ten characters from zero up, and when separators are written
 pub record Tables : Type 0 where
   pub symbols : Symbols
   pub digits : List ℕ

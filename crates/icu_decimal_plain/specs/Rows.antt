@@ -1,6 +1,6 @@
 -- Digits that are single bytes in a row: the byte of a digit is that of zero and the digit together.
 -- Defined in docs/plain-text.md, "Writing".
--- Cited by private steps of the writer alone.
+-- Cited only by private steps of the writer.
 use Rattle.std.specs.Prelude.{◌≡◌, ℕ, ◌+◌, ◌<◌, List, [], ◌∷◌}
 use Rattle.icu_decimal_plain.specs.PlainText.{digit_text}
 

@@ -48,7 +48,7 @@ pub(crate) fn set_block<const N: usize>(chunk: &mut [u8; N], at: usize, block: &
     all[at..at + 16].copy_from_slice(block);
 }
 
-// Puts the next digits into a chunk, from a place on, sixteen or all that are left; the answer is how many they are.
+// Puts the next digits into a chunk, from a place on, sixteen or all that are left, and returns how many they are.
 fn put_next(digits: &mut ShownDigits<'_>, chunk: &mut [u8; CHUNK], at: usize) -> usize
     requires within { at + 16 ≤ 48 }
     ensures count { result ≡ min 16 (length digits.old) }
@@ -61,7 +61,7 @@ fn put_next(digits: &mut ShownDigits<'_>, chunk: &mut [u8; CHUNK], at: usize) ->
     count
 }
 
-// Takes the digits of a part of a chunk, so many; what stands behind them says nothing.
+// Takes the next `count` digits, as a part of a chunk; the bytes behind them mean nothing.
 pub(crate) fn few_digits(digits: &mut ShownDigits<'_>, count: usize) -> [u8; CHUNK]
     requires few { count ≤ 48 }
     requires enough { count ≤ length digits.old }
@@ -77,7 +77,7 @@ pub(crate) fn few_digits(digits: &mut ShownDigits<'_>, count: usize) -> [u8; CHU
     chunk
 }
 
-// Writes the first bytes of `waiting`, so many.
+// Writes the first `len` bytes of `waiting`.
 pub(crate) fn write_waiting<S: Sink>(waiting: &[u8], len: usize, sink: &mut S) -> Result<(), Error>
     requires fine { S.refused sink.old ≡ false }
     requires within { len ≤ length waiting.now }

@@ -84,8 +84,8 @@ fn affixes_in<'l>(sign: Sign, symbols: &'l DecimalSymbols) -> Option<Affixes<'l>
 }
 
 impl<'l, T> FormattedSign<'l, T> {
-    /// The value with the affixes that the sign has in these symbols, which are borrowed: `"5"` with `Sign::Negative` is written
-    /// `-5` in English. It takes no memory.
+    /// The value with the affixes that the sign has in these symbols, which are borrowed: `"5"` with `Sign::Negative`
+    /// is written `-5` in English. It does not allocate.
     pub fn new(sign: Sign, symbols: &'l DecimalSymbols, value: T) -> Self
         ensures { result ≡ record { value = value; affixes = affixes_of symbols.now.strings sign } }
     {
@@ -95,7 +95,7 @@ impl<'l, T> FormattedSign<'l, T> {
         }
     }
 
-    /// The value without the affixes: `1,234` of `-1,234`. It takes no memory.
+    /// The value without the affixes: `1,234` of `-1,234`. It does not allocate.
     pub fn value(&self) -> &T
         ensures { result.now ≡ self.now.value }
     {
@@ -104,9 +104,10 @@ impl<'l, T> FormattedSign<'l, T> {
 }
 
 impl<'l, T: Clone> FormattedSign<'l, T> {
-    /// The same once more, its value cloned: of `-1,234.5` another that writes `-1,234.5`.
+    /// A copy, its value cloned: that of `-1,234.5` writes `-1,234.5`.
     ///
-    /// `AllocError`, only where cloning the value lacks memory. A `FormattedDecimal` takes none, and is never refused.
+    /// It allocates where cloning the value does. `AllocError`: out of memory, only there. A `FormattedDecimal` does
+    /// not allocate, and always succeeds.
     pub fn try_clone(&self) -> Result<Self, AllocError>
         ensures succeeds { T.is_infallible self.now.value → IsOk result }
         ensures value { IfOk result (λ copy. T.is_clone self.now.value copy.value) }
@@ -148,8 +149,9 @@ fn write_suffix<S: Sink>(affixes: Option<Affixes<'_>>, sink: &mut S) -> Result<(
 
 /// The prefix, the value and the suffix: `-1,234` in English, of which `-` is the part `MINUS_SIGN`.
 ///
-/// `Error`, only where the sink refused: it took a beginning. Writing takes no memory but the sink's and the value's. The hint is
-/// the least length that the value's hint says, of `-1,234` at least 4, and takes none but the value's.
+/// `Error`, only where the sink refused: it has taken a beginning. Writing allocates only what the sink and the value
+/// do. The hint is the least length that the value's hint says, of `-1,234` at least 4; it allocates only what the
+/// value's hint does.
 impl<'l, T: Writeable> Writeable for FormattedSign<'l, T> {
     ghost use Rattle.std.specs.Prelude.{length};
     ghost use Rattle.writeable.specs.AnnotatedText.{text_of};
@@ -182,7 +184,7 @@ impl<'l, T: Writeable> Writeable for FormattedSign<'l, T> {
     }
 }
 
-/// The same text, without its parts: `-1,234`. It takes no memory but the writer's and the value's.
+/// The same text, without its parts: `-1,234`. It allocates only what the writer and the value do.
 impl<'l, T: Writeable> fmt::Display for FormattedSign<'l, T> {
     ghost use Rattle.std.specs.Prelude.{Some};
     ghost use Rattle.writeable.specs.AnnotatedText.{text_of};

@@ -44,8 +44,7 @@ impl<'l> FormattedUnsignedDecimal<'l> {
         FormattedUnsignedDecimal { number, tables }
     }
 
-    /// The same value once more, with the same loans: of `1,234.5` another that writes `1,234.5`. It takes no memory, and is
-    /// never refused.
+    /// A copy, with the same borrows: that of `1,234.5` writes `1,234.5`. It does not allocate, and always succeeds.
     pub fn try_clone(&self) -> Result<Self, AllocError>
         ensures succeeds { IsOk result }
         ensures value { IfOk result (λ copy. copy ≡ self.now) }
@@ -54,8 +53,7 @@ impl<'l> FormattedUnsignedDecimal<'l> {
     }
 }
 
-/// The same value once more, with the same loans: of `1,234.5` another that writes `1,234.5`. It takes no memory, and is never
-/// refused.
+/// A copy, with the same borrows: that of `1,234.5` writes `1,234.5`. It does not allocate, and always succeeds.
 impl<'l> Clone for FormattedUnsignedDecimal<'l> {
     ghost use Rattle.std.specs.Prelude.{◌≡◌, ⊤};
 
@@ -73,8 +71,8 @@ impl<'l> Clone for FormattedUnsignedDecimal<'l> {
 
 /// The digits in groups with their parts: `1,234.5` in English.
 ///
-/// `Error`, only where the sink refused: it took a beginning. Writing takes no memory but the sink's. The hint is at least a byte
-/// for each digit shown, of `1,234.5` at least 5, and takes none.
+/// `Error`, only where the sink refused: it has taken a beginning. Writing allocates only what the sink does. The hint
+/// is at least a byte for each digit shown, of `1,234.5` at least 5; it does not allocate.
 impl<'l> Writeable for FormattedUnsignedDecimal<'l> {
     ghost use Rattle.std.specs.Prelude.{◌≡◌, ◌+◌, ◌-◌, length};
     ghost use Rattle.writeable.specs.AnnotatedText.{text_of};
@@ -101,7 +99,7 @@ impl<'l> Writeable for FormattedUnsignedDecimal<'l> {
     }
 }
 
-/// The same text, without its parts: `1,234.5`. It takes no memory but the writer's.
+/// The same text, without its parts: `1,234.5`. It allocates only what the writer does.
 impl<'l> fmt::Display for FormattedUnsignedDecimal<'l> {
     ghost use Rattle.std.specs.Prelude.{Some};
     ghost use Rattle.icu_decimal_plain.specs.PlainText.{unsigned_text};

@@ -1,4 +1,4 @@
-//! Where grouping separators stand.
+//! The places of grouping separators.
 ghost use Rattle.std.specs.Prelude.{◌≡◌, ℕ, ◌+◌, ◌/◌, ◌%◌, ◌<◌, ◌≤◌, ◌++◌, false, length, pos, replicate, sum, ◌<ℤ◌, IfNone, IfSome};
 ghost use Rattle.std.specs.Iterator.{YieldsFirst, item_count};
 ghost use Rattle.icu_decimal_plain.specs.Grouper.{cut_sizes, ends_at, group_sizes, is_grouped, least_front, may_group, middle_size, separates, separates_at};
@@ -13,11 +13,10 @@ use std::mem;
 
 /// Whether a grouping separator follows the digit at `magnitude`.
 ///
-/// `upper_magnitude` is the highest magnitude written; both count powers of ten, 0 for units.
-/// With sizes 3, 2, 1 and `Auto`, 100000 is written `1,00,000`: true at 5 and at 3, false at 4.
-/// Above `upper_magnitude` it says where a separator would stand if there were digits; below 0,
-/// in the fraction, none stands. It takes no memory.
-/// The call is ICU4X's. Source: UTS 35, part 3 (numbers), grouping of number patterns.
+/// `upper_magnitude` is the highest magnitude written; both count powers of ten, 0 for units. With sizes 3, 2, 1 and
+/// `Auto`, 100000 is written `1,00,000`: true at 5 and at 3, false at 4. Above `upper_magnitude` it says where a
+/// separator would be if there were digits; below 0, in the fraction, there is none. It does not allocate. The call is
+/// ICU4X's. Source: UTS 35, part 3 (numbers), grouping of number patterns.
 #[tactic(auto, using(crate::proofs::GrouperLemmas::ends_is_separated))]
 pub fn check(
     upper_magnitude: i16,
@@ -52,7 +51,7 @@ fn is_group_end(
     (magnitude - primary) % size_before(sizes) as u16 == 0
 }
 
-// Whether so many digits have more than one group.
+// Whether `digits` digits have more than one group.
 fn has_groups(digits: u16, strategy: GroupingStrategy, sizes: GroupingSizes) -> bool
     ensures { result ≡ is_grouped strategy sizes digits }
 {
@@ -109,7 +108,7 @@ impl Model for GroupSizes {
 }
 
 impl GroupSizes {
-    // The groups of so many digits.
+    // The groups of `digits` digits.
     pub(crate) fn of(digits: u16, strategy: GroupingStrategy, sizes: GroupingSizes) -> Self
         requires { 0 < digits }
         ensures { result ≡ group_sizes strategy sizes digits }
@@ -125,7 +124,7 @@ impl GroupSizes {
         cut(digits, sizes.primary, size_before(sizes))
     }
 
-    // So many digits, cut behind each chunk.
+    // The groups of `digits` digits, cut behind each chunk.
     pub(crate) fn chunks(digits: u16) -> Self
         ensures { result ≡ replicate (digits / 48) 48 ++ size_if (digits % 48) }
     {
@@ -168,8 +167,8 @@ impl GroupSizes {
         }
     }
 
-    // Takes the middle groups that fill a chunk. `None`: a group stands before them, they have too few digits, or no number of
-    // them fills a chunk.
+    // Takes the middle groups that fill a chunk. `None`: a group is before them, they have too few digits, or no number
+    // of them fills a chunk.
     pub(crate) fn next_chunk(&mut self) -> Option<GroupSizes>
         ensures taken { IfSome result (λ taken. self.old ≡ taken ++ self.new) }
         ensures whole { IfSome result (λ taken. sum taken ≡ 48) }
@@ -194,7 +193,7 @@ impl GroupSizes {
     }
 }
 
-// So many digits cut from the right: the last group has `last`, each before it `middle`, the first what is left.
+// `digits` digits cut from the right: the last group has `last`, each before it `middle`, the first what is left.
 fn cut(digits: u16, last: u8, middle: u8) -> GroupSizes
     requires enough { last < digits }
     requires some { 0 < last }

@@ -4,26 +4,26 @@ ghost use Rattle.icu_decimal_plain.specs.GroupLaws.{GroupsAreCut, GroupsAreSepar
 ghost use Rattle.icu_decimal_plain.specs.PartLaws.{DecimalHasParts, SeparatorsStandBetween, UnitHasParts, UnsignedHasParts};
 ghost use Rattle.icu_decimal_plain.specs.TextLaws.{DecimalIsText, UnsignedIsText};
 
-/// A law: digits in several groups are cut from the right, and the groups joined are the digits with a separator after each one
-/// at which `grouper::check` says so. With the sizes 3, 2, 1 the digits `1234567` are the groups `12`, `34`, `567`, and joined
-/// `12,34,567`.
+/// A law: digits in several groups are cut from the right, and the groups joined are the digits with a separator after
+/// each one at which `grouper::check` says so. With the sizes 3, 2, 1 the digits `1234567` are the groups `12`, `34`,
+/// `567`, and joined `12,34,567`.
 pub fn groups_law()
     ensures sizes { GroupsAreCut }
     ensures separated { GroupsAreSeparated }
 {}
 
-/// A law: the text that the events of a number write is the text of its definition, with a sign and without: of -1234.5 in
-/// English `-1,234.5`, and of 1234.5 `1,234.5`.
+/// A law: the text that the events of a number write is the text of its definition, with a sign and without: of -1234.5
+/// in English `-1,234.5`, and of 1234.5 `1,234.5`.
 pub fn text_law()
     ensures unsigned { UnsignedIsText }
     ensures decimal { DecimalIsText }
 {}
 
 /// A law: the intervals that are listed for a number are those of its parts, with a sign and without, and no others: of
-/// `-1,234.5` in English `minusSign` from byte 0 to 1, `integer` from 1 to 6, in it `group` from 2 to 3, `decimal` from 6 to 7
-/// and `fraction` from 7 to 8. With a text before the number and one behind it, and the affixes of the sign round all three, they
-/// begin behind the first text: of `-€1,234.5` `integer` is from 4 to 9. A separator stands behind the groups before it and in
-/// front of those behind it.
+/// `-1,234.5` in English `minusSign` from byte 0 to 1, `integer` from 1 to 6, in it `group` from 2 to 3, `decimal` from
+/// 6 to 7 and `fraction` from 7 to 8. With a text before the number and one behind it, and the affixes of the sign
+/// round all three, they begin behind the first text: of `-€1,234.5` `integer` is from 4 to 9. A separator comes after
+/// the groups before it and before those behind it.
 pub fn parts_law()
     ensures unsigned { UnsignedHasParts }
     ensures decimal { DecimalHasParts }

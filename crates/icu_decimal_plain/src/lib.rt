@@ -1,7 +1,7 @@
-//! How a number is written: its text with its parts, where grouping separators stand, the affixes of its sign.
+//! How a number is written: its text with its parts, the places of grouping separators, the affixes of its sign.
 //!
-//! With the sizes 3, 2, 1 the number 100000 is written `1,00,000`: a separator follows the digits at the magnitudes 5 and 3. With
-//! a minus sign it is `-1,00,000`. The rules are in docs/plain-text.md.
+//! With the sizes 3, 2, 1 the number 100000 is written `1,00,000`: a separator follows the digits at the magnitudes 5
+//! and 3. With a minus sign it is `-1,00,000`. The rules are in docs/plain-text.md.
 //!
 //! ```rust
 //! use icu_decimal_plain::grouper::check;

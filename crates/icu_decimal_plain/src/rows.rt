@@ -26,7 +26,7 @@ pub(crate) fn row_of(table: &[char; 10]) -> Option<u8>
     Some(nought as u8)
 }
 
-// Puts digits behind so many bytes; the answer is how many there are then.
+// Puts digits behind the first `len` bytes, and returns how many bytes there are then.
 #[tactic(auto, using(crate::proofs::PieceLemmas::ten_at, crate::proofs::RowLemmas::row_next, crate::proofs::RowLemmas::row_none))]
 pub(crate) fn put_row<const N: usize>(
     waiting: &mut [u8; N],
@@ -48,7 +48,8 @@ pub(crate) fn put_row<const N: usize>(
     len + digits.len()
 }
 
-// Puts groups of three digits, each with the separator before it, behind so many bytes; the answer is how many there are then.
+// Puts groups of three digits, each with the separator before it, behind the first `len` bytes, and returns how many
+// bytes there are then.
 #[tactic(auto, using(crate::proofs::PieceLemmas::ten_at, crate::proofs::RowLemmas::threes_next, crate::proofs::RowLemmas::threes_none))]
 pub(crate) fn put_threes<const N: usize>(
     waiting: &mut [u8; N],

@@ -1,4 +1,5 @@
-//! Short numbers whose digits are single bytes in a row: sixteen digits at most on each side of the point, in groups of three.
+//! Short numbers whose digits are single bytes in a row: sixteen digits at most on each side of the point, in groups of
+//! three.
 
 ghost use Rattle.std.specs.Prelude.{◌≡◌, ◌+◌, ◌-◌, ◌<◌, ◌≤◌, ◌++◌, length, map, take, IfSome, IsUtf8};
 ghost use Rattle.std.specs.Int.Digits.{AllBelowBase};
@@ -47,7 +48,7 @@ fn row_bytes(digits: &[u8; 16], nought: u8) -> [u8; 16]
     bytes
 }
 
-// Puts sixteen digits behind so many bytes, of which so many count; the answer is how many bytes count then.
+// Puts sixteen digits, of which `count` count, behind the first `len` bytes, and returns how many bytes count then.
 #[inline(always)]
 fn put_front(
     text: &mut [u8; SHORT],
@@ -97,8 +98,8 @@ fn put_whole(
     Some(put_threes(text, first, separator.bytes[0], behind, groups, nought))
 }
 
-// Puts the decimal separator and the fraction digits, where there are any, behind so many bytes; the answer is how many there are
-// then.
+// Puts the decimal separator and the fraction digits, where there are any, behind the first `len` bytes, and returns
+// how many bytes there are then.
 #[inline(always)]
 fn put_fraction(
     text: &mut [u8; SHORT],
@@ -127,8 +128,8 @@ fn put_fraction(
     put_front(text, from, &block, count, nought)
 }
 
-// Puts the text of a number to the front; the answer is how many bytes it has. `None`: it has more digits than are put at once, its
-// digits are not single bytes in a row, or a group separator has more than one.
+// Puts the text of a number to the front, and returns how many bytes it has. `None`: it has more digits than are put at
+// once, its digits are not single bytes in a row, or a group separator has more than one.
 #[inline(always)]
 pub(crate) fn put_short(
     text: &mut [u8; SHORT],

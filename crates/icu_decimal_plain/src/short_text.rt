@@ -67,7 +67,7 @@ impl ShortText {
         self.len = put_piece(&mut self.bytes, self.len, piece);
     }
 
-    // Adds the next digits, so many.
+    // Adds the next `count` digits.
     pub(crate) fn push_digits(
         &mut self,
         digits: &mut ShownDigits<'_>,

@@ -25,8 +25,8 @@ pub struct DecimalTables<'b> {
 }
 
 impl<'b> DecimalTables<'b> {
-    /// These symbols, these ten digits from zero up, and this strategy: of English with `Never`, -1234.5 is written as `-1234.5`.
-    /// It takes no memory.
+    /// These symbols, these ten digits from zero up, and this strategy: of English with `Never`, -1234.5 is written as
+    /// `-1234.5`. It does not allocate.
     pub fn new(
         symbols: &'b DecimalSymbols,
         digits: &'b [char; 10],
@@ -41,21 +41,22 @@ impl<'b> DecimalTables<'b> {
         }
     }
 
-    /// The symbols: in English `-`, `+`, `.`, `,` and the sizes 3, 3, 1. It takes no memory.
+    /// The symbols: in English `-`, `+`, `.`, `,` and the sizes 3, 3, 1. It does not allocate.
     pub fn symbols(&self) -> &'b DecimalSymbols
         ensures { result.now ≡ (borrowed_tables self.now).symbols }
     {
         self.symbols.symbols
     }
 
-    /// The ten digits, from zero up: of `thai` `๐` to `๙`. It takes no memory.
+    /// The ten digits, from zero up: of `thai` `๐` to `๙`. It does not allocate.
     pub fn digits(&self) -> &'b [char; 10]
         ensures { result.now ≡ (borrowed_tables self.now).digits }
     {
         self.digits.chars
     }
 
-    /// The number without a sign as it is written with these tables: 1234.5 as `1,234.5` in English. It takes no memory.
+    /// The number without a sign as it is written with these tables: 1234.5 as `1,234.5` in English. It does not
+    /// allocate.
     ///
     /// Source: UTS 35, part 3 (numbers), number symbols and patterns.
     pub fn format_unsigned<'l>(&'l self, value: &'l UnsignedDecimal) -> FormattedUnsignedDecimal<'l>
@@ -64,7 +65,7 @@ impl<'b> DecimalTables<'b> {
         FormattedUnsignedDecimal::new(value, self)
     }
 
-    /// The decimal as it is written with these tables: -1234.5 as `-1,234.5` in English. It takes no memory.
+    /// The decimal as it is written with these tables: -1234.5 as `-1,234.5` in English. It does not allocate.
     ///
     /// Source: UTS 35, part 3 (numbers), number symbols and patterns.
     pub fn format<'l>(&'l self, value: &'l Decimal) -> FormattedDecimal<'l>

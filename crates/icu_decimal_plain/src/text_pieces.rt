@@ -75,7 +75,7 @@ pub(crate) fn pieces_of(table: &[char; 10]) -> [Piece; 10]
     pieces
 }
 
-// Puts a piece behind so many bytes; the answer is how many there are then.
+// Puts a piece behind the first `len` bytes, and returns how many bytes there are then.
 pub(crate) fn put_piece<const N: usize>(waiting: &mut [u8; N], len: usize, piece: Piece) -> usize
     requires room { len + 4 ≤ N }
     requires long { length piece.bytes ≡ 4 }
@@ -91,7 +91,7 @@ pub(crate) fn put_piece<const N: usize>(waiting: &mut [u8; N], len: usize, piece
     len + piece.len as usize
 }
 
-// Puts digits as pieces behind so many bytes; the answer is how many there are then.
+// Puts digits as pieces behind the first `len` bytes, and returns how many bytes there are then.
 fn put_digit_pieces<const N: usize>(
     waiting: &mut [u8; N],
     len: usize,
@@ -112,7 +112,7 @@ fn put_digit_pieces<const N: usize>(
     len
 }
 
-// Puts digits behind so many bytes; the answer is how many there are then.
+// Puts digits behind the first `len` bytes, and returns how many bytes there are then.
 pub(crate) fn put_digits<const N: usize>(
     waiting: &mut [u8; N],
     len: usize,
@@ -130,7 +130,8 @@ pub(crate) fn put_digits<const N: usize>(
     put_digit_pieces(waiting, len, digits, table)
 }
 
-// Puts groups of any sizes, each with the separator before it, behind so many bytes; the answer is how many there are then.
+// Puts groups of any sizes, each with the separator before it, behind the first `len` bytes, and returns how many bytes
+// there are then.
 fn put_any_groups<const N: usize>(
     waiting: &mut [u8; N],
     len: usize,
@@ -158,7 +159,8 @@ fn put_any_groups<const N: usize>(
     len
 }
 
-// Puts groups, each with the separator before it, behind so many bytes; the answer is how many there are then.
+// Puts groups, each with the separator before it, behind the first `len` bytes, and returns how many bytes there are
+// then.
 pub(crate) fn put_groups<const N: usize>(
     waiting: &mut [u8; N],
     len: usize,

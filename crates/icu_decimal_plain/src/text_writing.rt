@@ -1,4 +1,4 @@
-//! Writing the text of a number alone: many digits by one call of the sink.
+//! Writing the text of a number without its parts: many digits by one call of the sink.
 
 ghost use Rattle.std.specs.Prelude.{◌≡◌, ℕ, ◌+◌, ◌-◌, ◌<◌, ◌≤◌, ◌++◌, drop, false, is_err, length, map, sum, IsUtf8, OnOk, OnErr, take};
 ghost use Rattle.std.specs.Int.Digits.{AllBelowBase};
@@ -62,8 +62,8 @@ fn write_few<S: Sink>(
     Ok(())
 }
 
-// Writes groups, each with the separator before it: by one call of the sink where they are the last and have a chunk of digits at
-// most, and else one by one.
+// Writes groups, each with the separator before it: by one call of the sink where they are the last and have a chunk of
+// digits at most, and else one by one.
 fn write_later<S: Sink>(
     separator: &str,
     digits: &mut ShownDigits<'_>,
@@ -177,8 +177,8 @@ fn write_fraction_text<S: Sink>(
     write_fraction_digits(&tables.digits, number, sink)
 }
 
-// Writes the text of a number without a sign that is not put together short: at once up to forty-seven digits, and else the integer
-// digits before the fraction.
+// Writes the text of a number without a sign that is not put together short: at once up to forty-seven digits, and else
+// the integer digits before the fraction.
 #[inline(never)]
 fn write_long_text<S: Sink>(
     tables: &DecimalTables<'_>,

@@ -56,7 +56,7 @@ fn write_piece<S: Sink>(
     sink.write_str(text.as_str())
 }
 
-// Writes the next digits, so many.
+// Writes the next `count` digits.
 pub(crate) fn write_digits<S: Sink>(
     digits: &mut ShownDigits<'_>,
     count: usize,
