@@ -1,4 +1,4 @@
--- A case change maps each character of a text at its place; title case raises the first and lowers the rest.
+-- A case change maps each character of a text; title case puts the first in upper case and the rest in lower case.
 -- Defined in docs/small-text.md, "Case".
 -- Cited by the case changes of `TinyAsciiStr`, `Aligned4` and `Aligned8`, and by the class questions on case.
 use Rattle.std.specs.Prelude.{ℕ, List, [], ◌∷◌, map}

@@ -1,4 +1,4 @@
--- The numbers of the faults.
+-- The number of each error.
 -- Defined in docs/small-text.md, "Faults, in their order".
 -- Cited by `ParseError::number` and `UleError::number`.
 use Rattle.std.specs.Prelude.{ℕ}

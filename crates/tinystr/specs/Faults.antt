@@ -38,13 +38,13 @@ pub record EndsInNul (units : List ℕ) : Type 0 where
   pub nuls : ℕ
   pub clean : IsClean (suc nuls) units
 
--- no place is wrong; NULs stand at the end where `ends_in_nul` says so
+-- no place is wrong; NULs are at the end where `ends_in_nul` says so
 pub record IsFaultless (ends_in_nul : Bool) (units : List ℕ) : Type 0 where
   pub nuls : ℕ
   pub clean : IsClean nuls units
   pub seen : ends_in_nul ≡ nat_lt 0 nuls
 
--- the fault of these units at a capacity; `strict` where a NUL at the end is one
+-- the fault of these units at a capacity; the truth value says whether a NUL at the end is one
 abbrev pub IsFault : Bool → ℕ → List ℕ → ParseError → Type 0
 IsFault strict capacity units (TooLong max len) = (capacity < length units) × (max ≡ capacity) × (len ≡ length units)
 IsFault strict capacity units ContainsNull =

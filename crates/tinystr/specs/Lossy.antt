@@ -1,4 +1,4 @@
--- Lossy reading: of the first units, each that may not stand in a text is replaced.
+-- Lossy reading: of the first units, each that may not be in a text is replaced.
 -- Defined in docs/small-text.md, "Lossy reading".
 -- Cited by `from_utf8_lossy` and `from_utf16_lossy`.
 use Rattle.std.specs.Prelude.{ℕ, cond}

@@ -16,7 +16,7 @@ LAST_ASCII = 127
 abbrev pub is_nul : ℕ → Bool
 is_nul b = b == NUL
 
--- a byte that may stand in a text: ASCII, and not NUL
+-- a byte that may be in a text: ASCII, and not NUL
 abbrev pub is_text_byte : ℕ → Bool
 is_text_byte b = is_in_range 1 LAST_ASCII b
 
@@ -29,7 +29,7 @@ pub record IsSmall (capacity : ℕ) (text : List ℕ) : Type 0 where
 unfoldable pub padded : ℕ → List ℕ → List ℕ
 padded capacity text = text ++ replicate (capacity - length text) NUL
 
--- the text of a form: what stands before the first NUL
+-- the text of a form: the bytes before the first NUL
 abbrev pub text_of : List ℕ → List ℕ
 text_of bytes = before_first is_nul bytes
 

@@ -45,7 +45,8 @@ impl<const N: usize> TinyAsciiStr<N> {
 
     /// The text of these bytes: `[97, 0, 0, 0]` is `a`.
     ///
-    /// The condition is that they are a text and then NULs. Bytes that may be another list go to `try_from_raw`.
+    /// The condition is that they are a text and then NULs. Bytes that may be another list go to `try_from_raw`. It
+    /// does not allocate.
     pub fn from_utf8_unchecked(code_units: [u8; N]) -> Self
         requires { IsForm N code_units }
         ensures { result ≡ text_of code_units.entry }
@@ -56,6 +57,7 @@ impl<const N: usize> TinyAsciiStr<N> {
     /// The text of these bytes: `[97, 98]` is `ab`.
     ///
     /// The condition is that they are a text that fits. Bytes that may be no text, or too many, go to `try_from_utf8`.
+    /// It does not allocate.
     pub fn of_text(text: &[u8]) -> Self
         requires { IsSmall N text.now }
         ensures { result ≡ text.now }
@@ -65,14 +67,14 @@ impl<const N: usize> TinyAsciiStr<N> {
         }
     }
 
-    /// The text as a `&str`: `as_str` of `tEsT` is `"tEsT"`.
+    /// The text as a `&str`: `as_str` of `tEsT` is `"tEsT"`. It does not allocate.
     pub fn as_str(&self) -> &str
         ensures { result.now ≡ self.now }
     {
         unsafe { str::from_utf8_unchecked(self.as_utf8()) }
     }
 
-    /// The text's bytes, without the NULs that fill the value: `[97, 98]` of `ab`.
+    /// The text's bytes, without the NULs that fill the value: `[97, 98]` of `ab`. It does not allocate.
     pub fn as_utf8(&self) -> &[u8]
         ensures value { result.now ≡ self.now }
         ensures small { IsSmall N result.now }
@@ -80,7 +82,7 @@ impl<const N: usize> TinyAsciiStr<N> {
         &self.bytes[..self.len()]
     }
 
-    /// The N bytes of the value: the text, then NULs. Of `ab` at 4 they are `[97, 98, 0, 0]`.
+    /// The N bytes of the value: the text, then NULs. Of `ab` at 4 they are `[97, 98, 0, 0]`. It does not allocate.
     pub fn all_bytes(&self) -> &[u8; N]
         ensures value { result.now ≡ padded N self.now }
         ensures small { IsSmall N self.now }
@@ -90,7 +92,7 @@ impl<const N: usize> TinyAsciiStr<N> {
         &self.bytes
     }
 
-    /// How many characters the text has, 0 to N: 2 of `ab`.
+    /// How many characters the text has, 0 to N: 2 of `ab`. It does not allocate.
     pub fn len(&self) -> usize
         ensures value { result ≡ length self.now }
         ensures bound { result ≤ N }
@@ -98,7 +100,7 @@ impl<const N: usize> TinyAsciiStr<N> {
         text_len(&self.bytes)
     }
 
-    /// Whether the text has no character: not of `ab`.
+    /// Whether the text has no character: false of `ab`. It does not allocate.
     pub fn is_empty(&self) -> bool
         ensures { result ≡ (length self.now == 0) }
     {

@@ -68,7 +68,7 @@ pub(crate) fn make_title(bytes: &mut [u8])
     tinystr_words::make_title(bytes);
 }
 
-/// The unit as a byte, or the replacement where it may not stand in a text.
+/// The unit as a byte, or the replacement where it may not be in a text.
 pub(crate) fn lossy_byte(unit: u16, replacement: u8) -> u8
     ensures { result ≡ kept_or_replacement replacement unit }
 {
@@ -79,7 +79,7 @@ pub(crate) fn lossy_byte(unit: u16, replacement: u8) -> u8
     }
 }
 
-/// Writes bytes over the first ones, each that may not stand in a text replaced.
+/// Writes bytes over the first ones, each that may not be in a text replaced.
 pub(crate) fn put_lossy(bytes: &mut [u8], units: &[u8], replacement: u8)
     requires { length units.now ≤ length bytes.old }
     ensures { bytes.new ≡ map (kept_or_replacement replacement) units.now ++ drop (length units.now) bytes.old }

@@ -8,7 +8,7 @@ use crate::bytes::make_title;
 use tinystr_words::{ToLowercase, ToUppercase, change};
 
 impl<const N: usize> TinyAsciiStr<N> {
-    /// The text with every letter in lower case: `tEsT` gives `test`.
+    /// The text with every letter in lower case: `tEsT` gives `test`. It does not allocate.
     pub fn to_ascii_lowercase(self) -> Self
         ensures { result ≡ lowercase self.entry }
     {
@@ -17,7 +17,7 @@ impl<const N: usize> TinyAsciiStr<N> {
         Self::from_utf8_unchecked(bytes)
     }
 
-    /// The text with every letter in upper case: `tEsT` gives `TEST`.
+    /// The text with every letter in upper case: `tEsT` gives `TEST`. It does not allocate.
     pub fn to_ascii_uppercase(self) -> Self
         ensures { result ≡ uppercase self.entry }
     {
@@ -28,7 +28,7 @@ impl<const N: usize> TinyAsciiStr<N> {
 
     /// The text with its first character in upper case and the rest in lower case: `tEsT` gives `Test`.
     ///
-    /// Only the first character is put in upper case, a letter or not: `1ab` stays.
+    /// Only the first character is put in upper case, a letter or not: `1ab` stays. It does not allocate.
     pub fn to_ascii_titlecase(self) -> Self
         ensures { result ≡ titlecase self.entry }
     {

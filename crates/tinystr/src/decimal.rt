@@ -8,8 +8,8 @@ use crate::TinyAsciiStr;
 impl<const N: usize> TinyAsciiStr<N> {
     /// The shortest decimal text of a number, or its first N characters where it is longer.
     ///
-    /// 12345 at 8 is `Ok` of `12345`, at 4 it is `Err` of `1234`; 0 at 0 is `Err` of the empty text.
-    /// From N = 10 on it is always `Ok`.
+    /// 12345 at 8 is `Ok` of `12345`, at 4 it is `Err` of `1234`; 0 at 0 is `Err` of the empty text. From N = 10 on it
+    /// is always `Ok`. It does not allocate.
     pub fn new_unsigned_decimal(number: u32) -> Result<Self, Self>
         ensures { (text : List ℕ) × IsDecimalText number text
             × MatchResult result (λ all. (length text ≤ N) × (all ≡ text)) (λ front. (N < length text) × (front ≡ take N text)) }

@@ -16,7 +16,7 @@ pub enum ParseError {
         /// How many units there are.
         len: usize,
     },
-    /// A NUL stands before another unit, as in `[0, 97]`, or, for readers other than `try_from_raw`, at the end.
+    /// A NUL is before another unit, as in `[0, 97]`, or, for readers other than `try_from_raw`, at the end.
     #[error("a NUL stands in the text")]
     ContainsNull,
     /// A unit is above 127, and nothing before it is wrong: `[97, 200]` at 4.
@@ -25,7 +25,7 @@ pub enum ParseError {
 }
 
 impl ParseError {
-    /// The fault's number: 1 `TooLong`, 2 `ContainsNull`, 3 `NonAscii`.
+    /// The number of the error: 1 of `TooLong`, 2 of `ContainsNull`, 3 of `NonAscii`. It does not allocate.
     pub fn number(&self) -> u8
         ensures { result ≡ parse_error_number self.now }
     {
@@ -49,7 +49,7 @@ pub enum UleError {
 }
 
 impl UleError {
-    /// The fault's number: 1 `Length`, 2 `Parse`.
+    /// The number of the error: 1 of `Length`, 2 of `Parse`. It does not allocate.
     pub fn number(&self) -> u8
         ensures { result ≡ ule_error_number self.now }
     {

@@ -1,4 +1,4 @@
-//! The one look at units that names their fault, for bytes and for UTF-16.
+//! The test of units that names their fault, for bytes and for UTF-16.
 
 ghost use Rattle.std.specs.Prelude.{◌≤◌, ◌↔◌, IsTrue, true, false, length, MatchResult};
 ghost use Rattle.tinystr.specs.SmallText.{IsSmall, IsForm};
@@ -6,7 +6,7 @@ ghost use Rattle.tinystr.specs.Faults.{IsFault, IsFaultless};
 
 use crate::ParseError;
 
-/// Whether NULs stand at the end of units with no other fault.
+/// Whether NULs are at the end of units with no other fault.
 pub(crate) fn check_bytes(units: &[u8], max: usize) -> Result<bool, ParseError>
     ensures { MatchResult result (λ nul. (length units.now ≤ max) × IsFaultless nul units.now) (λ e. IsFault false max units.now e) }
 {

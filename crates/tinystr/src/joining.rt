@@ -6,7 +6,7 @@ use crate::TinyAsciiStr;
 use tinystr_words::put_at;
 
 impl<const N: usize> TinyAsciiStr<N> {
-    /// The first M characters of the text: `tEsT` at 2 is `tE`, and at 8 it is `tEsT`.
+    /// The first M characters of the text: `tEsT` at 2 is `tE`, and at 8 it is `tEsT`. It does not allocate.
     pub fn resize<const M: usize>(self) -> TinyAsciiStr<M>
         ensures { result ≡ take M self.entry }
     {
@@ -14,7 +14,7 @@ impl<const N: usize> TinyAsciiStr<N> {
         TinyAsciiStr::<M>::of_text(&text[..text.len().min(M)])
     }
 
-    /// The first Q characters of both texts joined: `ab` and `cdef` at 5 give `abcde`.
+    /// The first Q characters of both texts joined: `ab` and `cdef` at 5 give `abcde`. It does not allocate.
     pub fn concat<const M: usize, const Q: usize>(self, other: TinyAsciiStr<M>) -> TinyAsciiStr<Q>
         ensures { result ≡ take Q (self.entry ++ other.entry) }
     {

@@ -22,7 +22,7 @@ impl<const N: usize> TinyAsciiStr<N> {
 
     /// The text in a JSON value: `"ab"` gives `ab`.
     ///
-    /// A value that is no text is `Length(0)`; a text that `try_from_str` refuses is `Parse`.
+    /// A value that is no text is `Length(0)`; a text that `try_from_str` refuses is `Parse`. It does not allocate.
     pub fn from_json(value: &Value) -> Result<Self, UleError>
         ensures value { (text : List ℕ) → as_str (view value.now) ≡ Some text → IsSmall N text → result ≡ Ok text }
         ensures no_text { as_str (view value.now) ≡ None → result ≡ Err (UleError.Length 0) }
@@ -41,7 +41,7 @@ impl<const N: usize> TinyAsciiStr<N> {
 impl<const N: usize> UnvalidatedTinyAsciiStr<N> {
     /// The bytes of the text in a JSON value, filled up with NULs: `"ab"` at 4 gives `[97, 98, 0, 0]`.
     ///
-    /// A value that is no text is `Length(0)`; a text of more than N bytes is `Parse`.
+    /// A value that is no text is `Length(0)`; a text of more than N bytes is `Parse`. It does not allocate.
     pub fn from_json(value: &Value) -> Result<Self, UleError>
         ensures value { (text : List ℕ) → as_str (view value.now) ≡ Some text → length text ≤ N → result ≡ Ok (padded N text) }
         ensures no_text { as_str (view value.now) ≡ None → result ≡ Err (UleError.Length 0) }

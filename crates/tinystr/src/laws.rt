@@ -18,13 +18,15 @@ pub fn niche_is_no_form()
     ensures { NicheIsNoForm }
 {}
 
-/// Units that are refused have one fault, and no text has one: `[0, 97]` at 2 is only `ContainsNull`, and `[97]` has none.
+/// Units that are refused have one fault, and no text has one: `[0, 97]` at 2 is only `ContainsNull`, and `[97]` has
+/// none.
 pub fn one_fault()
     ensures one { OneFault }
     ensures texts { TextsHaveNoFault }
 {}
 
-/// A case change twice is the change once; lower case after upper case is lower case: `tEsT` gives `TEST`, and both give `test`.
+/// A case change twice is the change once; lower case after upper case is lower case: `tEsT` gives `TEST`, and both
+/// give `test`.
 pub fn case_settles()
     ensures { (text : List ℕ) → CaseSettles text }
 {}
@@ -39,8 +41,8 @@ pub fn joins_alike()
     ensures { JoinsAlike }
 {}
 
-/// A number has one shortest decimal text, and that of a `u32` has at most ten digits: of 7 it is `7`, and of the greatest `u32`
-/// `4294967295`.
+/// A number has one shortest decimal text, and that of a `u32` has at most ten digits: of 7 it is `7`, and of the
+/// greatest `u32` `4294967295`.
 pub fn one_decimal()
     ensures one { OneDecimal }
     ensures ten { TenDigits }

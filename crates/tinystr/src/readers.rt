@@ -12,7 +12,8 @@ use std::str::FromStr;
 impl<const N: usize> TinyAsciiStr<N> {
     /// The text `s`: `tEsT` at 4.
     ///
-    /// `hello` at 4 is `TooLong { max: 4, len: 5 }`, `a` with a NUL `ContainsNull`, `ä` `NonAscii`.
+    /// `hello` at 4 is `TooLong { max: 4, len: 5 }`, `a` with a NUL `ContainsNull`, `ä` `NonAscii`. It does not
+    /// allocate.
     pub fn try_from_str(s: &str) -> Result<Self, ParseError>
         ensures succeeds { IsOk result ↔ IsSmall N s.now }
         ensures value { IfOk result (λ text. text ≡ s.now) }
@@ -23,8 +24,8 @@ impl<const N: usize> TinyAsciiStr<N> {
 
     /// The text of these bytes: `[97, 98]` is `ab`.
     ///
-    /// More than N bytes are `TooLong`. Then the least place that is wrong decides: a byte above 127 is
-    /// `NonAscii`, another byte behind a NUL `ContainsNull`. At last a NUL at the end is `ContainsNull`.
+    /// More than N bytes are `TooLong`. Then the least place that is wrong decides: a byte above 127 is `NonAscii`,
+    /// another byte behind a NUL `ContainsNull`. Last, a NUL at the end is `ContainsNull`. It does not allocate.
     pub fn try_from_utf8(code_units: &[u8]) -> Result<Self, ParseError>
         ensures succeeds { IsOk result ↔ IsSmall N code_units.now }
         ensures value { IfOk result (λ text. text ≡ code_units.now) }
@@ -36,7 +37,8 @@ impl<const N: usize> TinyAsciiStr<N> {
         }
     }
 
-    /// The text of these UTF-16 units, with the faults of `try_from_utf8`: `[0x61, 0x62]` is `ab`.
+    /// The text of these UTF-16 units: `[0x61, 0x62]` is `ab`. The errors are those of `try_from_utf8`, of units in
+    /// place of bytes. It does not allocate.
     pub fn try_from_utf16(code_units: &[u16]) -> Result<Self, ParseError>
         ensures succeeds { IsOk result ↔ IsSmall N code_units.now }
         ensures value { IfOk result (λ text. text ≡ code_units.now) }
@@ -54,7 +56,8 @@ impl<const N: usize> TinyAsciiStr<N> {
 
     /// The text before the NULs that end these N bytes: `a` and three NULs are `a`.
     ///
-    /// The faults are those of `try_from_utf8`, but that NULs may stand at the end; `TooLong` can't come.
+    /// The errors are those of `try_from_utf8`, but NULs at the end are allowed; `TooLong` is never returned. It does
+    /// not allocate.
     pub fn try_from_raw(raw: [u8; N]) -> Result<Self, ParseError>
         ensures succeeds { IsOk result ↔ IsForm N raw.entry }
         ensures value { IfOk result (λ text. text ≡ text_of raw.entry) }
@@ -67,7 +70,7 @@ impl<const N: usize> TinyAsciiStr<N> {
     }
 }
 
-/// As `try_from_str`.
+/// The text `s`, as `try_from_str`: `tEsT` at 4.
 impl<const N: usize> FromStr for TinyAsciiStr<N> {
     type Err = ParseError;
 

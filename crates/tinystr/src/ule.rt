@@ -12,7 +12,7 @@ impl<const N: usize> TinyAsciiStr<N> {
     /// N bytes 255, which are the form of no text where N is above 0: `[255, 255]` at 2.
     pub const NICHE_BIT_PATTERN: [u8; N] = [255; N];
 
-    /// The value's N bytes: the text, then NULs. `ab` at 4 gives `[97, 98, 0, 0]`.
+    /// The value's N bytes: the text, then NULs. `ab` at 4 gives `[97, 98, 0, 0]`. It does not allocate.
     pub fn to_bytes(self) -> [u8; N]
         ensures { result ≡ padded N self.entry }
     {
@@ -21,7 +21,7 @@ impl<const N: usize> TinyAsciiStr<N> {
 
     /// The value of its N bytes: `[97, 98, 0, 0]` at 4 is `ab`.
     ///
-    /// Another count of bytes is `Length` of that count; N bytes that are no form are `Parse`.
+    /// Another count of bytes is `Length` of that count; N bytes that are no form are `Parse`. It does not allocate.
     pub fn from_bytes(bytes: &[u8]) -> Result<Self, UleError>
         ensures succeeds { IsOk result ↔ IsForm N bytes.now }
         ensures value { IfOk result (λ text. text ≡ text_of bytes.now) }
@@ -38,8 +38,8 @@ impl<const N: usize> TinyAsciiStr<N> {
 
     /// Whether the bytes are forms one after another: `a`, NUL, `b`, NUL at 2 are those of `a` and `b`.
     ///
-    /// The condition is that N is above 0. A count that N does not divide is `Length` of that count; else `Parse` where one of
-    /// them is no form.
+    /// The condition is that N is above 0. A count that N does not divide is `Length` of that count; else `Parse` where
+    /// one of them is no form. It does not allocate.
     pub fn validate_bytes(bytes: &[u8]) -> Result<(), UleError>
         requires { 0 < N }
         ensures succeeds { IsOk result ↔ AreForms N bytes.now }

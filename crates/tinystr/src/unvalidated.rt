@@ -29,7 +29,7 @@ impl<const N: usize> Model for UnvalidatedTinyAsciiStr<N> {
 impl<const N: usize> UnvalidatedTinyAsciiStr<N> {
     /// These bytes, filled up with NULs: `[200]` at 2 is `[200, 0]`.
     ///
-    /// More than N bytes are `TooLong`; nothing else is refused.
+    /// More than N bytes are `TooLong`; nothing else is refused. It does not allocate.
     pub fn try_from_utf8(bytes: &[u8]) -> Result<Self, ParseError>
         ensures succeeds { IsOk result ↔ (length bytes.now ≤ N) }
         ensures value { IfOk result (λ all. all ≡ padded N bytes.now) }
@@ -46,16 +46,16 @@ impl<const N: usize> UnvalidatedTinyAsciiStr<N> {
         Ok(UnvalidatedTinyAsciiStr { bytes: all })
     }
 
-    /// These N bytes, whatever they are: `[0, 200]` at 2.
+    /// These N bytes, whatever they are: `[0, 200]` at 2. It does not allocate.
     pub fn from_utf8_unchecked(bytes: [u8; N]) -> Self
         ensures { result ≡ bytes.entry }
     {
         UnvalidatedTinyAsciiStr { bytes }
     }
 
-    /// The text of these bytes, or the fault that `TinyAsciiStr::try_from_raw` names.
+    /// The text of these bytes, or the error of `TinyAsciiStr::try_from_raw`.
     ///
-    /// `[97, 0]` is `a`; `[0, 200]` is `NonAscii`, and `[0, 97]` `ContainsNull`.
+    /// `[97, 0]` is `a`; `[0, 200]` is `NonAscii`, and `[0, 97]` `ContainsNull`. It does not allocate.
     pub fn try_into_tinystr(self) -> Result<TinyAsciiStr<N>, ParseError>
         ensures succeeds { IsOk result ↔ IsForm N self.entry }
         ensures value { IfOk result (λ text. text ≡ text_of self.entry) }
@@ -64,7 +64,7 @@ impl<const N: usize> UnvalidatedTinyAsciiStr<N> {
         TinyAsciiStr::<N>::try_from_raw(self.bytes)
     }
 
-    /// The N bytes: `[200, 0]` of the value that `[200]` gives at 2.
+    /// The N bytes: `[200, 0]` of the value that `[200]` gives at 2. It does not allocate.
     pub fn to_bytes(self) -> [u8; N]
         ensures { result ≡ self.entry }
     {
@@ -73,7 +73,7 @@ impl<const N: usize> UnvalidatedTinyAsciiStr<N> {
 
     /// The value of N bytes, whatever they are: `[0, 200]` at 2. `[97]` at 2 is `Length(1)`.
     ///
-    /// Only a count of bytes other than N is refused, as `Length` of that count.
+    /// Only a count of bytes other than N is refused, as `Length` of that count. It does not allocate.
     pub fn from_bytes(bytes: &[u8]) -> Result<Self, UleError>
         ensures succeeds { IsOk result ↔ (length bytes.now ≡ N) }
         ensures value { IfOk result (λ all. all ≡ bytes.now) }
@@ -89,7 +89,8 @@ impl<const N: usize> UnvalidatedTinyAsciiStr<N> {
 
     /// Whether the bytes are values one after another: four bytes at 2 are, three are `Length(3)`.
     ///
-    /// The condition is that N is above 0. Only a count of bytes that N does not divide is refused, as `Length` of that count.
+    /// The condition is that N is above 0. Only a count of bytes that N does not divide is refused, as `Length` of that
+    /// count. It does not allocate.
     pub fn validate_bytes(bytes: &[u8]) -> Result<(), UleError>
         requires { 0 < N }
         ensures succeeds { IsOk result ↔ (length bytes.now % N ≡ 0) }
@@ -121,7 +122,8 @@ impl<const N: usize> From<TinyAsciiStr<N>> for UnvalidatedTinyAsciiStr<N> {
 }
 
 impl<const N: usize> TinyAsciiStr<N> {
-    /// The value's N bytes, as bytes that were not looked at: `[97, 98, 0, 0]` of `ab` at 4.
+    /// The value's N bytes, as bytes that may be the form of a text, or not: `[97, 98, 0, 0]` of `ab` at 4. It does not
+    /// allocate.
     pub fn to_unvalidated(self) -> UnvalidatedTinyAsciiStr<N>
         ensures { result ≡ padded N self.entry }
     {

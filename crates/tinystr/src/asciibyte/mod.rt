@@ -26,7 +26,7 @@ impl Model for AsciiByte {
 }
 
 impl AsciiByte {
-    /// The byte: of `B65` it is 65.
+    /// The byte: of `B65` it is 65. It does not allocate.
     pub fn value(&self) -> u8
         ensures value { result ≡ self.now }
         ensures ascii { result < 128 }
@@ -35,7 +35,7 @@ impl AsciiByte {
     }
 }
 
-/// The bytes as ASCII bytes: `b"ab"` gives `[B97, B98]`. The condition is that each is below 128.
+/// The bytes as ASCII bytes: `b"ab"` gives `[B97, B98]`. The condition is that each is below 128. It does not allocate.
 pub fn to_ascii_byte_array<const N: usize>(bytes: &[u8; N]) -> [AsciiByte; N]
     requires { All (λ b. b < 128) bytes.now }
     ensures { result ≡ bytes.now }

@@ -71,35 +71,35 @@ impl<const M: usize> Aligned<M> {
         is_none::<C>(self.word)
     }
 
-    /// How many characters the text has, 0 to M: 2 of `ab`.
+    /// How many characters the text has, 0 to M: 2 of `ab`. It does not allocate.
     pub fn len(&self) -> usize
         ensures { result ≡ length self.now }
     {
         word_len(self.word)
     }
 
-    /// Whether every character is a letter, as of `aB` and the empty text.
+    /// Whether every character is a letter, as of `aB` and the empty text. It does not allocate.
     pub fn is_ascii_alphabetic(&self) -> bool
         ensures { result ≡ list_all is_ascii_alphabetic self.now }
     {
         self.all::<Letters>()
     }
 
-    /// Whether every character is a letter or a digit, as of `a1` and the empty text.
+    /// Whether every character is a letter or a digit, as of `a1` and the empty text. It does not allocate.
     pub fn is_ascii_alphanumeric(&self) -> bool
         ensures { result ≡ list_all is_ascii_alphanumeric self.now }
     {
         self.all::<LettersAndDigits>()
     }
 
-    /// Whether every character is a digit, as of `12` and the empty text.
+    /// Whether every character is a digit, as of `12` and the empty text. It does not allocate.
     pub fn is_ascii_numeric(&self) -> bool
         ensures { result ≡ list_all is_ascii_digit self.now }
     {
         self.all::<Digits>()
     }
 
-    /// Whether lower case leaves the text as it is: of `a1-`, not of `aB`.
+    /// Whether lower case leaves the text as it is: of `a1-`, not of `aB`. It does not allocate.
     pub fn is_ascii_lowercase(&self) -> bool
         ensures value { result ≡ list_all is_not_uppercase self.now }
         ensures fixed { IsTrue result ↔ (lowercase self.now ≡ self.now) }
@@ -107,7 +107,7 @@ impl<const M: usize> Aligned<M> {
         self.none::<Uppercase>()
     }
 
-    /// Whether upper case leaves the text as it is: of `A1-`, not of `aB`.
+    /// Whether upper case leaves the text as it is: of `A1-`, not of `aB`. It does not allocate.
     pub fn is_ascii_uppercase(&self) -> bool
         ensures value { result ≡ list_all is_not_lowercase self.now }
         ensures fixed { IsTrue result ↔ (uppercase self.now ≡ self.now) }
@@ -115,7 +115,7 @@ impl<const M: usize> Aligned<M> {
         self.none::<Lowercase>()
     }
 
-    /// Whether title case leaves the text as it is: of `Ab` and `1b`, not of `ab`.
+    /// Whether title case leaves the text as it is: of `Ab` and `1b`, not of `ab`. It does not allocate.
     pub fn is_ascii_titlecase(&self) -> bool
         ensures value { result ≡ is_in_class is_not_lowercase is_not_uppercase self.now }
         ensures fixed { IsTrue result ↔ (titlecase self.now ≡ self.now) }
@@ -123,7 +123,8 @@ impl<const M: usize> Aligned<M> {
         self.text().is_ascii_titlecase()
     }
 
-    /// Whether every character is a letter, and lower case leaves the text as it is: of `ab`, not of `a1`.
+    /// Whether every character is a letter, and lower case leaves the text as it is: of `ab`, not of `a1`. It does not
+    /// allocate.
     pub fn is_ascii_alphabetic_lowercase(&self) -> bool
         ensures value { result ≡ list_all is_ascii_lowercase self.now }
         ensures both { result ≡ (list_all is_ascii_alphabetic self.now && list_all is_not_uppercase self.now) }
@@ -131,7 +132,8 @@ impl<const M: usize> Aligned<M> {
         self.all::<Lowercase>()
     }
 
-    /// Whether every character is a letter, and upper case leaves the text as it is: of `AB`, not of `A1`.
+    /// Whether every character is a letter, and upper case leaves the text as it is: of `AB`, not of `A1`. It does not
+    /// allocate.
     pub fn is_ascii_alphabetic_uppercase(&self) -> bool
         ensures value { result ≡ list_all is_ascii_uppercase self.now }
         ensures both { result ≡ (list_all is_ascii_alphabetic self.now && list_all is_not_lowercase self.now) }
@@ -139,7 +141,8 @@ impl<const M: usize> Aligned<M> {
         self.all::<Uppercase>()
     }
 
-    /// Whether every character is a letter, and title case leaves the text as it is: of `Ab`, not of `1b`.
+    /// Whether every character is a letter, and title case leaves the text as it is: of `Ab`, not of `1b`. It does not
+    /// allocate.
     pub fn is_ascii_alphabetic_titlecase(&self) -> bool
         ensures value { result ≡ is_in_class is_ascii_uppercase is_ascii_lowercase self.now }
         ensures both { result ≡ (list_all is_ascii_alphabetic self.now && is_in_class is_not_lowercase is_not_uppercase self.now) }
@@ -147,21 +150,21 @@ impl<const M: usize> Aligned<M> {
         self.text().is_ascii_alphabetic_titlecase()
     }
 
-    /// The M bytes of the text in lower case: `tEsT` gives those of `test`.
+    /// The M bytes of the text in lower case: `tEsT` gives those of `test`. It does not allocate.
     pub fn to_ascii_lowercase(&self) -> [AsciiByte; M]
         ensures { result ≡ padded M (lowercase self.now) }
     {
         ascii_bytes(self.text().to_ascii_lowercase())
     }
 
-    /// The M bytes of the text in upper case: `tEsT` gives those of `TEST`.
+    /// The M bytes of the text in upper case: `tEsT` gives those of `TEST`. It does not allocate.
     pub fn to_ascii_uppercase(&self) -> [AsciiByte; M]
         ensures { result ≡ padded M (uppercase self.now) }
     {
         ascii_bytes(self.text().to_ascii_uppercase())
     }
 
-    /// The M bytes of the text in title case: `tEsT` gives those of `Test`.
+    /// The M bytes of the text in title case: `tEsT` gives those of `Test`. It does not allocate.
     pub fn to_ascii_titlecase(&self) -> [AsciiByte; M]
         ensures { result ≡ padded M (titlecase self.now) }
     {

@@ -21,6 +21,7 @@ fn word_of<const N: usize>(src: &[AsciiByte; N]) -> u64
 
 impl Aligned4 {
     /// The text of these bytes: `[B97, B0]` is `a`. The condition is that they are a text and then NULs, and at most 4.
+    /// It does not allocate.
     pub fn from_ascii_bytes<const N: usize>(src: &[AsciiByte; N]) -> Self
         requires fits { N ≤ 4 }
         requires form { IsForm N src.now }
@@ -32,6 +33,7 @@ impl Aligned4 {
 
 impl Aligned8 {
     /// The text of these bytes: `[B97, B0]` is `a`. The condition is that they are a text and then NULs, and at most 8.
+    /// It does not allocate.
     pub fn from_ascii_bytes<const N: usize>(src: &[AsciiByte; N]) -> Self
         requires fits { N ≤ 8 }
         requires form { IsForm N src.now }
