@@ -40,7 +40,7 @@ are_nuls [] = true
 are_nuls (zero ∷ bs) = are_nuls bs
 are_nuls (suc b ∷ bs) = false
 
--- behind a NUL stand only NULs
+-- only NULs follow a NUL
 abbrev pub nuls_last : List ℕ → Bool
 nuls_last [] = true
 nuls_last (zero ∷ bs) = are_nuls bs

@@ -12,13 +12,14 @@ use crate::flags::twice_within;
 pub trait WordChange {
     ghost change: { ℕ → ℕ };
 
-    /// The word with each byte changed. The condition is that each byte is below 128.
+    /// The word with each byte changed: by `ToUppercase`, that of `ab` becomes that of `AB`. The condition is that each
+    /// byte is below 128.
     fn changed(word: u64) -> u64
         requires ascii { IsAscii (word_bytes word) }
         ensures { word_bytes result ≡ map change (word_bytes word) };
 
-    /// The same of a word of at most seven bytes, by sums of the doubled word. The condition is that each byte is below 128, and
-    /// that the highest byte is 0.
+    /// The same of a word of at most seven bytes, by sums of the doubled word. The condition is that each byte is below
+    /// 128, and that the highest byte is 0.
     fn changed_part(word: u64) -> u64
         requires part { word < 2 ^ 56 }
         requires ascii { IsAscii (word_bytes word) }

@@ -12,7 +12,8 @@ use crate::flags::{flags_from, flags_within};
 pub trait WordClass {
     ghost test: { ℕ → Bool };
 
-    /// The flags of the bytes in the class. The condition is that each byte is below 128.
+    /// The flags of the bytes in the class: by `Digits`, of the word of `1a` only that of the first byte. The condition
+    /// is that each byte is below 128.
     fn flags(word: u64) -> u64
         requires ascii { IsAscii (word_bytes word) }
         ensures { result ≡ flags test (word_bytes word) };
@@ -85,7 +86,8 @@ impl WordClass for LettersAndDigits {
     }
 }
 
-/// Whether every byte of the word is in the class, or NUL. The condition is that each byte is below 128.
+/// Whether every byte of the word is in the class, or NUL: of `Digits`, true of the word of `12` and false of that of
+/// `1a`. The condition is that each byte is below 128. It does not allocate.
 pub fn is_all<C: WordClass>(word: u64) -> bool
     requires ascii { IsAscii (word_bytes word) }
     ensures { result ≡ list_all (or_nul C.test) (word_bytes word) }
@@ -93,7 +95,8 @@ pub fn is_all<C: WordClass>(word: u64) -> bool
     C::flags(word) == flags_from(word, 1)
 }
 
-/// Whether no byte of the word is in the class. The condition is that each byte is below 128.
+/// Whether no byte of the word is in the class: of `Digits`, true of the word of `ab` and false of that of `1a`. The
+/// condition is that each byte is below 128. It does not allocate.
 pub fn is_none<C: WordClass>(word: u64) -> bool
     requires ascii { IsAscii (word_bytes word) }
     ensures { result ≡ list_all (λ b. not (C.test b)) (word_bytes word) }

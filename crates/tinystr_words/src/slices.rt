@@ -10,7 +10,8 @@ use crate::changes::WordChange;
 use crate::classes::{WordClass, is_all, is_none};
 use crate::words::{word_at, word_len};
 
-/// Writes a text over the bytes from an index on. The condition is that it fits there.
+/// Writes a text over the bytes from an index on: `ab` at 1 over `[0, 0, 0]` gives `[0, 97, 98]`. The condition is that
+/// it fits there. It does not allocate.
 pub fn put_at(bytes: &mut [u8], place: usize, text: &[u8])
     requires { place + length text.now ≤ length bytes.old }
     ensures { bytes.new ≡ take place bytes.old ++ (text.now ++ drop (place + length text.now) bytes.old) }
@@ -18,7 +19,8 @@ pub fn put_at(bytes: &mut [u8], place: usize, text: &[u8])
     bytes[place..place + text.len()].copy_from_slice(text);
 }
 
-/// Whether every byte is in the class, or NUL. The condition is that each is below 128.
+/// Whether every byte is in the class, or NUL: of `Digits`, true of `12` and false of `1a`. The condition is that each
+/// is below 128. It does not allocate.
 pub fn all<C: WordClass>(bytes: &[u8]) -> bool
     requires { IsAscii bytes.now }
     ensures { result ≡ list_all (or_nul C.test) bytes.now }
@@ -34,7 +36,8 @@ pub fn all<C: WordClass>(bytes: &[u8]) -> bool
     true
 }
 
-/// Whether no byte is in the class. The condition is that each is below 128.
+/// Whether no byte is in the class: of `Digits`, true of `ab` and false of `1a`. The condition is that each is below
+/// 128. It does not allocate.
 pub fn none<C: WordClass>(bytes: &[u8]) -> bool
     requires { IsAscii bytes.now }
     ensures { result ≡ list_all (λ b. not (C.test b)) bytes.now }
@@ -50,7 +53,8 @@ pub fn none<C: WordClass>(bytes: &[u8]) -> bool
     true
 }
 
-/// How many bytes stand before the NULs. The condition is that the NULs are the last, and that each byte is below 128.
+/// How many bytes are before the NULs: 2 of `[97, 98, 0]`. The condition is that the NULs are the last, and that each
+/// byte is below 128. It does not allocate.
 pub fn text_len(bytes: &[u8]) -> usize
     requires ascii { IsAscii bytes.now }
     requires last { nuls_last bytes.now ≡ true }
@@ -66,9 +70,10 @@ pub fn text_len(bytes: &[u8]) -> usize
     len
 }
 
-/// Whether two slices have the same bytes. The condition is that they are of one length.
+/// Whether two slices have the same bytes: true of `ab` and `ab`, false of `ab` and `ac`. The condition is that they
+/// are of one length.
 ///
-/// It goes to the end whatever it finds: of a text of two words both are compared by one branch.
+/// It always goes to the end: two words are compared by one branch. It does not allocate.
 pub fn are_same(one: &[u8], other: &[u8]) -> bool
     requires { length one.now ≡ length other.now }
     ensures { Decides result (one.now ≡ other.now) }
@@ -114,7 +119,8 @@ fn change_at<C: WordChange>(bytes: &mut [u8], from: usize, count: usize)
     put_at(bytes, from, &word.to_le_bytes()[..count]);
 }
 
-/// Changes every byte. The condition is that each is below 128.
+/// Changes every byte: by `ToUppercase`, `tEsT` becomes `TEST`. The condition is that each is below 128. It does not
+/// allocate.
 pub fn change<C: WordChange>(bytes: &mut [u8])
     requires { IsAscii bytes.old }
     ensures { bytes.new ≡ map C.change bytes.old }

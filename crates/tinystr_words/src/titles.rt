@@ -25,8 +25,8 @@ fn title_word(bytes: &[u8]) -> u64
     changed_word::<ToLowercase>(turned, bytes.len()) ^ FIRST_CASE
 }
 
-/// Puts the first byte in upper case and the rest in lower case. The condition is that each byte is
-/// below 128.
+/// Puts the first byte in upper case and the rest in lower case: `tEsT` becomes `Test`. The condition is that each byte
+/// is below 128. It does not allocate.
 pub fn make_title(bytes: &mut [u8])
     requires { IsAscii bytes.old }
     ensures { bytes.new ≡ map_first to_ascii_uppercase to_ascii_lowercase bytes.old }

@@ -5,8 +5,8 @@ ghost use Rattle.tinystr_words.specs.Words.{word_bytes, filled, nuls_last, text_
 
 use crate::slices::put_at;
 
-/// How many bytes of the word stand before its NULs: 2 of `[97, 98, 0, 0, 0, 0, 0, 0]`. The condition is that the NULs are the
-/// last.
+/// How many bytes of the word are before its NULs: 2 of `[97, 98, 0, 0, 0, 0, 0, 0]`. The condition is that the NULs
+/// are the last. It does not allocate.
 pub fn word_len(word: u64) -> usize
     requires last { nuls_last (word_bytes word) ≡ true }
     ensures { result ≡ text_bytes (word_bytes word) }
@@ -24,9 +24,10 @@ pub(crate) fn word_at(bytes: &[u8]) -> u64
     u64::from_le_bytes(eight)
 }
 
-/// The word of these bytes, filled up with NULs: of `[97, 98]` it is 25185. The condition is that they are at most eight.
+/// The word of these bytes, filled up with NULs: of `[97, 98]` it is 25185. The condition is that they are at most
+/// eight.
 ///
-/// It takes them one by one, which costs least where their count is not known beforehand.
+/// It takes them one by one, which costs least where their count is not known beforehand. It does not allocate.
 pub fn short_word(bytes: &[u8]) -> u64
     requires { length bytes.now ≤ 8 }
     ensures { word_bytes result ≡ filled bytes.now }
