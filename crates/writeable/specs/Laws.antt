@@ -32,7 +32,7 @@ pub record IsBalanced (es : List Event) : Type 0 where
 abbrev pub Joining : Type 0
 Joining = (first second : List Event) → IsClosed first → annotated (first ++ second) ≡ joined (annotated first) (annotated second)
 
--- text alone: the same bytes written without parts are the same text, with no parts
+-- without parts: the same bytes written without parts are the same text, with no parts
 abbrev pub TextAlone : Type 0
 TextAlone = (es : List Event) → annotated (without_parts es) ≡ record { text = (annotated es).text; parts = [] }
 
@@ -40,7 +40,7 @@ TextAlone = (es : List Event) → annotated (without_parts es) ≡ record { text
 abbrev pub TextsJoin : Type 0
 TextsJoin = (first second : List Event) → text_of (first ++ second) ≡ text_of first ++ text_of second
 
--- count alone: a count goes on exactly where it stays within the limit
+-- a count goes on exactly where it stays within the limit
 pub record CountAlone : Type 0 where
   pub counted : (s t : HeldCount) (es : List Event) → s.count < count_limit → Counts s es t → s.count + length (annotated es).text < count_limit
   pub refused : (s t : HeldCount) (es : List Event) → HasBegun Counts PassesLimit s es t → count_limit ≤ s.count + length (annotated es).text

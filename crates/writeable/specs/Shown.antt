@@ -1,4 +1,4 @@
--- What a formatter shows of events: their text, so long as no write failed.
+-- What a formatter shows of events: their text, as long as no write failed.
 -- Defined in docs/annotated-text.md, "Display".
 -- Cited by the sink of `display`.
 use Rattle.std.specs.Prelude.{◌≡◌, ℕ, List, Bool, false}

@@ -1,11 +1,11 @@
--- A sink that hands on the bytes of what it is given, and leaves out the parts.
+-- A sink that passes on the bytes of what it is given, and leaves out the parts.
 -- Defined in docs/annotated-text.md, "Sinks".
 -- Cited by the sink of `Writeable::write_text`, and by no public clause.
 use Rattle.std.proofs.Common.{◌≡◌, List, [], ◌∷◌, ◌++◌, Bool, false, refl, sym, ap, ◌∙◌, subst}
 use Rattle.std.specs.Borrow.{MutBor}
 use Rattle.writeable.specs.AnnotatedText.{Event, byte, opened, closed, bytes, without_parts}
 
--- the sink that is lent is the same, and took the bytes
+-- the borrowed sink is the same, and took the bytes
 pub record TakesText {S : Type 0} (takes : S → List Event → S → Type 0) (s : MutBor S) (es : List Event) (t : MutBor S) : Type 0 where
   pub same : t.ghost_name ≡ s.ghost_name
   pub taken : takes s.now (without_parts es) t.now

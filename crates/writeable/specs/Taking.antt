@@ -1,4 +1,4 @@
--- What a refused write leaves: the sink took a beginning of the events, and had no room for the rest.
+-- What a refused write leaves: the sink has taken a beginning of the events, and had no room for the rest.
 -- Defined in docs/annotated-text.md, "Refusals".
 -- Cited by every call of `Sink` and by `Writeable::write_to`.
 use Rattle.std.proofs.Common.{◌≡◌, List, ◌++◌, Bool, false, Result, Ok, Err, OnErr, sym, ap, ◌∙◌}

@@ -10,7 +10,7 @@ use std::marker::Model;
 
 /// A value between two texts, which may be empty: `€` before `5`, and ` net` behind it, are `€5 net`.
 ///
-/// The two texts are borrowed, and are no parts; the value keeps its own parts.
+/// The two texts are borrowed, and are not parts; the value keeps its own parts.
 #[derive(Clone, Debug, Drop)]
 pub struct Affixed<'a, T> {
     /// What is written before the value: `€` of `€5 net`.
@@ -31,8 +31,8 @@ impl<'a, T> Model for Affixed<'a, T> {
 
 /// The text before, the value with its parts, the text behind: `€5 net`.
 ///
-/// `Error`, only where the sink refused: it took a beginning. Writing allocates only what the sink and
-/// the value do. The hint is the value's, with the lengths of the two texts added: of `€5 net` exactly 8.
+/// `Error`, only where the sink refused: it has taken a beginning. Writing allocates only what the sink and the value
+/// do. The hint is the value's, with the lengths of the two texts added: of `€5 net` exactly 8.
 impl<'a, T: Writeable> Writeable for Affixed<'a, T> {
     ghost use Rattle.std.specs.Prelude.{length};
     ghost use Rattle.writeable.specs.Affixed.{affixed};

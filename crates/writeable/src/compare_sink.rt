@@ -10,8 +10,8 @@ use crate::write::Writeable;
 use std::cmp::Ordering;
 use std::marker::Model;
 
-/// A sink that compares the text with given bytes, byte by byte, and keeps neither: against `a,b`,
-/// after `a,` its verdict is `Less`.
+/// A sink that compares the text with given bytes, byte by byte, and keeps neither: against `a,b`, after `a,` its
+/// verdict is `Less`.
 ///
 /// It never refuses and does not allocate.
 #[derive(Drop)]
@@ -31,8 +31,8 @@ impl<'b> Model for CompareSink<'b> {
 impl<'b> CompareSink<'b> {
     ghost use Rattle.writeable.specs.Order.{Compares, order_given};
 
-    /// A sink that compares with `other`: with `a,` the verdict is `Less` as long as nothing was
-    /// written. It does not allocate.
+    /// A sink that compares with `other`: with `a,` the verdict is `Less` before anything is written. It does not
+    /// allocate.
     pub fn new(other: &'b [u8]) -> Self
         ensures { result ≡ record { rest = other.now; so_far = Equal } }
     {
@@ -42,7 +42,7 @@ impl<'b> CompareSink<'b> {
         }
     }
 
-    /// The order of the text so far against the bytes: `a,` against `a,b` is `Less`.
+    /// The order of the text so far against the bytes: `a,` against `a,b` is `Less`. It does not allocate.
     pub fn verdict(&self) -> Ordering
         ensures { result ≡ order_given self.now.so_far self.now.rest [] }
     {
@@ -109,7 +109,7 @@ impl<'b> Sink for CompareSink<'b> {
     }
 }
 
-/// The byte order of the text of `value` against `other`, without the text being built.
+/// The byte order of the text of `value` against `other`; the text is not built.
 ///
 /// The first byte that differs decides; else the shorter one is less: `a,b` against `a,` is
 /// `Greater`. It does not allocate.

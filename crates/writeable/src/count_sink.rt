@@ -30,7 +30,7 @@ impl Model for CountSink {
 }
 
 impl CountSink {
-    /// A sink that has counted nothing: its count is 0.
+    /// A sink that has counted nothing: its count is 0. It does not allocate.
     pub fn new() -> Self
         ensures { result ≡ record { count = 0; refused = false } }
     {
@@ -40,7 +40,7 @@ impl CountSink {
         }
     }
 
-    /// How many bytes were written: 3 after `a,b`.
+    /// How many bytes were written: 3 after `a,b`. It does not allocate.
     pub fn count(&self) -> u64
         ensures { result ≡ self.now.count }
     {

@@ -6,13 +6,12 @@ use std::fmt;
 /// A sink refused, as one with room for two bytes refuses `a,b`; it has taken a beginning of what
 /// was to be written.
 ///
-/// It is returned only where `has_refused` of the sink is true afterwards. Shown as
-/// `the sink refused`.
+/// It is returned only where `has_refused` of the sink is true afterwards. Its `Display` is `the sink refused`.
 #[derive(Clone, Copy, Debug, PartialEq, Eq)]
 pub struct Error;
 
 impl Error {
-    /// The number of the error, 1.
+    /// The number of the error: 1 of `Error`. It does not allocate.
     pub fn number(&self) -> u8
         ensures { result ≡ refused_number }
     {

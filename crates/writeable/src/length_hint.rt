@@ -14,7 +14,7 @@ pub struct LengthHint {
 }
 
 impl LengthHint {
-    /// The text has exactly `length` bytes: `exact(3)` is from 3 to 3.
+    /// The text has exactly `length` bytes: `exact(3)` is from 3 to 3. It does not allocate.
     pub fn exact(length: usize) -> Self
         ensures low { result.low ≡ length }
         ensures high { result.high ≡ Some length }
@@ -25,7 +25,7 @@ impl LengthHint {
         }
     }
 
-    /// The text has `length` bytes or more: `at_least(2)` is from 2 on.
+    /// The text has `length` bytes or more: `at_least(2)` is from 2 on. It does not allocate.
     pub fn at_least(length: usize) -> Self
         ensures low { result.low ≡ length }
         ensures high { result.high ≡ None }

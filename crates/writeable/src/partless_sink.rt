@@ -2,7 +2,7 @@ use crate::error::Error;
 use crate::part::Part;
 use crate::sink::Sink;
 
-// A sink that hands on the bytes and leaves out the parts.
+// A sink that passes on the bytes and leaves out the parts.
 pub(crate) struct PartlessSink<'s, S: Sink> {
     pub(crate) to: &'s mut S,
 }

@@ -52,7 +52,7 @@ impl Model for PartsSink {
 impl PartsSink {
     ghost use Rattle.writeable.specs.ListedParts.{interval_of};
 
-    /// An empty sink: its text is empty, and no part is listed. It does not allocate.
+    /// An empty sink: its text is `""`, and no part is listed. It does not allocate.
     pub fn new(alloc: Global) -> Self
         ensures { result ≡ record { held = held_after []; refused = false } }
     {
@@ -64,7 +64,7 @@ impl PartsSink {
         }
     }
 
-    /// The text that was written: `a,b` after `write_str("a,")` and `write_char('b')`.
+    /// The text that was written: `a,b` after `write_str("a,")` and `write_char('b')`. It does not allocate.
     pub fn text(&self) -> &str
         ensures { result.now ≡ self.now.held.text }
     {
@@ -73,8 +73,8 @@ impl PartsSink {
 
     /// The parts that were closed, as start, end and name, in order of opening.
     ///
-    /// Start and end count bytes. A part without bytes is not listed, nor is one that is still open:
-    /// open A, `a`, open B, `,`, close, `b`, close gives (0, 3, A), (1, 2, B).
+    /// Start and end count bytes. A part without bytes is not listed, nor is one that is still open: open A, `a`, open
+    /// B, `,`, close, `b`, close gives (0, 3, A), (1, 2, B). It does not allocate.
     pub fn parts(&self) -> &[(usize, usize, Part)]
         ensures { map interval_of result.now ≡ self.now.held.parts }
     {
@@ -93,7 +93,8 @@ impl PartsSink {
     }
 }
 
-// Lists `last` at its place, where it ends at `end`, unless it has no bytes. It allocates only where the part is listed.
+// Lists `last` at its place, where it ends at `end`, unless it has no bytes. It allocates only where the part is
+// listed.
 fn list_closed(
     parts: &mut Vec<(usize, usize, Part)>,
     last: OpenPart,

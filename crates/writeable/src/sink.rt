@@ -5,8 +5,9 @@ use crate::part::Part;
 
 /// A place that takes a text with parts: one that holds `x` and takes `a,b` holds `xa,b`.
 ///
-/// Each call is made where `has_refused` is false. It returns `Ok` exactly where `has_refused` is still false afterwards; the sink
-/// has then taken all that it was given. Else it returns [`Error`], has taken a beginning, and has no room for the rest.
+/// Each call is made where `has_refused` is false. It returns `Ok` exactly where `has_refused` is still false
+/// afterwards; the sink has then taken all that it was given. Else it returns [`Error`], has taken a beginning, and has
+/// no room for the rest.
 pub trait Sink {
     ghost use Rattle.writeable.specs.AnnotatedText.{Event, bytes, opening, closing};
     ghost use Rattle.writeable.specs.PartName.{name_of};
@@ -14,7 +15,7 @@ pub trait Sink {
     ghost use Rattle.writeable.specs.declared.error.Error.{Error};
     ghost use Rattle.std.specs.Prelude.{Result};
 
-    // how the sink stands after it took these events
+    // how the sink is after it took these events
     ghost takes: { Self → List Event → Self → Type 0 };
 
     // the sink cannot take all of these events
@@ -23,8 +24,7 @@ pub trait Sink {
     // whether a call was refused
     ghost refused: { Self → Bool };
 
-    /// Whether a call was refused: not of a new sink. It is set for good by a refused call, and by
-    /// nothing else.
+    /// Whether a call was refused: false of a new sink. Only a refused call sets it, and it stays set.
     fn has_refused(&self) -> bool
         ensures { result ≡ refused self.now };
 

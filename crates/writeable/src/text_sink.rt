@@ -29,7 +29,7 @@ impl Model for TextSink {
 }
 
 impl TextSink {
-    /// An empty sink: its text is empty. It does not allocate.
+    /// An empty sink: its text is `""`. It does not allocate.
     pub fn new(alloc: Global) -> Self
         ensures text { result.text ≡ [] }
         ensures refused { result.refused ≡ false }
@@ -49,8 +49,8 @@ impl TextSink {
         Ok(Self::from_string(String::with_capacity(alloc, capacity)?))
     }
 
-    /// A sink that goes on behind what a text holds: behind `a,` it holds `a,b` after `write_char('b')`. The text is moved, and
-    /// keeps its capacity. It does not allocate.
+    /// A sink that goes on behind what a text holds: behind `a,` it holds `a,b` after `write_char('b')`. The text is
+    /// moved, and keeps its capacity. It does not allocate.
     pub fn from_string(text: String) -> Self
         ensures text { result.text ≡ string_bytes text }
         ensures refused { result.refused ≡ false }
@@ -63,8 +63,8 @@ impl TextSink {
 
     /// Writes `text` behind what the sink holds: `a,` and then `b` are `a,b`.
     ///
-    /// `AllocError`: out of memory; the sink is as it was. It allocates only where the text outgrows its capacity; the empty text
-    /// is never refused.
+    /// `AllocError`: out of memory; the sink is as it was. It allocates only where the text outgrows its capacity; the
+    /// empty text is never refused.
     pub fn push_str(&mut self, text: &str) -> Result<(), AllocError>
         ensures ok { OnOk result (self.new ≡ record { text = self.old.text ++ text.now; refused = self.old.refused }) }
         ensures kept { OnErr result (self.new ≡ self.old) }
@@ -80,7 +80,7 @@ impl TextSink {
         self.text
     }
 
-    /// The text that was written: `a,b` after `write_str("a,")` and `write_char('b')`.
+    /// The text that was written: `a,b` after `write_str("a,")` and `write_char('b')`. It does not allocate.
     pub fn text(&self) -> &str
         ensures { result.now ≡ self.now.text }
     {

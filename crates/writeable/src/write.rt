@@ -19,21 +19,21 @@ pub trait Writeable {
     // what the value writes
     ghost events: { Self → List Event };
 
-    /// Writes the value into `sink`, which has not refused yet: `a,b` behind `x` is `xa,b`.
+    /// Writes the value into `sink`: `a,b` behind `x` is `xa,b`. The condition is that the sink has not refused yet.
     ///
-    /// `Ok`: the sink took the whole value behind what it held. [`Error`], only where the sink refused: it took a beginning. It
-    /// allocates only what the sink does.
+    /// `Ok`: the sink took the whole value behind what it held. [`Error`], only where the sink refused: it has taken a
+    /// beginning. It allocates only what the sink does.
     fn write_to<S: Sink>(&self, sink: &mut S) -> Result<(), Error>
         requires { S.refused sink.old ≡ false }
         ensures ok { OnOk result (S.takes sink.old (events self.now) sink.new) }
         ensures refused { S.refused sink.new ≡ is_err result }
         ensures begun { OnErr result (HasBegun S.takes S.lacks_room sink.old (events self.now) sink.new) };
 
-    /// Writes the text of the value into `sink`, which has not refused yet, without its parts:
-    /// `a,b` with parts behind `x` is `xa,b` with no part more.
+    /// Writes the text of the value into `sink`, without its parts: `a,b` with parts behind `x` is `xa,b` with no part
+    /// more. The condition is that the sink has not refused yet.
     ///
-    /// `Ok`: the sink took the whole text behind what it held. [`Error`], only where the sink refused: it took a beginning. It
-    /// allocates only what the sink does.
+    /// `Ok`: the sink took the whole text behind what it held. [`Error`], only where the sink refused: it has taken a
+    /// beginning. It allocates only what the sink does.
     fn write_text<S: Sink>(&self, sink: &mut S) -> Result<(), Error>
         requires { S.refused sink.old ≡ false }
         ensures ok { OnOk result (S.takes sink.old (without_parts (events self.now)) sink.new) }
@@ -47,8 +47,8 @@ pub trait Writeable {
         written
     }
 
-    /// Bounds of how many bytes the text has: for `"a,b"` exactly 3; a value that says nothing has 0 and more. It does not
-    /// allocate.
+    /// Bounds of how many bytes the text has: for `"a,b"` exactly 3; a value that says nothing has 0 and more. It does
+    /// not allocate.
     fn writeable_length_hint(&self) -> LengthHint
         ensures { IsWithinHint result (length (text_of (events self.now))) }
     {
