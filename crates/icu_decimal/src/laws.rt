@@ -1,10 +1,9 @@
 //! Laws, beside the clauses of the calls: those of the tables, of plain text, of texts read back, of the patterns of compact text,
 //! of the values that it shows, and of compact text itself, with what abstract formatters write.
 
-pub use icu_decimal_compact::laws as compact;
+pub use icu_decimal_compact::{laws as compact, table_laws as tables};
 pub use icu_decimal_compact_value::laws as shown;
 pub use icu_decimal_patterns::laws as patterns;
-pub use icu_decimal_compact::table_laws as tables;
 pub use icu_decimal_reading::laws as reading;
 
 /// Laws of plain text: groups, texts and parts, and the tables that equal preferences find.

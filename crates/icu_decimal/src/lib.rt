@@ -24,11 +24,10 @@ pub mod plurals;
 pub mod provider;
 mod reading;
 
-pub use icu_decimal_compact::preferences;
 pub use icu_decimal_compact::preferences::DecimalFormatterPreferences;
 pub use icu_decimal_compact::{
     AbstractFormatter, CompactDecimalFormatter, DecimalFormatter, FormattedUnsigned,
-    FormattedUnsignedCompactDecimal,
+    FormattedUnsignedCompactDecimal, preferences,
 };
 pub use icu_decimal_plain::{
     DecimalTables, FormattedDecimal, FormattedSign, FormattedUnsignedDecimal, grouper,

@@ -20,16 +20,16 @@ use crate::loading::load_with;
 use fixed_decimal::{Decimal, UnsignedDecimal};
 use icu_decimal_compact_value::{can_show, exponent_for_magnitude, show};
 use icu_decimal_formatter::DecimalFormatter;
+use icu_decimal_formatter::preferences::CompactDecimalFormatterPreferences;
+use icu_decimal_formatter::provider::{
+    DataProvider, DecimalDigitsV1, DecimalSymbolsV1, ParentProvider, load_by_locale,
+};
 use icu_decimal_patterns::pattern::Pattern;
 use icu_decimal_patterns::{
     CompactPatterns, DecimalCompactLongV1, DecimalCompactShortV1, PluralElements,
 };
 use icu_decimal_plain::FormattedSign;
 use icu_decimal_plurals::{PluralOperands, PluralRules, PluralsCardinalV1};
-use icu_decimal_formatter::preferences::CompactDecimalFormatterPreferences;
-use icu_decimal_formatter::provider::{
-    DataProvider, DecimalDigitsV1, DecimalSymbolsV1, ParentProvider, load_by_locale,
-};
 use icu_decimal_symbols::DataError;
 use icu_decimal_symbols::options::CompactDecimalFormatterOptions;
 use std::alloc::{AllocError, Global};

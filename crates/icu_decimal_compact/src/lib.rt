@@ -30,5 +30,6 @@ pub use formatted_compact::FormattedUnsignedCompactDecimal;
 pub use formatted_unsigned::FormattedUnsigned;
 
 // The formatters of plain text and where their tables come from, for the crates above.
-pub use icu_decimal_formatter::laws as formatter_laws;
-pub use icu_decimal_formatter::{DecimalFormatter, preferences, provider, table_laws};
+pub use icu_decimal_formatter::{
+    DecimalFormatter, laws as formatter_laws, preferences, provider, table_laws,
+};

@@ -10,12 +10,12 @@ ghost use Rattle.icu_decimal_compact.specs.HeldCompact.{compact_tables_of};
 
 use crate::compact_formatter::CompactDecimalFormatter;
 use icu_decimal_formatter::DecimalFormatter;
-use icu_decimal_patterns::CompactPatterns;
-use icu_decimal_plurals::{PluralRules, PluralsCardinalV1};
 use icu_decimal_formatter::preferences::CompactDecimalFormatterPreferences;
 use icu_decimal_formatter::provider::{
     DataProvider, DecimalDigitsV1, DecimalSymbolsV1, ParentProvider, load_by_chain,
 };
+use icu_decimal_patterns::CompactPatterns;
+use icu_decimal_plurals::{PluralRules, PluralsCardinalV1};
 use icu_decimal_symbols::DataError;
 use icu_decimal_symbols::options::{CompactDecimalFormatterOptions, DecimalFormatterOptions};
 

@@ -16,5 +16,4 @@ pub mod laws;
 pub use formatter::DecimalFormatter;
 
 // Where its tables come from, for the crates above.
-pub use icu_decimal_provider::laws as table_laws;
-pub use icu_decimal_provider::{preferences, provider};
+pub use icu_decimal_provider::{laws as table_laws, preferences, provider};

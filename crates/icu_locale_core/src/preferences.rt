@@ -3,9 +3,9 @@
 //! `en-US-u-nu-thai-rg-gbeng` prefers the language `en`, the region `US`, the region override `gbeng` and the numbering
 //! system `thai`. A keyword's type is a [`PreferenceKey`]: it knows its key, and which values state it.
 
-pub use icu_locale_core_preference_keywords::PreferenceKey;
 pub use crate::keywords::numbering_system;
 pub use crate::locale_preferences::LocalePreferences;
+pub use icu_locale_core_preference_keywords::PreferenceKey;
 
 /// The extensions that say what is preferred.
 pub mod extensions {
