@@ -40,7 +40,7 @@ pub trait AbstractFormatter: private::Sealed {
     // the number can be written
     ghost can_write: { Self → Number → Type 0 };
 
-    // memory is taken for the number
+    // writing the number may allocate
     ghost takes_memory: { Self → Number → Type 0 };
 
     // only for one of more than eight digits

@@ -45,10 +45,10 @@ fn close_book(alloc: Global, handle: &mut BookHandle) -> Result<(), CallError>
     }
 }
 
-/// Opens the book that a JSON text is: `[[],[],[],[],[]]` is the shortest. What the handle had open is closed, where the call answers
+/// Opens the book that a JSON text is: `[[],[],[],[],[]]` is the shortest. What the handle had open is closed, where the call returns
 /// 0, and else the handle is as it was.
 ///
-/// Answers 0; 101 to 111, the number of the first fault of the text and 100; 1, out of memory.
+/// Returns 0; 101 to 111, the number of the first fault of the text and 100; 1, out of memory.
 #[unsafe(no_mangle)]
 pub extern "C" fn legumeyet_book_open(alloc: Global, json: &[u8], book: &mut BookHandle) -> i32
     ensures { Answers (IsOpening (SaysBook json.now) (IsBookFault json.now) (book_open book.old) (book_open book.new)) result }
@@ -58,7 +58,7 @@ pub extern "C" fn legumeyet_book_open(alloc: Global, json: &[u8], book: &mut Boo
 
 /// Closes a book, and lets go of its memory. Its formatters stay as they are.
 ///
-/// Answers 0; 2, where it was closed already.
+/// Returns 0; 2, where it was closed already.
 #[unsafe(no_mangle)]
 pub extern "C" fn legumeyet_book_close(alloc: Global, book: &mut BookHandle) -> i32
     ensures closed { book_open book.new ≡ None }

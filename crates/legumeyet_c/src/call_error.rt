@@ -1,4 +1,4 @@
-// What calls answer.
+// What calls return.
 
 ghost use Rattle.std.specs.Prelude.{◌≡◌};
 ghost use Rattle.legumeyet_c.specs.CallErrors.{answer_of, book_answer, book_text, number_of, text_of};
@@ -8,7 +8,7 @@ use locale_numbers::BookError;
 /// Why a call was refused: `Tag` of `e` as a locale tag. The header says when each comes.
 #[derive(Clone, Copy, Debug, Drop, PartialEq, Eq)]
 pub enum CallError {
-    /// Memory was refused.
+    /// Out of memory.
     Memory,
     /// The handle is closed.
     Closed,
@@ -124,7 +124,7 @@ impl CallError {
     }
 }
 
-/// The number that a call answers: 0 where it was not refused.
+/// The number that a call returns: 0 where it was not refused.
 pub(crate) fn answer(outcome: Result<(), CallError>) -> i32
     ensures { result ≡ answer_of outcome }
 {

@@ -159,10 +159,10 @@ fn close(alloc: Global, formatter: &mut CompactHandle) -> Result<(), CallError>
 }
 
 /// Opens the formatter of compact numbers for a locale tag, short or long: those of `en` write 1650 as `1.6K` and as `1.6 thousand`.
-/// It has its own copy of the tables. What the handle had open is closed, where the call answers 0, and else the handle is as it was;
+/// It has its own copy of the tables. What the handle had open is closed, where the call returns 0, and else the handle is as it was;
 /// the book stays open.
 ///
-/// Answers 0; 2, the book is closed; 4, the width is above 1 or the grouping above 3; 5, the text is no locale tag; 6, the book has
+/// Returns 0; 2, the book is closed; 4, the width is above 1 or the grouping above 3; 5, the text is no locale tag; 6, the book has
 /// no symbols, no digits, no plural rules or no patterns of the width for it; 1, out of memory, also in place of the last two.
 #[unsafe(no_mangle)]
 pub extern "C" fn legumeyet_compact_formatter_open(
@@ -181,7 +181,7 @@ pub extern "C" fn legumeyet_compact_formatter_open(
 
 /// Closes a formatter, and lets go of its memory.
 ///
-/// Answers 0; 2, where it was closed already.
+/// Returns 0; 2, where it was closed already.
 #[unsafe(no_mangle)]
 pub extern "C" fn legumeyet_compact_formatter_close(
     alloc: Global,

@@ -104,7 +104,7 @@ fn format_parts(
 /// Writes a decimal number that is given as text, and lists the parts of its text, which are those of its sign: of `-1.2M` in short
 /// English the minus sign at 0 to 1. `count` is how many.
 ///
-/// Answers as `legumeyet_compact_formatter_format`; 1 of any number; 3 also where the list needs more room.
+/// Returns as `legumeyet_compact_formatter_format`; 1 of any number; 3 also where the list needs more room.
 #[unsafe(no_mangle)]
 pub extern "C" fn legumeyet_compact_formatter_format_parts(
     alloc: Global,

@@ -206,7 +206,7 @@ fn format_exact(
 
 /// Writes a decimal number that is given as text: `-1172700` as `-1.2M` in short English.
 ///
-/// Answers 0; 2, the handle is closed; 4, an option is unknown; 7, the text is no decimal number; 8, one with a digit beyond the
+/// Returns 0; 2, the handle is closed; 4, an option is unknown; 7, the text is no decimal number; 8, one with a digit beyond the
 /// magnitudes -32768 to 32767; 9, what is shown reaches ten to the power 32768; 1, out of memory, which a number of eight digits at
 /// most never takes; 3, the text needs more room.
 #[unsafe(no_mangle)]
@@ -226,7 +226,7 @@ pub extern "C" fn legumeyet_compact_formatter_format(
 
 /// Writes the number `mantissa` times ten to the power `exponent`: -11727 and 2 as `-1.2M` in short English.
 ///
-/// Answers as `legumeyet_compact_formatter_format`, but for 7; 8, where the first digit would stand above magnitude 32767.
+/// Returns as `legumeyet_compact_formatter_format`, but for 7; 8, where the first digit would stand above magnitude 32767.
 #[unsafe(no_mangle)]
 pub extern "C" fn legumeyet_compact_formatter_format_i64(
     alloc: Global,
@@ -245,7 +245,7 @@ pub extern "C" fn legumeyet_compact_formatter_format_i64(
 
 /// Writes the value that the text of a number shows: of `-1172700` in short English `-1.2c6`, which is -1.2 times ten to the power 6.
 ///
-/// Answers as `legumeyet_compact_formatter_format`; 1 also where what is shown has more than eight digits.
+/// Returns as `legumeyet_compact_formatter_format`; 1 also where what is shown has more than eight digits.
 #[unsafe(no_mangle)]
 pub extern "C" fn legumeyet_compact_formatter_shown(
     alloc: Global,
@@ -264,7 +264,7 @@ pub extern "C" fn legumeyet_compact_formatter_shown(
 /// Writes a significand with an exponent, its digits as they are: `-1.20c6` as `-1.20M` in short English. The options change the
 /// significand.
 ///
-/// Answers 0; 2, the handle is closed; 4, an option is unknown; 7, the text is no compact number, as `1.2e6`; 8, its significand has
+/// Returns 0; 2, the handle is closed; 4, an option is unknown; 7, the text is no compact number, as `1.2e6`; 8, its significand has
 /// a digit beyond the magnitudes -32768 to 32767, or its exponent is above 255; 1, out of memory, which a significand of eight digits
 /// at most never takes; 9, the magnitude of both together is above 32767; 13, the formatter has another exponent for this magnitude,
 /// as for `1.2c5`; 3, the text needs more room.

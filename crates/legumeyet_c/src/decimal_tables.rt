@@ -26,7 +26,7 @@ impl Model for DecimalTables {
 }
 
 impl DecimalTables {
-    /// The tables that a formatter borrows, with a strategy of their own. `AllocError`: memory is refused.
+    /// The tables that a formatter borrows, with a strategy of their own. `AllocError`: out of memory.
     pub(crate) fn of(
         formatter: &DecimalFormatter<'_>,
         strategy: GroupingStrategy,
@@ -41,7 +41,7 @@ impl DecimalTables {
         })
     }
 
-    /// The formatter that writes with them. It takes no memory.
+    /// The formatter that writes with them. It does not allocate.
     pub(crate) fn formatter(&self) -> DecimalFormatter<'_>
         ensures { tables_of result ≡ self.now }
     {

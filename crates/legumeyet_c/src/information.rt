@@ -56,9 +56,9 @@ fn error_text(error: i32, out: &mut [u8], length: &mut usize) -> Result<(), Call
     }
 }
 
-/// Writes what an answer of a call means, in English: of 5 `no locale tag`.
+/// Writes what a number of a call means, in English: of 5 `no locale tag`.
 ///
-/// Answers 0; 4, where no call answers the number; 3, the text needs more room.
+/// Returns 0; 4, where no call returns the number; 3, the text needs more room.
 #[unsafe(no_mangle)]
 pub extern "C" fn legumeyet_error_text(error: i32, out: &mut [u8], length: &mut usize) -> i32
     ensures { Answers (IsPut (SaysError error) (IsInformationFault error) out.old out.new length.old length.new) result }
