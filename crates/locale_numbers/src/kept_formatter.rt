@@ -14,7 +14,6 @@ use crate::tables::Tables;
 use icu_decimal::options::{CompactDecimalFormatterOptions, DecimalFormatterOptions};
 use icu_decimal::provider::DataError;
 use icu_decimal::{CompactDecimalFormatter, DecimalFormatter, is_readable};
-use locale_numbers_book::compact_preferences;
 use locale_numbers_cache::{Hashed, Maker};
 use std::alloc::AllocError;
 
@@ -83,14 +82,13 @@ pub(crate) fn compact_formatter<'a, T: Tables>(
     ensures { result_map_both compact_tables_of (λ error. error) result
         ≡ found_compact length (T.book tables.now) key.preferences key.grouping }
 {
-    let preferences = compact_preferences(key.preferences);
     let options = CompactDecimalFormatterOptions::from(key.grouping);
     match length {
         PatternLength::Short => {
-            CompactDecimalFormatter::try_new_short_unstable(tables, preferences, options)
+            CompactDecimalFormatter::try_new_short_unstable(tables, key.preferences, options)
         }
         PatternLength::Long => {
-            CompactDecimalFormatter::try_new_long_unstable(tables, preferences, options)
+            CompactDecimalFormatter::try_new_long_unstable(tables, key.preferences, options)
         }
     }
 }

@@ -1,5 +1,5 @@
 -- What is found for a tag, from what is found for its preferences: `specs/TagFormatters.antt`.
-use Rattle.std.proofs.Common.{◌≡◌, Some, Result, sym, ap, ap₂, ◌∙◌}
+use Rattle.std.proofs.Common.{◌≡◌, Some, Result, sym, ap, ◌∙◌}
 use Rattle.icu_decimal.specs.CompactTables.{CompactTables}
 use Rattle.icu_decimal.specs.Identifiers.{Identifier}
 use Rattle.icu_decimal.specs.KeptEntries.{CompactTable}
@@ -13,11 +13,10 @@ use Rattle.locale_numbers_book.specs.TagFormatters.{compact_for, found_beside, o
 use Rattle.locale_numbers_book.specs.Wanted.{wanted_of}
 
 -- compact numbers: the preferences of the tag and the default options find it
-pub compact_found : (patterns : Identifier → Result CompactTable DataError) (book : BookTables) (tag : Text) {plain preferences : Preferences} {options : CompactDecimalFormatterOptions} {found : Result CompactTables DataError}
-    → wanted_of tag ≡ Some plain
-    → preferences ≡ plain
+pub compact_found : (patterns : Identifier → Result CompactTable DataError) (book : BookTables) (tag : Text) {preferences : Preferences} {options : CompactDecimalFormatterOptions} {found : Result CompactTables DataError}
+    → wanted_of tag ≡ Some preferences
     → options ≡ record { grouping_strategy = Some GroupingStrategy.Min2 }
     → found ≡ found_beside patterns book preferences options.grouping_strategy
     → compact_for patterns book tag ≡ or_no_table found
-compact_found patterns book tag wanted same default is =
-    rw wanted (ap or_no_table (sym (is ∙ ap₂ (λ p o. found_beside patterns book p o.grouping_strategy) same default)))
+compact_found patterns book tag {preferences} wanted default is =
+    rw wanted (ap or_no_table (sym (is ∙ ap (λ o. found_beside patterns book preferences o.grouping_strategy) default)))

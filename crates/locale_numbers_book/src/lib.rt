@@ -18,5 +18,4 @@ pub use book::{Book, book_from};
 pub use formatter_error::FormatterError;
 pub use locale_numbers_tables::BookError;
 pub use sample_book::SAMPLE_BOOK;
-pub use tag_formatters::compact_preferences;
 pub use tag_reader::read_preferences;

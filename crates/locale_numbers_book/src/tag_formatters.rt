@@ -19,16 +19,6 @@ use icu_decimal::provider::DataError;
 use icu_decimal::{CompactDecimalFormatter, DecimalFormatter, DecimalFormatterPreferences};
 use std::alloc::Global;
 
-/// The same preferences, for compact numbers: of `ar-EG-u-nu-thai` the locale `ar-EG` and the system `thai`. It does not allocate.
-pub fn compact_preferences(plain: DecimalFormatterPreferences) -> CompactDecimalFormatterPreferences
-    ensures { result ≡ plain }
-{
-    CompactDecimalFormatterPreferences {
-        locale_preferences: plain.locale_preferences,
-        numbering_system: plain.numbering_system,
-    }
-}
-
 // What a tag prefers.
 fn preferences_of_tag(
     alloc: Global,
@@ -108,7 +98,7 @@ fn compact_formatter<'b, L: Length>(
     ensures room { tag_may_grow (pieces tag.now) ≡ false → ¬ (IsErrOf result FormatterError.Memory) }
     ensures single { (m : SingleMeaning) → MeansSingle (pieces tag.now) m → ¬ (IsErrOf result FormatterError.Memory) }
 {
-    let preferences = compact_preferences(preferences_of_tag(alloc, tag)?);
+    let preferences = preferences_of_tag(alloc, tag)?;
     let options = CompactDecimalFormatterOptions::default();
     match L::formatter(book, preferences, options) {
         Ok(formatter) => Ok(formatter),

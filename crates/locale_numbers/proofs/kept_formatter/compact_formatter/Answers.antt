@@ -1,6 +1,4 @@
-use Rattle.std.proofs.Common.{ap, ◌∙◌}
 use Rattle.icu_decimal_chains.specs.Chains.{chain}
-use Rattle.locale_numbers.specs.CompactAnswer.{found_compact}
 use Rattle.locale_numbers.specs.declared.request.PatternLength.TheVariants.{Short, Long}
 use Rattle.locale_numbers.proofs.FoundCompactLemmas.{compact_found_by}
 use Rattle.locale_numbers.proofs.kept_formatter.compact_formatter.Goals as goal
@@ -10,15 +8,13 @@ returns-in-Short g c =
     let book = g.T.Tables.book c.args.tables.now in
     rw c.in-Short.is
     (compact_found_by (chain (g.T.ParentProvider.next c.args.tables.now) (g.T.ParentProvider.limit c.args.tables.now)) (g.T.DataProvider-1.table c.args.tables.now) (g.T.DataProvider-2.table c.args.tables.now) (g.T.DataProvider-3.table c.args.tables.now) (g.T.DataProvider-4.table c.args.tables.now)
-    Short book c.compact_preferences-preferences.result c.args.key.grouping c.from-options.result _
-    (g.met.T.Tables.chains c.args.tables.now) (g.met.T.Tables.symbols c.args.tables.now) (g.met.T.Tables.digits c.args.tables.now) (g.met.T.Tables.rules c.args.tables.now) (g.met.T.Tables.short c.args.tables.now) c.from-options.ensures c.try_new_short_unstable.ensures
-    ∙ ap (λ p. found_compact Short book p c.args.key.grouping) c.compact_preferences-preferences.ensures)
+    Short book c.args.key.preferences c.args.key.grouping c.from-options.result _
+    (g.met.T.Tables.chains c.args.tables.now) (g.met.T.Tables.symbols c.args.tables.now) (g.met.T.Tables.digits c.args.tables.now) (g.met.T.Tables.rules c.args.tables.now) (g.met.T.Tables.short c.args.tables.now) c.from-options.ensures c.try_new_short_unstable.ensures)
 
 pub returns-in-Long : goal.returns-in-Long
 returns-in-Long g c =
     let book = g.T.Tables.book c.args.tables.now in
     rw c.in-Long.is
     (compact_found_by (chain (g.T.ParentProvider.next c.args.tables.now) (g.T.ParentProvider.limit c.args.tables.now)) (g.T.DataProvider-1.table c.args.tables.now) (g.T.DataProvider-2.table c.args.tables.now) (g.T.DataProvider-3.table c.args.tables.now) (g.T.DataProvider-5.table c.args.tables.now)
-    Long book c.compact_preferences-preferences.result c.args.key.grouping c.from-options.result _
-    (g.met.T.Tables.chains c.args.tables.now) (g.met.T.Tables.symbols c.args.tables.now) (g.met.T.Tables.digits c.args.tables.now) (g.met.T.Tables.rules c.args.tables.now) (g.met.T.Tables.long c.args.tables.now) c.from-options.ensures c.try_new_long_unstable.ensures
-    ∙ ap (λ p. found_compact Long book p c.args.key.grouping) c.compact_preferences-preferences.ensures)
+    Long book c.args.key.preferences c.args.key.grouping c.from-options.result _
+    (g.met.T.Tables.chains c.args.tables.now) (g.met.T.Tables.symbols c.args.tables.now) (g.met.T.Tables.digits c.args.tables.now) (g.met.T.Tables.rules c.args.tables.now) (g.met.T.Tables.long c.args.tables.now) c.from-options.ensures c.try_new_long_unstable.ensures)
