@@ -1,5 +1,5 @@
--- The steps along the pieces of known texts.
-use Rattle.std.proofs.Common.{◌≡◌, List, Option, None, Some, codes, refl}
+-- The steps along the pieces of known texts, and whether reading them may allocate.
+use Rattle.std.proofs.Common.{◌≡◌, true, false, List, Option, None, Some, codes, refl}
 use Rattle.icu_locale_core_grammar.specs.Subtags.{Text}
 use Rattle.icu_locale_core_grammar.specs.LanguagePart.{LanguageId}
 use Rattle.icu_locale_core_grammar.specs.Pieces.{pieces}
@@ -7,6 +7,7 @@ use Rattle.icu_locale_core_grammar.specs.Stepping.{run}
 use Rattle.icu_locale_core_grammar.specs.TagStages.{with_piece}
 use Rattle.icu_locale_core_grammar.specs.SingleVariant.{SingleStage, InLanguage, BehindUnicode, BehindKey, BehindValue, single_after}
 use Rattle.icu_locale_core_langid.specs.OneVariant.{one_variant, one_variant_after}
+use Rattle.icu_locale_core_langid.specs.Allocation.{may_grow}
 
 abbrev stages : List Text → Option SingleStage
 stages ps = run single_after (Some (InLanguage None)) ps
@@ -108,3 +109,54 @@ german_ends = refl
 pub english_ends : one_variant_after (Some english) (codes "t") ≡ None
 unfolding with_piece
 english_ends = refl
+
+-- ---- no memory
+
+pub language_alone : may_grow (pieces (codes "de")) ≡ false
+unfolding with_piece
+language_alone = refl
+
+pub script_and_region : may_grow (pieces (codes "zh-Hant-TW")) ≡ false
+unfolding with_piece
+script_and_region = refl
+
+-- a piece at fault stands before the variant
+pub fault_before_variant : may_grow (pieces (codes "de-toolongpiece-1996")) ≡ false
+unfolding with_piece
+fault_before_variant = refl
+
+pub no_language_before_variant : may_grow (pieces (codes "abcd-1996")) ≡ false
+unfolding with_piece
+no_language_before_variant = refl
+
+-- what has the form of a variant stands behind a singleton
+pub value_of_keyword : may_grow (pieces (codes "en-u-ca-buddhist")) ≡ false
+unfolding with_piece
+value_of_keyword = refl
+
+pub private_subtag : may_grow (pieces (codes "de-x-1996")) ≡ false
+unfolding with_piece
+private_subtag = refl
+
+pub private_alone : may_grow (pieces (codes "de-x")) ≡ false
+unfolding with_piece
+private_alone = refl
+
+-- ---- memory
+
+pub variant_kept : may_grow (pieces (codes "de-1996")) ≡ true
+unfolding with_piece
+variant_kept = refl
+
+pub variant_behind_region : may_grow (pieces (codes "zh-Hant-TW-pinyin")) ≡ true
+unfolding with_piece
+variant_behind_region = refl
+
+-- a variant is taken before the fault
+pub fault_behind_variant : may_grow (pieces (codes "en-1996-toolongpiece")) ≡ true
+unfolding with_piece
+fault_behind_variant = refl
+
+pub repeated_variant : may_grow (pieces (codes "de-1996-1996")) ≡ true
+unfolding with_piece
+repeated_variant = refl

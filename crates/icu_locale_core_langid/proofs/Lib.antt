@@ -1,3 +1,4 @@
+pub mod AllocationLemmas
 pub mod CountingLemmas
 pub mod KnownValues
 pub mod LanguageTextLemmas

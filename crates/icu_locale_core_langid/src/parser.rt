@@ -1,14 +1,12 @@
 //! Reading language identifiers from pieces.
 
-ghost use Rattle.std.specs.Prelude.{◌≡◌, ◌⊎◌, ℕ, false, List, [], ◌∷◌, IfOk, IfErr, IsOk, OnErr, MatchOption};
-ghost use Rattle.std.specs.List.{list_any};
+ghost use Rattle.std.specs.Prelude.{◌≡◌, ◌⊎◌, ℕ, false, List, [], ◌∷◌, Some, IfOk, IfErr, IsOk, OnErr, MatchOption};
 ghost use Rattle.std.specs.Result.{IsErrOf};
 ghost use Rattle.icu_locale_core_grammar.specs.declared.error.ParseError.{ParseError};
-ghost use Rattle.icu_locale_core_grammar.specs.Subtags.{is_variant};
 ghost use Rattle.icu_locale_core_grammar.specs.Pieces.{pieces};
 ghost use Rattle.icu_locale_core_langid.specs.LanguageStep.{StopsBehind, StopsWith};
 ghost use Rattle.icu_locale_core_langid.specs.Modes.{ReadsInMode, HasFaultInMode, may_leave};
-ghost use Rattle.icu_locale_core_langid.specs.Allocation.{may_grow};
+ghost use Rattle.icu_locale_core_langid.specs.Allocation.{grows_from, may_grow};
 
 use crate::language_identifier::LanguageIdentifier;
 use crate::language_stage::LanguageStage;
@@ -32,7 +30,7 @@ fn put_pieces<'a>(
     from: SubtagIterator<'a>,
 ) -> Result<SubtagIterator<'a>, AllocError>
     ensures stops { IfOk result (StopsBehind id.old from.entry id.new) }
-    ensures room { list_any is_variant from.entry ≡ false → IsOk result }
+    ensures room { grows_from (Some id.old) from.entry ≡ false → IsOk result }
 {
     let mut rest = from;
     while let Some((piece, behind)) = next_piece(&rest) {

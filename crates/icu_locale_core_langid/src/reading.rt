@@ -19,7 +19,8 @@ impl LanguageIdentifier {
     ///
     /// `en-latn-us-fonipa-1996` reads as `en-Latn-US-1996-fonipa`. `InvalidLanguage`: the first piece is no language, as in
     /// the empty text and in `abcd`. `InvalidSubtag`: a later piece does not fit, as in `en-`, `de-1996-1996` and `en-u`.
-    /// `Memory`: memory was refused; it is taken for variants alone. Source: UTS 35, section 3.1.
+    /// `Memory`: memory was refused; it is taken for variants alone, and none is for `de-toolongpiece-1996`. Source: UTS 35,
+    /// section 3.1.
     pub fn try_from_str(alloc: Global, s: &str) -> Result<Self, ParseError>
         ensures value { IfOk result (λ id. MeansLanguage (pieces s.now) id) }
         ensures fault { IfErr result (λ e. (e ≡ ParseError.Memory) ⊎ HasFault MeansLanguage (pieces s.now) e) }
