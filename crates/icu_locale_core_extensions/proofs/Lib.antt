@@ -5,3 +5,4 @@ pub mod OrderLemmas
 pub mod PlacedLemmas
 pub mod RetainingLemmas
 pub mod AllocationLemmas
+pub mod KnownValues

@@ -1,25 +1,25 @@
--- Where the reading of an extension may want memory: alone, its first piece, behind its singleton, is one that it may begin with;
--- piece by piece, the piece goes into what has no size that is known before, or the end keeps something.
+-- Where the reading of an extension may allocate: a step along its pieces, up to the first one at fault, or else its end.
 -- Defined in docs/tags.md, "Parts read alone" and "Stages".
 -- Cited by the readers of `u` and `t`, and by the functions that step along the pieces of an extension.
-use Rattle.std.specs.Prelude.{Bool, true, ◌||◌}
-use Rattle.icu_locale_core_grammar.specs.Subtags.{Text, is_language, is_attribute, is_key, is_field_key, is_other_piece}
-use Rattle.icu_locale_core_grammar.specs.TagStages.{BodyStage, InUnicode, InTransform, InOther}
+use Rattle.std.specs.Prelude.{Bool, true, false, ◌&&◌, List, [], ◌∷◌, None, Some}
+use Rattle.icu_locale_core_grammar.specs.Subtags.{Text, is_attribute, is_key, is_field_key, is_other_piece}
+use Rattle.icu_locale_core_grammar.specs.Stepping.{InHead}
+use Rattle.icu_locale_core_grammar.specs.TagStages.{BodyStage, InUnicode, InTransform, InOther, UnicodeStage, unicode_after, TransformStage, transform_after}
 use Rattle.icu_locale_core_langid.specs.Allocation as language
 use Rattle.icu_locale_core_keywords_fields.specs.Allocation.{grows_at, keeps_last}
 
--- `u` begins with an attribute or a keyword
-abbrev pub begins_unicode : Text → Bool
-begins_unicode p = is_attribute p || is_key p
+-- the piece is one more attribute, goes into a value, or ends a keyword
+abbrev pub unicode_grows_at : UnicodeStage → Text → Bool
+unicode_grows_at s p = grows_at (λ set q. is_attribute q) is_key s p
 
--- `t` begins with a language or a field
-abbrev pub begins_transform : Text → Bool
-begins_transform p = is_language p || is_field_key p
+-- the piece is one more variant, goes into a value, or ends a field
+abbrev pub transform_grows_at : TransformStage → Text → Bool
+transform_grows_at s p = grows_at language.grows_at is_field_key s p
 
--- the piece is one more attribute or variant, or a subtag of any other extension, goes into a value, or ends an entry
+-- the piece is one of these, or a subtag of any other extension
 abbrev pub body_grows_at : BodyStage → Text → Bool
-body_grows_at (InUnicode s) p = grows_at (λ set q. is_attribute q) is_key s p
-body_grows_at (InTransform s) p = grows_at language.grows_at is_field_key s p
+body_grows_at (InUnicode s) p = unicode_grows_at s p
+body_grows_at (InTransform s) p = transform_grows_at s p
 body_grows_at (InOther own) p = is_other_piece p
 
 -- at its end an entry is kept, or an extension that has no rule of its own
@@ -27,3 +27,16 @@ abbrev pub body_keeps : BodyStage → Bool
 body_keeps (InUnicode s) = keeps_last s
 body_keeps (InTransform s) = keeps_last s
 body_keeps (InOther own) = true
+
+-- the pieces behind `u`
+abbrev pub unicode_may_grow : List Text → Bool
+unicode_may_grow ps = language.grows_along unicode_after unicode_grows_at keeps_last (Some (InHead [])) ps
+
+-- the pieces behind `t`
+abbrev pub transform_may_grow : List Text → Bool
+transform_may_grow ps = language.grows_along transform_after transform_grows_at keeps_last (Some (InHead None)) ps
+
+-- the first piece is the singleton, and reading those behind it may allocate
+abbrev pub grows_behind : (Text → Bool) → (List Text → Bool) → List Text → Bool
+grows_behind opens may_grow [] = false
+grows_behind opens may_grow (p ∷ ps) = opens p && may_grow ps

@@ -7,9 +7,9 @@ ghost use Rattle.icu_locale_core_grammar.specs.Subtags.{is_transform};
 ghost use Rattle.icu_locale_core_grammar.specs.Pieces.{pieces};
 ghost use Rattle.icu_locale_core_grammar.specs.Meaning.{MeansTransform, no_transform};
 ghost use Rattle.icu_locale_core_grammar.specs.PartReaders.{ReadsTransform};
-ghost use Rattle.icu_locale_core_subtag_lists.specs.Reading.{IsRefused, begins, begins_behind};
+ghost use Rattle.icu_locale_core_subtag_lists.specs.Reading.{IsRefused};
 ghost use Rattle.icu_locale_core_extensions.specs.ExtensionsValue.{is_empty_transform};
-ghost use Rattle.icu_locale_core_extensions.specs.Allocation.{begins_transform};
+ghost use Rattle.icu_locale_core_extensions.specs.Allocation.{transform_may_grow, grows_behind};
 
 use crate::head::{LanguageHead, settled_language};
 use crate::opening::body_behind;
@@ -43,7 +43,7 @@ impl Model for Transform {
 fn read_body(alloc: Global, body: SubtagIterator<'_>) -> Result<Transform, ParseError>
     ensures value { IfOk result (MeansTransform body.entry) }
     ensures fault { IfErr result (IsRefused (MeansTransform body.entry)) }
-    ensures room { begins begins_transform body.entry ≡ false → ¬ (IsErrOf result ParseError.Memory) }
+    ensures room { transform_may_grow body.entry ≡ false → ¬ (IsErrOf result ParseError.Memory) }
 {
     let mut stage: HeadedStage<Option<LanguageStage>, KeyRule> = HeadedStage::InHead(None);
     for piece in body {
@@ -116,12 +116,12 @@ impl Transform {
     /// The extension in this text, with its singleton: `t-DE-m0-true` has the language part `de` and the field `m0` without a value.
     ///
     /// `InvalidExtension`: the text is no such extension, as `t` alone, `t-h0` and `u-foo`. `Memory`: memory was refused; none is
-    /// taken where the first piece is not `t`, or neither a language nor a key is right behind it. Source: UTS 35, sections 3.2
-    /// and 3.7.
+    /// taken where no variant, value or end of a field comes before the first piece at fault, as in `t-de-latn` and `t-h0`. Source:
+    /// UTS 35, sections 3.2 and 3.7.
     pub fn try_from_str(alloc: Global, s: &str) -> Result<Self, ParseError>
         ensures value { IfOk result (ReadsTransform s.now) }
         ensures fault { IfErr result (IsRefused (ReadsTransform s.now)) }
-        ensures room { begins_behind is_transform begins_transform (pieces s.now) ≡ false → ¬ (IsErrOf result ParseError.Memory) }
+        ensures room { grows_behind is_transform transform_may_grow (pieces s.now) ≡ false → ¬ (IsErrOf result ParseError.Memory) }
     {
         Self::try_from_utf8(alloc, s.as_bytes())
     }
@@ -131,7 +131,7 @@ impl Transform {
     pub fn try_from_utf8(alloc: Global, code_units: &[u8]) -> Result<Self, ParseError>
         ensures value { IfOk result (ReadsTransform code_units.now) }
         ensures fault { IfErr result (IsRefused (ReadsTransform code_units.now)) }
-        ensures room { begins_behind is_transform begins_transform (pieces code_units.now) ≡ false → ¬ (IsErrOf result ParseError.Memory) }
+        ensures room { grows_behind is_transform transform_may_grow (pieces code_units.now) ≡ false → ¬ (IsErrOf result ParseError.Memory) }
     {
         match body_behind(code_units, b't') {
             Some(body) => read_body(alloc, body),

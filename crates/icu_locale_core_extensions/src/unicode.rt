@@ -9,9 +9,9 @@ ghost use Rattle.icu_locale_core_grammar.specs.Meaning.{MeansUnicode, no_unicode
 ghost use Rattle.icu_locale_core_grammar.specs.Collections.{set_of};
 ghost use Rattle.icu_locale_core_keywords_fields.specs.EntryChanges.{joined_maps};
 ghost use Rattle.icu_locale_core_grammar.specs.PartReaders.{ReadsUnicode};
-ghost use Rattle.icu_locale_core_subtag_lists.specs.Reading.{IsRefused, begins, begins_behind};
+ghost use Rattle.icu_locale_core_subtag_lists.specs.Reading.{IsRefused};
 ghost use Rattle.icu_locale_core_extensions.specs.ExtensionsValue.{is_empty_unicode};
-ghost use Rattle.icu_locale_core_extensions.specs.Allocation.{begins_unicode};
+ghost use Rattle.icu_locale_core_extensions.specs.Allocation.{unicode_may_grow, grows_behind};
 
 use crate::head::AttributesHead;
 use crate::opening::body_behind;
@@ -46,7 +46,7 @@ impl Model for Unicode {
 fn read_body(alloc: Global, body: SubtagIterator<'_>) -> Result<Unicode, ParseError>
     ensures value { IfOk result (MeansUnicode body.entry) }
     ensures fault { IfErr result (IsRefused (MeansUnicode body.entry)) }
-    ensures room { begins begins_unicode body.entry ≡ false → ¬ (IsErrOf result ParseError.Memory) }
+    ensures room { unicode_may_grow body.entry ≡ false → ¬ (IsErrOf result ParseError.Memory) }
 {
     let mut stage: HeadedStage<GrowingSet<AttributeRule>, KeyRule> = HeadedStage::InHead(
         GrowingSet::new(alloc),
@@ -132,12 +132,12 @@ impl Unicode {
     /// The extension in this text, with its singleton: `u-FOO-nu-thai` has the attribute `foo` and `nu` with `thai`.
     ///
     /// `InvalidExtension`: the text is no such extension, as `u` alone, `u-nu-` and `t-de`. `Memory`: memory was refused; none is
-    /// taken where the first piece is not `u`, or neither an attribute nor a key is right behind it. Source: UTS 35, sections 3.2
-    /// and 3.6.
+    /// taken where no attribute, value or end of a keyword comes before the first piece at fault, as in `u-nu-toolongpiece`.
+    /// Source: UTS 35, sections 3.2 and 3.6.
     pub fn try_from_str(alloc: Global, s: &str) -> Result<Self, ParseError>
         ensures value { IfOk result (ReadsUnicode s.now) }
         ensures fault { IfErr result (IsRefused (ReadsUnicode s.now)) }
-        ensures room { begins_behind is_unicode begins_unicode (pieces s.now) ≡ false → ¬ (IsErrOf result ParseError.Memory) }
+        ensures room { grows_behind is_unicode unicode_may_grow (pieces s.now) ≡ false → ¬ (IsErrOf result ParseError.Memory) }
     {
         Self::try_from_utf8(alloc, s.as_bytes())
     }
@@ -147,7 +147,7 @@ impl Unicode {
     pub fn try_from_utf8(alloc: Global, code_units: &[u8]) -> Result<Self, ParseError>
         ensures value { IfOk result (ReadsUnicode code_units.now) }
         ensures fault { IfErr result (IsRefused (ReadsUnicode code_units.now)) }
-        ensures room { begins_behind is_unicode begins_unicode (pieces code_units.now) ≡ false → ¬ (IsErrOf result ParseError.Memory) }
+        ensures room { grows_behind is_unicode unicode_may_grow (pieces code_units.now) ≡ false → ¬ (IsErrOf result ParseError.Memory) }
     {
         match body_behind(code_units, b'u') {
             Some(body) => read_body(alloc, body),

@@ -3,7 +3,8 @@ use Rattle.icu_locale_core_grammar.specs.Subtags.{is_other_piece}
 use Rattle.icu_locale_core_grammar.specs.TagStages.{other_after}
 use Rattle.icu_locale_core_grammar.proofs.BodyReaders.{other_reader}
 use Rattle.icu_locale_core_keywords_fields.proofs.ReadingLemmas.{reading_goes_on, reading_meant, reading_refused}
-use Rattle.icu_locale_core_extensions.proofs.AllocationLemmas.{nothing_grows, other_passes}
+use Rattle.icu_locale_core_langid.proofs.AllocationLemmas.{no_growth}
+use Rattle.icu_locale_core_extensions.proofs.AllocationLemmas.{no_other_growth}
 use Rattle.icu_locale_core_extensions.proofs.other.read_body.Goals as goal
 
 pub loop-piece-preserved : goal.loop-piece-preserved
@@ -22,7 +23,9 @@ returns-clause-value c = (c.loop-piece.invariant.1, reading_meant other_reader _
 
 pub returns-in-Err-clause-room : goal.returns-in-Err-clause-room
 returns-in-Err-clause-room c = λ none wanted.
+    let so_far = c.loop-piece.invariant.0 in
     let taken : false ≡ true =
     c.in-Err.ensures.room
-    (nothing_grows other_after [] is_other_piece other_passes (λ own p. is_other_piece p) (λ p e. e) c.args.body _ _ _ _ c.in-Some.ensures.steps c.loop-piece.invariant.0 none) in
+    (no_growth other_after (λ own p. is_other_piece p) (λ own. false) [] _ c.args.body so_far.taken _ _ c.in-Some.piece.now so_far.parts c.in-Some.ensures.steps so_far.reached
+    (no_other_growth c.args.body none)) in
     cc

@@ -1,13 +1,11 @@
 use Rattle.std.proofs.Common.{◌≡◌, true, false, None, sym, refl, inr}
-use Rattle.icu_locale_core_grammar.specs.Subtags.{is_field_key}
 use Rattle.icu_locale_core_grammar.specs.Stepping.{InHead}
 use Rattle.icu_locale_core_grammar.specs.TagStages.{transform_after}
 use Rattle.icu_locale_core_grammar.proofs.BodyReaders.{transform_reader}
 use Rattle.icu_locale_core_keywords_fields.proofs.ReadingLemmas.{reading_goes_on, reading_meant, reading_refused, reading_cut}
-use Rattle.icu_locale_core_keywords_fields.specs.Allocation.{grows_at, keeps_last}
-use Rattle.icu_locale_core_langid.specs.Allocation as language
-use Rattle.icu_locale_core_extensions.specs.Allocation.{begins_transform}
-use Rattle.icu_locale_core_extensions.proofs.AllocationLemmas.{nothing_grows, nothing_kept, transform_passes}
+use Rattle.icu_locale_core_keywords_fields.specs.Allocation.{keeps_last}
+use Rattle.icu_locale_core_langid.proofs.AllocationLemmas.{no_growth, no_growth_at_end}
+use Rattle.icu_locale_core_extensions.specs.Allocation.{transform_grows_at}
 use Rattle.icu_locale_core_extensions.proofs.transform.read_body.Goals as goal
 
 pub loop-piece-preserved : goal.loop-piece-preserved
@@ -31,12 +29,16 @@ returns-in-Ok-None-clause-fault c =
 
 pub returns-in-Err-clause-room : goal.returns-in-Err-clause-room
 returns-in-Err-clause-room c = λ none wanted.
+    let so_far = c.loop-piece.invariant in
     let taken : false ≡ true =
     c.in-Err.ensures.room
-    (nothing_grows transform_after (InHead None) begins_transform transform_passes (grows_at language.grows_at is_field_key) (λ p e. refl) c.args.body _ _ _ _ c.in-Some.ensures.steps c.loop-piece.invariant none) in
+    (no_growth transform_after transform_grows_at keeps_last (InHead None) _ c.args.body so_far.taken _ _ c.in-Some.piece.now so_far.parts c.in-Some.ensures.steps so_far.reached none) in
     cc
 
 pub returns-in-Err-headed_finish-clause-room : goal.returns-in-Err-headed_finish-clause-room
 returns-in-Err-headed_finish-clause-room c = λ none wanted.
-    let ended : false ≡ true = c.in-Err-headed_finish.ensures.room (nothing_kept transform_after (InHead None) begins_transform transform_passes keeps_last refl c.args.body _ _ c.loop-piece.invariant none) in
+    let so_far = c.loop-piece.invariant in
+    let ended : false ≡ true =
+    c.in-Err-headed_finish.ensures.room
+    (no_growth_at_end transform_after transform_grows_at keeps_last (InHead None) _ c.args.body so_far.taken _ so_far.parts c.in-None.ensures.steps.0 so_far.reached none) in
     cc

@@ -1,12 +1,11 @@
 use Rattle.std.proofs.Common.{◌≡◌, true, false, [], sym, refl, inr}
-use Rattle.icu_locale_core_grammar.specs.Subtags.{is_attribute, is_key}
 use Rattle.icu_locale_core_grammar.specs.Stepping.{InHead}
 use Rattle.icu_locale_core_grammar.specs.TagStages.{unicode_after}
 use Rattle.icu_locale_core_grammar.proofs.BodyReaders.{unicode_reader}
 use Rattle.icu_locale_core_keywords_fields.proofs.ReadingLemmas.{reading_goes_on, reading_meant, reading_refused, reading_cut}
-use Rattle.icu_locale_core_keywords_fields.specs.Allocation.{grows_at, keeps_last}
-use Rattle.icu_locale_core_extensions.specs.Allocation.{begins_unicode}
-use Rattle.icu_locale_core_extensions.proofs.AllocationLemmas.{nothing_grows, nothing_kept, unicode_passes, no_attribute}
+use Rattle.icu_locale_core_keywords_fields.specs.Allocation.{keeps_last}
+use Rattle.icu_locale_core_langid.proofs.AllocationLemmas.{no_growth, no_growth_at_end}
+use Rattle.icu_locale_core_extensions.specs.Allocation.{unicode_grows_at}
 use Rattle.icu_locale_core_extensions.proofs.unicode.read_body.Goals as goal
 
 pub loop-piece-preserved : goal.loop-piece-preserved
@@ -30,12 +29,16 @@ returns-in-Ok-None-clause-fault c =
 
 pub returns-in-Err-clause-room : goal.returns-in-Err-clause-room
 returns-in-Err-clause-room c = λ none wanted.
+    let so_far = c.loop-piece.invariant in
     let taken : false ≡ true =
     c.in-Err.ensures.room
-    (nothing_grows unicode_after (InHead []) begins_unicode unicode_passes (grows_at (λ s p. is_attribute p) is_key) no_attribute c.args.body _ _ _ _ c.in-Some.ensures.steps c.loop-piece.invariant none) in
+    (no_growth unicode_after unicode_grows_at keeps_last (InHead []) _ c.args.body so_far.taken _ _ c.in-Some.piece.now so_far.parts c.in-Some.ensures.steps so_far.reached none) in
     cc
 
 pub returns-in-Err-headed_finish-clause-room : goal.returns-in-Err-headed_finish-clause-room
 returns-in-Err-headed_finish-clause-room c = λ none wanted.
-    let ended : false ≡ true = c.in-Err-headed_finish.ensures.room (nothing_kept unicode_after (InHead []) begins_unicode unicode_passes keeps_last refl c.args.body _ _ c.loop-piece.invariant none) in
+    let so_far = c.loop-piece.invariant in
+    let ended : false ≡ true =
+    c.in-Err-headed_finish.ensures.room
+    (no_growth_at_end unicode_after unicode_grows_at keeps_last (InHead []) _ c.args.body so_far.taken _ so_far.parts c.in-None.ensures.steps.0 so_far.reached none) in
     cc

@@ -2,8 +2,8 @@ use Rattle.std.proofs.Common.{refl, inr}
 use Rattle.icu_locale_core_grammar.specs.Meaning.{MeansTransform}
 use Rattle.icu_locale_core_grammar.specs.Pieces.{pieces}
 use Rattle.icu_locale_core_grammar.specs.Subtags.{transform_text, is_transform}
-use Rattle.icu_locale_core_extensions.specs.Allocation.{begins_transform}
-use Rattle.icu_locale_core_extensions.proofs.AllocationLemmas.{begins_body}
+use Rattle.icu_locale_core_extensions.specs.Allocation.{transform_may_grow}
+use Rattle.icu_locale_core_extensions.proofs.AllocationLemmas.{growth_behind}
 use Rattle.icu_locale_core_extensions.proofs.OpeningLemmas.{opened, refused_behind, each_error}
 use Rattle.icu_locale_core_extensions.proofs.transform.Transform.try_from_utf8.Goals as goal
 
@@ -18,4 +18,4 @@ returns-in-None-clause-fault c =
 pub returns-in-Some-clause-room : goal.returns-in-Some-clause-room
 returns-in-Some-clause-room c = λ none.
     let opens = c.in-Some.ensures in
-    c.read_body.ensures.room (begins_body is_transform begins_transform (pieces c.args.code_units.now) c.in-Some.body opens.first opens.parts opens.is none)
+    c.read_body.ensures.room (growth_behind is_transform transform_may_grow (pieces c.args.code_units.now) c.in-Some.body opens.first opens.parts opens.is none)

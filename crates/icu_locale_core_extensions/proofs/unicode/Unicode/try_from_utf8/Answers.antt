@@ -2,8 +2,8 @@ use Rattle.std.proofs.Common.{refl, inr}
 use Rattle.icu_locale_core_grammar.specs.Meaning.{MeansUnicode}
 use Rattle.icu_locale_core_grammar.specs.Pieces.{pieces}
 use Rattle.icu_locale_core_grammar.specs.Subtags.{unicode_text, is_unicode}
-use Rattle.icu_locale_core_extensions.specs.Allocation.{begins_unicode}
-use Rattle.icu_locale_core_extensions.proofs.AllocationLemmas.{begins_body}
+use Rattle.icu_locale_core_extensions.specs.Allocation.{unicode_may_grow}
+use Rattle.icu_locale_core_extensions.proofs.AllocationLemmas.{growth_behind}
 use Rattle.icu_locale_core_extensions.proofs.OpeningLemmas.{opened, refused_behind, each_error}
 use Rattle.icu_locale_core_extensions.proofs.unicode.Unicode.try_from_utf8.Goals as goal
 
@@ -18,4 +18,4 @@ returns-in-None-clause-fault c =
 pub returns-in-Some-clause-room : goal.returns-in-Some-clause-room
 returns-in-Some-clause-room c = λ none.
     let opens = c.in-Some.ensures in
-    c.read_body.ensures.room (begins_body is_unicode begins_unicode (pieces c.args.code_units.now) c.in-Some.body opens.first opens.parts opens.is none)
+    c.read_body.ensures.room (growth_behind is_unicode unicode_may_grow (pieces c.args.code_units.now) c.in-Some.body opens.first opens.parts opens.is none)
