@@ -3,7 +3,7 @@ pub mod KnownValues
 pub mod LocaleTextLemmas
 pub mod NormalizingLemmas
 pub mod OrderLemmas
-pub mod AllocationLemmas
+pub mod FaultLemmas
 pub mod SingletonLemmas
 pub mod StageLemmas
 pub mod WellFormedLemmas

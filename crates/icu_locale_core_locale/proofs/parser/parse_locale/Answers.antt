@@ -2,12 +2,15 @@ use Rattle.std.proofs.Common.{sym, inr, ◌++◌, ap, ◌∙◌, subst}
 use Rattle.icu_locale_core_grammar.specs.FaultyPiece.{HasFault}
 use Rattle.icu_locale_core_grammar.specs.Meaning.{MeansTag}
 use Rattle.icu_locale_core_grammar.specs.Pieces.{pieces}
+use Rattle.icu_locale_core_grammar.specs.TagStages.{tag_after, tag_start}
 use Rattle.icu_locale_core_grammar.proofs.CallerLemmas.{tag_refused, tag_cut, none_left}
 use Rattle.icu_locale_core_grammar.proofs.TagReader.{tag_reader}
 use Rattle.icu_locale_core_keywords_fields.proofs.ReadingLemmas.{reading_goes_on, reading_meant}
 use Rattle.icu_locale_core_locale.specs.StageView.{stage_view}
 use Rattle.icu_locale_core_locale.proofs.FewLemmas.{reached_few}
-use Rattle.icu_locale_core_locale.proofs.AllocationLemmas.{no_growth, no_growth_at_end, never_memory}
+use Rattle.icu_locale_core_langid.proofs.AllocationLemmas.{no_growth, no_growth_at_end}
+use Rattle.icu_locale_core_locale.specs.Allocation.{tag_grows_at, tag_keeps}
+use Rattle.icu_locale_core_locale.proofs.FaultLemmas.{never_memory}
 use Rattle.icu_locale_core_locale.proofs.parser.parse_locale.Goals as goal
 
 pub loop-piece-preserved : goal.loop-piece-preserved
@@ -33,7 +36,8 @@ pub returns-in-Err-clause-room : goal.returns-in-Err-clause-room
 returns-in-Err-clause-room c = λ none memory.
     let so_far = c.loop-piece.invariant in
     let failed =
-    c.in-Err.ensures.room (no_growth (pieces c.args.code_units.now) so_far.taken _ c.next.new.self (stage_view c.loop-piece.stage) c.in-Some.piece.now so_far.parts c.in-Some.ensures.steps so_far.reached none)
+    c.in-Err.ensures.room
+    (no_growth tag_after tag_grows_at tag_keeps tag_start (stage_view c.loop-piece.stage) (pieces c.args.code_units.now) so_far.taken _ c.next.new.self c.in-Some.piece.now so_far.parts c.in-Some.ensures.steps so_far.reached none)
     (reached_few so_far.taken (stage_view c.loop-piece.stage) so_far.reached) in
     cc
 
@@ -52,5 +56,7 @@ returns-in-Ok-Stops-finished-clause-fault c =
 pub returns-in-Err-finished-clause-room : goal.returns-in-Err-finished-clause-room
 returns-in-Err-finished-clause-room c = λ none memory.
     let so_far = c.loop-piece.invariant in
-    let failed = c.in-Err-finished.ensures.room (no_growth_at_end (pieces c.args.code_units.now) so_far.taken _ (stage_view c.loop-piece.stage) so_far.parts c.in-None.ensures.steps.0 so_far.reached none) in
+    let failed =
+    c.in-Err-finished.ensures.room
+    (no_growth_at_end tag_after tag_grows_at tag_keeps tag_start (stage_view c.loop-piece.stage) (pieces c.args.code_units.now) so_far.taken _ so_far.parts c.in-None.ensures.steps.0 so_far.reached none) in
     cc
