@@ -164,9 +164,9 @@ fn read_body(
 impl Other {
     /// The extension in this text, with its singleton: `A-Foo-bar` has the singleton `a` and the subtags `foo`, `bar`.
     ///
-    /// `InvalidExtension`: the text is no such extension, as `a` alone, `a-b`, and one of `u`, `t` or `x`. `Memory`: memory was
-    /// refused; none is taken where the first piece is no such singleton, or no subtag of an extension is right behind it.
-    /// Source: RFC 5646 (BCP 47), section 2.2.6.
+    /// `InvalidExtension`: the text is no such extension, as `a`, `a-b`, and one of `u`, `t` or `x`. `Memory`: out of
+    /// memory. It does not allocate where the first piece is no such singleton, or no subtag of an extension is right
+    /// behind it. Source: RFC 5646 (BCP 47), section 2.2.6.
     pub fn try_from_str(alloc: Global, s: &str) -> Result<Self, ParseError>
         ensures value { IfOk result (ReadsOther s.now) }
         ensures fault { IfErr result (IsRefused (ReadsOther s.now)) }
