@@ -1,71 +1,45 @@
-//! Lines under a book, and books.
+//! Books, and lines under a book.
+
 use crate::books::book_named;
-use crate::case::case_of;
-use crate::escapes::{escaped, unescaped};
-use crate::row_error::RowError;
 use locale_numbers::{Book, BookError, answer};
+use rows::{Stop, escaped, put, put_text, unescaped};
 use std::alloc::Global;
 
-// The bytes of the book with this name, with an array of parents behind its five.
-fn with_parents(alloc: Global, name: &str, parents: &str) -> Result<Vec<u8>, RowError> {
-    let Some(text) = book_named(name) else {
-        return Err(RowError::NotUnderstood);
-    };
-    let Some(arrays) = text.strip_suffix(']') else {
-        return Err(RowError::NotUnderstood);
-    };
-    Ok(format!(in alloc; "{arrays},{parents}]")?.into_bytes())
-}
-
-/// The bytes of the book that a field names, with parents or without, or says.
-pub fn book_bytes(alloc: Global, field: &str) -> Result<Vec<u8>, RowError> {
-    if let Some((name, parents)) = field.split_once(" + ") {
-        return with_parents(alloc, name, parents);
-    }
-    match book_named(field) {
-        Some(text) => Ok(Vec::from_slice(alloc, text.as_bytes())?),
+/// The bytes of the book that a field names, with parents behind its five arrays or without, or says.
+pub fn book_bytes(alloc: Global, field: &str) -> Result<Vec<u8>, Stop> {
+    let (name, parents) = field.split_once(" + ").unwrap_or((field, ""));
+    match book_named(name) {
         None => unescaped(alloc, field),
-    }
-}
-
-/// The book that bytes are.
-pub fn book_of_text(alloc: Global, bytes: &[u8]) -> Result<Book, RowError> {
-    match Book::from_json(alloc, bytes) {
-        Ok(book) => Ok(book),
-        Err(BookError::Memory) => Err(RowError::Memory),
-        Err(_) => Err(RowError::NotUnderstood),
+        Some(text) if parents.is_empty() => Ok(Vec::from_slice(alloc, text.as_bytes())?),
+        Some(text) => {
+            let arrays = text.strip_suffix(']').unwrap_or(text);
+            Ok(format!(in alloc; "{arrays},{parents}]")?.into_bytes())
+        }
     }
 }
 
 /// The book that a field names, or says.
-pub fn book_of(alloc: Global, field: &str) -> Result<Book, RowError> {
+pub fn book_of(alloc: Global, field: &str) -> Result<Book, Stop> {
     let bytes = book_bytes(alloc, field)?;
-    let book = book_of_text(alloc, &bytes);
+    let read = Book::from_json(alloc, bytes.as_slice());
     drop(bytes);
-    book
+    match read {
+        Ok(book) => Ok(book),
+        Err(BookError::Memory) => Err(Stop::Memory),
+        Err(_) => Err(Stop::Unknown),
+    }
 }
 
-/// The answer of a book to a line, as it stands in a field.
-pub fn answer_text(alloc: Global, book: &Book, line: &[u8]) -> Result<String, RowError> {
-    let answer = answer(alloc, book, line)?;
-    let text = escaped(alloc, &answer);
+/// Writes the answer of a book to a line.
+pub fn put_answer(book: &Book, line: &[u8], out: &mut String) -> Result<(), Stop> {
+    let answer = answer(*out.allocator(), book, line)?;
+    let put = escaped(out, answer.as_slice());
     drop(answer);
-    text
+    put
 }
 
-/// `answer BOOK LINE`: the answer of the book to the line.
-pub fn answer_row(alloc: Global, arguments: &[&str]) -> Result<String, RowError> {
-    let [book, line] = arguments else {
-        return Err(RowError::NotUnderstood);
-    };
-    let case = case_of(alloc, book, line)?;
-    let text = answer_text(alloc, &case.book, &case.bytes);
-    drop(case);
-    text
-}
-
-/// Whether bytes are a book.
-pub fn tried(alloc: Global, bytes: &[u8]) -> Result<(), BookError> {
+// Whether bytes are a book.
+fn tried(alloc: Global, bytes: &[u8]) -> Result<(), BookError> {
     match Book::from_json(alloc, bytes) {
         Ok(book) => {
             drop(book);
@@ -75,16 +49,24 @@ pub fn tried(alloc: Global, bytes: &[u8]) -> Result<(), BookError> {
     }
 }
 
-/// `from_json BOOK`: `ok`, or the word of the refusal.
-pub fn book_row(alloc: Global, arguments: &[&str]) -> Result<String, RowError> {
-    let [text] = arguments else {
-        return Err(RowError::NotUnderstood);
-    };
-    let bytes = book_bytes(alloc, text)?;
-    let tried = tried(alloc, &bytes);
-    drop(bytes);
-    match tried {
-        Ok(()) => Ok(String::from_str(alloc, "ok")?),
-        Err(refusal) => Ok(refusal.to_string(alloc)?),
+/// Writes `ok` where bytes are a book, or the word of the refusal.
+pub fn put_verdict(bytes: &[u8], out: &mut String) -> Result<(), Stop> {
+    match tried(*out.allocator(), bytes) {
+        Ok(()) => put_text(out, "ok"),
+        Err(refusal) => put(out, &refusal),
     }
+}
+
+/// Writes how many beginnings of bytes, the whole left out, are no JSON, of how many.
+pub fn put_beginnings(bytes: &[u8], out: &mut String) -> Result<(), Stop> {
+    let mut count: usize = 0;
+    for length in 0..bytes.len() {
+        match tried(*out.allocator(), &bytes[..length]) {
+            Err(BookError::Json) => count = count.saturating_add(1),
+            Err(BookError::Memory) => return Err(Stop::Memory),
+            _ => {}
+        }
+    }
+    write!(out, "json {count} of {}", bytes.len())?;
+    Ok(())
 }

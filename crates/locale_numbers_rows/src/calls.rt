@@ -1,71 +1,106 @@
-//! Which call a line asks for.
-use crate::row_error::RowError;
-use crate::{
-    answers, beginnings, faults, formatters, loads, plain, repeated, runs, sent_back, starts,
-    tracked, watched,
-};
+//! Which call a row asks for.
+
+use crate::answers::{book_bytes, book_of, put_answer, put_beginnings, put_verdict};
+use crate::repeated::repeated;
+use crate::{faults, formatters, plain, repeated, runs, sent_back, shouter, starts, tracked};
+use locale_numbers::Book;
+use rows::{Stop, Table, unescaped};
 use std::alloc::Global;
 use std::rt::Files;
 
-// What a call on a tracked reader or writer answers.
-fn tracked_result(alloc: Global, call: &str, arguments: &[&str]) -> Result<String, RowError> {
-    match call {
-        "tracked_read" => tracked::read_row(alloc),
-        "tracked_write" => tracked::write_row(alloc, arguments),
-        "tracked_flush" => tracked::flush_row(alloc, arguments),
-        _ => Err(RowError::NotUnderstood),
+/// The table of the calls of `locale_numbers`, and the files that are there.
+#[derive(Drop)]
+pub struct Calls<'r, F> {
+    pub files: &'r F,
+    pub alloc: Global,
+}
+
+impl<F: Files> Table for Calls<'_, F> {
+    fn answer(&self, row: &str, out: &mut String) -> Result<(), Stop> {
+        let fields: Vec<&str> = row.split('\t').collect(self.alloc)?;
+        let answered = answer_fields(self.files, fields.as_slice(), out);
+        drop(fields);
+        answered
     }
 }
 
-// What a call on a reader and a writer leaves.
-fn run_result<F: Files>(
-    rt: &F,
-    alloc: Global,
-    call: &str,
-    arguments: &[&str],
-) -> Result<String, RowError> {
-    match call {
-        "run" => runs::run_row(alloc, arguments),
-        "run_tracked" => runs::tracked_row(alloc, arguments),
-        "run_long" => repeated::long_row(alloc, arguments),
-        "run_cuts" => runs::cuts_row(alloc, arguments),
-        "run_with" => runs::shouted_row(alloc, arguments),
-        "run_loads" => loads::loads_row(alloc, arguments),
-        "run_watched" => watched::watched_row(alloc, arguments),
-        "program" => starts::program_row(rt, alloc, arguments),
-        other => tracked_result(alloc, other, arguments),
-    }
-}
-
-// What a call answers, whose name is the first of the fields.
-fn result_of_fields<F: Files>(rt: &F, alloc: Global, fields: &[&str]) -> Result<String, RowError> {
-    let Some((call, arguments)) = fields.split_first() else {
-        return Err(RowError::NotUnderstood);
+// The answer of a row taken apart, whose last field is read as bytes.
+fn answer_fields<F: Files>(files: &F, fields: &[&str], out: &mut String) -> Result<(), Stop> {
+    let Some((call, passed)) = fields.split_first() else {
+        return Err(Stop::Unknown);
     };
-    match *call {
-        "answer" => answers::answer_row(alloc, arguments),
-        "from_json" => answers::book_row(alloc, arguments),
-        "from_json_beginnings" => beginnings::beginnings_row(alloc, arguments),
-        "formatter" | "short_formatter" | "long_formatter" => {
-            formatters::formatter_row(alloc, call, arguments)
-        }
-        "BookError" => faults::book_row(alloc, arguments),
-        "RunError" => faults::run_row(alloc, arguments),
-        "ProgramFault" => faults::program_row(alloc, arguments),
-        "ByteReadFault" => faults::read_row(alloc, arguments),
-        "ByteWriteFault" => faults::write_row(alloc, arguments),
-        "read_words" => starts::words_row(alloc, arguments),
-        "answer_sized" => plain::sized_row(alloc, arguments),
-        "check" => plain::check_row(alloc, arguments),
-        "sent_back" => sent_back::sent_back_row(alloc, arguments),
-        other => run_result(rt, alloc, other, arguments),
+    let last = passed.last().unwrap_or(call);
+    let bytes = bytes_of(*out.allocator(), call, last)?;
+    let answered = answer_by(files, call, passed, bytes.as_slice(), out);
+    drop(bytes);
+    answered
+}
+
+// The bytes that the last field of a call stands for.
+fn bytes_of(alloc: Global, call: &str, field: &str) -> Result<Vec<u8>, Stop> {
+    match call {
+        "from_json" | "from_json_beginnings" => book_bytes(alloc, field),
+        "run_long" => repeated(alloc, field),
+        _ => unescaped(alloc, field),
     }
 }
 
-/// What the call of a line answers.
-pub fn result_of<F: Files>(rt: &F, alloc: Global, line: &str) -> Result<String, RowError> {
-    let fields: Vec<&str> = line.split('\t').collect(alloc)?;
-    let result = result_of_fields(rt, alloc, fields.as_slice());
-    drop(fields);
-    result
+// The answer of a call, whose last field stands for bytes.
+fn answer_by<F: Files>(
+    files: &F,
+    call: &str,
+    passed: &[&str],
+    bytes: &[u8],
+    out: &mut String,
+) -> Result<(), Stop> {
+    match call {
+        "program" => starts::answer(files, passed, bytes, out),
+        "read_words" => starts::put_words(passed, out),
+        "run_with" => shouter::answer(passed, bytes, out),
+        "from_json" => put_verdict(bytes, out),
+        "from_json_beginnings" => put_beginnings(bytes, out),
+        "tracked_read" => tracked::read(out),
+        "tracked_write" => tracked::write(bytes, out),
+        "tracked_flush" => tracked::flush(passed, out),
+        "answer_sized" => plain::answer_sized(passed, out),
+        "check" => plain::check(passed, out),
+        "BookError" | "RunError" | "ProgramFault" | "ByteReadFault" | "ByteWriteFault" => {
+            faults::answer(call, passed, out)
+        }
+        _ => answer_under(call, passed, bytes, out),
+    }
+}
+
+/// The answer of a call under the book that the first field names, or says.
+pub fn answer_under(
+    call: &str,
+    fields: &[&str],
+    bytes: &[u8],
+    out: &mut String,
+) -> Result<(), Stop> {
+    let Some((book, passed)) = fields.split_first() else {
+        return Err(Stop::Unknown);
+    };
+    let book = book_of(*out.allocator(), book)?;
+    let answered = answer_of_book(&book, call, passed, bytes, out);
+    drop(book);
+    answered
+}
+
+fn answer_of_book(
+    book: &Book,
+    call: &str,
+    passed: &[&str],
+    bytes: &[u8],
+    out: &mut String,
+) -> Result<(), Stop> {
+    match passed {
+        [_] if call == "answer" => put_answer(book, bytes, out),
+        [_] if call == "sent_back" => sent_back::answer(book, bytes, out),
+        [input, _] if call == "run_long" => repeated::answer(book, input, bytes, out),
+        [tag, number] if call.ends_with("formatter") => {
+            formatters::answer(book, call, tag, number, out)
+        }
+        _ => runs::answer(book, call, passed, bytes, out),
+    }
 }

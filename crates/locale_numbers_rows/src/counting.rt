@@ -10,12 +10,12 @@ use locale_numbers::{Book, Tables};
 use std::cell::Cell;
 
 /// The tables of a book, and a count of the loads of digits.
-#[derive(Drop)]
+#[derive(Clone, Copy)]
 pub struct Counting<'b> {
     /// The book.
     pub book: &'b Book,
     /// How often digits were asked for, found or not.
-    pub digits_asked: Cell<u64>,
+    pub digits_asked: &'b Cell<u64>,
 }
 
 impl<'b> DataProvider<DecimalDigitsV1> for Counting<'b> {

@@ -1,21 +1,9 @@
 //! Refusals and faults by their names: number, word or status, and text.
-use crate::row_error::RowError;
+
 use locale_numbers::{BookError, ByteReadFault, ByteWriteFault, ProgramFault, RunError};
-use std::alloc::Global;
+use rows::{Stop, put};
 
-fn later_error_named(name: &str) -> Result<BookError, RowError> {
-    match name {
-        "Condition" => Ok(BookError::Condition),
-        "Types" => Ok(BookError::Types),
-        "Exponents" => Ok(BookError::Exponents),
-        "Duplicate" => Ok(BookError::Duplicate),
-        "Cycle" => Ok(BookError::Cycle),
-        "Memory" => Ok(BookError::Memory),
-        _ => Err(RowError::NotUnderstood),
-    }
-}
-
-fn book_error_named(name: &str) -> Result<BookError, RowError> {
+fn book_error_named(name: &str) -> Result<BookError, Stop> {
     match name {
         "Json" => Ok(BookError::Json),
         "Shape" => Ok(BookError::Shape),
@@ -23,78 +11,55 @@ fn book_error_named(name: &str) -> Result<BookError, RowError> {
         "System" => Ok(BookError::System),
         "Text" => Ok(BookError::Text),
         "Digits" => Ok(BookError::Digits),
-        later => later_error_named(later),
+        "Condition" => Ok(BookError::Condition),
+        "Types" => Ok(BookError::Types),
+        "Exponents" => Ok(BookError::Exponents),
+        "Duplicate" => Ok(BookError::Duplicate),
+        "Cycle" => Ok(BookError::Cycle),
+        "Memory" => Ok(BookError::Memory),
+        _ => Err(Stop::Unknown),
     }
 }
 
-fn run_error_named(name: &str) -> Result<RunError, RowError> {
+fn run_error_named(name: &str) -> Result<RunError, Stop> {
     match name {
         "Read" => Ok(RunError::Read),
         "Write" => Ok(RunError::Write),
         "Memory" => Ok(RunError::Memory),
-        _ => Err(RowError::NotUnderstood),
+        _ => Err(Stop::Unknown),
     }
 }
 
-fn program_fault_named(arguments: &[&str]) -> Result<ProgramFault, RowError> {
-    if let [kind, name] = arguments {
-        return match *kind {
-            "Book" => Ok(ProgramFault::Book(book_error_named(name)?)),
-            "Run" => Ok(ProgramFault::Run(run_error_named(name)?)),
-            _ => Err(RowError::NotUnderstood),
-        };
-    }
-    let [name] = arguments else {
-        return Err(RowError::NotUnderstood);
-    };
-    match *name {
-        "Usage" => Ok(ProgramFault::Usage),
-        "File" => Ok(ProgramFault::File),
-        _ => Err(RowError::NotUnderstood),
+fn program_fault_named(names: &[&str]) -> Result<ProgramFault, Stop> {
+    match names {
+        [name] if *name == "Usage" => Ok(ProgramFault::Usage),
+        [name] if *name == "File" => Ok(ProgramFault::File),
+        [kind, name] if *kind == "Book" => Ok(ProgramFault::Book(book_error_named(name)?)),
+        [kind, name] if *kind == "Run" => Ok(ProgramFault::Run(run_error_named(name)?)),
+        _ => Err(Stop::Unknown),
     }
 }
 
-/// `BookError NAME`: its number, its word, its text.
-pub fn book_row(alloc: Global, arguments: &[&str]) -> Result<String, RowError> {
-    let [name] = arguments else {
-        return Err(RowError::NotUnderstood);
-    };
-    let refusal = book_error_named(name)?;
-    let number = refusal.number();
-    let word = refusal.word();
-    Ok(format!(in alloc; "{number}, {word}, {refusal}")?)
-}
-
-/// `RunError NAME`: its number, its text.
-pub fn run_row(alloc: Global, arguments: &[&str]) -> Result<String, RowError> {
-    let [name] = arguments else {
-        return Err(RowError::NotUnderstood);
-    };
-    let refusal = run_error_named(name)?;
-    let number = refusal.number();
-    Ok(format!(in alloc; "{number}, {refusal}")?)
-}
-
-/// `ProgramFault NAME` or `ProgramFault NAME INNER`: its status, its number, its text.
-pub fn program_row(alloc: Global, arguments: &[&str]) -> Result<String, RowError> {
-    let fault = program_fault_named(arguments)?;
-    let status = fault.status();
-    let number = fault.number();
-    Ok(format!(in alloc; "{status}, {number}, {fault}")?)
-}
-
-/// `ByteReadFault`: its text.
-pub fn read_row(alloc: Global, arguments: &[&str]) -> Result<String, RowError> {
-    match arguments {
-        [] => Ok(ByteReadFault.to_string(alloc)?),
-        _ => Err(RowError::NotUnderstood),
-    }
-}
-
-/// `ByteWriteFault`: its text.
-pub fn write_row(alloc: Global, arguments: &[&str]) -> Result<String, RowError> {
-    match arguments {
-        [] => Ok(ByteWriteFault.to_string(alloc)?),
-        _ => Err(RowError::NotUnderstood),
+/// Writes the number, the word or the status, and the text of the fault with this name.
+pub fn answer(call: &str, passed: &[&str], out: &mut String) -> Result<(), Stop> {
+    match passed {
+        [] if call == "ByteReadFault" => put(out, &ByteReadFault),
+        [] if call == "ByteWriteFault" => put(out, &ByteWriteFault),
+        [name] if call == "BookError" => {
+            let fault = book_error_named(name)?;
+            write!(out, "{}, {}, {fault}", fault.number(), fault.word())?;
+            Ok(())
+        }
+        [name] if call == "RunError" => {
+            let fault = run_error_named(name)?;
+            write!(out, "{}, {fault}", fault.number())?;
+            Ok(())
+        }
+        names if call == "ProgramFault" => {
+            let fault = program_fault_named(names)?;
+            write!(out, "{}, {}, {fault}", fault.status(), fault.number())?;
+            Ok(())
+        }
+        _ => Err(Stop::Unknown),
     }
 }

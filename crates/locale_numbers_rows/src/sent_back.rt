@@ -1,54 +1,36 @@
 //! The value that a compact answer prints, sent back in the exact form.
-use crate::answers::answer_text;
-use crate::case::case_of;
-use crate::row_error::RowError;
-use locale_numbers::{Book, answer};
-use std::alloc::Global;
 
-// The line of these fields, in the exact form, with `keep`, no rounding and a value.
-fn line_of(alloc: Global, fields: &[&str], value: &str) -> Result<String, RowError> {
-    let [tag, form, grouping, _, _, _] = fields else {
-        return Err(RowError::NotUnderstood);
-    };
-    Ok(format!(in alloc; "{tag}\texact-{form}\t{grouping}\tkeep\t-\t{value}")?)
-}
+use crate::answers::put_answer;
+use locale_numbers::Book;
+use rows::Stop;
 
-// The line that sends back the value behind the last tab of the answer to a line.
-fn exact_line(alloc: Global, line: &[u8], answer: &[u8]) -> Result<String, RowError> {
+// The line with the same tag and grouping that sends back, in the exact form, the value behind the last tab of the answer to a line,
+// as that stands in a field.
+fn exact_line(line: &[u8], answer: &String) -> Result<String, Stop> {
     let Ok(line) = str::from_utf8(line) else {
-        return Err(RowError::NotUnderstood);
+        return Err(Stop::Unknown);
     };
-    let Ok(answer) = str::from_utf8(answer) else {
-        return Err(RowError::NotUnderstood);
+    let Some((tag, behind)) = line.split_once('\t') else {
+        return Err(Stop::Unknown);
     };
-    let Some((_, value)) = answer.rsplit_once('\t') else {
-        return Err(RowError::NotUnderstood);
+    let Some((form, behind)) = behind.split_once('\t') else {
+        return Err(Stop::Unknown);
     };
-    let fields: Vec<&str> = line.split('\t').collect(alloc)?;
-    let exact = line_of(alloc, fields.as_slice(), value);
-    drop(fields);
-    exact
+    let Some((grouping, _)) = behind.split_once('\t') else {
+        return Err(Stop::Unknown);
+    };
+    let Some((_, value)) = answer.as_str().rsplit_once("\\t") else {
+        return Err(Stop::Unknown);
+    };
+    Ok(format!(in *answer.allocator(); "{tag}\texact-{form}\t{grouping}\tkeep\t-\t{value}")?)
 }
 
-// The answer to the value that the answer to a line prints.
-fn answer_back(alloc: Global, book: &Book, line: &[u8]) -> Result<String, RowError> {
-    let answer = answer(alloc, book, line)?;
-    let exact = exact_line(alloc, line, &answer);
-    drop(answer);
-    let exact = exact?;
-    let text = answer_text(alloc, book, exact.as_bytes());
+/// Writes the answer to the value that the answer to a line prints.
+pub fn answer(book: &Book, line: &[u8], out: &mut String) -> Result<(), Stop> {
+    put_answer(book, line, out)?;
+    let exact = exact_line(line, out)?;
+    out.clear();
+    let put = put_answer(book, exact.as_bytes(), out);
     drop(exact);
-    text
-}
-
-/// `sent_back BOOK LINE`: the answer to the value that the compact answer to the line prints, sent in the exact form with the same
-/// tag and grouping, `keep` and no rounding.
-pub fn sent_back_row(alloc: Global, arguments: &[&str]) -> Result<String, RowError> {
-    let [book, line] = arguments else {
-        return Err(RowError::NotUnderstood);
-    };
-    let case = case_of(alloc, book, line)?;
-    let text = answer_back(alloc, &case.book, &case.bytes);
-    drop(case);
-    text
+    put
 }

@@ -5,25 +5,29 @@ use std::io;
 use std::io::{Read, Seek, SeekFrom, Write};
 use std::rt::Files;
 
-// What stands under a path: nothing, a file, or a file that can't be read to its end.
-#[derive(Clone, Copy)]
-pub enum Stored<'a> {
-    Nothing,
-    Whole(&'a [u8]),
-    Broken(&'a [u8]),
-}
-
-// A file system that has the same thing under every path.
+/// A file system that has the same thing under every path: `nothing`, a `whole` file with a text, or one that is `broken` off behind it.
 #[derive(Clone, Copy)]
 pub struct Shelf<'a> {
-    pub stored: Stored<'a>,
+    pub kind: &'a str,
+    pub text: &'a [u8],
 }
 
-// An opened file.
+/// An opened file, which may fail behind its last byte. It takes no byte, and counts its flushes.
 #[derive(Drop)]
 pub struct Page<'a> {
-    rest: &'a [u8],
-    is_broken: bool,
+    pub rest: &'a [u8],
+    pub fault: Option<io::ErrorKind>,
+    pub flushes: u64,
+}
+
+impl Page<'_> {
+    // What a call returns that may fail.
+    fn end(&self) -> io::Result<()> {
+        match self.fault {
+            Some(kind) => Err(io::Error::from(kind)),
+            None => Ok(()),
+        }
+    }
 }
 
 fn unsupported() -> io::Error {
@@ -32,8 +36,8 @@ fn unsupported() -> io::Error {
 
 impl<'a> Read for Page<'a> {
     fn read(&mut self, buffer: &mut [u8]) -> io::Result<usize> {
-        if self.is_broken && self.rest.is_empty() {
-            return Err(io::Error::from(io::ErrorKind::Other));
+        if self.rest.is_empty() {
+            self.end()?;
         }
         let count = buffer.len().min(self.rest.len());
         let (given, rest) = self.rest.split_at(count);
@@ -46,11 +50,12 @@ impl<'a> Read for Page<'a> {
 
 impl<'a> Write for Page<'a> {
     fn write(&mut self, _piece: &[u8]) -> io::Result<usize> {
-        Err(unsupported())
+        Ok(0)
     }
 
     fn flush(&mut self) -> io::Result<()> {
-        Err(unsupported())
+        self.flushes = self.flushes.saturating_add(1);
+        self.end()
     }
 }
 
@@ -85,17 +90,16 @@ impl<'a> Files for Shelf<'a> {
 
     fn open_file(&self, how: &OpenOptions, _path: &str) -> io::Result<Page<'a>> {
         how.check()?;
-        match self.stored {
-            Stored::Nothing => Err(io::Error::from(io::ErrorKind::NotFound)),
-            Stored::Whole(rest) => Ok(Page {
-                rest,
-                is_broken: false,
-            }),
-            Stored::Broken(rest) => Ok(Page {
-                rest,
-                is_broken: true,
-            }),
-        }
+        let fault = match self.kind {
+            "whole" => None,
+            "broken" => Some(io::ErrorKind::Other),
+            _ => return Err(io::Error::from(io::ErrorKind::NotFound)),
+        };
+        Ok(Page {
+            rest: self.text,
+            fault,
+            flushes: 0,
+        })
     }
 
     fn open_dir(&self, _path: &str) -> io::Result<Page<'a>> {

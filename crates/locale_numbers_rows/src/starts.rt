@@ -1,134 +1,91 @@
 //! Starts of the program: its words, its book's file, its run.
-ghost use Rattle.std.specs.Prelude.{◌≤◌};
 
 use crate::answers::book_bytes;
-use crate::escapes::unescaped;
-use crate::giving::Giving;
 use crate::narrow::Narrow;
 use crate::pieces::Pieces;
-use crate::row_error::RowError;
-use crate::runs::{capacity_of, left_text, reader_of, writer_of};
-use crate::shelf::{Shelf, Stored};
-use crate::taking::Taking;
-use locale_numbers::{ProgramFault, Words, program, read_words};
-use std::alloc::Global;
+use crate::runs::{Runs, put_left};
+use crate::shelf::Shelf;
+use crate::sides::{Left, Sides};
+use locale_numbers::{Words, program, read_words};
+use rows::{Stop, number_of, put, put_text};
+use std::num::NonZeroUsize;
 use std::rt::Files;
 
-/// `read_words WORD ..`: the book and the capacity that the words name, or the line of the fault.
-pub fn words_row(alloc: Global, arguments: &[&str]) -> Result<String, RowError> {
-    match read_words(arguments) {
+/// Writes the book and the capacity that words name, or the line of the fault.
+pub fn put_words(words: &[&str], out: &mut String) -> Result<(), Stop> {
+    match read_words(words) {
         Ok(words) => {
-            let capacity = words.capacity;
             let book = words.book.unwrap_or("none");
-            Ok(format!(in alloc; "book {book}, capacity {capacity}")?)
+            write!(out, "book {book}, capacity {}", words.capacity)?;
+            Ok(())
         }
-        Err(fault) => Ok(fault.to_string(alloc)?),
+        Err(fault) => put(out, &fault),
     }
 }
 
-// What the program answers.
-fn outcome_text(alloc: Global, outcome: Result<(), ProgramFault>) -> Result<String, RowError> {
-    match outcome {
-        Ok(()) => Ok(String::from_str(alloc, "ok")?),
-        Err(fault) => Ok(fault.to_string(alloc)?),
+// A start of the program over files, with the path of a book or none.
+#[derive(Drop)]
+struct Start<'f, F> {
+    files: &'f F,
+    book: Option<&'f str>,
+    capacity: NonZeroUsize,
+}
+
+impl<F: Files> Runs for Start<'_, F> {
+    fn run(
+        &self,
+        reader: &mut Pieces<'_>,
+        writer: &mut Narrow<'_>,
+        out: &mut String,
+    ) -> Result<(), Stop> {
+        let words = Words {
+            book: self.book,
+            capacity: self.capacity.get(),
+        };
+        match program(self.files, *out.allocator(), &words, reader, writer) {
+            Ok(()) => put_text(out, "ok"),
+            Err(fault) => put(out, &fault),
+        }
     }
 }
 
-// What the program answers, and behind it what it left.
-fn program_left_text(
-    alloc: Global,
-    outcome: Result<(), ProgramFault>,
-    reader: &Pieces<'_>,
-    writer: &Narrow,
-) -> Result<String, RowError> {
-    let outcome = outcome_text(alloc, outcome)?;
-    let text = left_text(alloc, &outcome, reader, writer);
-    drop(outcome);
-    text
-}
-
-// What the program leaves over a file system.
-fn program_text<F: Files>(
+// Writes what the program leaves over files, started with these words: the path of a book, or `-` for none, and a capacity.
+fn put_program<F: Files>(
     files: &F,
-    alloc: Global,
-    words: &Words<'_>,
-    giving: Giving,
-    taking: Taking,
+    words: [&str; 2],
+    sides: Sides<'_>,
+    out: &mut String,
+) -> Result<(), Stop> {
+    let [path, capacity] = words;
+    let start = Start {
+        files,
+        book: if path == "-" { None } else { Some(path) },
+        capacity: number_of(capacity)?,
+    };
+    put_left(&start, sides, out)
+}
+
+/// Writes what the program leaves. The kind says what stands under every path: `nothing`, a `whole` file with this text, one that is
+/// `broken` off behind it, or what is there (`real`).
+pub fn answer<F: Files>(
+    files: &F,
+    passed: &[&str],
     input: &[u8],
-) -> Result<String, RowError>
-    requires { 1 ≤ words.now.capacity }
-{
-    let mut reader = reader_of(input, giving);
-    let mut writer = writer_of(alloc, taking);
-    let outcome = program(files, alloc, words, &mut reader, &mut writer);
-    let text = program_left_text(alloc, outcome, &reader, &writer);
-    drop(writer);
-    text
-}
-
-// What the program leaves whose files are of this kind.
-fn stored_text<F: Files>(
-    rt: &F,
-    alloc: Global,
-    kind: &str,
-    text: &[u8],
-    words: &Words<'_>,
-    giving: Giving,
-    taking: Taking,
-    input: &[u8],
-) -> Result<String, RowError>
-    requires { 1 ≤ words.now.capacity }
-{
-    let stored = match kind {
-        "real" => return program_text(rt, alloc, words, giving, taking, input),
-        "nothing" => Stored::Nothing,
-        "whole" => Stored::Whole(text),
-        "broken" => Stored::Broken(text),
-        _ => return Err(RowError::NotUnderstood),
+    out: &mut String,
+) -> Result<(), Stop> {
+    let [kind, text, path, capacity, reader, writer, _] = passed else {
+        return Err(Stop::Unknown);
     };
-    program_text(&Shelf { stored }, alloc, words, giving, taking, input)
-}
-
-// The same, of the input of a field.
-fn stored_field<F: Files>(
-    rt: &F,
-    alloc: Global,
-    kind: &str,
-    text: &[u8],
-    words: &Words<'_>,
-    giving: Giving,
-    taking: Taking,
-    field: &str,
-) -> Result<String, RowError>
-    requires { 1 ≤ words.now.capacity }
-{
-    let input = unescaped(alloc, field)?;
-    let left = stored_text(rt, alloc, kind, text, words, giving, taking, &input);
-    drop(input);
-    left
-}
-
-/// `program KIND TEXT BOOK CAPACITY READER WRITER INPUT`: what the program leaves. KIND says what stands
-/// under every path: `nothing`, a `whole` file with this text, one that is `broken` off behind it, or
-/// what is there (`real`). BOOK is the path of the book, or `-` for none.
-pub fn program_row<F: Files>(
-    rt: &F,
-    alloc: Global,
-    arguments: &[&str],
-) -> Result<String, RowError> {
-    let [kind, text, book, capacity, reader, writer, input] = arguments else {
-        return Err(RowError::NotUnderstood);
+    let sides = Sides::of(reader, writer, input, Left::Sides)?;
+    if *kind == "real" {
+        return put_program(files, [path, capacity], sides, out);
+    }
+    let text = book_bytes(*out.allocator(), text)?;
+    let shelf = Shelf {
+        kind,
+        text: text.as_slice(),
     };
-    let book = match *book {
-        "-" => None,
-        path => Some(path),
-    };
-    let capacity = capacity_of(capacity)?;
-    let giving = Giving::from_field(reader)?;
-    let taking = Taking::from_field(writer)?;
-    let words = Words { book, capacity };
-    let text = book_bytes(alloc, text)?;
-    let left = stored_field(rt, alloc, kind, &text, &words, giving, taking, input);
+    let put = put_program(&shelf, [path, capacity], sides, out);
     drop(text);
-    left
+    put
 }
