@@ -16,6 +16,15 @@ pub fault_behind_key : grows_behind is_unicode unicode_may_grow (pieces (codes "
 unfolding headed_after with_piece
 fault_behind_key = refl
 
+-- `true` is left out of a value
+pub fault_behind_true : grows_behind is_unicode unicode_may_grow (pieces (codes "u-nu-true-toolongpiece")) ≡ false
+unfolding headed_after with_piece
+fault_behind_true = refl
+
+pub field_fault_behind_true : grows_behind is_transform transform_may_grow (pieces (codes "t-k0-true-toolongpiece")) ≡ false
+unfolding headed_after with_piece
+field_fault_behind_true = refl
+
 pub other_singleton : grows_behind is_unicode unicode_may_grow (pieces (codes "t-foo")) ≡ false
 unfolding headed_after with_piece
 other_singleton = refl

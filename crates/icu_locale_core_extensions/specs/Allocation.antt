@@ -8,11 +8,11 @@ use Rattle.icu_locale_core_grammar.specs.TagStages.{BodyStage, InUnicode, InTran
 use Rattle.icu_locale_core_langid.specs.Allocation as language
 use Rattle.icu_locale_core_keywords_fields.specs.Allocation.{grows_at, keeps_last}
 
--- the piece is one more attribute, goes into a value, or ends a keyword
+-- the piece is one more attribute, is kept in a value, or ends a keyword
 abbrev pub unicode_grows_at : UnicodeStage → Text → Bool
 unicode_grows_at s p = grows_at (λ set q. is_attribute q) is_key s p
 
--- the piece is one more variant, goes into a value, or ends a field
+-- the piece is one more variant, is kept in a value, or ends a field
 abbrev pub transform_grows_at : TransformStage → Text → Bool
 transform_grows_at s p = grows_at language.grows_at is_field_key s p
 

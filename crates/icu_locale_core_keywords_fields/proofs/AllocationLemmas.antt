@@ -1,14 +1,14 @@
 -- Entries alone: where the pieces begin no entry that is kept, no stage that is reached takes memory.
 use Rattle.std.proofs.Common.{◌≡◌, Bool, true, false, not, ◌&&◌, ◌||◌, List, [], ◌∷◌, ◌++◌, Option, None, Some, refl, sym, ap, ◌∙◌, subst}
 use Rattle.std.specs.Prelude.{if◌then◌else◌}
-use Rattle.icu_locale_core_grammar.specs.Subtags.{Text, is_value, lower}
+use Rattle.icu_locale_core_grammar.specs.Subtags.{Text, is_value, is_true, lower}
 use Rattle.icu_locale_core_grammar.specs.Collections.{put_first}
 use Rattle.icu_locale_core_grammar.specs.Pieces.{pieces}
 use Rattle.icu_locale_core_grammar.specs.PartReaders.{listed, EntriesStage, entries_after}
 use Rattle.icu_locale_core_grammar.specs.Stepping.{run, InHead, InEntry, with_value, headed_after}
 use Rattle.icu_locale_core_grammar.proofs.CallerLemmas.{none_left}
 use Rattle.icu_locale_core_grammar.proofs.Runs.{first_step}
-use Rattle.icu_locale_core_keywords_fields.specs.Allocation.{begins_entry, grows_at, keeps_last}
+use Rattle.icu_locale_core_keywords_fields.specs.Allocation.{begins_entry, grows_at, keeps_last, value_grows}
 use Rattle.icu_locale_core_keywords_fields.proofs.ReadingLemmas.{IsReading}
 
 module _ (test : Text → Bool) (needs : Bool) where
@@ -51,6 +51,13 @@ module _ (test : Text → Bool) (needs : Bool) where
       by true false true e f = cc
       by true false false e f = refl
 
+  second_grows_not : (key p : Text) (ps : List Text) → test key ≡ true → KeepsNone (key ∷ p ∷ ps) → (value_grows p || (not needs && test p)) ≡ false
+  second_grows_not key p ps is none = by (is_value p) (is_true p) (not needs && test p) (second_fits_not key p ps is none)
+    where
+      by : (a b c : Bool) → (a || c) ≡ false → ((a && not b) || c) ≡ false
+      by true b c e = cc
+      by false b c e = e
+
   ends_not : (key : Text) → test key ≡ true → KeepsNone (key ∷ []) → not needs ≡ false
   ends_not key is none = by (test key) (not needs) is none
     where
@@ -82,7 +89,7 @@ module _ (test : Text → Bool) (needs : Bool) where
       subst (λ t. grows_at (λ h q. false) test t p ≡ false) same refl
   grows_not (key ∷ []) left p s reached none =
       let one = one_taken key s reached in
-      subst (λ t. grows_at (λ h q. false) test t p ≡ false) one.1 (second_fits_not key p left one.0 none)
+      subst (λ t. grows_at (λ h q. false) test t p ≡ false) one.1 (second_grows_not key p left one.0 none)
   grows_not (key ∷ q ∷ qs) left p s reached none =
       let wrong : true ≡ false = no_third key q qs (qs ++ p ∷ left) s reached none in cc
 

@@ -2,7 +2,7 @@
 -- Defined in docs/tags.md, "Stages".
 -- Cited by the readers of keywords and fields, and by the functions that step along a head and entries.
 use Rattle.std.specs.Prelude.{Bool, false, not, ◌&&◌, ◌||◌, List, [], ◌∷◌}
-use Rattle.icu_locale_core_grammar.specs.Subtags.{Text, is_value}
+use Rattle.icu_locale_core_grammar.specs.Subtags.{Text, is_value, is_true}
 use Rattle.icu_locale_core_grammar.specs.Stepping.{HeadedStage, InHead, InEntry}
 use Rattle.icu_locale_core_subtag_lists.specs.Reading.{begins}
 
@@ -11,10 +11,14 @@ abbrev pub begins_entry : (Text → Bool) → Bool → List Text → Bool
 begins_entry test needs [] = false
 begins_entry test needs (p ∷ ps) = test p && (not needs || begins is_value ps)
 
--- the piece may make the head grow, or goes into a value, or ends an entry
+-- the piece is kept in a value: `true` is left out
+abbrev pub value_grows : Text → Bool
+value_grows p = is_value p && not (is_true p)
+
+-- the piece may make the head grow, or is kept in a value, or ends an entry
 abbrev pub grows_at : {S H : Type 0} → (S → Text → Bool) → (Text → Bool) → HeadedStage S H → Text → Bool
 grows_at grows test (InHead s) p = grows s p
-grows_at grows test (InEntry h es e full) p = is_value p || (full && test p)
+grows_at grows test (InEntry h es e full) p = value_grows p || (full && test p)
 
 -- an entry is read, and may end
 abbrev pub keeps_last : {S H : Type 0} → HeadedStage S H → Bool

@@ -6,6 +6,7 @@ ghost use Rattle.icu_locale_core_grammar.specs.declared.error.ParseError.{ParseE
 ghost use Rattle.icu_locale_core_grammar.specs.Subtags.{is_value, lower};
 ghost use Rattle.icu_locale_core_grammar.specs.Pieces.{pieces};
 ghost use Rattle.icu_locale_core_grammar.specs.PartReaders.{value_after, ReadsValue};
+ghost use Rattle.icu_locale_core_keywords_fields.specs.Allocation.{value_grows};
 ghost use Rattle.icu_locale_core_subtag_lists.specs.Reading.{IsRefused, begins};
 
 use crate::kind::EntryKind;
@@ -31,7 +32,7 @@ impl<K: EntryKind> ValueOf<K> {
     pub(crate) fn take_piece(&mut self, piece: &[u8]) -> Result<bool, AllocError>
         ensures taken { IfOk result (λ taken. MatchBool taken (value_after self.old piece.now ≡ Some self.new) ((value_after self.old piece.now ≡ None) × (self.new ≡ self.old))) }
         ensures err { OnErr result (self.new ≡ self.old) }
-        ensures room { is_value piece.now ≡ false → IsOk result }
+        ensures room { value_grows piece.now ≡ false → IsOk result }
     {
         let Some(subtag) = value_piece(piece) else {
             return Ok(false);
