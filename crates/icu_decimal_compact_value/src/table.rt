@@ -12,13 +12,14 @@ pub fn entry_index(entries: &[CompactEntry], place: u16) -> Option<usize>
     ensures entry { entry_of entries.now result ≡ entry_at 32768 entries.now place }
     ensures within { IfSome result (λ i. i < length entries.now) }
 {
-    let mut found = None;
-    for index in 0..entries.len() {
+    let mut index = entries.len();
+    while index > 0 {
+        index -= 1;
         if ONES + entries[index].log10_type as u16 <= place {
-            found = Some(index);
+            return Some(index);
         }
     }
-    found
+    None
 }
 
 // The index of the first entry whose type a magnitude does not reach.
