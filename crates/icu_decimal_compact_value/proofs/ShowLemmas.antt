@@ -134,16 +134,6 @@ module _ (entries : List CompactEntry) (number rounded : Number) (r : IsRoundedT
   exponent_is : is_carried_to 32768 entries place rounded.count ≡ true → 32768 + exponent_of (next_at 32768 entries place) ≡ suc place
   exponent_is c = carried_exponent 32768 place rounded.count (next_at 32768 entries place) c
 
-  -- there is room below for the exponent of the next entry
-  pub carried_room : (x : ℕ) → is_carried_to 32768 entries place rounded.count ≡ true → x ≡ exponent_of (next_at 32768 entries place) → place < 65536 → x ≤ rounded.low
-  carried_room x c e l =
-      let a = exponent_is c in
-      let low = r.low ∙ ap (λ k. min (unit_place (exponent_place 32768 entries) k) 32768) (sym at) in
-      room x (exponent_of (entry_at 32768 entries place)) place rounded.low (omega arith) l low
-    where
-      room : (x y k low : ℕ) → 32768 + x ≡ suc k → k < 65536 → low ≡ min (min (32768 + y) (k - 1)) 32768 → x ≤ low
-      room x y k low a b f = omega arith
-
   pub shows_carried : (divided significand : Number) (i x : ℕ) → is_carried_to 32768 entries place rounded.count ≡ true → entry_of entries (Some i) ≡ next_at 32768 entries place → x ≡ exponent_of (entry_of entries (Some i))
       → IsDivided x rounded divided → TrimsStart divided significand → Shows entries number (record { significand = significand; exponent = x; entry = Some i })
   shows_carried divided significand i x c e f d t =

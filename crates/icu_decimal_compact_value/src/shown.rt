@@ -37,6 +37,18 @@ impl Model for Shown {
     ghost view = { λ a. record { significand = a.significand; exponent = a.exponent; entry = a.entry } };
 }
 
+/// Under which exponent and entry a number is shown: the exponent 3 and the first entry, of 1650 under `K`.
+///
+/// `exponent` is the power of ten that the patterns stand for (0 with no entry), `entry` the index of the entry whose patterns
+/// are taken.
+#[derive(Clone, Copy, Debug, PartialEq, Eq)]
+pub struct ShownUnder {
+    /// The power of ten that the pattern stands for: 3 of 1650 under `K`.
+    pub exponent: u8,
+    /// The index of the entry, as `Some(0)` of 1650 under `K`, or `None` where the number is shown without a pattern, as 843.
+    pub entry: Option<usize>,
+}
+
 // The place at which a number is rounded: that of the exponent, or one below the first digit.
 fn rounding_place(place: u16, exponent: u8) -> u16
     ensures { result ≡ min (32768 + exponent) (place - 1) }
@@ -44,11 +56,11 @@ fn rounding_place(place: u16, exponent: u8) -> u16
     (ONES + exponent as u16).min(place.saturating_sub(1))
 }
 
-// The number rounded at a place, half to even.
-fn rounded_at(number: UnsignedDecimal, place: u16) -> UnsignedDecimal
-    ensures { Rounds UnsignedRoundingMode.HalfEven RoundingIncrement.MultiplesOf1 place number result }
+// Rounds a number at a place, half to even.
+fn round_at(number: &mut UnsignedDecimal, place: u16)
+    ensures { Rounds UnsignedRoundingMode.HalfEven RoundingIncrement.MultiplesOf1 place number.old number.new }
 {
-    number.rounded(magnitude_of(place))
+    number.round(magnitude_of(place));
 }
 
 // The digit of a number at a place.
@@ -97,23 +109,21 @@ fn division_by(exponent: u8) -> i16
     -(exponent as i16)
 }
 
-// The number rounded to its unit, where the place of its magnitude and the entry of that place are given.
-fn rounded_to_unit(
-    number: &UnsignedDecimal,
+// Rounds a number to its unit, where the place of its magnitude and the entry of that place are given.
+fn round_to_unit(
+    number: &mut UnsignedDecimal,
     entries: &[CompactEntry],
     place: u16,
     entry: Option<usize>,
-) -> Result<UnsignedDecimal, AllocError>
-    requires place { place ≡ magnitude 32768 number.now.count }
+)
+    requires place { place ≡ magnitude 32768 number.old.count }
     requires entry { entry_of entries.now entry ≡ entry_at 32768 entries.now place }
     requires within { IfSome entry (λ i. i < length entries.now) }
-    requires can { CanShow entries.now number.now.count }
-    ensures value { IfOk result (IsRoundedTo entries.now number.now) }
-    ensures room { OnErr result (IsLong number.now.count) }
+    requires can { CanShow entries.now number.old.count }
+    ensures { IsRoundedTo entries.now number.old number.new }
 {
     let exponent = exponent_at(entries, entry);
-    let copy = number.try_clone()?;
-    Ok(rounded_at(copy, rounding_place(place, exponent)))
+    round_at(number, rounding_place(place, exponent));
 }
 
 // The index of the next entry, where a rounded number is shown as 1 under it.
@@ -137,47 +147,62 @@ fn carried_index(entries: &[CompactEntry], place: u16, rounded: &UnsignedDecimal
     }
 }
 
-// A rounded number divided by ten to an exponent, without zeros that end its fraction.
-fn divided(rounded: UnsignedDecimal, exponent: u8) -> UnsignedDecimal
-    requires { exponent ≤ rounded.low }
-    ensures { IsDivided exponent rounded result }
+// Divides a rounded number by ten to an exponent, and takes the zeros away that end its fraction.
+fn divide(rounded: &mut UnsignedDecimal, exponent: u8)
+    requires { exponent ≤ rounded.old.low }
+    ensures { IsDivided exponent rounded.old rounded.new }
 {
     let _number = rounded.magnitude_range();
-    rounded
-        .multiplied_pow10(division_by(exponent))
-        .trimmed_end()
+    rounded.multiply_pow10(division_by(exponent));
+    rounded.trim_end();
 }
 
-/// What a number is shown as under the entries of a table: 1650 under entries of the types 3 and 6 with the exponents 3 and 6 as
-/// 1.6, the exponent 3 and the first entry; 999500 as 1, the exponent 6 and the second entry; 843 as itself with no entry.
+/// Makes a number what it is shown as, and says under which exponent and entry: of 1650 under entries of the types 3 and 6 with
+/// the exponents 3 and 6 it makes 1.6, with the exponent 3 and the first entry; of 999500 it makes 1, with the exponent 6 and the
+/// second entry; 843 stays, with no entry.
 ///
 /// The number is rounded half to even, at the magnitude of the exponent where its first digit stands above it, else to two
-/// digits. Zeros that end the fraction go, and zeros before the number stay. The condition is `can_show`. It allocates where the
-/// number has more than eight digits, from the first to the last one that is not zero. `AllocError`: out of memory, only there.
+/// digits. Zeros that end the fraction go, and zeros before the number stay. The condition is `can_show`. It does not allocate.
+pub fn show_in_place(number: &mut UnsignedDecimal, entries: &[CompactEntry]) -> ShownUnder
+    requires { CanShow entries.now number.old.count }
+    ensures { Shows entries.now number.old (record { significand = number.new; exponent = result.exponent; entry = result.entry }) }
+{
+    let place = magnitude_place(number);
+    let entry = entry_index(entries, place);
+    round_to_unit(number, entries, place, entry);
+    match carried_index(entries, place, number) {
+        Some(next) => {
+            let exponent = entries[next].exponent;
+            divide(number, exponent);
+            number.trim_start();
+            ShownUnder {
+                exponent,
+                entry: Some(next),
+            }
+        }
+        None => {
+            let exponent = exponent_at(entries, entry);
+            divide(number, exponent);
+            ShownUnder { exponent, entry }
+        }
+    }
+}
+
+/// What a number is shown as under the entries of a table: what `show_in_place` makes of it, in a value of its own.
+///
+/// Of 1650 it is 1.6, the exponent 3 and the first entry, under entries of the types 3 and 6 with the exponents 3 and 6. The
+/// condition is `can_show`. It allocates where the number has more than eight digits, from the first to the last one that is not
+/// zero. `AllocError`: out of memory, only there.
 pub fn show(number: &UnsignedDecimal, entries: &[CompactEntry]) -> Result<Shown, AllocError>
     requires { CanShow entries.now number.now.count }
     ensures value { IfOk result (Shows entries.now number.now) }
     ensures room { OnErr result (IsLong number.now.count) }
 {
-    let place = magnitude_place(number);
-    let entry = entry_index(entries, place);
-    let rounded = rounded_to_unit(number, entries, place, entry)?;
-    match carried_index(entries, place, &rounded) {
-        Some(next) => {
-            let exponent = entries[next].exponent;
-            Ok(Shown {
-                significand: divided(rounded, exponent).trimmed_start(),
-                exponent,
-                entry: Some(next),
-            })
-        }
-        None => {
-            let exponent = exponent_at(entries, entry);
-            Ok(Shown {
-                significand: divided(rounded, exponent),
-                exponent,
-                entry,
-            })
-        }
-    }
+    let mut significand = number.try_clone()?;
+    let under = show_in_place(&mut significand, entries);
+    Ok(Shown {
+        significand,
+        exponent: under.exponent,
+        entry: under.entry,
+    })
 }
