@@ -6,3 +6,4 @@ pub mod CompactLawLemmas
 pub mod CompactTextLemmas
 pub mod ExactLemmas
 pub mod ShownLemmas
+pub mod WritingLemmas

@@ -78,7 +78,7 @@ impl<'l> FormattedUnsignedCompactDecimal<'l> {
 }
 
 // A number in a pattern, without its parts.
-fn in_pattern<'v>(
+pub(crate) fn in_pattern<'v>(
     pattern: Option<&'v Pattern>,
     number: &'v FormattedUnsignedDecimal<'v>,
 ) -> Interpolated<'v, TextAlone<'v, FormattedUnsignedDecimal<'v>>>

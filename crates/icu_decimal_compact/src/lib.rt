@@ -22,6 +22,7 @@ pub mod laws;
 mod lent;
 mod loading;
 mod text_alone;
+mod writing;
 
 pub use abstract_formatter::AbstractFormatter;
 pub use compact_formatter::CompactDecimalFormatter;
