@@ -1,5 +1,5 @@
 //! The buffer of answers as a sink, so that no text is copied.
-ghost use Rattle.std.specs.Prelude.{◌≡◌, ◌≤◌, ◌++◌, IsOk, OnOk, OnErr, string_bytes, string_capacity};
+ghost use Rattle.std.specs.Prelude.{◌≡◌, ◌+◌, ◌<◌, ◌≤◌, ◌++◌, length, IsOk, OnOk, OnErr, string_bytes, string_capacity};
 ghost use Rattle.writeable.specs.AnnotatedText.{text_of};
 ghost use Rattle.locale_numbers_lines.specs.Growth.{Grows};
 ghost use Rattle.locale_numbers.specs.AnswerSink.{HasRoom};
@@ -25,6 +25,37 @@ fn push_fitting(out: &mut String, text: &str)
     }
 }
 
+// Puts a text for which there may be no room behind what `out` holds. A call of its own, since there mostly is room.
+#[inline(never)]
+fn push_growing(out: &mut String, text: &str) -> Result<(), AllocError>
+    ensures text { OnOk result (string_bytes out.new ≡ string_bytes out.old ++ text.now) }
+    ensures same { OnErr result (string_bytes out.new ≡ string_bytes out.old) }
+    ensures capacity { string_capacity out.old ≤ string_capacity out.new }
+    ensures full { OnErr result (string_capacity out.new < length (string_bytes out.new) + length text.now) }
+{
+    match out.reserve(text.len()) {
+        Ok(()) => {
+            push_fitting(out, text);
+            Ok(())
+        }
+        Err(_) => Err(AllocError),
+    }
+}
+
+// Puts a text behind what `out` holds.
+fn push_text(out: &mut String, text: &str) -> Result<(), AllocError>
+    ensures text { OnOk result (string_bytes out.new ≡ string_bytes out.old ++ text.now) }
+    ensures same { OnErr result (string_bytes out.new ≡ string_bytes out.old) }
+    ensures capacity { string_capacity out.old ≤ string_capacity out.new }
+    ensures full { OnErr result (string_capacity out.new < length (string_bytes out.new) + length text.now) }
+{
+    if out.capacity() - out.len() < text.len() {
+        return push_growing(out, text);
+    }
+    push_fitting(out, text);
+    Ok(())
+}
+
 impl<'o> Sink for AnswerSink<'o> {
     ghost use Rattle.locale_numbers.specs.AnswerSink.{NeedsMemory, Puts};
     ghost use Rattle.locale_numbers.specs.AnswerSinkLaws.{needs_more, puts_nothing, puts_joined};
@@ -46,11 +77,8 @@ impl<'o> Sink for AnswerSink<'o> {
     }
 
     fn write_str(&mut self, text: &str) -> Result<(), Error> {
-        match self.out.reserve(text.len()) {
-            Ok(()) => {
-                push_fitting(self.out, text);
-                Ok(())
-            }
+        match push_text(self.out, text) {
+            Ok(()) => Ok(()),
             Err(_) => {
                 self.refused = true;
                 Err(Error)

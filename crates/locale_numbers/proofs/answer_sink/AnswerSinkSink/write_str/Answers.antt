@@ -1,4 +1,4 @@
-use Rattle.std.proofs.Common.{[], arith, refl, ap, ◌++◌, ◌∙◌, length, rules}
+use Rattle.std.proofs.Common.{[], refl, rules}
 use Rattle.writeable.specs.AnnotatedText.{bytes}
 use Rattle.writeable.proofs.AnnotatedTextLemmas.{text_of_bytes}
 use Rattle.locale_numbers.proofs.answer_sink.AnswerSinkSink.write_str.Goals as goal
@@ -6,8 +6,8 @@ use Rattle.locale_numbers.proofs.answer_sink.AnswerSinkSink.write_str.Goals as g
 pub returns-in-Ok-clause-ok : goal.returns-in-Ok-clause-ok
 returns-in-Ok-clause-ok c = record {
   same = refl;
-  text = rw (text_of_bytes c.args.text.now) (c.push_fitting.ensures.text ∙ ap (λ held. held ++ c.args.text.now) c.in-Ok.ensures.bytes);
-  capacity = omega (arith, c.push_fitting.ensures.capacity, c.in-Ok.ensures.capacity);
+  text = rw (text_of_bytes c.args.text.now) c.in-Ok.ensures.text;
+  capacity = c.in-Ok.ensures.capacity;
 }
 
 -- nothing was put, and there was no room
@@ -17,5 +17,5 @@ returns-in-Err-clause-begun c = record {
   rest = bytes c.args.text.now;
   whole = refl;
   taken = record { same = refl; text = search rules; capacity = c.in-Err.ensures.capacity };
-  short = rw (text_of_bytes c.args.text.now) (let same = ap length c.in-Err.ensures.bytes in omega (arith, same, c.in-Err.ensures.full, c.in-Err.ensures.err));
+  short = rw (text_of_bytes c.args.text.now) c.in-Err.ensures.full;
 }
