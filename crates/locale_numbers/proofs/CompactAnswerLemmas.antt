@@ -1,16 +1,16 @@
 -- The text of what a compact formatter writes.
-use Rattle.std.proofs.Common.{◌≡◌, Bool, false, cond, List, ◌∷◌, ◌++◌, ℕ, Option, None, Some, is_none, option_map, true, refl, sym, ap, ◌∙◌}
+use Rattle.std.proofs.Common.{◌≡◌, Bool, false, cond, List, ◌++◌, ℕ, Option, None, Some, is_none, option_map, true, refl, sym, ap, ◌∙◌}
 use Rattle.std.proofs.lemmas.List.{append-nil}
 use Rattle.writeable.specs.AnnotatedText.{Event, bytes, closing, opening, text_of}
 use Rattle.writeable.specs.PartName.{PartName}
 use Rattle.writeable.proofs.AnnotatedTextLemmas.{text_of_bytes, text_of_closing, text_of_opening}
-use Rattle.fixed_decimal.specs.CompactText.{CompactValue, compact_text_of}
+use Rattle.fixed_decimal.specs.CompactText.{CompactValue}
 use Rattle.fixed_decimal.specs.Number.{Number}
 use Rattle.fixed_decimal.specs.Rounding.{count_limit}
 use Rattle.fixed_decimal.specs.SignedValue.{SignedValue}
 use Rattle.icu_decimal.specs.Affixes.{AffixTexts, WithSign, affixes_of, as_part, events_with_sign, prefix_events, suffix_events}
 use Rattle.icu_decimal.specs.CompactTables.{CompactTables}
-use Rattle.icu_decimal.specs.CompactText.{CompactNumber, compact_decimal_events, compact_decimal_text, compact_events, compact_formatted, compact_of, compact_text, pattern_of, text_in, value_shown}
+use Rattle.icu_decimal.specs.CompactText.{compact_decimal_events, compact_decimal_text, compact_events, compact_formatted, compact_of, compact_text, pattern_of, text_in}
 use Rattle.icu_decimal.specs.ExactForms.{IsInRange, exact_place}
 use Rattle.icu_decimal.specs.ExactText.{exact_events, exact_formatted, exact_text, written_text, written_under}
 use Rattle.icu_decimal.specs.Operands.{operands_of}
@@ -19,8 +19,7 @@ use Rattle.icu_decimal.specs.PlainText.{PlainNumber, prefix_text, suffix_text, u
 use Rattle.icu_decimal.specs.ShownChoice.{CanShow, exact_entry, shown_under}
 use Rattle.icu_decimal.proofs.TextLemmas.{text_joined, unsigned_is_text}
 use Rattle.locale_numbers.specs.AnswerLine.{refused, written}
-use Rattle.locale_numbers.specs.CompactAnswer.{can_be_shown, compact_answer, exact_answer, exact_written, is_in_range, text_and_value}
-use Rattle.locale_numbers.specs.Request.{tab}
+use Rattle.locale_numbers.specs.CompactAnswer.{can_be_shown, exact_answer, exact_written, is_in_range}
 use Rattle.locale_numbers.specs.declared.refusal.Refusal.TheVariants as refusal
 use Rattle.locale_numbers.proofs.CompactReadingLemmas.{below_test}
 
@@ -103,22 +102,9 @@ exact_none t d x is = none_as (written_under t d) (written_text t d) (exact_entr
 pub can_test : (t : CompactTables) (d : SignedValue Number) → CanShow t.patterns.entries d.absolute.count → can_be_shown t d ≡ true
 can_test t d can = below_test (shown_under 32768 t.patterns.entries d.absolute.count) count_limit can.below
 
-by_test : (b : Bool) (text other : List ℕ) → b ≡ true → text ≡ cond b text other
+pub by_test : (b : Bool) (text other : List ℕ) → b ≡ true → text ≡ cond b text other
 by_test true text other is = refl
 by_test false text other is = absurd (cc)
-
--- the text and the value behind a tab are the answer
-pub compact_put : (t : CompactTables) (d : SignedValue Number) (text : WithSign CompactNumber) (shown : CompactValue) → can_be_shown t d ≡ true → text ≡ compact_formatted t d
-    → shown ≡ record { significand = record { sign = d.sign; absolute = text.value.plain.number }; exponent = text.value.exponent }
-    → written (text_of (compact_decimal_events text) ++ tab ∷ text_of (bytes (compact_text_of shown))) ≡ compact_answer t d
-compact_put t d text shown can is value =
-    let same : shown ≡ value_shown t d =
-    value ∙ ap (λ (s : WithSign CompactNumber). record { significand = record { sign = d.sign; absolute = s.value.plain.number }; exponent = s.value.exponent }) is in
-    ap (λ s. written (text_of (compact_decimal_events s) ++ tab ∷ text_of (bytes (compact_text_of shown)))) is
-    ∙ ap (λ x. written (x ++ tab ∷ text_of (bytes (compact_text_of shown)))) (compact_is t d)
-    ∙ ap (λ x. written (compact_decimal_text t d ++ tab ∷ x)) (text_of_bytes (compact_text_of shown))
-    ∙ ap (λ s. written (compact_decimal_text t d ++ tab ∷ compact_text_of s)) same
-    ∙ by_test (can_be_shown t d) (written (text_and_value t d)) (refused refusal.Range) can
 
 -- the text of an exact form is the answer
 pub exact_put : (t : CompactTables) (v : CompactValue) (shown : WithSign (InPattern PlainNumber)) → IsInRange v.significand.absolute.count v.exponent

@@ -4,6 +4,7 @@ pub mod CompactAnswerLemmas
 pub mod CompactReadingLemmas
 pub mod CuttingLemmas
 pub mod DigitsLemmas
+pub mod ExponentLemmas
 pub mod FoundCompactLemmas
 pub mod FoundLemmas
 pub mod FoundSound
@@ -23,3 +24,4 @@ pub mod ReadingLemmas
 pub mod ReadingTrips
 pub mod RequestLemmas
 pub mod RoundedLemmas
+pub mod ValueLemmas

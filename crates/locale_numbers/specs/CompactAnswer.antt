@@ -1,10 +1,9 @@
 -- The answers of the compact forms: what a number is shown as, with the value shown; and the text of an exact form.
 -- Defined in docs/requests.md, "Answer line", and docs/compact-text.md, "The text" and "Exact forms".
 -- Cited by `answer` and `run`, through Answer.antt, and by the private `push_compact` and `push_exact`.
-use Rattle.std.specs.Prelude.{ℕ, ◌⊎◌, nat_lt, Bool, if◌then◌else◌, List, ◌∷◌, ◌++◌, Option, Some, None, Result, Ok, Err}
+use Rattle.std.specs.Prelude.{ℕ, nat_lt, Bool, if◌then◌else◌, List, ◌∷◌, ◌++◌, Option, Some, None, Result, Ok, Err}
 use Rattle.fixed_decimal.specs.CompactText.{CompactValue, compact_text_of}
 use Rattle.fixed_decimal.specs.Number.{Number}
-use Rattle.fixed_decimal.specs.Range.{IsLong}
 use Rattle.fixed_decimal.specs.Rounding.{count_limit}
 use Rattle.fixed_decimal.specs.SignedValue.{SignedValue}
 use Rattle.icu_decimal.specs.declared.error.DataError.{DataError}
@@ -50,10 +49,6 @@ text_and_value tables value = compact_decimal_text tables value ++ tab ∷ compa
 
 abbrev pub compact_answer : CompactTables → SignedValue Number → List ℕ
 compact_answer tables value = if can_be_shown tables value then written (text_and_value tables value) else refused refusal.Range
-
--- the number has more than eight digits, or what it is shown as has: only then its answer wants memory of its own
-abbrev pub IsLongShown : CompactTables → SignedValue Number → Type 0
-IsLongShown tables value = IsLong value.absolute.count ⊎ IsLong (value_shown tables value).significand.absolute.count
 
 -- the answer to a number, with the tables that are found
 abbrev pub compact_with : Result CompactTables DataError → SignedValue Number → List ℕ

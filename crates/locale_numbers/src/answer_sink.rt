@@ -1,9 +1,14 @@
 //! The buffer of answers as a sink, so that no text is copied.
-ghost use Rattle.std.specs.Prelude.{◌≡◌, ◌+◌, ◌<◌, ◌≤◌, ◌++◌, length, IsOk, OnOk, OnErr, string_bytes, string_capacity};
+ghost use Rattle.std.specs.Prelude.{◌≡◌, ◌+◌, ◌<◌, ◌≤◌, ◌++◌, length, IfOk, IsOk, OnOk, OnErr, string_bytes, string_capacity};
 ghost use Rattle.writeable.specs.AnnotatedText.{text_of};
+ghost use Rattle.icu_decimal.specs.CompactText.{compact_decimal_text, value_shown};
+ghost use Rattle.icu_decimal.specs.HeldCompact.{compact_tables_of};
+ghost use Rattle.icu_decimal.specs.ShownChoice.{CanShow};
 ghost use Rattle.locale_numbers_lines.specs.Growth.{Grows};
 ghost use Rattle.locale_numbers.specs.AnswerSink.{HasRoom};
 
+use fixed_decimal::Decimal;
+use icu_decimal::CompactDecimalFormatter;
 use std::alloc::AllocError;
 use writeable::{Error, Part, Sink, Writeable};
 
@@ -115,6 +120,33 @@ pub(crate) fn push_written<T: Writeable>(out: &mut String, value: &T) -> Result<
     let AnswerSink { out: _, refused: _ } = sink;
     match written {
         Ok(()) => Ok(()),
+        Err(_) => Err(AllocError),
+    }
+}
+
+/// Puts a decimal, as a compact formatter writes it, behind what `out` holds, makes it what is shown, and returns the exponent shown.
+///
+/// Where there is room, it does not allocate. After an error a part of the text may stand there.
+pub(crate) fn push_shown(
+    formatter: &CompactDecimalFormatter<'_>,
+    value: &mut Decimal,
+    out: &mut String,
+) -> Result<u8, AllocError>
+    requires { CanShow (compact_tables_of formatter.now).patterns.entries value.old.absolute.count }
+    ensures value { IfOk result (λ exponent. record { significand = value.new; exponent = exponent } ≡ value_shown (compact_tables_of formatter.now) value.old) }
+    ensures text { OnOk result (string_bytes out.new ≡ string_bytes out.old ++ compact_decimal_text (compact_tables_of formatter.now) value.old) }
+    ensures err { OnErr result (Grows (string_bytes out.old) (string_bytes out.new)) }
+    ensures room { HasRoom out.old (compact_decimal_text (compact_tables_of formatter.now) value.old) → IsOk result }
+    ensures capacity { OnOk result (string_capacity out.old ≤ string_capacity out.new) }
+{
+    let mut sink = AnswerSink {
+        out,
+        refused: false,
+    };
+    let written = formatter.write_shown(value, &mut sink);
+    let AnswerSink { out: _, refused: _ } = sink;
+    match written {
+        Ok(exponent) => Ok(exponent),
         Err(_) => Err(AllocError),
     }
 }

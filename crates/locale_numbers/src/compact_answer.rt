@@ -1,84 +1,126 @@
 //! The forms `short` and `long`: what a number is shown as, and the value shown.
-ghost use Rattle.std.specs.Prelude.{◌≡◌, ◌∷◌, ◌++◌, IfOk, IsOk, OnOk, OnErr, string_bytes};
-ghost use Rattle.writeable.specs.AnnotatedText.{text_of};
-ghost use Rattle.fixed_decimal.specs.Range.{IsLong};
+ghost use Rattle.std.specs.Prelude.{◌≡◌, ◌≤◌, ◌∷◌, ◌++◌, map, IfOk, IsOk, OnOk, OnErr, string_bytes, string_capacity};
+ghost use Rattle.std.specs.Int.Digits.{digits_of};
+ghost use Rattle.std.specs.Str.{IsAscii};
+ghost use Rattle.fixed_decimal.specs.CompactText.{behind_compact_mark, compact_text_of};
+ghost use Rattle.fixed_decimal.specs.NumberText.{character};
+ghost use Rattle.fixed_decimal.specs.SignedText.{sign_text, signed_text_of};
+ghost use Rattle.icu_decimal.specs.CompactText.{compact_decimal_text, value_shown};
 ghost use Rattle.icu_decimal.specs.HeldCompact.{compact_tables_of};
+ghost use Rattle.icu_decimal.specs.ShownChoice.{CanShow};
 ghost use Rattle.locale_numbers_lines.specs.Growth.{Grows};
 ghost use Rattle.locale_numbers.specs.AnswerLine.{written};
 ghost use Rattle.locale_numbers.specs.AnswerSink.{HasRoom};
-ghost use Rattle.locale_numbers.specs.CompactAnswer.{IsLongShown, compact_answer};
+ghost use Rattle.locale_numbers.specs.CompactAnswer.{compact_answer};
 ghost use Rattle.locale_numbers.specs.Request.{tab};
 
-use crate::answer_line::{push_answer, push_refusal};
-use crate::answer_sink::push_written;
+use crate::answer_line::push_refusal;
+use crate::answer_sink::{push_shown, push_written};
 use crate::refusal::Refusal;
-use fixed_decimal::{CompactDecimal, Decimal, Sign};
-use icu_decimal::{CompactDecimalFormatter, FormattedUnsignedCompactDecimal};
+use fixed_decimal::{Decimal, Sign};
+use icu_decimal::CompactDecimalFormatter;
 use std::alloc::AllocError;
-use writeable::Writeable;
 
-// What a number is shown as, with a sign: the value beside a compact text.
-fn value_shown(
-    sign: Sign,
-    shown: &FormattedUnsignedCompactDecimal<'_>,
-) -> Result<CompactDecimal, AllocError>
-    ensures value { IfOk result (λ value. value
-        ≡ record { significand = record { sign = sign; absolute = shown.now.plain.number }; exponent = shown.now.exponent }) }
-    ensures room { OnErr result (IsLong shown.now.plain.number.count) }
+// ASCII characters as a text.
+fn ascii_text(characters: &[u8]) -> &str
+    requires { IsAscii characters.now }
+    ensures { result.now ≡ characters.now }
 {
-    let significand = shown.significand().try_clone()?;
-    Ok(CompactDecimal::from_significand_and_exponent(
-        Decimal::new(sign, significand),
-        shown.exponent(),
-    ))
+    unsafe { str::from_utf8_unchecked(characters) }
 }
 
-// Puts the text of a value, behind a tab, behind what `out` holds.
-fn push_field<T: Writeable>(out: &mut String, value: &T) -> Result<(), AllocError>
-    ensures text { OnOk result (string_bytes out.new ≡ string_bytes out.old ++ tab ∷ text_of (T.events value.now)) }
+// Puts a sign, behind a tab, behind what `out` holds.
+fn push_sign(out: &mut String, sign: Sign) -> Result<(), AllocError>
+    ensures text { OnOk result (string_bytes out.new ≡ string_bytes out.old ++ tab ∷ sign_text sign) }
     ensures err { OnErr result (Grows (string_bytes out.old) (string_bytes out.new)) }
-    ensures room { HasRoom out.old (tab ∷ text_of (T.events value.now)) → IsOk result }
+    ensures room { HasRoom out.old (tab ∷ sign_text sign) → IsOk result }
+    ensures capacity { OnOk result (string_capacity out.old ≤ string_capacity out.new) }
 {
-    out.push_str("\t")?;
-    push_written(out, value)
+    match sign {
+        Sign::None => out.push_str("\t"),
+        Sign::Negative => out.push_str("\t-"),
+        Sign::Positive => out.push_str("\t+"),
+    }
 }
 
-// Puts an answer of two texts behind what `out` holds.
-fn push_both<T: Writeable, V: Writeable>(
-    out: &mut String,
-    text: &T,
-    value: &V,
-) -> Result<(), AllocError>
+// Puts an exponent with its mark, or nothing for 0, behind what `out` holds.
+#[tactic(auto, using(crate::proofs::ExponentLemmas::no_digits, crate::proofs::ExponentLemmas::one_digit, crate::proofs::ExponentLemmas::two_digits, crate::proofs::ExponentLemmas::three_digits))]
+fn push_exponent(out: &mut String, exponent: u8) -> Result<(), AllocError>
+    ensures text { OnOk result (string_bytes out.new ≡ string_bytes out.old ++ behind_compact_mark (map character (digits_of 10 exponent))) }
+    ensures err { OnErr result (Grows (string_bytes out.old) (string_bytes out.new)) }
+    ensures room { HasRoom out.old (behind_compact_mark (map character (digits_of 10 exponent))) → IsOk result }
+{
+    let last = b'0' + exponent % 10;
+    match exponent {
+        0 => Ok(()),
+        1..=9 => out.push_str(ascii_text(&[b'c', last])),
+        10..=99 => out.push_str(ascii_text(&[b'c', b'0' + exponent / 10 % 10, last])),
+        _ => out.push_str(ascii_text(&[
+            b'c',
+            b'0' + exponent / 10 / 10 % 10,
+            b'0' + exponent / 10 % 10,
+            last,
+        ])),
+    }
+}
+
+// Puts a decimal, behind a tab, behind what `out` holds.
+fn push_decimal(out: &mut String, value: &Decimal) -> Result<(), AllocError>
+    ensures text { OnOk result (string_bytes out.new ≡ string_bytes out.old ++ tab ∷ signed_text_of value.now) }
+    ensures err { OnErr result (Grows (string_bytes out.old) (string_bytes out.new)) }
+    ensures room { HasRoom out.old (tab ∷ signed_text_of value.now) → IsOk result }
+    ensures capacity { OnOk result (string_capacity out.old ≤ string_capacity out.new) }
+{
+    push_sign(out, value.sign)?;
+    push_written(out, &value.absolute)
+}
+
+// Puts the value shown, behind a tab, behind what `out` holds.
+fn push_value(out: &mut String, significand: &Decimal, exponent: u8) -> Result<(), AllocError>
     ensures text { OnOk result (string_bytes out.new
-        ≡ string_bytes out.old ++ written (text_of (T.events text.now) ++ tab ∷ text_of (V.events value.now))) }
+        ≡ string_bytes out.old ++ tab ∷ compact_text_of (record { significand = significand.now; exponent = exponent })) }
     ensures err { OnErr result (Grows (string_bytes out.old) (string_bytes out.new)) }
-    ensures room { HasRoom out.old (written (text_of (T.events text.now) ++ tab ∷ text_of (V.events value.now))) → IsOk result }
+    ensures room { HasRoom out.old (tab ∷ compact_text_of (record { significand = significand.now; exponent = exponent })) → IsOk result }
 {
-    push_answer(out, text)?;
-    push_field(out, value)
+    push_decimal(out, significand)?;
+    push_exponent(out, exponent)
 }
 
-/// Puts a number as a compact formatter shows it, and the value shown, behind what `out` holds.
+// Puts a number, as a compact formatter writes it, behind what `out` holds, makes it what is shown, and returns the exponent shown.
+fn push_text_shown(
+    formatter: &CompactDecimalFormatter<'_>,
+    value: &mut Decimal,
+    out: &mut String,
+) -> Result<u8, AllocError>
+    requires { CanShow (compact_tables_of formatter.now).patterns.entries value.old.absolute.count }
+    ensures value { IfOk result (λ exponent. record { significand = value.new; exponent = exponent } ≡ value_shown (compact_tables_of formatter.now) value.old) }
+    ensures text { OnOk result (string_bytes out.new
+        ≡ string_bytes out.old ++ written (compact_decimal_text (compact_tables_of formatter.now) value.old)) }
+    ensures err { OnErr result (Grows (string_bytes out.old) (string_bytes out.new)) }
+    ensures room { HasRoom out.old (written (compact_decimal_text (compact_tables_of formatter.now) value.old)) → IsOk result }
+    ensures capacity { OnOk result (string_capacity out.old ≤ string_capacity out.new) }
+{
+    out.push_str("ok\t")?;
+    push_shown(formatter, value, out)
+}
+
+/// Puts a number as a compact formatter shows it, and the value shown, behind what `out` holds. The number becomes what is shown.
 ///
-/// The word `range` stands there where the value shown would be no decimal.
+/// The word `range` stands there where the value shown would be no decimal. Where there is room for the answer, it does not
+/// allocate.
 pub(crate) fn push_compact(
     formatter: &CompactDecimalFormatter<'_>,
-    value: &Decimal,
+    value: &mut Decimal,
     out: &mut String,
 ) -> Result<(), AllocError>
     ensures text { OnOk result (string_bytes out.new
-        ≡ string_bytes out.old ++ compact_answer (compact_tables_of formatter.now) value.now) }
+        ≡ string_bytes out.old ++ compact_answer (compact_tables_of formatter.now) value.old) }
     ensures err { OnErr result (Grows (string_bytes out.old) (string_bytes out.new)) }
-
-    // Where there is room for the answer, only a number of more than eight digits, or one that is shown as such, may be out of
-    // memory.
-    ensures room { HasRoom out.old (compact_answer (compact_tables_of formatter.now) value.now)
-        → ¬ (IsLongShown (compact_tables_of formatter.now) value.now) → IsOk result }
+    ensures room { HasRoom out.old (compact_answer (compact_tables_of formatter.now) value.old) → IsOk result }
 {
-    if !formatter.can_show(&value.absolute) {
+    if !formatter.can_format(value) {
         return push_refusal(out, Refusal::Range);
     }
-    let text = formatter.format(value)?;
-    let shown = value_shown(value.sign, text.value())?;
-    push_both(out, &text, &shown)
+    let exponent = push_text_shown(formatter, value, out)?;
+    push_value(out, value, exponent)
 }

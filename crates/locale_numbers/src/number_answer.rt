@@ -55,12 +55,12 @@ fn push_formatted(
 // Puts a number, as a formatter of any kind writes it, behind what `out` holds.
 fn push_with(
     formatter: &KeptFormatter<'_>,
-    value: &Decimal,
+    value: &mut Decimal,
     out: &mut String,
 ) -> Result<(), AllocError>
-    ensures text { OnOk result (string_bytes out.new ≡ string_bytes out.old ++ answer_by formatter.now value.now) }
+    ensures text { OnOk result (string_bytes out.new ≡ string_bytes out.old ++ answer_by formatter.now value.old) }
     ensures err { OnErr result (Grows (string_bytes out.old) (string_bytes out.new)) }
-    ensures room { HasRoom out.old (answer_by formatter.now value.now) → IsPlain formatter.now → IsOk result }
+    ensures room { HasRoom out.old (answer_by formatter.now value.old) → IsPlain formatter.now → IsOk result }
 {
     match formatter {
         KeptFormatter::Plain(plain) => push_formatted(&plain.formatter, value, out),
@@ -72,14 +72,14 @@ fn push_with(
 fn push_number<'a, F: Formatters<'a>>(
     formatters: &mut F,
     key: &Hashed<FormatterKey>,
-    value: &Decimal,
+    value: &mut Decimal,
     out: &mut String,
 ) -> Result<(), AllocError>
     requires { F.is_ready formatters.old }
     ensures text { OnOk result (string_bytes out.new
-        ≡ string_bytes out.old ++ answer_of_kind key.now.kind (F.book formatters.old) key.now.preferences key.now.grouping value.now) }
+        ≡ string_bytes out.old ++ answer_of_kind key.now.kind (F.book formatters.old) key.now.preferences key.now.grouping value.old) }
     ensures err { OnErr result (Grows (string_bytes out.old) (string_bytes out.new)) }
-    ensures room { HasRoom out.old (answer_of_kind key.now.kind (F.book formatters.old) key.now.preferences key.now.grouping value.now)
+    ensures room { HasRoom out.old (answer_of_kind key.now.kind (F.book formatters.old) key.now.preferences key.now.grouping value.old)
         → key.now.kind ≡ Kind.Plain → ¬ (F.may_take_memory formatters.old) → IsOk result }
     ensures counted { OnOk result ((more : List (Option FormatterKey)) →
         F.counted_over formatters.old (Some key.now ∷ more) ≡ F.counted_over formatters.new more) }
