@@ -1,6 +1,6 @@
 -- A line asks what its front does, with its text: `specs/Front.antt`.
 use Rattle.std.proofs.Common.{◌≡◌, ◌∷◌, [], ◌++◌, ◌<◌, ◌+◌, ◌∙◌, inl, inr, ℕ, List, Option, Some, None, Bool, true, false, All, length, get_or, sym, ap, refl, subst, arith}
-use Rattle.std.specs.Prelude.{if◌then◌else◌, IfSome, option_map}
+use Rattle.std.specs.Prelude.{if◌then◌else◌, ◌&&◌, IfSome, IsTrue, option_map}
 use Rattle.std.specs.List.{slice_split, onto_first}
 use Rattle.std.specs.Str.{IsUtf8, is_utf8, IsCharBoundary}
 use Rattle.std.proofs.Math.Seq.{drop-append_seam, take-append_seam}
@@ -12,9 +12,10 @@ use Rattle.icu_decimal.specs.declared.options.GroupingStrategy.{GroupingStrategy
 use Rattle.locale_numbers.specs.Cutting.{IsLastCut, IsNot, is_separator}
 use Rattle.icu_locale_core.specs.TagPreferences.{Preferences}
 use Rattle.locale_numbers_book.specs.Book.{BookTables}
+use Rattle.locale_numbers_cache.specs.LastRead.{Remembered}
 use Rattle.locale_numbers.specs.Answer.{answer_asked, answer_in, answer_of, answer_tagged}
 use Rattle.locale_numbers.specs.FormatterKeys.{key_asked, key_of, key_tagged, key_with, kind_of}
-use Rattle.locale_numbers.specs.Front.{FitsForm, answer_behind, answer_keyed, asked_behind, front_asked, front_of, key_behind, key_keyed, with_text}
+use Rattle.locale_numbers.specs.Front.{FitsForm, HasKeyThat, answer_behind, answer_keyed, asked_behind, front_asked, front_of, key_behind, key_keyed, with_text}
 use Rattle.locale_numbers.specs.Request.{Asked, fields, request_by, request_in, request_of, tab, takes}
 use Rattle.locale_numbers_book.specs.Wanted.{wanted_of}
 use Rattle.locale_numbers.specs.declared.formatter_key.FormatterKey.{FormatterKey}
@@ -221,3 +222,16 @@ fits (Some asked) = fits_by asked (wanted_of asked.tag)
 -- the key of a front that was read is of the kind of its form
 pub fits_form : (front : Option Front) (bytes : List ℕ) → front ≡ front_of bytes → IfSome front FitsForm
 fits_form front bytes is = subst (λ f. IfSome f FitsForm) (sym is) (fits (request_of bytes))
+
+-- ---- the front that came last
+
+both_true : (a b : Bool) → IsTrue (a && b) → IsTrue a × IsTrue b
+both_true true b is = (refl, is)
+both_true false b is = cc
+
+-- what holds of the key of the front that came last holds of this one's, where nothing changed as it was found
+pub still_held : (holds : FormatterKey → Type 0) (held same : Bool) (before after : Remembered (Option Front)) (front : Option Front)
+    → (IsTrue held → IfSome before.latest (HasKeyThat holds)) → (IsTrue same → after ≡ before) → after.latest ≡ Some front → IsTrue (held && same) → HasKeyThat holds front
+still_held holds held same before after front of unchanged latest is =
+    let two = both_true held same is in
+    subst (λ found. IfSome found (HasKeyThat holds)) (ap (λ (keys : Remembered (Option Front)). keys.latest) (sym (unchanged two.1)) ∙ latest) (of two.0)

@@ -1,5 +1,7 @@
 -- Which tables the formatter of a key has, and what is answered where there are none.
-use Rattle.std.proofs.Common.{◌≡◌, ℕ, List, Some, Result, Ok, Err, is_ok, false, refl, sym, ap, ◌∙◌, subst}
+use Rattle.std.proofs.Common.{◌≡◌, ℕ, List, [], ◌∷◌, Some, Result, Ok, Err, is_ok, false, refl, sym, ap, ◌∙◌, subst, slice_get}
+use Rattle.std.specs.Map.{keys_of}
+use Rattle.std.specs.Prelude.{option_map}
 use Rattle.fixed_decimal.specs.Number.{Number}
 use Rattle.fixed_decimal.specs.SignedValue.{SignedValue}
 use Rattle.icu_locale_core.specs.TagPreferences.{DataLocaleMeaning, Preferences}
@@ -14,6 +16,7 @@ use Rattle.icu_decimal.specs.PlainText.{Tables}
 use Rattle.icu_decimal.specs.Symbols.{Symbols}
 use Rattle.locale_numbers_book.specs.Book.{BookTables}
 use Rattle.locale_numbers_book.specs.Tables.{symbols_under, digits_under, chain_in}
+use Rattle.locale_numbers_cache.specs.Cached.{Cached, IsFirst}
 use Rattle.locale_numbers.specs.Answer.{answer_with, found_in, refused}
 use Rattle.locale_numbers.specs.CompactAnswer.{compact_with, found_compact}
 use Rattle.locale_numbers.specs.FormatterKeys.{HasKind, HasTables, answer_by, answer_of_kind, finds_kind}
@@ -81,3 +84,11 @@ module _ (key : Kind) (book : BookTables) (p : Preferences) (grouping : Grouping
 
   pub no_plain : (length : PatternLength) (plain : PlainFormatter) → key ≡ Compact length → formatter ≡ kept.Plain plain → ⊥
   no_plain length plain kind is = subst (λ k. HasKind k book p grouping (kept.Plain plain)) kind (subst (λ f. HasKind key book p grouping f) is has)
+
+-- the key of the first entry is the first key
+pub first_key : {K F : Type 0} (cache : Cached K F) (key : K) (kept : F) → slice_get cache.entries 0 ≡ Some (key, kept) → IsFirst key cache
+first_key {K = K} {F = F} cache key kept first = at cache.entries first
+  where
+    at : (entries : List (K × F)) → slice_get entries 0 ≡ Some (key, kept) → slice_get (keys_of entries) 0 ≡ Some key
+    at [] none = cc
+    at (entry ∷ entries) is = ap (option_map (λ e. e.0)) is

@@ -32,6 +32,11 @@ front_of bytes = front_asked (request_of bytes)
 abbrev pub FitsForm : Front → Type 0
 FitsForm front = IfSome front.key (λ key. key.kind ≡ kind_of front.form)
 
+-- this holds of the front's key, where it has one
+abbrev pub HasKeyThat : (FormatterKey → Type 0) → Option Front → Type 0
+HasKeyThat holds None = Unit {0}
+HasKeyThat holds (Some front) = IfSome front.key holds
+
 -- what a front with this key asks of a text; the tag is in the key
 abbrev pub asked_behind : Front → FormatterKey → List ℕ → Asked
 asked_behind front key text =

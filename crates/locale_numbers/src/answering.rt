@@ -1,8 +1,8 @@
 // The answer of a book to a line.
-ghost use Rattle.std.specs.Prelude.{◌≡◌, ◌∷◌, ◌++◌, List, Option, IfOk, IfSome, OnOk, OnErr, string_bytes};
+ghost use Rattle.std.specs.Prelude.{◌≡◌, ◌∷◌, ◌++◌, List, Option, IfOk, IfSome, IsTrue, OnOk, OnErr, string_bytes};
 ghost use Rattle.locale_numbers_lines.specs.Growth.{Grows};
 ghost use Rattle.locale_numbers.specs.Answer.{answer_of};
-ghost use Rattle.locale_numbers.specs.Front.{FitsForm, answer_behind, key_behind};
+ghost use Rattle.locale_numbers.specs.Front.{FitsForm, HasKeyThat, answer_behind, key_behind};
 ghost use Rattle.locale_numbers.specs.declared.formatter_key.FormatterKey.{FormatterKey};
 
 use crate::answer_line::push_refusal;
@@ -20,23 +20,27 @@ use std::alloc::{AllocError, Global};
 
 /// Puts the answer to a text behind a front, behind what `out` holds.
 ///
-/// `value` is where a number is read. `AllocError`: out of memory; a part of the answer may then stand there.
+/// `value` is where a number is read, and `is_held` says whether the formatter that was found last is the front's. `AllocError`:
+/// out of memory; a part of the answer may then stand there.
 pub(crate) fn push_behind<'a, F: Formatters<'a>>(
     alloc: Global,
     value: &mut Decimal,
     formatters: &mut F,
+    is_held: &mut bool,
     front: &Option<Front>,
     text: &str,
     out: &mut String,
 ) -> Result<(), AllocError>
     requires ready { F.is_ready formatters.old }
     requires kind { IfSome front.now FitsForm }
+    requires held { IsTrue is_held.old → HasKeyThat (F.holds formatters.old) front.now }
     ensures text { OnOk result (string_bytes out.new
         ≡ string_bytes out.old ++ answer_behind (F.book formatters.old) front.now text.now) }
     ensures err { OnErr result (Grows (string_bytes out.old) (string_bytes out.new)) }
     ensures counted { OnOk result ((more : List (Option FormatterKey)) →
         F.counted_over formatters.old (key_behind front.now text.now ∷ more) ≡ F.counted_over formatters.new more) }
     ensures same { F.book formatters.new ≡ F.book formatters.old }
+    ensures held { IsTrue is_held.new → HasKeyThat (F.holds formatters.new) front.now }
     ensures ready { F.is_ready formatters.new }
 {
     let Some(front) = front else {
@@ -50,15 +54,17 @@ pub(crate) fn push_behind<'a, F: Formatters<'a>>(
             value,
             formatters,
             key,
+            is_held,
             front.sign,
             front.rounding,
             text.as_bytes(),
             out,
         ),
         Form::Exact(length) => {
+            *is_held = false;
             push_exact_text(alloc, formatters, length, key, front.sign, text, out)
         }
-        Form::Read => push_reading(alloc, formatters, key, text, out),
+        Form::Read => push_reading(alloc, formatters, key, is_held, text, out),
     }
 }
 
@@ -79,7 +85,16 @@ fn push_line<'a, F: Formatters<'a>>(
     };
     let front = read_front(alloc, front)?;
     let mut value = Decimal::zero(alloc);
-    push_behind(alloc, &mut value, formatters, &front, text, out)
+    let mut is_held = false;
+    push_behind(
+        alloc,
+        &mut value,
+        formatters,
+        &mut is_held,
+        &front,
+        text,
+        out,
+    )
 }
 
 /// The answer of `book` to a request line, without a line feed.

@@ -25,6 +25,7 @@ mod fault;
 mod formatter_key;
 mod formatters;
 mod front;
+mod held;
 mod kept;
 mod kept_formatter;
 pub mod laws;

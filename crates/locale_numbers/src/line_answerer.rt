@@ -22,20 +22,22 @@ pub(crate) struct LineAnswerer<'a, T: Tables> {
     pub kept: Kept<'a, T>,
     /// The fronts of lines that were read, and what each asks.
     pub read: ReadKeys<Option<Front>>,
+    /// Whether the formatter that was found last is that of the front that came last.
+    pub is_held: bool,
     /// Where numbers are read: the memory of one serves the next.
     pub value: Decimal,
 }
 
 impl<'a, T: Tables> Answerer for LineAnswerer<'a, T> {
-    ghost use Rattle.std.specs.Prelude.{map};
+    ghost use Rattle.std.specs.Prelude.{map, IfSome, IsTrue};
     ghost use Rattle.std.specs.List.{All};
-    ghost use Rattle.locale_numbers_cache.specs.Cached.{IsSound, made_over};
+    ghost use Rattle.locale_numbers_cache.specs.Cached.{IsLatest, IsSound, made_over};
     ghost use Rattle.locale_numbers_cache.specs.LastRead.{AreRead};
     ghost use Rattle.locale_numbers.specs.Answer.{answer_of};
     ghost use Rattle.locale_numbers.specs.FormatterKeys.{IsKeptFor, finds, key_of};
-    ghost use Rattle.locale_numbers.specs.Front.{front_of};
+    ghost use Rattle.locale_numbers.specs.Front.{HasKeyThat, front_of};
 
-    ghost is_ready = { λ s. IsSound (finds (T.book s.kept.maker.tables.now)) (IsKeptFor (T.book s.kept.maker.tables.now)) s.kept.formatters × All (AreRead front_of) s.read.pairs };
+    ghost is_ready = { λ s. IsSound (finds (T.book s.kept.maker.tables.now)) (IsKeptFor (T.book s.kept.maker.tables.now)) s.kept.formatters × All (AreRead front_of) s.read.pairs × (IsTrue s.is_held → IfSome s.read.latest (HasKeyThat (λ key. IsLatest (IsKeptFor (T.book s.kept.maker.tables.now)) key s.kept.formatters))) };
 
     ghost answer_of = { λ s line. answer_of (T.book s.kept.maker.tables.now) line };
 
@@ -46,11 +48,13 @@ impl<'a, T: Tables> Answerer for LineAnswerer<'a, T> {
             return push_refusal(out, Refusal::Shape);
         };
         let reader = FrontReader { alloc: self.alloc };
-        self.read.find(&reader, front)?;
+        let same = self.read.find(&reader, front)?;
+        self.is_held &= same;
         push_behind(
             self.alloc,
             &mut self.value,
             &mut self.kept,
+            &mut self.is_held,
             self.read.latest(),
             text,
             out,

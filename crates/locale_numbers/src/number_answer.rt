@@ -1,5 +1,5 @@
 // The forms that write a number.
-ghost use Rattle.std.specs.Prelude.{◌≡◌, ◌∷◌, ◌++◌, List, Option, Some, IsOk, IfOk, OnOk, OnErr, IsErrOf, string_bytes};
+ghost use Rattle.std.specs.Prelude.{◌≡◌, ◌∷◌, ◌++◌, List, Option, Some, IsOk, IfOk, IsTrue, OnOk, OnErr, IsErrOf, string_bytes};
 ghost use Rattle.fixed_decimal.specs.Number.{Number};
 ghost use Rattle.icu_decimal.specs.HeldTables.{tables_of};
 ghost use Rattle.icu_decimal.specs.PlainText.{decimal_text};
@@ -17,6 +17,7 @@ use crate::changing::change;
 use crate::compact_answer::push_compact;
 use crate::formatter_key::FormatterKey;
 use crate::formatters::Formatters;
+use crate::held::hold;
 use crate::kept_formatter::KeptFormatter;
 use crate::refusal::Refusal;
 use crate::rounding_field::RoundingAsked;
@@ -72,10 +73,12 @@ fn push_with(
 fn push_number<'a, F: Formatters<'a>>(
     formatters: &mut F,
     key: &Hashed<FormatterKey>,
+    is_held: &mut bool,
     value: &mut Decimal,
     out: &mut String,
 ) -> Result<(), AllocError>
-    requires { F.is_ready formatters.old }
+    requires ready { F.is_ready formatters.old }
+    requires held { IsTrue is_held.old → F.holds formatters.old key.now }
     ensures text { OnOk result (string_bytes out.new
         ≡ string_bytes out.old ++ answer_of_kind key.now.kind (F.book formatters.old) key.now.preferences key.now.grouping value.old) }
     ensures err { OnErr result (Grows (string_bytes out.old) (string_bytes out.new)) }
@@ -84,9 +87,10 @@ fn push_number<'a, F: Formatters<'a>>(
     ensures counted { OnOk result ((more : List (Option FormatterKey)) →
         F.counted_over formatters.old (Some key.now ∷ more) ≡ F.counted_over formatters.new more) }
     ensures same { F.book formatters.new ≡ F.book formatters.old }
+    ensures held { IsTrue is_held.new → F.holds formatters.new key.now }
     ensures ready { F.is_ready formatters.new }
 {
-    let found = formatters.find(key)?;
+    let found = hold(formatters, key, is_held)?;
     if !found {
         return push_refusal(out, Refusal::Table);
     }
@@ -95,17 +99,19 @@ fn push_number<'a, F: Formatters<'a>>(
 
 /// Puts the answer to a number's text, with the formatter of a key, behind what `out` holds. `value` is read anew.
 ///
-/// `AllocError`: out of memory; a part of the answer may then stand there.
+/// `is_held` says whether the formatter that was found last is the one of the key. `AllocError`: out of memory; a part of the answer may then stand there.
 pub(crate) fn push_text<'a, F: Formatters<'a>>(
     value: &mut Decimal,
     formatters: &mut F,
     key: &Hashed<FormatterKey>,
+    is_held: &mut bool,
     sign: SignAsked,
     rounding: RoundingAsked,
     text: &[u8],
     out: &mut String,
 ) -> Result<(), AllocError>
-    requires { F.is_ready formatters.old }
+    requires ready { F.is_ready formatters.old }
+    requires held { IsTrue is_held.old → F.holds formatters.old key.now }
     ensures text { OnOk result (string_bytes out.new
         ≡ string_bytes out.old ++ answer_to (answer_of_kind key.now.kind (F.book formatters.old) key.now.preferences key.now.grouping) sign rounding (reading_of text.now)) }
     ensures err { OnErr result (Grows (string_bytes out.old) (string_bytes out.new)) }
@@ -117,12 +123,13 @@ pub(crate) fn push_text<'a, F: Formatters<'a>>(
     ensures counted { OnOk result ((more : List (Option FormatterKey)) →
         F.counted_over formatters.old (key_text key.now (reading_of text.now) ∷ more) ≡ F.counted_over formatters.new more) }
     ensures same { F.book formatters.new ≡ F.book formatters.old }
+    ensures held { IsTrue is_held.new → F.holds formatters.new key.now }
     ensures ready { F.is_ready formatters.new }
 {
     match read_number(value, text) {
         Ok(()) => {
             change(value, rounding, sign)?;
-            push_number(formatters, key, value, out)
+            push_number(formatters, key, is_held, value, out)
         }
         Err(ParseError::Syntax) => push_refusal(out, Refusal::Number),
         Err(ParseError::Limit) => push_refusal(out, Refusal::Limit),

@@ -1,5 +1,5 @@
 //! The form `read`: the number that a text was written from, as an answer.
-ghost use Rattle.std.specs.Prelude.{◌≡◌, ◌∷◌, ◌++◌, List, Option, Some, IsErrOf, IsOk, OnOk, OnErr, string_bytes};
+ghost use Rattle.std.specs.Prelude.{◌≡◌, ◌∷◌, ◌++◌, List, Option, Some, IsErrOf, IsOk, IsTrue, OnOk, OnErr, string_bytes};
 ghost use Rattle.fixed_decimal.specs.SignedText.{signed_text_of};
 ghost use Rattle.icu_decimal.specs.HeldTables.{tables_of};
 ghost use Rattle.icu_decimal.specs.PlainReading.{HasManyDigits, IsAnswered, plain_reading};
@@ -15,6 +15,7 @@ ghost use Rattle.locale_numbers.specs.declared.formatter_key.Kind.{Kind};
 use crate::answer_line::{push_answer, push_refusal};
 use crate::formatter_key::FormatterKey;
 use crate::formatters::Formatters;
+use crate::held::hold;
 use crate::kept_formatter::{KeptFormatter, PlainFormatter};
 use crate::refusal::Refusal;
 use fixed_decimal::Decimal;
@@ -72,15 +73,17 @@ fn push_read(
 
 /// Puts the answer to a text that the formatter of a key reads back behind what `out` holds.
 ///
-/// `AllocError`: out of memory; a part of the answer may then stand there.
+/// `is_held` says whether the formatter that was found last is the one of the key. `AllocError`: out of memory; a part of the answer may then stand there.
 pub(crate) fn push_reading<'a, F: Formatters<'a>>(
     alloc: Global,
     formatters: &mut F,
     key: &Hashed<FormatterKey>,
+    is_held: &mut bool,
     text: &str,
     out: &mut String,
 ) -> Result<(), AllocError>
     requires ready { F.is_ready formatters.old }
+    requires held { IsTrue is_held.old → F.holds formatters.old key.now }
     requires plain { key.now.kind ≡ Kind.Plain }
     ensures text { OnOk result (string_bytes out.new
         ≡ string_bytes out.old ++ read_with (found_in (F.book formatters.old) key.now.preferences key.now.grouping) text.now) }
@@ -94,9 +97,10 @@ pub(crate) fn push_reading<'a, F: Formatters<'a>>(
     ensures counted { OnOk result ((more : List (Option FormatterKey)) →
         F.counted_over formatters.old (Some key.now ∷ more) ≡ F.counted_over formatters.new more) }
     ensures same { F.book formatters.new ≡ F.book formatters.old }
+    ensures held { IsTrue is_held.new → F.holds formatters.new key.now }
     ensures ready { F.is_ready formatters.new }
 {
-    let found = formatters.find(key)?;
+    let found = hold(formatters, key, is_held)?;
     if !found {
         return push_refusal(out, Refusal::Table);
     }

@@ -90,6 +90,7 @@ pub fn run<T: Tables, R: ByteReader, W: ByteWriter>(
         alloc,
         kept,
         read: ReadKeys::new(alloc)?,
+        is_held: false,
         value: Decimal::zero(alloc),
     };
     run_with(alloc, &mut answerer, reader, writer)

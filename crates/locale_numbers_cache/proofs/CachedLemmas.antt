@@ -6,8 +6,8 @@ use Rattle.std.proofs.lemmas.Map.Entries.{length-keys_of}
 use Rattle.std.proofs.lemmas.List.{length-take, take-map}
 use Rattle.lru.specs.LruCache.{LruCache, lru_cache, promoted, put_entries}
 use Rattle.lru.proofs.CallerLemmas.{Contains-promoted, Contains-put_entries, Contains-lookup_entry}
-use Rattle.locale_numbers_cache.specs.Recent.{has, without, recent_after}
-use Rattle.locale_numbers_cache.specs.Cached.{Cached, cached, most, recent_of, recent_with, made_over, IsSound, IsLatest}
+use Rattle.locale_numbers_cache.specs.Recent.{has, without, recent_after, misses}
+use Rattle.locale_numbers_cache.specs.Cached.{Cached, cached, most, recent_of, recent_with, made_over, used, ChangesNothing, IsFirst, IsSound, IsLatest}
 use Rattle.locale_numbers_cache.proofs.RecentLemmas.{keys_of-remove_entry, has-entry, has-none, entry_of, no_entry_of, recent_after-hit, recent_after-miss}
 
 module _ {K F : Type 0} (same : K → K → Bool) (finds : K → Bool) (is_made : K → F → Type 0) where
@@ -129,3 +129,33 @@ module _ {K F : Type 0} (same : K → K → Bool) (exact : (one other : K) → s
       let sound' = subst (IsSound finds is_made) (sym view) sound in
       let uses = puts same finds is_made exact key before.entries before.cap made sound' little kept h bounds.1 right.0 right.1 in
       subst (λ c. Uses same finds is_made key c (cached after.entries after.cap count)) view (rw (put, more) (rw stays uses))
+
+-- ---- the key that was used last is used again
+
+module _ {K : Type 0} (same : K → K → Bool) (finds : K → Bool) (key : K) (itself : same key key ≡ true) where
+  -- it goes to the front, where it stands
+  stays_first : (capacity : ℕ) (recent : List K) → length recent ≤ capacity → slice_get recent 0 ≡ Some key → (has same key recent ≡ true) × (recent_after same capacity recent key ≡ recent)
+  stays_first capacity [] fits first = cc
+  stays_first capacity (other ∷ recent) fits first =
+      let is : other ≡ key = let found : Some other ≡ Some key = first in cc in
+      let there : has same key (other ∷ recent) ≡ true = rw is (rw itself refl) in
+      let rest : without same key (other ∷ recent) ≡ recent = rw is (rw itself refl) in
+      (there, recent_after-hit same key capacity (other ∷ recent) fits there ∙ ap (λ keys. key ∷ keys) rest ∙ ap (λ k. k ∷ recent) (sym is))
+
+  module _ {F : Type 0} (cache : Cached K F) (fits : length (recent_of cache) ≤ cache.capacity) (first : IsFirst key cache) where
+    stays : (has same key (recent_of cache) ≡ true) × (recent_after same cache.capacity (recent_of cache) key ≡ recent_of cache)
+    stays = stays_first cache.capacity (recent_of cache) fits first
+
+    kept_so : (b : Bool) → (if b then recent_after same cache.capacity (recent_of cache) key else recent_of cache) ≡ recent_of cache
+    kept_so true = stays.1
+    kept_so false = refl
+
+    counted_so : (b : Bool) (rest : List K) → misses same cache.capacity (recent_of cache) (if b then key ∷ rest else rest) ≡ misses same cache.capacity (recent_of cache) rest
+    counted_so true rest = rw (stays.0, stays.1) (omega arith)
+    counted_so false rest = refl
+
+    pub used_again : ChangesNothing same finds key cache
+    used_again = record {
+      recent = kept_so (finds key);
+      ahead = λ more. ap (λ n. min (cache.made + n) most) (counted_so (finds key) (used finds more));
+    }

@@ -44,6 +44,10 @@ module _ {K F : Type 0} where
     pub first : slice_get cache.entries 0 ≡ Some (key, kept)
     pub right : is_made key kept
 
+  -- the key was used last
+  abbrev pub IsFirst : K → Cached K F → Type 0
+  IsFirst key cache = slice_get (recent_of cache) 0 ≡ Some key
+
 module _ {K : Type 0} where
   -- the keys that use the cache: of lines that have one, those for which something is found
   abbrev pub used : (K → Bool) → List (Option K) → List K
@@ -59,3 +63,8 @@ module _ {K F : Type 0} (same : K → K → Bool) (finds : K → Bool) where
   -- how many things will have been made once lines with these keys were answered
   abbrev pub made_over : Cached K F → List (Option K) → ℕ
   made_over cache keys = min (cache.made + misses same cache.capacity (recent_of cache) (used finds keys)) most
+
+  -- a use of the key leaves the keys kept, and the count, as they are
+  pub record ChangesNothing (key : K) (cache : Cached K F) : Type 0 where
+    pub recent : recent_with cache key ≡ recent_of cache
+    pub ahead : (more : List (Option K)) → made_over cache (Some key ∷ more) ≡ made_over cache more

@@ -1,6 +1,6 @@
-ghost use Rattle.std.specs.Prelude.{◌≡◌, ◌≤◌, List, ◌∷◌, [], Option, option_map, option_copied, slice_get, false, IfOk, OnOk, OnErr, IsOk, IsTrue};
+ghost use Rattle.std.specs.Prelude.{◌≡◌, ◌≤◌, Bool, List, ◌∷◌, [], Option, option_map, option_copied, slice_get, false, IfOk, OnOk, OnErr, IsOk, IsTrue};
 ghost use Rattle.locale_numbers_cache.specs.Recent.{has};
-ghost use Rattle.locale_numbers_cache.specs.Cached.{cached, most, IsSound, IsLatest, recent_of, recent_with, made_over};
+ghost use Rattle.locale_numbers_cache.specs.Cached.{cached, most, ChangesNothing, IsFirst, IsSound, IsLatest, recent_of, recent_with, made_over};
 
 use crate::cache_key::CacheKey;
 use crate::maker::Maker;
@@ -86,10 +86,12 @@ impl<K: CacheKey, F: Drop> FormatterCache<K, F> {
         self.made
     }
 
-    /// What was kept or used last: after the keys 1, 2, 1 what was made for 1; `None` where nothing is kept. It does not
-    /// allocate.
+    /// What was kept or used last: after the keys 1, 2, 1 what was made for 1; `None` where nothing is kept. To use its key
+    /// again would change nothing. It does not allocate.
     pub fn latest(&self) -> Option<&F>
-        ensures { option_copied result ≡ option_map (λ entry. entry.1) (slice_get self.now.entries 0) }
+        ensures value { option_copied result ≡ option_map (λ entry. entry.1) (slice_get self.now.entries 0) }
+        // Whichever keys things are found for.
+        ensures again { (finds : K → Bool) (key : K) → IsFirst key self.now → ChangesNothing K.eq finds key self.now }
     {
         match self.kept.peek_mru() {
             Some((_, kept)) => Some(kept),

@@ -113,10 +113,12 @@ impl<K: Copy> ReadKeys<K> {
     /// them: of `a` and then `a` the first.
     ///
     /// The condition is that each key it remembers is the one that this reader reads. Bytes of more than 256 are read each time.
-    /// It allocates where they are read. `AllocError`: out of memory; it then remembers what it did.
-    pub fn find<R: KeyReader<K>>(&mut self, reader: &R, bytes: &[u8]) -> Result<(), AllocError>
+    /// It allocates where they are read. `true` is returned only where nothing has changed: of bytes that came last.
+    /// `AllocError`: out of memory; it then remembers what it did.
+    pub fn find<R: KeyReader<K>>(&mut self, reader: &R, bytes: &[u8]) -> Result<bool, AllocError>
         requires { All (AreRead (R.key_of reader.now)) self.old.pairs }
         ensures value { OnOk result (self.new.latest ≡ Some (R.key_of reader.now bytes.now)) }
+        ensures same { IfOk result (λ same. IsTrue same → self.new ≡ self.old) }
         ensures used { OnOk result (length bytes.now ≤ 256 →
             IfSome (slice_get self.old.pairs (pair_at bytes.now)) (λ old.
             IfSome (slice_get self.new.pairs (pair_at bytes.now)) (λ new. Uses bytes.now (R.key_of reader.now bytes.now) old new))) }
@@ -126,9 +128,10 @@ impl<K: Copy> ReadKeys<K> {
             IfSome (slice_get self.old.pairs (pair_at bytes.now)) (λ pair. either_remembers bytes.now pair ≡ true) → IsOk result }
     {
         if self.is_last(bytes) {
-            return Ok(());
+            return Ok(true);
         }
-        self.find_other(reader, bytes)
+        self.find_other(reader, bytes)?;
+        Ok(false)
     }
 
     /// The key that was found last: that of `a` after `find` of `a`. The condition is that one was found. It does not allocate.

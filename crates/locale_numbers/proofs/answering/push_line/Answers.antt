@@ -1,12 +1,13 @@
 use Rattle.std.proofs.Common.{◌++◌, refl, sym, ap, ◌∙◌}
 use Rattle.std.specs.Prelude.{string_bytes}
+use Rattle.std.proofs.lemmas.Bool.{false≢true}
 use Rattle.locale_numbers.specs.Front.{answer_behind}
 use Rattle.locale_numbers.proofs.AnsweringLemmas.{on_ok_by}
 use Rattle.locale_numbers.proofs.FrontLemmas.{answer_of_line, fits_form}
 use Rattle.locale_numbers.proofs.answering.push_line.Goals as goal
 
 pub push_behind-requires : goal.push_behind-requires
-push_behind-requires g c κs = ((refl, tt {0}), (c.requires, fits_form c.in_ok-front.front c.in-Some.front.now c.in_ok-front.ensures))
+push_behind-requires g c κs = ((refl, tt {0}), (c.requires, (fits_form c.in_ok-front.front c.in-Some.front.now c.in_ok-front.ensures, λ held. absurd (false≢true held))))
 
 pub returns-clause-text : goal.returns-clause-text
 returns-clause-text g c =

@@ -1,4 +1,5 @@
 use Rattle.std.proofs.Common.{rules, IfOk}
+use Rattle.std.proofs.lemmas.Bool.{false≢true}
 use Rattle.locale_numbers_lines.specs.Run.{CountsMade}
 use Rattle.locale_numbers.specs.FormatterKeys.{makes}
 use Rattle.locale_numbers.specs.Front.{front_of}
@@ -6,7 +7,7 @@ use Rattle.locale_numbers.specs.contracts.formatter_key.FormatterKeyPartialEq.Th
 use Rattle.locale_numbers.proofs.running.run.Goals as goal
 
 pub run_with-requires-clause-can_answer : goal.run_with-requires-clause-can_answer
-run_with-requires-clause-can_answer g c = (search rules, c.in_ok-new.ensures.sound front_of)
+run_with-requires-clause-can_answer g c = (search rules, c.in_ok-new.ensures.sound front_of, λ held. absurd (false≢true held))
 
 pub returns-clause-made : goal.returns-clause-made
 returns-clause-made g c =
