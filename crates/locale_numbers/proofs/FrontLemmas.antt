@@ -4,6 +4,7 @@ use Rattle.std.specs.Prelude.{if◌then◌else◌, ◌&&◌, IfSome, IsTrue, opt
 use Rattle.std.specs.List.{slice_split, onto_first}
 use Rattle.std.specs.Str.{IsUtf8, is_utf8, IsCharBoundary}
 use Rattle.std.proofs.Math.Seq.{drop-append_seam, take-append_seam}
+use Rattle.std.proofs.lemmas.Bool.{false≢true}
 use Rattle.std.proofs.lemmas.Grind.{common_steps}
 use Rattle.std.proofs.lemmas.List.{append_assoc, length-append}
 use Rattle.std.proofs.lemmas.List.Splits.{length-slice_split, slice_split-cons_no, slice_split-cons_yes, slice_split_none}
@@ -13,13 +14,14 @@ use Rattle.locale_numbers.specs.Cutting.{IsLastCut, IsNot, is_separator}
 use Rattle.icu_locale_core.specs.TagPreferences.{Preferences}
 use Rattle.locale_numbers_book.specs.Book.{BookTables}
 use Rattle.locale_numbers_cache.specs.LastRead.{Remembered}
-use Rattle.locale_numbers.specs.Answer.{answer_asked, answer_in, answer_of, answer_tagged}
+use Rattle.locale_numbers.specs.Answer.{answer_asked, answer_in, answer_of, answer_tagged, refused}
 use Rattle.locale_numbers.specs.FormatterKeys.{key_asked, key_of, key_tagged, key_with, kind_of}
-use Rattle.locale_numbers.specs.Front.{FitsForm, HasKeyThat, answer_behind, answer_keyed, asked_behind, front_asked, front_of, key_behind, key_keyed, with_text}
+use Rattle.locale_numbers.specs.Front.{FitsForm, HasKeyThat, answer_behind, answer_front, answer_keyed, asked_behind, asked_text, front_asked, front_of, key_behind, key_front, key_keyed, with_text}
 use Rattle.locale_numbers.specs.Request.{Asked, fields, request_by, request_in, request_of, tab, takes}
 use Rattle.locale_numbers_book.specs.Wanted.{wanted_of}
 use Rattle.locale_numbers.specs.declared.formatter_key.FormatterKey.{FormatterKey}
 use Rattle.locale_numbers.specs.declared.front.Front.{Front}
+use Rattle.locale_numbers.specs.declared.refusal.Refusal.TheVariants as refusal
 use Rattle.locale_numbers.specs.declared.sign_field.SignAsked.{SignAsked}
 use Rattle.locale_numbers.specs.declared.rounding_field.RoundingAsked.{RoundingAsked}
 use Rattle.locale_numbers.specs.declared.request.Form.{Form}
@@ -137,7 +139,7 @@ nothing_asked text = ap (with_text text) (nothing_if (is_utf8 []) (request_in (f
 
 module _ (line front text : List ℕ) (cut : IsLastCut tab line front text) where
   -- a line asks what its front does, with its text
-  pub line_asks : IsUtf8 text → request_of line ≡ with_text text (request_of front)
+  line_asks : IsUtf8 text → request_of line ≡ with_text text (request_of front)
   line_asks utf8 = elim cut.ends [
     | inl none ↦ (let whole : line ≡ text = cut.whole ∙ ap (λ f. f ++ text) none in
         ap request_of whole ∙ no_tab text cut.none ∙ sym (ap (λ f. with_text text (request_of f)) none ∙ nothing_asked text))
@@ -149,12 +151,20 @@ module _ (line front text : List ℕ) (cut : IsLastCut tab line front text) wher
   not_utf8 false none pieces = refl
 
   -- and nothing, where its text is not UTF-8
-  pub line_asks_nothing : (IsUtf8 text → ⊥) → request_of line ≡ None
+  line_asks_nothing : (IsUtf8 text → ⊥) → request_of line ≡ None
   line_asks_nothing broken = elim cut.ends [
     | inl none ↦ ap request_of (cut.whole ∙ ap (λ f. f ++ text) none) ∙ no_tab text cut.none
     | inr ends ↦ not_utf8 (is_utf8 line) (λ whole.
         broken (sides_utf8 ends.0 text (subst IsUtf8 (cut.whole ∙ ap (λ f. f ++ text) ends.1) (IsUtf8-from_is_utf8 line whole))).1) (fields line)
   ]
+
+  -- so whether its text is UTF-8 says which
+  pub line_asked : request_of line ≡ asked_text text (request_of front)
+  line_asked = at (is_utf8 text) refl
+    where
+      at : (b : Bool) → is_utf8 text ≡ b → request_of line ≡ (if b then with_text text (request_of front) else None)
+      at true is = line_asks (IsUtf8-from_is_utf8 text is)
+      at false is = line_asks_nothing (λ utf8. false≢true (sym is ∙ is_utf8-from_IsUtf8 text utf8))
 
 -- ---- the answer, and the key
 
@@ -177,7 +187,7 @@ answered_by : (book : BookTables) (asked : Asked) (key : Option FormatterKey) (w
 answered_by book asked key None text = refl
 answered_by book asked key (Some p) text = answered_in asked.form book p asked key text
 
-answered : (book : BookTables) (asked : Option Asked) (text : List ℕ) → answer_asked book (with_text text asked) ≡ answer_behind book (front_asked asked) text
+answered : (book : BookTables) (asked : Option Asked) (text : List ℕ) → answer_asked book (with_text text asked) ≡ answer_front book (front_asked asked) text
 answered book None text = refl
 answered book (Some asked) text = answered_by book asked (option_map (key_with asked.form asked.grouping) (wanted_of asked.tag)) (wanted_of asked.tag) text
 
@@ -185,18 +195,26 @@ keyed_by : (asked : Asked) (wanted : Option Preferences) (text : List ℕ) → k
 keyed_by asked None text = refl
 keyed_by asked (Some p) text = refl
 
-keyed : (asked : Option Asked) (text : List ℕ) → key_asked (with_text text asked) ≡ key_behind (front_asked asked) text
+keyed : (asked : Option Asked) (text : List ℕ) → key_asked (with_text text asked) ≡ key_front (front_asked asked) text
 keyed None text = refl
 keyed (Some asked) text = keyed_by asked (wanted_of asked.tag) text
 
-module _ (line bytes text : List ℕ) (asks : request_of line ≡ with_text text (request_of bytes)) where
+module _ (line bytes text : List ℕ) (asks : request_of line ≡ asked_text text (request_of bytes)) where
   -- a line is answered as its text is behind its front
   pub answer_of_line : (book : BookTables) → answer_of book line ≡ answer_behind book (front_of bytes) text
-  answer_of_line book = ap (answer_asked book) asks ∙ answered book (request_of bytes) text
+  answer_of_line book = at (is_utf8 text) asks
+    where
+      at : (b : Bool) → request_of line ≡ (if b then with_text text (request_of bytes) else None) → answer_of book line ≡ (if b then answer_front book (front_of bytes) text else refused refusal.Shape)
+      at true asks = ap (answer_asked book) asks ∙ answered book (request_of bytes) text
+      at false asks = ap (answer_asked book) asks
 
   -- and asks for the same key
   pub key_of_line : key_of line ≡ key_behind (front_of bytes) text
-  key_of_line = ap key_asked asks ∙ keyed (request_of bytes) text
+  key_of_line = at (is_utf8 text) asks
+    where
+      at : (b : Bool) → request_of line ≡ (if b then with_text text (request_of bytes) else None) → key_of line ≡ (if b then key_front (front_of bytes) text else None)
+      at true asks = ap key_asked asks ∙ keyed (request_of bytes) text
+      at false asks = ap key_asked asks
 
 -- what is kept of a request does not go by its text
 with_no_text : (asked : Option Asked) → front_asked (with_text [] asked) ≡ front_asked asked

@@ -25,3 +25,4 @@ pub mod ReadingTrips
 pub mod RequestLemmas
 pub mod RoundedLemmas
 pub mod ValueLemmas
+pub mod TextLemmas

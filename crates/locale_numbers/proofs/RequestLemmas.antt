@@ -66,3 +66,7 @@ fails false shows denies = refl
 pub text_tells : {S E : Type 0} (bytes : List ℕ) (P : S → Type 0) (Q : E → Type 0) (r : Result S E) → MatchResult r (λ s. P s × IsUtf8 bytes) (λ e. (IsUtf8 bytes → ⊥) × Q e) → is_ok r ≡ is_utf8 bytes
 text_tells bytes P Q (Ok s) read = sym (is_utf8-from_IsUtf8 bytes read.1)
 text_tells bytes P Q (Err e) read = fails (is_utf8 bytes) (IsUtf8-from_is_utf8 bytes) read.0
+
+-- bytes that are no text fail the test
+pub not_text : (bytes : List ℕ) → (IsUtf8 bytes → ⊥) → is_utf8 bytes ≡ false
+not_text bytes broken = sym (fails (is_utf8 bytes) (IsUtf8-from_is_utf8 bytes) broken)

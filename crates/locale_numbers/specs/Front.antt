@@ -1,7 +1,8 @@
 -- What the front of a line asks, all that stands before its text: it is read as a line with no text.
 -- Defined in docs/requests.md, "Request line" and "What a cache keeps".
 -- Cited by the private steps of an answer.
-use Rattle.std.specs.Prelude.{◌≡◌, ℕ, List, [], Option, Some, None, option_map, IfSome}
+use Rattle.std.specs.Prelude.{◌≡◌, ℕ, List, [], Option, Some, None, option_map, IfSome, if◌then◌else◌}
+use Rattle.std.specs.Str.{is_utf8}
 use Rattle.locale_numbers_book.specs.Book.{BookTables}
 use Rattle.locale_numbers.specs.Answer.{answer_in, refused}
 use Rattle.locale_numbers.specs.FormatterKeys.{key_in, key_with, kind_of}
@@ -17,6 +18,10 @@ abbrev pub with_text : List ℕ → Option Asked → Option Asked
 with_text text None = None
 with_text text (Some asked) =
     Some (record { tag = asked.tag; form = asked.form; grouping = asked.grouping; sign = asked.sign; rounding = asked.rounding; text = text })
+
+-- what a line asks, by the text behind its front and what this asks: nothing, where the text is not UTF-8
+abbrev pub asked_text : List ℕ → Option Asked → Option Asked
+asked_text text asked = if is_utf8 text then with_text text asked else None
 
 -- what is kept of a request for any text: its form, sign and rounding, and its key, where its tag is one
 abbrev pub front_asked : Option Asked → Option Front
@@ -48,15 +53,30 @@ answer_keyed book front None text = refused refusal.Tag
 answer_keyed book front (Some key) text = answer_in front.form book key.preferences (asked_behind front key text)
 
 -- the answer to a text behind a front, or behind one that asks nothing
+abbrev pub answer_front : BookTables → Option Front → List ℕ → List ℕ
+answer_front book None text = refused refusal.Shape
+answer_front book (Some front) text = answer_keyed book front front.key text
+
+-- this answer to a text, where it is UTF-8
+abbrev pub if_text : List ℕ → List ℕ → List ℕ
+if_text text answer = if is_utf8 text then answer else refused refusal.Shape
+
+-- the answer to what stands behind a front
 abbrev pub answer_behind : BookTables → Option Front → List ℕ → List ℕ
-answer_behind book None text = refused refusal.Shape
-answer_behind book (Some front) text = answer_keyed book front front.key text
+answer_behind book front text = if_text text (answer_front book front text)
 
 -- the key that such a line asks for
 abbrev pub key_keyed : Form → Option FormatterKey → List ℕ → Option FormatterKey
 key_keyed form None text = None
 key_keyed form (Some key) text = key_in form key text
 
+abbrev pub key_front : Option Front → List ℕ → Option FormatterKey
+key_front None text = None
+key_front (Some front) text = key_keyed front.form front.key text
+
+-- this key of a text, where it is UTF-8
+abbrev pub key_if_text : List ℕ → Option FormatterKey → Option FormatterKey
+key_if_text text key = if is_utf8 text then key else None
+
 abbrev pub key_behind : Option Front → List ℕ → Option FormatterKey
-key_behind None text = None
-key_behind (Some front) text = key_keyed front.form front.key text
+key_behind front text = key_if_text text (key_front front text)

@@ -4,9 +4,11 @@ ghost use Rattle.writeable.specs.AnnotatedText.{text_of};
 ghost use Rattle.locale_numbers_lines.specs.Growth.{Grows};
 ghost use Rattle.locale_numbers.specs.AnswerLine.{refused, written};
 ghost use Rattle.locale_numbers.specs.AnswerSink.{HasRoom};
+ghost use Rattle.locale_numbers.specs.Front.{if_text};
 
 use crate::answer_sink::push_written;
 use crate::refusal::Refusal;
+use crate::request::is_text;
 use std::alloc::AllocError;
 use writeable::Writeable;
 
@@ -18,6 +20,23 @@ pub(crate) fn push_refusal(out: &mut String, cause: Refusal) -> Result<(), Alloc
 {
     out.push_str("err\t")?;
     out.push_str(cause.word())
+}
+
+/// Puts the refusal of a line with this text behind what `out` holds: by `shape`, where the text is not UTF-8.
+pub(crate) fn push_refusal_of(
+    out: &mut String,
+    text: &[u8],
+    cause: Refusal,
+) -> Result<(), AllocError>
+    ensures text { OnOk result (string_bytes out.new ≡ string_bytes out.old ++ if_text text.now (refused cause)) }
+    ensures err { OnErr result (Grows (string_bytes out.old) (string_bytes out.new)) }
+    ensures room { HasRoom out.old (if_text text.now (refused cause)) → IsOk result }
+{
+    if is_text(text) {
+        push_refusal(out, cause)
+    } else {
+        push_refusal(out, Refusal::Shape)
+    }
 }
 
 /// Puts an answer that holds the text of a value behind what `out` holds.

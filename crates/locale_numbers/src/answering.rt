@@ -5,7 +5,7 @@ ghost use Rattle.locale_numbers.specs.Answer.{answer_of};
 ghost use Rattle.locale_numbers.specs.Front.{FitsForm, HasKeyThat, answer_behind, key_behind};
 ghost use Rattle.locale_numbers.specs.declared.formatter_key.FormatterKey.{FormatterKey};
 
-use crate::answer_line::push_refusal;
+use crate::answer_line::{push_refusal, push_refusal_of};
 use crate::exact_answer::push_exact_text;
 use crate::formatters::Formatters;
 use crate::front::{Front, read_front};
@@ -13,12 +13,12 @@ use crate::kept_formatter::MadeFormatter;
 use crate::number_answer::push_text;
 use crate::read_answer::push_reading;
 use crate::refusal::Refusal;
-use crate::request::{Form, cut_text};
+use crate::request::{Form, as_text, cut_text};
 use fixed_decimal::Decimal;
 use locale_numbers_book::Book;
 use std::alloc::{AllocError, Global};
 
-/// Puts the answer to a text behind a front, behind what `out` holds.
+/// Puts the answer to a text behind a front, behind what `out` holds. It is tested as UTF-8 only where no number is read.
 ///
 /// `value` is where a number is read, and `is_held` says whether the formatter that was found last is the front's. `AllocError`:
 /// out of memory; a part of the answer may then stand there.
@@ -28,7 +28,7 @@ pub(crate) fn push_behind<'a, F: Formatters<'a>>(
     formatters: &mut F,
     is_held: &mut bool,
     front: &Option<Front>,
-    text: &str,
+    text: &[u8],
     out: &mut String,
 ) -> Result<(), AllocError>
     requires ready { F.is_ready formatters.old }
@@ -47,7 +47,7 @@ pub(crate) fn push_behind<'a, F: Formatters<'a>>(
         return push_refusal(out, Refusal::Shape);
     };
     let Some(key) = &front.key else {
-        return push_refusal(out, Refusal::Tag);
+        return push_refusal_of(out, text, Refusal::Tag);
     };
     match front.form {
         Form::Plain | Form::Compact(_) => push_text(
@@ -57,14 +57,22 @@ pub(crate) fn push_behind<'a, F: Formatters<'a>>(
             is_held,
             front.sign,
             front.rounding,
-            text.as_bytes(),
+            text,
             out,
         ),
         Form::Exact(length) => {
+            let Some(text) = as_text(text) else {
+                return push_refusal(out, Refusal::Shape);
+            };
             *is_held = false;
             push_exact_text(alloc, formatters, length, key, front.sign, text, out)
         }
-        Form::Read => push_reading(alloc, formatters, key, is_held, text, out),
+        Form::Read => {
+            let Some(text) = as_text(text) else {
+                return push_refusal(out, Refusal::Shape);
+            };
+            push_reading(alloc, formatters, key, is_held, text, out)
+        }
     }
 }
 
@@ -80,9 +88,7 @@ fn push_line<'a, F: Formatters<'a>>(
         string_bytes out.new ≡ string_bytes out.old ++ answer_of (F.book formatters.old) line.now) }
     ensures err { OnErr result (Grows (string_bytes out.old) (string_bytes out.new)) }
 {
-    let Some((front, text)) = cut_text(line) else {
-        return push_refusal(out, Refusal::Shape);
-    };
+    let (front, text) = cut_text(line);
     let front = read_front(alloc, front)?;
     let mut value = Decimal::zero(alloc);
     let mut is_held = false;

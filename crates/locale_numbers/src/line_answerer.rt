@@ -1,11 +1,9 @@
 //! The answerer of a run: it keeps formatters, and the fronts that were read, from line to line.
 
-use crate::answer_line::push_refusal;
 use crate::answering::push_behind;
 use crate::formatter_key::FormatterKey;
 use crate::front::{Front, FrontReader};
 use crate::kept::Kept;
-use crate::refusal::Refusal;
 use crate::request::cut_text;
 use crate::tables::Tables;
 use fixed_decimal::Decimal;
@@ -44,9 +42,7 @@ impl<'a, T: Tables> Answerer for LineAnswerer<'a, T> {
     ghost made_over = { λ s lines. made_over ⟦<FormatterKey as PartialEq>⟧.eq (finds (T.book s.kept.maker.tables.now)) s.kept.formatters (map key_of lines) };
 
     fn answer_onto(&mut self, line: &[u8], out: &mut String) -> Result<(), AllocError> {
-        let Some((front, text)) = cut_text(line) else {
-            return push_refusal(out, Refusal::Shape);
-        };
+        let (front, text) = cut_text(line);
         let reader = FrontReader { alloc: self.alloc };
         let same = self.read.find(&reader, front)?;
         self.is_held &= same;

@@ -1,5 +1,6 @@
 // The forms that write a number.
-ghost use Rattle.std.specs.Prelude.{◌≡◌, ◌∷◌, ◌++◌, List, Option, Some, IsOk, IfOk, IsTrue, OnOk, OnErr, IsErrOf, string_bytes};
+ghost use Rattle.std.specs.Prelude.{◌≡◌, true, ◌∷◌, ◌++◌, List, Option, Some, IsOk, IfOk, IsTrue, OnOk, OnErr, IsErrOf, string_bytes};
+ghost use Rattle.std.specs.Str.{is_utf8};
 ghost use Rattle.fixed_decimal.specs.Number.{Number};
 ghost use Rattle.icu_decimal.specs.HeldTables.{tables_of};
 ghost use Rattle.icu_decimal.specs.PlainText.{decimal_text};
@@ -8,11 +9,12 @@ ghost use Rattle.locale_numbers.specs.Answer.{written, answer_to};
 ghost use Rattle.locale_numbers.specs.AnswerSink.{HasRoom};
 ghost use Rattle.locale_numbers.specs.Changing.{MayGrowRead, ReadsMore};
 ghost use Rattle.locale_numbers.specs.FormatterKeys.{IsPlain, answer_by, answer_of_kind, key_text};
+ghost use Rattle.locale_numbers.specs.Front.{if_text, key_if_text};
 ghost use Rattle.locale_numbers.specs.NumberReading.{number, beyond, nothing, reading_of};
 ghost use Rattle.locale_numbers.specs.declared.formatter_key.FormatterKey.{FormatterKey};
 ghost use Rattle.locale_numbers.specs.declared.formatter_key.Kind.{Kind};
 
-use crate::answer_line::{push_answer, push_refusal};
+use crate::answer_line::{push_answer, push_refusal, push_refusal_of};
 use crate::changing::change;
 use crate::compact_answer::push_compact;
 use crate::formatter_key::FormatterKey;
@@ -31,6 +33,8 @@ use std::alloc::AllocError;
 fn read_number(value: &mut Decimal, text: &[u8]) -> Result<(), ParseError>
     ensures value { OnOk result (reading_of text.now ≡ number value.new) }
     ensures limit { IsErrOf result ParseError.Limit → reading_of text.now ≡ beyond }
+    ensures text { OnOk result (is_utf8 text.now ≡ true) }
+    ensures limit_text { IsErrOf result ParseError.Limit → is_utf8 text.now ≡ true }
     ensures syntax { IsErrOf result ParseError.Syntax → reading_of text.now ≡ nothing }
 
     // Only a text that says a number of more than eight digits, and of more than the one that is there, is told as out of memory.
@@ -113,15 +117,15 @@ pub(crate) fn push_text<'a, F: Formatters<'a>>(
     requires ready { F.is_ready formatters.old }
     requires held { IsTrue is_held.old → F.holds formatters.old key.now }
     ensures text { OnOk result (string_bytes out.new
-        ≡ string_bytes out.old ++ answer_to (answer_of_kind key.now.kind (F.book formatters.old) key.now.preferences key.now.grouping) sign rounding (reading_of text.now)) }
+        ≡ string_bytes out.old ++ if_text text.now (answer_to (answer_of_kind key.now.kind (F.book formatters.old) key.now.preferences key.now.grouping) sign rounding (reading_of text.now))) }
     ensures err { OnErr result (Grows (string_bytes out.old) (string_bytes out.new)) }
 
     // In plain form, where there is room for the answer, and handing out a formatter takes none, only a number of more than
     // eight digits, and of more than `value` had, may be out of memory, and a rounding to multiples of 25 that may lengthen one of eight.
-    ensures room { HasRoom out.old (answer_to (answer_of_kind key.now.kind (F.book formatters.old) key.now.preferences key.now.grouping) sign rounding (reading_of text.now))
+    ensures room { HasRoom out.old (if_text text.now (answer_to (answer_of_kind key.now.kind (F.book formatters.old) key.now.preferences key.now.grouping) sign rounding (reading_of text.now)))
         → key.now.kind ≡ Kind.Plain → ¬ (F.may_take_memory formatters.old) → ¬ (ReadsMore text.now value.old) → ¬ (MayGrowRead rounding (reading_of text.now)) → IsOk result }
     ensures counted { OnOk result ((more : List (Option FormatterKey)) →
-        F.counted_over formatters.old (key_text key.now (reading_of text.now) ∷ more) ≡ F.counted_over formatters.new more) }
+        F.counted_over formatters.old (key_if_text text.now (key_text key.now (reading_of text.now)) ∷ more) ≡ F.counted_over formatters.new more) }
     ensures same { F.book formatters.new ≡ F.book formatters.old }
     ensures held { IsTrue is_held.new → F.holds formatters.new key.now }
     ensures ready { F.is_ready formatters.new }
@@ -131,7 +135,7 @@ pub(crate) fn push_text<'a, F: Formatters<'a>>(
             change(value, rounding, sign)?;
             push_number(formatters, key, is_held, value, out)
         }
-        Err(ParseError::Syntax) => push_refusal(out, Refusal::Number),
+        Err(ParseError::Syntax) => push_refusal_of(out, text, Refusal::Number),
         Err(ParseError::Limit) => push_refusal(out, Refusal::Limit),
         Err(ParseError::Memory) => Err(AllocError),
     }

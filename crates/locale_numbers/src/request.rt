@@ -1,7 +1,7 @@
 // The request line: six fields between tabs.
-ghost use Rattle.std.specs.Prelude.{◌≡◌, ◌∷◌, [], ◌↔◌, length, IsSome, IfSome, MatchOption, Some, None};
+ghost use Rattle.std.specs.Prelude.{◌≡◌, true, false, ◌∷◌, [], ◌↔◌, length, IsSome, IfSome, MatchOption, Some, None};
 ghost use Rattle.std.specs.Str.{is_utf8};
-ghost use Rattle.locale_numbers.specs.Front.{with_text};
+ghost use Rattle.locale_numbers.specs.Front.{asked_text, with_text};
 ghost use Rattle.locale_numbers.specs.Request.{fields, form_named, grouping_named, keeps_digits, keeps_sign, request_of, takes};
 
 use crate::cutting::{cut_field, cut_last};
@@ -147,7 +147,7 @@ fn six_fields(line: &[u8]) -> Option<Fields<'_>>
 }
 
 /// Whether bytes are UTF-8.
-fn is_text(bytes: &[u8]) -> bool
+pub(crate) fn is_text(bytes: &[u8]) -> bool
     ensures { result ≡ is_utf8 bytes.now }
 {
     str::from_utf8(bytes).is_ok()
@@ -178,15 +178,21 @@ pub(crate) fn read_request(line: &[u8]) -> Option<Request<'_>>
     })
 }
 
-/// The front of a line, which is all that stands before its text, and the text; or `None` where this is not UTF-8.
-///
-/// The front ends with the last tab. It asks what the line does, as a line with no text.
-pub(crate) fn cut_text(line: &[u8]) -> Option<(&[u8], &str)>
-    ensures { MatchOption result (request_of line.now ≡ None) (λ cut. request_of line.now ≡ with_text cut.1.now (request_of cut.0.now)) }
+/// Bytes as a text, where they are UTF-8.
+pub(crate) fn as_text(bytes: &[u8]) -> Option<&str>
+    ensures { MatchOption result (is_utf8 bytes.now ≡ false) (λ text. (is_utf8 bytes.now ≡ true) × (text.now ≡ bytes.now)) }
 {
-    let (front, text) = cut_last(line, TAB);
-    match str::from_utf8(text) {
-        Ok(text) => Some((front, text)),
+    match str::from_utf8(bytes) {
+        Ok(text) => Some(text),
         Err(_) => None,
     }
+}
+
+/// The front of a line, which is all that stands before its text, and the text, which need not be UTF-8.
+///
+/// The front ends with the last tab. It asks what the line does, as a line with no text.
+pub(crate) fn cut_text(line: &[u8]) -> (&[u8], &[u8])
+    ensures { request_of line.now ≡ asked_text result.1.now (request_of result.0.now) }
+{
+    cut_last(line, TAB)
 }

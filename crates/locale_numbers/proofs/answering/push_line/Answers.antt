@@ -7,13 +7,13 @@ use Rattle.locale_numbers.proofs.FrontLemmas.{answer_of_line, fits_form}
 use Rattle.locale_numbers.proofs.answering.push_line.Goals as goal
 
 pub push_behind-requires : goal.push_behind-requires
-push_behind-requires g c κs = ((refl, tt {0}), (c.requires, (fits_form c.in_ok-front.front c.in-Some.front.now c.in_ok-front.ensures, λ held. absurd (false≢true held))))
+push_behind-requires g c κs = ((refl, tt {0}), (c.requires, (fits_form c.in_ok-front.front c.cut_text.result.0.now c.in_ok-front.ensures, λ held. absurd (false≢true held))))
 
 pub returns-clause-text : goal.returns-clause-text
 returns-clause-text g c =
     let book = g.F.Formatters.book c.args.formatters.now in
     on_ok_by c.push_behind.result
     (λ p. p ∙ ap (λ answer. string_bytes c.args.out.now ++ answer)
-    (ap (λ front. answer_behind book front c.in-Some.text.now) c.in_ok-front.ensures
-    ∙ sym (answer_of_line c.args.line.now c.in-Some.front.now c.in-Some.text.now c.in-Some.ensures book)))
+    (ap (λ front. answer_behind book front c.cut_text.result.1.now) c.in_ok-front.ensures
+    ∙ sym (answer_of_line c.args.line.now c.cut_text.result.0.now c.cut_text.result.1.now c.cut_text.ensures book)))
     c.push_behind.ensures.text

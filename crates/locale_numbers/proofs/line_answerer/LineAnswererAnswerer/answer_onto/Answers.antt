@@ -14,7 +14,7 @@ push_behind-requires g c κs =
       (
         c.requires.0,
         (
-          fits_form c.latest.result.now c.in-Some.front.now (one_of _ _ _ c.latest.ensures c.in_ok-same.ensures.value),
+          fits_form c.latest.result.now c.cut_text.result.0.now (one_of _ _ _ c.latest.ensures c.in_ok-same.ensures.value),
           still_held (λ key. IsLatest (IsKeptFor book) key c.args.self.now.kept.formatters) c.args.self.now.is_held c.in_ok-same.same c.args.self.now.read c.find.new.self c.latest.result.now
               c.requires.2 c.in_ok-same.ensures.same c.latest.ensures,
         ),
@@ -26,15 +26,15 @@ returns-clause-text g c =
     let book = g.T.Tables.book c.args.self.now.kept.maker.tables.now in
     on_ok_by c.push_behind.result
     (λ p. p ∙ ap (λ answer. string_bytes c.args.out.now ++ answer)
-    (ap (λ front. answer_behind book front c.in-Some.text.now) (one_of _ _ _ c.latest.ensures c.in_ok-same.ensures.value)
-    ∙ sym (answer_of_line c.args.line.now c.in-Some.front.now c.in-Some.text.now c.in-Some.ensures book)))
+    (ap (λ front. answer_behind book front c.cut_text.result.1.now) (one_of _ _ _ c.latest.ensures c.in_ok-same.ensures.value)
+    ∙ sym (answer_of_line c.args.line.now c.cut_text.result.0.now c.cut_text.result.1.now c.cut_text.ensures book)))
     c.push_behind.ensures.text
 
 pub returns-clause-made : goal.returns-clause-made
 returns-clause-made g c =
-    let key : key_of c.args.line.now ≡ key_behind c.latest.result.now c.in-Some.text.now =
-    key_of_line c.args.line.now c.in-Some.front.now c.in-Some.text.now c.in-Some.ensures
-    ∙ ap (λ front. key_behind front c.in-Some.text.now) (sym (one_of _ _ _ c.latest.ensures c.in_ok-same.ensures.value)) in
+    let key : key_of c.args.line.now ≡ key_behind c.latest.result.now c.cut_text.result.1.now =
+    key_of_line c.args.line.now c.cut_text.result.0.now c.cut_text.result.1.now c.cut_text.ensures
+    ∙ ap (λ front. key_behind front c.cut_text.result.1.now) (sym (one_of _ _ _ c.latest.ensures c.in_ok-same.ensures.value)) in
     on_ok_by c.push_behind.result
     (λ counted more. rw key (counted (map key_of more)))
     c.push_behind.ensures.counted
