@@ -1,7 +1,7 @@
 use Rattle.std.proofs.Common.{◌≡◌, ◌≤◌, Bool, true, length, subst, sym}
 use Rattle.std.proofs.lemmas.Map.Entries.{length-keys_of}
 use Rattle.lru.specs.LruCache.{LruCache}
-use Rattle.locale_numbers_cache.specs.Cached.{Cached, ChangesNothing, IsFirst, cached, recent_of}
+use Rattle.locale_numbers_cache.specs.Cached.{Cached, ChangesNothing, IsFirst, cached}
 use Rattle.locale_numbers_cache.proofs.CachedLemmas.{used_again}
 use Rattle.locale_numbers_cache.proofs.formatter_cache.FormatterCache.latest.Goals as goal
 
