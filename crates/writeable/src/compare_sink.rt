@@ -1,4 +1,4 @@
-ghost use Rattle.std.specs.Prelude.{◌≡◌, ℕ, List, [], ◌∷◌};
+ghost use Rattle.std.specs.Prelude.{◌≡◌, ℕ, List, [], ◌∷◌, false, IsTrue};
 ghost use Rattle.std.specs.declared.cmp.Ordering.TheVariants.{Equal};
 ghost use Rattle.writeable.specs.AnnotatedText.{text_of};
 ghost use Rattle.writeable.specs.Order.{byte_order};
@@ -10,8 +10,8 @@ use crate::write::Writeable;
 use std::cmp::Ordering;
 use std::marker::Model;
 
-/// A sink that compares the text with given bytes, byte by byte, and keeps neither: against `a,b`, after `a,` its
-/// verdict is `Less`.
+/// A sink that compares the text with given bytes, a piece at once where it is alike, and keeps neither: against `a,b`,
+/// after `a,` its verdict is `Less`.
 ///
 /// It never refuses and does not allocate.
 #[derive(Drop)]
@@ -50,6 +50,20 @@ impl<'b> CompareSink<'b> {
             Ordering::Less
         } else {
             self.so_far
+        }
+    }
+
+    // Takes a whole piece where the bytes go on with it; else nothing.
+    fn take_alike(&mut self, piece: &[u8]) -> bool
+        ensures alike { IsTrue result → Compares self.old piece.now self.new }
+        ensures other { result ≡ false → self.new ≡ self.old }
+    {
+        match self.rest.strip_prefix(piece) {
+            Some(rest) => {
+                self.rest = rest;
+                true
+            }
+            None => false,
         }
     }
 
@@ -92,7 +106,11 @@ impl<'b> Sink for CompareSink<'b> {
 
     #[tactic(auto, using(crate::proofs::AnnotatedTextLemmas::text_of_bytes))]
     fn write_str(&mut self, text: &str) -> Result<(), Error> {
-        for byte in text.as_bytes() {
+        let bytes = text.as_bytes();
+        if self.take_alike(bytes) {
+            return Ok(());
+        }
+        for byte in bytes {
             self.take(*byte);
         }
         Ok(())
