@@ -5,4 +5,3 @@ pub mod PartsLemmas
 pub mod PointerValues
 pub mod PuttingLemmas
 pub mod Sent
-pub mod WantedLemmas

@@ -1,7 +1,7 @@
 -- Which content a handle of each kind has open, or none.
 -- Defined in docs/c-api.md, "Handles".
 -- Cited by the handles of each kind, and by the exports through Views.antt.
-use Rattle.std.specs.Prelude.{Bool, true, false, Option, Some, None}
+use Rattle.std.specs.Prelude.{◌≡◌, Bool, true, false, Option, Some, None, refl}
 use Rattle.icu_decimal.specs.CompactTables.{CompactTables}
 use Rattle.icu_decimal.specs.PlainText.{Tables}
 use Rattle.locale_numbers.specs.Book.{BookTables}
@@ -44,3 +44,20 @@ is_for_compact None = true
 is_for_compact (Some (Book book)) = false
 is_for_compact (Some (Decimal tables)) = false
 is_for_compact (Some (Compact tables)) = true
+
+-- ---- an open handle of a kind has a content of it
+
+pub book_is : (content : Content) → is_for_book (Some content) ≡ true → (book : BookTables) × (book_in (Some content) ≡ Some book)
+book_is (Book book) is = (book, refl)
+book_is (Decimal tables) is = absurd (cc is)
+book_is (Compact tables) is = absurd (cc is)
+
+pub decimal_is : (content : Content) → is_for_decimal (Some content) ≡ true → (tables : Tables) × (decimal_in (Some content) ≡ Some tables)
+decimal_is (Book book) is = absurd (cc is)
+decimal_is (Decimal tables) is = (tables, refl)
+decimal_is (Compact tables) is = absurd (cc is)
+
+pub compact_is : (content : Content) → is_for_compact (Some content) ≡ true → (tables : CompactTables) × (compact_in (Some content) ≡ Some tables)
+compact_is (Book book) is = absurd (cc is)
+compact_is (Decimal tables) is = absurd (cc is)
+compact_is (Compact tables) is = (tables, refl)

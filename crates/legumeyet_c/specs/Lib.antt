@@ -12,5 +12,4 @@ pub mod Parts
 pub mod Putting
 pub mod Reading
 pub mod Views
-pub mod Wanted
 pub mod Writing

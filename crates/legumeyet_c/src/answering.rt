@@ -7,7 +7,7 @@ ghost use Rattle.legumeyet_c.specs.Putting.{Answers, IsPut};
 ghost use Rattle.legumeyet_c.specs.Views.{book_open};
 
 use crate::call_error::{CallError, answer};
-use crate::content::book_of;
+use crate::content::Held;
 use crate::handles::BookHandle;
 use crate::putting::put_bytes;
 use locale_numbers::Book;
@@ -33,7 +33,7 @@ fn answer_behind(alloc: Global, book: &mut BookHandle, line: &[u8]) -> Result<Ve
     let Some(content) = book.handle.take(alloc) else {
         return Err(CallError::Closed);
     };
-    let found = line_answer(alloc, book_of(&content), line);
+    let found = line_answer(alloc, Book::held_by(&content), line);
     book.handle.put(alloc, content);
     found
 }

@@ -10,7 +10,7 @@ ghost use Rattle.legumeyet_c.specs.Views.{book_open, compact_open};
 use crate::call_error::{CallError, answer};
 use crate::choices::{Width, grouping_by, width_by};
 use crate::compact_tables::OwnedCompactTables;
-use crate::content::{Content, book_of};
+use crate::content::{Content, Held};
 use crate::handles::{BookHandle, CompactHandle};
 use icu_decimal::CompactDecimalFormatter;
 use icu_decimal::options::GroupingStrategy;
@@ -107,7 +107,7 @@ fn tables_behind(
     let Some(content) = book.handle.take(alloc) else {
         return Err(CallError::Closed);
     };
-    let found = tables_by(alloc, book_of(&content), tag, width, grouping);
+    let found = tables_by(alloc, Book::held_by(&content), tag, width, grouping);
     book.handle.put(alloc, content);
     found
 }

@@ -13,7 +13,7 @@ ghost use Rattle.legumeyet_c.specs.Writing.{IsChangedFault, IsValueFault, Writes
 use crate::call_error::{CallError, answer};
 use crate::choices::Options;
 use crate::compact_tables::OwnedCompactTables;
-use crate::content::compact_of;
+use crate::content::Held;
 use crate::handles::CompactHandle;
 use crate::intervals::Interval;
 use crate::numbers::number_of_text;
@@ -59,7 +59,7 @@ fn annotated_behind(
         return Err(CallError::Closed);
     };
     let found = match number {
-        Ok(value) => annotated_with(alloc, compact_of(&content), value),
+        Ok(value) => annotated_with(alloc, OwnedCompactTables::held_by(&content), value),
         Err(error) => Err(*error),
     };
     formatter.handle.put(alloc, content);

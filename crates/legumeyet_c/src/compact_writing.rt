@@ -1,7 +1,6 @@
 //! Compact numbers: `legumeyet_compact_formatter_format`, `_format_i64`, `_shown` and `_format_exact`.
 
-ghost use Rattle.std.specs.Prelude.{◌≡◌, ◌≢◌, Some, IfOk, IfErr};
-ghost use Rattle.fixed_decimal.specs.Range.{IsLong};
+ghost use Rattle.std.specs.Prelude.{◌≡◌, IfOk, IfErr};
 ghost use Rattle.fixed_decimal.specs.SignedText.{ReadsSigned};
 ghost use Rattle.icu_decimal.specs.CompactText.{value_shown};
 ghost use Rattle.icu_decimal.specs.HeldCompact.{compact_tables_of};
@@ -10,36 +9,45 @@ ghost use Rattle.legumeyet_c.specs.CompactWriting.{IsCompactFault, IsCompactText
 ghost use Rattle.legumeyet_c.specs.Numbers.{IsNumberFault, IsScaled, IsScaledFault};
 ghost use Rattle.legumeyet_c.specs.Putting.{Answers, IsPut};
 ghost use Rattle.legumeyet_c.specs.Views.{compact_open};
-ghost use Rattle.legumeyet_c.specs.Wanted.{IsWantedFault, IsWantedText};
-ghost use Rattle.legumeyet_c.specs.Writing.{IsChangedFault, IsValueFault, WritesChanged, WritesValue};
+ghost use Rattle.legumeyet_c.specs.Writing.{IsChangedFault, WritesChanged};
 
 use crate::call_error::{CallError, answer};
 use crate::choices::Options;
 use crate::compact_tables::OwnedCompactTables;
-use crate::content::compact_of;
 use crate::handles::CompactHandle;
+use crate::numbers::{compact_of_text, number_of_i64, number_of_text};
 use crate::putting::put;
-use crate::wanted::{Wanted, exact_of_text, shown_of_number, text_of_i64, text_of_number};
+use crate::writing::{Form, write_behind};
 use fixed_decimal::{CompactDecimal, Decimal};
 use icu_decimal::CompactDecimalFormatter;
 use std::alloc::{AllocError, Global};
 
-// Writes the compact text of a number.
-fn write_text(
-    tables: &OwnedCompactTables,
-    value: &Decimal,
-    out: &mut [u8],
-    length: &mut usize,
-) -> Result<(), CallError>
-    ensures { IsPut (IsCompactText tables.now value.now) (IsCompactFault tables.now value.now) out.old out.new length.old length.new result }
-{
-    let formatter = tables.formatter();
-    if !formatter.can_format(value) {
-        return Err(CallError::Range);
-    }
-    match formatter.format(value) {
-        Ok(text) => put(&text, out, length),
-        Err(_) => Err(CallError::Memory),
+/// The compact text of a number.
+pub(crate) struct CompactText;
+
+impl Form for CompactText {
+    type Tables = OwnedCompactTables;
+
+    type Number = Decimal;
+
+    ghost says = { IsCompactText };
+
+    ghost fails = { IsCompactFault };
+
+    fn write(
+        tables: &OwnedCompactTables,
+        value: &Decimal,
+        out: &mut [u8],
+        length: &mut usize,
+    ) -> Result<(), CallError> {
+        let formatter = tables.formatter();
+        if !formatter.can_format(value) {
+            return Err(CallError::Range);
+        }
+        match formatter.format(value) {
+            Ok(text) => put(&text, out, length),
+            Err(_) => Err(CallError::Memory),
+        }
     }
 }
 
@@ -61,147 +69,64 @@ fn shown_by(
     ))
 }
 
-// Writes the value that is shown for a number.
-fn write_shown(
-    tables: &OwnedCompactTables,
-    value: &Decimal,
-    out: &mut [u8],
-    length: &mut usize,
-) -> Result<(), CallError>
-    ensures { IsPut (IsShownText tables.now value.now) (IsShownFault tables.now value.now) out.old out.new length.old length.new result }
-{
-    let formatter = tables.formatter();
-    if !formatter.can_format(value) {
-        return Err(CallError::Range);
-    }
-    match shown_by(&formatter, value) {
-        Ok(shown) => put(&shown, out, length),
-        Err(_) => Err(CallError::Memory),
-    }
-}
+/// The value that this text shows.
+pub(crate) struct ShownText;
 
-// Writes a significand with an exponent.
-fn write_exact(
-    tables: &OwnedCompactTables,
-    value: &CompactDecimal,
-    out: &mut [u8],
-    length: &mut usize,
-) -> Result<(), CallError>
-    ensures { IsPut (IsExactText tables.now value.now) (IsExactFault tables.now value.now) out.old out.new length.old length.new result }
-{
-    let formatter = tables.formatter();
-    let significand = value.significand();
-    let exponent = value.exponent();
-    if !formatter.exponent_in_range(significand, exponent) {
-        return Err(CallError::Range);
-    }
-    match formatter.format_with_exponent(significand, exponent) {
-        Ok(text) => put(&text, out, length),
-        Err(_) => Err(CallError::Exponent),
+impl Form for ShownText {
+    type Tables = OwnedCompactTables;
+
+    type Number = Decimal;
+
+    ghost says = { IsShownText };
+
+    ghost fails = { IsShownFault };
+
+    fn write(
+        tables: &OwnedCompactTables,
+        value: &Decimal,
+        out: &mut [u8],
+        length: &mut usize,
+    ) -> Result<(), CallError> {
+        let formatter = tables.formatter();
+        if !formatter.can_format(value) {
+            return Err(CallError::Range);
+        }
+        match shown_by(&formatter, value) {
+            Ok(shown) => put(&shown, out, length),
+            Err(_) => Err(CallError::Memory),
+        }
     }
 }
 
-// Writes what is wanted, where there is something, by tables.
-fn write_wanted(
-    tables: &OwnedCompactTables,
-    wanted: &Result<Wanted, CallError>,
-    out: &mut [u8],
-    length: &mut usize,
-) -> Result<(), CallError>
-    requires { IfErr wanted.now (λ error. error ≢ CallError.TooSmall) }
-    ensures { IsPut (WritesValue IsWantedText (Some tables.now) wanted.now) (IsValueFault IsWantedFault (Some tables.now) wanted.now) out.old out.new length.old length.new result }
-{
-    match wanted {
-        Ok(Wanted::Text(value)) => write_text(tables, value, out, length),
-        Ok(Wanted::Shown(value)) => write_shown(tables, value, out, length),
-        Ok(Wanted::Exact(value)) => write_exact(tables, value, out, length),
-        Err(error) => Err(*error),
+/// The text of a significand with an exponent.
+pub(crate) struct ExactText;
+
+impl Form for ExactText {
+    type Tables = OwnedCompactTables;
+
+    type Number = CompactDecimal;
+
+    ghost says = { IsExactText };
+
+    ghost fails = { IsExactFault };
+
+    fn write(
+        tables: &OwnedCompactTables,
+        value: &CompactDecimal,
+        out: &mut [u8],
+        length: &mut usize,
+    ) -> Result<(), CallError> {
+        let formatter = tables.formatter();
+        let significand = value.significand();
+        let exponent = value.exponent();
+        if !formatter.exponent_in_range(significand, exponent) {
+            return Err(CallError::Range);
+        }
+        match formatter.format_with_exponent(significand, exponent) {
+            Ok(text) => put(&text, out, length),
+            Err(_) => Err(CallError::Exponent),
+        }
     }
-}
-
-// The same by the formatter behind a handle, which stays as it is.
-fn write_behind(
-    alloc: Global,
-    formatter: &mut CompactHandle,
-    wanted: &Result<Wanted, CallError>,
-    out: &mut [u8],
-    length: &mut usize,
-) -> Result<(), CallError>
-    requires { IfErr wanted.now (λ error. error ≢ CallError.TooSmall) }
-    ensures same { compact_open formatter.new ≡ compact_open formatter.old }
-    ensures told { IsPut (WritesValue IsWantedText (compact_open formatter.old) wanted.now) (IsValueFault IsWantedFault (compact_open formatter.old) wanted.now) out.old out.new length.old length.new result }
-{
-    let Some(content) = formatter.handle.take(alloc) else {
-        return Err(CallError::Closed);
-    };
-    let written = write_wanted(compact_of(&content), wanted, out, length);
-    formatter.handle.put(alloc, content);
-    written
-}
-
-// Writes the number that a text spells.
-fn format(
-    alloc: Global,
-    formatter: &mut CompactHandle,
-    number: &[u8],
-    options: &Options,
-    out: &mut [u8],
-    length: &mut usize,
-) -> Result<(), CallError>
-    ensures same { compact_open formatter.new ≡ compact_open formatter.old }
-    ensures told { IsPut (WritesChanged IsCompactText (compact_open formatter.old) (choices_of options.now) (ReadsSigned number.now)) (IsChangedFault IsCompactFault (compact_open formatter.old) (choices_of options.now) (ReadsSigned number.now) (IsNumberFault number.now)) out.old out.new length.old length.new result }
-{
-    let wanted = text_of_number(alloc, number, options);
-    write_behind(alloc, formatter, &wanted, out, length)
-}
-
-// Writes an integer times a power of ten.
-fn format_i64(
-    alloc: Global,
-    formatter: &mut CompactHandle,
-    mantissa: i64,
-    exponent: i16,
-    options: &Options,
-    out: &mut [u8],
-    length: &mut usize,
-) -> Result<(), CallError>
-    ensures same { compact_open formatter.new ≡ compact_open formatter.old }
-    ensures told { IsPut (WritesChanged IsCompactText (compact_open formatter.old) (choices_of options.now) (IsScaled mantissa exponent)) (IsChangedFault IsCompactFault (compact_open formatter.old) (choices_of options.now) (IsScaled mantissa exponent) (IsScaledFault mantissa exponent)) out.old out.new length.old length.new result }
-{
-    let wanted = text_of_i64(alloc, mantissa, exponent, options);
-    write_behind(alloc, formatter, &wanted, out, length)
-}
-
-// Writes the value that is shown for the number that a text spells.
-fn shown(
-    alloc: Global,
-    formatter: &mut CompactHandle,
-    number: &[u8],
-    options: &Options,
-    out: &mut [u8],
-    length: &mut usize,
-) -> Result<(), CallError>
-    ensures same { compact_open formatter.new ≡ compact_open formatter.old }
-    ensures told { IsPut (WritesChanged IsShownText (compact_open formatter.old) (choices_of options.now) (ReadsSigned number.now)) (IsChangedFault IsShownFault (compact_open formatter.old) (choices_of options.now) (ReadsSigned number.now) (IsNumberFault number.now)) out.old out.new length.old length.new result }
-{
-    let wanted = shown_of_number(alloc, number, options);
-    write_behind(alloc, formatter, &wanted, out, length)
-}
-
-// Writes the exact form that a text spells.
-fn format_exact(
-    alloc: Global,
-    formatter: &mut CompactHandle,
-    number: &[u8],
-    options: &Options,
-    out: &mut [u8],
-    length: &mut usize,
-) -> Result<(), CallError>
-    ensures same { compact_open formatter.new ≡ compact_open formatter.old }
-    ensures told { IsPut (WritesExact (compact_open formatter.old) (choices_of options.now) number.now) (IsExactWritingFault (compact_open formatter.old) (choices_of options.now) number.now) out.old out.new length.old length.new result }
-{
-    let wanted = exact_of_text(alloc, number, options);
-    write_behind(alloc, formatter, &wanted, out, length)
 }
 
 /// Writes a decimal number that is given as text: `-1172700` as `-1.2M` in short English.
@@ -221,7 +146,8 @@ pub extern "C" fn legumeyet_compact_formatter_format(
     ensures same { compact_open formatter.new ≡ compact_open formatter.old }
     ensures told { Answers (IsPut (WritesChanged IsCompactText (compact_open formatter.old) (choices_of options.now) (ReadsSigned number.now)) (IsChangedFault IsCompactFault (compact_open formatter.old) (choices_of options.now) (ReadsSigned number.now) (IsNumberFault number.now)) out.old out.new length.old length.new) result }
 {
-    answer(format(alloc, formatter, number, options, out, length))
+    let number = number_of_text(alloc, number, options);
+    answer(write_behind::<CompactText>(alloc, &mut formatter.handle, &number, out, length))
 }
 
 /// Writes the number `mantissa` times ten to the power `exponent`: -11727 and 2 as `-1.2M` in short English.
@@ -240,7 +166,8 @@ pub extern "C" fn legumeyet_compact_formatter_format_i64(
     ensures same { compact_open formatter.new ≡ compact_open formatter.old }
     ensures told { Answers (IsPut (WritesChanged IsCompactText (compact_open formatter.old) (choices_of options.now) (IsScaled mantissa exponent)) (IsChangedFault IsCompactFault (compact_open formatter.old) (choices_of options.now) (IsScaled mantissa exponent) (IsScaledFault mantissa exponent)) out.old out.new length.old length.new) result }
 {
-    answer(format_i64(alloc, formatter, mantissa, exponent, options, out, length))
+    let number = number_of_i64(alloc, mantissa, exponent, options);
+    answer(write_behind::<CompactText>(alloc, &mut formatter.handle, &number, out, length))
 }
 
 /// Writes the value that the text of a number shows: of `-1172700` in short English `-1.2c6`, which is -1.2 times ten to the power 6.
@@ -258,7 +185,8 @@ pub extern "C" fn legumeyet_compact_formatter_shown(
     ensures same { compact_open formatter.new ≡ compact_open formatter.old }
     ensures told { Answers (IsPut (WritesChanged IsShownText (compact_open formatter.old) (choices_of options.now) (ReadsSigned number.now)) (IsChangedFault IsShownFault (compact_open formatter.old) (choices_of options.now) (ReadsSigned number.now) (IsNumberFault number.now)) out.old out.new length.old length.new) result }
 {
-    answer(shown(alloc, formatter, number, options, out, length))
+    let number = number_of_text(alloc, number, options);
+    answer(write_behind::<ShownText>(alloc, &mut formatter.handle, &number, out, length))
 }
 
 /// Writes a significand with an exponent, its digits as they are: `-1.20c6` as `-1.20M` in short English. The options change the
@@ -280,5 +208,6 @@ pub extern "C" fn legumeyet_compact_formatter_format_exact(
     ensures same { compact_open formatter.new ≡ compact_open formatter.old }
     ensures told { Answers (IsPut (WritesExact (compact_open formatter.old) (choices_of options.now) number.now) (IsExactWritingFault (compact_open formatter.old) (choices_of options.now) number.now) out.old out.new length.old length.new) result }
 {
-    answer(format_exact(alloc, formatter, number, options, out, length))
+    let number = compact_of_text(alloc, number, options);
+    answer(write_behind::<ExactText>(alloc, &mut formatter.handle, &number, out, length))
 }

@@ -1,7 +1,7 @@
 // What an open handle has.
 
-ghost use Rattle.std.specs.Prelude.{◌≡◌, Some, true};
-ghost use Rattle.legumeyet_c.specs.Kinds.{is_for_book, is_for_compact, is_for_decimal, book_in, compact_in, decimal_in};
+ghost use Rattle.std.specs.Prelude.{◌≡◌, Bool, Option, Some, None, true};
+ghost use Rattle.legumeyet_c.specs.Kinds.{book_in, book_is, compact_in, compact_is, decimal_in, decimal_is, is_for_book, is_for_compact, is_for_decimal};
 
 use crate::compact_tables::OwnedCompactTables;
 use crate::decimal_tables::DecimalTables;
@@ -18,35 +18,99 @@ pub enum Content {
     Compact(OwnedCompactTables),
 }
 
-/// The book.
-pub(crate) fn book_of(content: &Content) -> &Book
-    requires { is_for_book (Some content.now) ≡ true }
-    ensures { book_in (Some content.now) ≡ Some result.now }
-{
-    match content {
-        Content::Book(book) => book,
-        Content::Decimal(_) | Content::Compact(_) => unreachable!(),
-    }
+/// What the handles of one kind have open.
+pub(crate) trait Held: Drop {
+    ghost use Rattle.std.specs.Prelude.{Bool, Option};
+    ghost use Rattle.legumeyet_c.specs.declared.content.Content.{Content};
+
+    // such a handle may have this open
+    ghost is_for: { Option Content → Bool };
+
+    // what it has open then
+    ghost held_in: { Option Content → Option Self };
+
+    /// What a content has.
+    fn held_by(content: &Content) -> &Self
+        requires { is_for (Some content.now) ≡ true }
+        ensures { held_in (Some content.now) ≡ Some result.now };
+
+    /// The content that has it.
+    fn into_content(self) -> Content
+        ensures kind { is_for (Some result) ≡ true }
+        ensures held { held_in (Some result) ≡ Some self };
+
+    // a closed one may be closed, and has nothing open
+    ghost closed: { (is_for None ≡ true) × (held_in None ≡ None) };
+
+    // an open one has something open
+    ghost held_is: { (content : Content) → is_for (Some content) ≡ true → (held : Self) × (held_in (Some content) ≡ Some held) };
 }
 
-/// The tables of plain numbers.
-pub(crate) fn decimal_of(content: &Content) -> &DecimalTables
-    requires { is_for_decimal (Some content.now) ≡ true }
-    ensures { decimal_in (Some content.now) ≡ Some result.now }
-{
-    match content {
-        Content::Decimal(tables) => tables,
-        Content::Book(_) | Content::Compact(_) => unreachable!(),
+impl Held for Book {
+    ghost use Rattle.std.specs.Prelude.{refl};
+
+    ghost is_for = { is_for_book };
+
+    ghost held_in = { book_in };
+
+    fn held_by(content: &Content) -> &Book {
+        match content {
+            Content::Book(book) => book,
+            Content::Decimal(_) | Content::Compact(_) => unreachable!(),
+        }
     }
+
+    fn into_content(self) -> Content {
+        Content::Book(self)
+    }
+
+    ghost closed = { (refl, refl) };
+
+    ghost held_is = { book_is };
 }
 
-/// The tables of compact numbers.
-pub(crate) fn compact_of(content: &Content) -> &OwnedCompactTables
-    requires { is_for_compact (Some content.now) ≡ true }
-    ensures { compact_in (Some content.now) ≡ Some result.now }
-{
-    match content {
-        Content::Compact(tables) => tables,
-        Content::Book(_) | Content::Decimal(_) => unreachable!(),
+impl Held for DecimalTables {
+    ghost use Rattle.std.specs.Prelude.{refl};
+
+    ghost is_for = { is_for_decimal };
+
+    ghost held_in = { decimal_in };
+
+    fn held_by(content: &Content) -> &DecimalTables {
+        match content {
+            Content::Decimal(tables) => tables,
+            Content::Book(_) | Content::Compact(_) => unreachable!(),
+        }
     }
+
+    fn into_content(self) -> Content {
+        Content::Decimal(self)
+    }
+
+    ghost closed = { (refl, refl) };
+
+    ghost held_is = { decimal_is };
+}
+
+impl Held for OwnedCompactTables {
+    ghost use Rattle.std.specs.Prelude.{refl};
+
+    ghost is_for = { is_for_compact };
+
+    ghost held_in = { compact_in };
+
+    fn held_by(content: &Content) -> &OwnedCompactTables {
+        match content {
+            Content::Compact(tables) => tables,
+            Content::Book(_) | Content::Decimal(_) => unreachable!(),
+        }
+    }
+
+    fn into_content(self) -> Content {
+        Content::Compact(self)
+    }
+
+    ghost closed = { (refl, refl) };
+
+    ghost held_is = { compact_is };
 }

@@ -1,6 +1,6 @@
 //! Formatters of plain numbers: `legumeyet_decimal_formatter_open`, `_close`, `_format` and `_format_i64`.
 
-ghost use Rattle.std.specs.Prelude.{◌≡◌, ◌≢◌, Ok, Some, None, IfOk, IfErr};
+ghost use Rattle.std.specs.Prelude.{◌≡◌, Ok, Some, None, IfOk, IfErr};
 ghost use Rattle.fixed_decimal.specs.SignedText.{ReadsSigned};
 ghost use Rattle.icu_decimal.specs.HeldTables.{tables_of};
 ghost use Rattle.locale_numbers.specs.TagFormatters.{plain_for};
@@ -10,15 +10,16 @@ ghost use Rattle.legumeyet_c.specs.Numbers.{IsNumberFault, IsScaled, IsScaledFau
 ghost use Rattle.legumeyet_c.specs.Opening.{FindsDecimal, IsClosing, IsDecimalFault, IsDecimalFor, IsOpening, IsTagFault};
 ghost use Rattle.legumeyet_c.specs.Putting.{Answers, IsPut};
 ghost use Rattle.legumeyet_c.specs.Views.{book_open, decimal_open};
-ghost use Rattle.legumeyet_c.specs.Writing.{IsChangedFault, IsValueFault, WritesChanged, WritesValue};
+ghost use Rattle.legumeyet_c.specs.Writing.{IsChangedFault, WritesChanged};
 
 use crate::call_error::{CallError, answer};
 use crate::choices::{Options, grouping_by};
-use crate::content::{Content, book_of, decimal_of};
+use crate::content::{Content, Held};
 use crate::decimal_tables::DecimalTables;
 use crate::handles::{BookHandle, DecimalHandle};
 use crate::numbers::{number_of_i64, number_of_text};
 use crate::putting::put;
+use crate::writing::{Form, write_behind};
 use fixed_decimal::Decimal;
 use icu_decimal::DecimalFormatter;
 use icu_decimal::options::GroupingStrategy;
@@ -77,7 +78,7 @@ fn tables_behind(
         return Err(CallError::Closed);
     };
     let found = match grouping_by(grouping) {
-        Some(strategy) => tables_for(alloc, book_of(&content), tag, strategy),
+        Some(strategy) => tables_for(alloc, Book::held_by(&content), tag, strategy),
         None => Err(CallError::UnknownOption),
     };
     book.handle.put(alloc, content);
@@ -101,73 +102,26 @@ fn put_tables(
     }
 }
 
-// Writes a number, where there is one, by tables.
-fn write_number(
-    tables: &DecimalTables,
-    number: &Result<Decimal, CallError>,
-    out: &mut [u8],
-    length: &mut usize,
-) -> Result<(), CallError>
-    requires { IfErr number.now (λ error. error ≢ CallError.TooSmall) }
-    ensures { IsPut (WritesValue IsDecimalText (Some tables.now) number.now) (IsValueFault HasNoFault (Some tables.now) number.now) out.old out.new length.old length.new result }
-{
-    match number {
-        Ok(value) => put(&tables.formatter().format(value), out, length),
-        Err(error) => Err(*error),
+/// The text of a number.
+pub(crate) struct DecimalText;
+
+impl Form for DecimalText {
+    type Tables = DecimalTables;
+
+    type Number = Decimal;
+
+    ghost says = { IsDecimalText };
+
+    ghost fails = { HasNoFault };
+
+    fn write(
+        tables: &DecimalTables,
+        value: &Decimal,
+        out: &mut [u8],
+        length: &mut usize,
+    ) -> Result<(), CallError> {
+        put(&tables.formatter().format(value), out, length)
     }
-}
-
-// Writes a number, where there is one, by the formatter behind a handle, which stays as it is.
-fn write_behind(
-    alloc: Global,
-    formatter: &mut DecimalHandle,
-    number: &Result<Decimal, CallError>,
-    out: &mut [u8],
-    length: &mut usize,
-) -> Result<(), CallError>
-    requires { IfErr number.now (λ error. error ≢ CallError.TooSmall) }
-    ensures same { decimal_open formatter.new ≡ decimal_open formatter.old }
-    ensures told { IsPut (WritesValue IsDecimalText (decimal_open formatter.old) number.now) (IsValueFault HasNoFault (decimal_open formatter.old) number.now) out.old out.new length.old length.new result }
-{
-    let Some(content) = formatter.handle.take(alloc) else {
-        return Err(CallError::Closed);
-    };
-    let written = write_number(decimal_of(&content), number, out, length);
-    formatter.handle.put(alloc, content);
-    written
-}
-
-// Writes the number that a text spells.
-fn format(
-    alloc: Global,
-    formatter: &mut DecimalHandle,
-    number: &[u8],
-    options: &Options,
-    out: &mut [u8],
-    length: &mut usize,
-) -> Result<(), CallError>
-    ensures same { decimal_open formatter.new ≡ decimal_open formatter.old }
-    ensures told { IsPut (WritesChanged IsDecimalText (decimal_open formatter.old) (choices_of options.now) (ReadsSigned number.now)) (IsChangedFault HasNoFault (decimal_open formatter.old) (choices_of options.now) (ReadsSigned number.now) (IsNumberFault number.now)) out.old out.new length.old length.new result }
-{
-    let number = number_of_text(alloc, number, options);
-    write_behind(alloc, formatter, &number, out, length)
-}
-
-// Writes an integer times a power of ten.
-fn format_i64(
-    alloc: Global,
-    formatter: &mut DecimalHandle,
-    mantissa: i64,
-    exponent: i16,
-    options: &Options,
-    out: &mut [u8],
-    length: &mut usize,
-) -> Result<(), CallError>
-    ensures same { decimal_open formatter.new ≡ decimal_open formatter.old }
-    ensures told { IsPut (WritesChanged IsDecimalText (decimal_open formatter.old) (choices_of options.now) (IsScaled mantissa exponent)) (IsChangedFault HasNoFault (decimal_open formatter.old) (choices_of options.now) (IsScaled mantissa exponent) (IsScaledFault mantissa exponent)) out.old out.new length.old length.new result }
-{
-    let number = number_of_i64(alloc, mantissa, exponent, options);
-    write_behind(alloc, formatter, &number, out, length)
 }
 
 // Opens a formatter.
@@ -247,7 +201,8 @@ pub extern "C" fn legumeyet_decimal_formatter_format(
     ensures same { decimal_open formatter.new ≡ decimal_open formatter.old }
     ensures told { Answers (IsPut (WritesChanged IsDecimalText (decimal_open formatter.old) (choices_of options.now) (ReadsSigned number.now)) (IsChangedFault HasNoFault (decimal_open formatter.old) (choices_of options.now) (ReadsSigned number.now) (IsNumberFault number.now)) out.old out.new length.old length.new) result }
 {
-    answer(format(alloc, formatter, number, options, out, length))
+    let number = number_of_text(alloc, number, options);
+    answer(write_behind::<DecimalText>(alloc, &mut formatter.handle, &number, out, length))
 }
 
 /// Writes the number `mantissa` times ten to the power `exponent`: -123456 and -2 as `-1,234.56` in English, and 500 and -2 as `5.00`.
@@ -266,5 +221,6 @@ pub extern "C" fn legumeyet_decimal_formatter_format_i64(
     ensures same { decimal_open formatter.new ≡ decimal_open formatter.old }
     ensures told { Answers (IsPut (WritesChanged IsDecimalText (decimal_open formatter.old) (choices_of options.now) (IsScaled mantissa exponent)) (IsChangedFault HasNoFault (decimal_open formatter.old) (choices_of options.now) (IsScaled mantissa exponent) (IsScaledFault mantissa exponent)) out.old out.new length.old length.new) result }
 {
-    answer(format_i64(alloc, formatter, mantissa, exponent, options, out, length))
+    let number = number_of_i64(alloc, mantissa, exponent, options);
+    answer(write_behind::<DecimalText>(alloc, &mut formatter.handle, &number, out, length))
 }

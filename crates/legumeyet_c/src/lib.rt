@@ -29,4 +29,4 @@ pub mod parts;
 mod putting;
 pub mod reading;
 mod unboxed;
-mod wanted;
+mod writing;

@@ -13,7 +13,7 @@ ghost use Rattle.legumeyet_c.specs.Writing.{IsChangedFault, IsValueFault, Writes
 
 use crate::call_error::{CallError, answer};
 use crate::choices::Options;
-use crate::content::decimal_of;
+use crate::content::Held;
 use crate::decimal_tables::DecimalTables;
 use crate::handles::DecimalHandle;
 use crate::intervals::{Interval, list_parts};
@@ -55,7 +55,7 @@ fn annotated_behind(
         return Err(CallError::Closed);
     };
     let found = match number {
-        Ok(value) => annotated_with(alloc, decimal_of(&content), value),
+        Ok(value) => annotated_with(alloc, DecimalTables::held_by(&content), value),
         Err(error) => Err(*error),
     };
     formatter.handle.put(alloc, content);

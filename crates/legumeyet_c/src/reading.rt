@@ -7,7 +7,7 @@ ghost use Rattle.legumeyet_c.specs.Reading.{HasReading, IsReadFault, IsUnread, R
 ghost use Rattle.legumeyet_c.specs.Views.{decimal_open};
 
 use crate::call_error::{CallError, answer};
-use crate::content::decimal_of;
+use crate::content::Held;
 use crate::decimal_tables::DecimalTables;
 use crate::handles::DecimalHandle;
 use crate::putting::put;
@@ -45,7 +45,7 @@ fn read_behind(
     let Some(content) = formatter.handle.take(alloc) else {
         return Err(CallError::Closed);
     };
-    let found = read_with(alloc, decimal_of(&content), text);
+    let found = read_with(alloc, DecimalTables::held_by(&content), text);
     formatter.handle.put(alloc, content);
     found
 }

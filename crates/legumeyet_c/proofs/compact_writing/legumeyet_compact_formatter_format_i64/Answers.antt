@@ -1,15 +1,36 @@
 use Rattle.std.proofs.Common.{rules, w16, w32, w64, ◌∙◌}
 use Rattle.std.proofs.lemmas.Int.{to_z-of_z}
 use mir.Val.{SFits}
+use Rattle.legumeyet_c.specs.Choices.{choices_of}
+use Rattle.legumeyet_c.specs.CompactWriting.{IsCompactFault, IsCompactText}
+use Rattle.legumeyet_c.specs.Numbers.{Gives, IsChangeFault, IsScaled, IsScaledFault}
+use Rattle.legumeyet_c.specs.Views.{compact_open}
+use Rattle.legumeyet_c.proofs.PuttingLemmas.{other_fault, put_by, scaled_fault_other, value_fault, value_says}
 use Rattle.legumeyet_c.proofs.compact_writing.legumeyet_compact_formatter_format_i64.Goals as goal
+
+pub write_behind-requires-clause-other : goal.write_behind-requires-clause-other
+write_behind-requires-clause-other c =
+    let mantissa = to_z-of_z w64 c.args.mantissa c.ranges.mantissa in
+    let exponent = to_z-of_z w16 c.args.exponent c.ranges.exponent in
+    other_fault c.number_of_i64-number.result (simp (mantissa, exponent) at c.number_of_i64-number.ensures.fault)
+    (λ error caused. scaled_fault_other (choices_of c.args.options.now) c.args.mantissa c.args.exponent error caused)
 
 pub returns-clause-told : goal.returns-clause-told
 returns-clause-told c =
     let fits : SFits w32 c.answer.result = search rules in
     let mantissa = to_z-of_z w64 c.args.mantissa c.ranges.mantissa in
     let exponent = to_z-of_z w16 c.args.exponent c.ranges.exponent in
+    let choices = choices_of c.args.options.now in
+    let open_tables = compact_open c.args.formatter.now in
+    let is_given = Gives choices (IsScaled c.args.mantissa c.args.exponent) in
+    let number = c.number_of_i64-number.result in
+    let given = simp (mantissa, exponent) at c.number_of_i64-number.ensures.value in
+    let caused = simp (mantissa, exponent) at c.number_of_i64-number.ensures.fault in
     record {
-      outcome = c.format_i64.result;
+      outcome = c.write_behind.result;
       number = to_z-of_z w32 c.answer.result fits ∙ c.answer.ensures;
-      held = simp (mantissa, exponent) at c.format_i64.ensures.told;
+      held = put_by _ _ _ _ _
+          (value_says IsCompactText open_tables is_given number given)
+          (value_fault IsCompactFault open_tables is_given (IsChangeFault choices (IsScaledFault c.args.mantissa c.args.exponent)) number given caused)
+          c.write_behind.ensures.told;
     }

@@ -1,9 +1,33 @@
 use Rattle.std.proofs.Common.{rules, w32, ◌∙◌}
 use Rattle.std.proofs.lemmas.Int.{to_z-of_z}
 use mir.Val.{SFits}
+use Rattle.fixed_decimal.specs.SignedText.{ReadsSigned}
+use Rattle.legumeyet_c.specs.Choices.{choices_of}
+use Rattle.legumeyet_c.specs.DecimalWriting.{HasNoFault, IsDecimalText}
+use Rattle.legumeyet_c.specs.Numbers.{Gives, IsChangeFault, IsNumberFault}
+use Rattle.legumeyet_c.specs.Views.{decimal_open}
+use Rattle.legumeyet_c.proofs.PuttingLemmas.{number_fault_other, other_fault, put_by, value_fault, value_says}
 use Rattle.legumeyet_c.proofs.decimal_formatter.legumeyet_decimal_formatter_format.Goals as goal
+
+pub write_behind-requires-clause-other : goal.write_behind-requires-clause-other
+write_behind-requires-clause-other c =
+    other_fault c.number_of_text-number.result (c.number_of_text-number.ensures.fault)
+    (λ error caused. number_fault_other (choices_of c.args.options.now) c.args.number.now error caused)
 
 pub returns-clause-told : goal.returns-clause-told
 returns-clause-told c =
     let fits : SFits w32 c.answer.result = search rules in
-    record { outcome = c.format.result; number = to_z-of_z w32 c.answer.result fits ∙ c.answer.ensures; held = c.format.ensures.told }
+    let choices = choices_of c.args.options.now in
+    let open_tables = decimal_open c.args.formatter.now in
+    let is_given = Gives choices (ReadsSigned c.args.number.now) in
+    let number = c.number_of_text-number.result in
+    let given = c.number_of_text-number.ensures.value in
+    let caused = c.number_of_text-number.ensures.fault in
+    record {
+      outcome = c.write_behind.result;
+      number = to_z-of_z w32 c.answer.result fits ∙ c.answer.ensures;
+      held = put_by _ _ _ _ _
+          (value_says IsDecimalText open_tables is_given number given)
+          (value_fault HasNoFault open_tables is_given (IsChangeFault choices (IsNumberFault c.args.number.now)) number given caused)
+          c.write_behind.ensures.told;
+    }

@@ -8,7 +8,7 @@ use Rattle.icu_decimal.specs.Pattern.{InPattern}
 use Rattle.icu_decimal.specs.PlainText.{PlainNumber}
 use Rattle.locale_numbers.proofs.CompactAnswerLemmas.{exact_is, exact_none}
 use Rattle.legumeyet_c.proofs.PuttingLemmas.{put_by, put_refused}
-use Rattle.legumeyet_c.proofs.compact_writing.write_exact.Goals as goal
+use Rattle.legumeyet_c.proofs.compact_writing.ExactTextForm.write.Goals as goal
 
 pub returns-then-not-exponent_in_range : goal.returns-then-not-exponent_in_range
 returns-then-not-exponent_in_range c = put_refused _ _ _ _ _ (λ same. absurd (cc same)) (search rules)

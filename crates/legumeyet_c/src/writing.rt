@@ -1,0 +1,74 @@
+// Numbers written with what stands behind a handle.
+
+ghost use Rattle.std.specs.Prelude.{◌≡◌, ◌≢◌, Some, true, IfErr};
+ghost use Rattle.legumeyet_c.specs.Putting.{IsPut};
+ghost use Rattle.legumeyet_c.specs.Writing.{IsValueFault, WritesValue};
+
+use crate::call_error::CallError;
+use crate::content::Held;
+use crate::handle::Handle;
+use std::alloc::Global;
+
+/// What is written of a number: its text, or another one. A type that holds nothing stands for it.
+pub(crate) trait Form {
+    ghost use Rattle.std.specs.Prelude.{List, ℕ};
+    ghost use Rattle.legumeyet_c.specs.declared.call_error.CallError.{CallError};
+
+    /// What it is written with.
+    type Tables: Held;
+
+    /// The number.
+    type Number;
+
+    // what is written
+    ghost says: { Self.Tables → Self.Number → List ℕ → Type 0 };
+
+    // why nothing is
+    ghost fails: { Self.Tables → Self.Number → CallError → Type 0 };
+
+    /// Writes it to the front of the bytes, and tells its length. `TooSmall`: it is longer than the bytes.
+    fn write(
+        tables: &Self::Tables,
+        value: &Self::Number,
+        out: &mut [u8],
+        length: &mut usize,
+    ) -> Result<(), CallError>
+        ensures { IsPut (says tables.now value.now) (fails tables.now value.now) out.old out.new length.old length.new result };
+}
+
+// Writes a number, where there is one, by tables.
+fn write_value<F: Form>(
+    tables: &F::Tables,
+    number: &Result<F::Number, CallError>,
+    out: &mut [u8],
+    length: &mut usize,
+) -> Result<(), CallError>
+    requires { IfErr number.now (λ error. error ≢ CallError.TooSmall) }
+    ensures { IsPut (WritesValue F.says (Some tables.now) number.now) (IsValueFault F.fails (Some tables.now) number.now) out.old out.new length.old length.new result }
+{
+    match number {
+        Ok(value) => F::write(tables, value, out, length),
+        Err(error) => Err(*error),
+    }
+}
+
+/// Writes a number, where there is one, with what stands behind a handle, which stays as it is.
+pub(crate) fn write_behind<F: Form>(
+    alloc: Global,
+    handle: &mut Handle,
+    number: &Result<F::Number, CallError>,
+    out: &mut [u8],
+    length: &mut usize,
+) -> Result<(), CallError>
+    requires kind { F.Tables.is_for handle.old.pointer.value ≡ true }
+    requires other { IfErr number.now (λ error. error ≢ CallError.TooSmall) }
+    ensures same { handle.new.pointer.value ≡ handle.old.pointer.value }
+    ensures told { IsPut (WritesValue F.says (F.Tables.held_in handle.old.pointer.value) number.now) (IsValueFault F.fails (F.Tables.held_in handle.old.pointer.value) number.now) out.old out.new length.old length.new result }
+{
+    let Some(content) = handle.take(alloc) else {
+        return Err(CallError::Closed);
+    };
+    let written = write_value::<F>(F::Tables::held_by(&content), number, out, length);
+    handle.put(alloc, content);
+    written
+}
