@@ -66,14 +66,3 @@ parts_by before after (Err error) text cause put = record {
   cut = λ same. let cut = put.cut same in record { text = cut.text; said = text cut.text cut.said; room = cut.room; is = cut.is };
   refused = λ other. let untouched = put.refused other in (cause error untouched.0, untouched.1);
 }
-
--- what holds of a result
-pub ok_by : {T : Type 0} {says saying : T → Type 0} (outcome : Result T CallError) → IfOk outcome says → ((x : T) → says x → saying x) → IfOk outcome saying
-ok_by (Ok x) said by = by x said
-ok_by (Err error) said by = tt
-
--- and of an error
-pub err_by : {T : Type 0} {fault faulty : CallError → Type 0} (outcome : Result T CallError) → IfErr outcome fault → ((error : CallError) → fault error → faulty error)
-    → IfErr outcome faulty
-err_by (Ok x) caused by = tt
-err_by (Err error) caused by = by error caused

@@ -92,12 +92,12 @@ value_fault fails (Some tables) is_given fault (Err cause) given caused error is
 value_fault fails (Some tables) is_given fault (Ok value) given caused error failed = inr (record { value = value; given = given; failed = failed })
 
 -- no such fault is that a text is too long, where none of both kinds is
-pub writing_fault_other : {T N : Type 0} (fails : T → N → CallError → Type 0) (open_tables : Option T) (is_given : N → Type 0) (fault : CallError → Type 0) (error : CallError)
-    → ((tables : T) (value : N) → fails tables value error → error ≢ TooSmall) → (fault error → error ≢ TooSmall)
-    → IsWritingFault fails open_tables is_given fault error → error ≢ TooSmall
-writing_fault_other fails None is_given fault error failing caused is = λ same. absurd (cc (is, same))
-writing_fault_other fails (Some tables) is_given fault error failing caused (inl cause) = caused cause
-writing_fault_other fails (Some tables) is_given fault error failing caused (inr failed) = failing tables failed.value failed.failed
+pub value_fault_other : {T N : Type 0} (fails : T → N → CallError → Type 0) (open_tables : Option T) (value : Result N CallError) (error : CallError)
+    → ((tables : T) (value : N) (error : CallError) → fails tables value error → error ≢ TooSmall) → IfErr value (λ error. error ≢ TooSmall)
+    → IsValueFault fails open_tables value error → error ≢ TooSmall
+value_fault_other fails None value error failing caused is = λ same. absurd (cc (is, same))
+value_fault_other fails (Some tables) (Err cause) error failing caused is = subst (λ (e : CallError). e ≢ TooSmall) (sym is) caused
+value_fault_other fails (Some tables) (Ok value) error failing caused failed = failing tables value error failed
 
 -- no fault of a text's number is that it is too long
 pub number_fault_other : (choices : Option Choices) (text : List ℕ) (error : CallError) → IsChangeFault choices (IsNumberFault text) error → error ≢ TooSmall

@@ -46,6 +46,15 @@ grouping_of number = slice_get groupings number
 abbrev pub width_of : ℕ → Option Width
 width_of number = slice_get widths number
 
+-- a width and a strategy, where each is known
+abbrev pub both_of : Option Width → Option GroupingStrategy → Option (Width × GroupingStrategy)
+both_of None strategy = None
+both_of (Some width) None = None
+both_of (Some width) (Some strategy) = Some (width, strategy)
+
+abbrev pub choice_of : ℕ → ℕ → Option (Width × GroupingStrategy)
+choice_of width grouping = both_of (width_of width) (grouping_of grouping)
+
 -- both, where each is known
 abbrev pub both : Option (Option SignDisplay) → Option (Option SignedRoundingMode) → ℤ → Option Choices
 both None mode position = None

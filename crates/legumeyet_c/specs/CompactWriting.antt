@@ -1,7 +1,8 @@
 -- What a formatter of compact numbers writes for a number, its parts, the value that it shows, and an exact form, or why it writes nothing.
 -- Defined in include/legumeyet.h, and docs/compact-text.md, "The text" and "Exact forms".
 -- Cited by the exports of formatters of compact numbers.
-use Rattle.std.specs.Prelude.{◌≡◌, ◌⊎◌, ℕ, List, Option, Some, None}
+use Rattle.std.specs.Prelude.{◌≡◌, ◌≢◌, ◌⊎◌, ℕ, List, Option, Some, None}
+use Rattle.std.proofs.Common.{subst}
 use Rattle.fixed_decimal.specs.CompactText.{CompactValue, compact_text_of}
 use Rattle.fixed_decimal.specs.Number.{Number}
 use Rattle.fixed_decimal.specs.Range.{IsLong}
@@ -16,7 +17,7 @@ use Rattle.legumeyet_c.specs.Numbers.{GivesCompact, IsChangeFault, IsCompactNumb
 use Rattle.legumeyet_c.specs.Writing.{IsWritingFault, Writes}
 use Rattle.legumeyet_c.specs.declared.choices.Choices.{Choices}
 use Rattle.legumeyet_c.specs.declared.call_error.CallError.{CallError}
-use Rattle.legumeyet_c.specs.declared.call_error.CallError.TheVariants.{Memory, Range, Exponent}
+use Rattle.legumeyet_c.specs.declared.call_error.CallError.TheVariants.{Memory, TooSmall, Range, Exponent}
 
 -- ---- a number
 
@@ -44,6 +45,9 @@ abbrev pub IsCompactPartsFault : CompactTables → SignedValue Number → CallEr
 IsCompactPartsFault tables value Range = ¬ (IsShowable tables value)
 IsCompactPartsFault tables value Memory = Unit {0}
 IsCompactPartsFault tables value _ = ⊥
+
+pub parts_other : (tables : CompactTables) (value : SignedValue Number) (error : CallError) → IsCompactPartsFault tables value error → error ≢ TooSmall
+parts_other tables value error failed = λ same. subst (λ (e : CallError). IsCompactPartsFault tables value e) same failed
 
 -- ---- the value that its text shows
 

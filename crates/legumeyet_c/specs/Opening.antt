@@ -13,6 +13,7 @@ use Rattle.locale_numbers.specs.TagFormatters.{plain_for, short_for, long_for}
 use Rattle.locale_numbers.specs.declared.BookError.{BookError}
 use Rattle.locale_numbers.specs.declared.FormatterError.{FormatterError}
 use Rattle.locale_numbers.specs.declared.FormatterError.TheVariants as formatter
+use Rattle.legumeyet_c.specs.Choices.{both_of}
 use Rattle.legumeyet_c.specs.declared.choices.Width.{Width}
 use Rattle.legumeyet_c.specs.declared.choices.Width.TheVariants.{Short, Long}
 use Rattle.legumeyet_c.specs.declared.call_error.CallError.{CallError}
@@ -47,6 +48,18 @@ IsTagFault found tag Table = found ≡ Err formatter.Table
 IsTagFault found tag Memory = Unit {0}
 IsTagFault found tag _ = ⊥
 
+-- what an open book finds for a known choice and a tag
+abbrev pub Finds : {C T : Type 0} → (BookTables → C → List ℕ → T → Type 0) → Option BookTables → Option C → List ℕ → T → Type 0
+Finds says None choice tag tables = ⊥
+Finds says (Some book) None tag tables = ⊥
+Finds says (Some book) (Some choice) tag tables = says book choice tag tables
+
+-- a closed book comes first, then an unknown choice
+abbrev pub IsFindingFault : {C : Type 0} → (BookTables → C → List ℕ → CallError → Type 0) → Option BookTables → Option C → List ℕ → CallError → Type 0
+IsFindingFault misses None choice tag error = error ≡ Closed
+IsFindingFault misses (Some book) None tag error = error ≡ UnknownOption
+IsFindingFault misses (Some book) (Some choice) tag error = misses book choice tag error
+
 -- ---- of plain numbers
 
 -- the tables that a book has for a tag, with the strategy that is asked for
@@ -56,15 +69,10 @@ pub record IsDecimalFor (book : BookTables) (tag : List ℕ) (strategy : Groupin
   pub is : tables ≡ record found { strategy = strategy }
 
 abbrev pub FindsDecimal : Option BookTables → Option GroupingStrategy → List ℕ → Tables → Type 0
-FindsDecimal None strategy tag tables = ⊥
-FindsDecimal (Some book) None tag tables = ⊥
-FindsDecimal (Some book) (Some strategy) tag tables = IsDecimalFor book tag strategy tables
+FindsDecimal book strategy tag tables = Finds (λ book strategy tag tables. IsDecimalFor book tag strategy tables) book strategy tag tables
 
--- a closed book comes first, then an unknown grouping
 abbrev pub IsDecimalFault : Option BookTables → Option GroupingStrategy → List ℕ → CallError → Type 0
-IsDecimalFault None strategy tag error = error ≡ Closed
-IsDecimalFault (Some book) None tag error = error ≡ UnknownOption
-IsDecimalFault (Some book) (Some strategy) tag error = IsTagFault (plain_for book tag) tag error
+IsDecimalFault book strategy tag error = IsFindingFault (λ book strategy tag error. IsTagFault (plain_for book tag) tag error) book strategy tag error
 
 -- ---- of compact numbers
 
@@ -84,17 +92,10 @@ pub record IsCompactFor (book : BookTables) (tag : List ℕ) (width : Width) (st
   pub is : tables ≡ regrouped strategy found
 
 abbrev pub FindsCompact : Option BookTables → Option Width → Option GroupingStrategy → List ℕ → CompactTables → Type 0
-FindsCompact None width strategy tag tables = ⊥
-FindsCompact (Some book) None strategy tag tables = ⊥
-FindsCompact (Some book) (Some width) None tag tables = ⊥
-FindsCompact (Some book) (Some width) (Some strategy) tag tables = IsCompactFor book tag width strategy tables
+FindsCompact book width strategy tag tables = Finds (λ book choice tag tables. IsCompactFor book tag choice.0 choice.1 tables) book (both_of width strategy) tag tables
 
--- a closed book comes first, then an unknown width or grouping
 abbrev pub IsCompactFault : Option BookTables → Option Width → Option GroupingStrategy → List ℕ → CallError → Type 0
-IsCompactFault None width strategy tag error = error ≡ Closed
-IsCompactFault (Some book) None strategy tag error = error ≡ UnknownOption
-IsCompactFault (Some book) (Some width) None tag error = error ≡ UnknownOption
-IsCompactFault (Some book) (Some width) (Some strategy) tag error = IsTagFault (compact_for_width width book tag) tag error
+IsCompactFault book width strategy tag error = IsFindingFault (λ book choice tag error. IsTagFault (compact_for_width choice.0 book tag) tag error) book (both_of width strategy) tag error
 
 -- ---- closing
 

@@ -1,7 +1,6 @@
 //! Answers to request lines: `legumeyet_book_answer`.
 
 ghost use Rattle.std.specs.Prelude.{◌≡◌, IfOk, IfErr};
-ghost use Rattle.locale_numbers.specs.Answer.{answer_of};
 ghost use Rattle.legumeyet_c.specs.Answering.{IsAnswerFault, SaysAnswer};
 ghost use Rattle.legumeyet_c.specs.Putting.{Answers, IsPut};
 ghost use Rattle.legumeyet_c.specs.Views.{book_open};
@@ -13,17 +12,6 @@ use crate::putting::put_bytes;
 use locale_numbers::Book;
 use std::alloc::Global;
 
-// The answer of a book to a line.
-fn line_answer(alloc: Global, book: &Book, line: &[u8]) -> Result<Vec<u8>, CallError>
-    ensures value { IfOk result (λ text. text.items ≡ answer_of book.now line.now) }
-    ensures fault { IfErr result (λ error. error ≡ CallError.Memory) }
-{
-    match locale_numbers::answer(alloc, book, line) {
-        Ok(text) => Ok(text),
-        Err(_) => Err(CallError::Memory),
-    }
-}
-
 // The answer of the book behind a handle, which stays as it is.
 fn answer_behind(alloc: Global, book: &mut BookHandle, line: &[u8]) -> Result<Vec<u8>, CallError>
     ensures same { book_open book.new ≡ book_open book.old }
@@ -33,26 +21,12 @@ fn answer_behind(alloc: Global, book: &mut BookHandle, line: &[u8]) -> Result<Ve
     let Some(content) = book.handle.take(alloc) else {
         return Err(CallError::Closed);
     };
-    let found = line_answer(alloc, Book::held_by(&content), line);
+    let found = match locale_numbers::answer(alloc, Book::held_by(&content), line) {
+        Ok(text) => Ok(text),
+        Err(_) => Err(CallError::Memory),
+    };
     book.handle.put(alloc, content);
     found
-}
-
-// Writes the answer of the book behind a handle.
-fn answer_line(
-    alloc: Global,
-    book: &mut BookHandle,
-    line: &[u8],
-    out: &mut [u8],
-    length: &mut usize,
-) -> Result<(), CallError>
-    ensures same { book_open book.new ≡ book_open book.old }
-    ensures told { IsPut (SaysAnswer (book_open book.old) line.now) (IsAnswerFault (book_open book.old)) out.old out.new length.old length.new result }
-{
-    match answer_behind(alloc, book, line) {
-        Ok(text) => put_bytes(text.as_slice(), out, length),
-        Err(error) => Err(error),
-    }
 }
 
 /// Answers a request line, without its line feed: `en`, `plain`, `auto`, `keep`, `-`, `-987654.321` with tabs between by `ok`, a tab
@@ -70,5 +44,8 @@ pub extern "C" fn legumeyet_book_answer(
     ensures same { book_open book.new ≡ book_open book.old }
     ensures told { Answers (IsPut (SaysAnswer (book_open book.old) line.now) (IsAnswerFault (book_open book.old)) out.old out.new length.old length.new) result }
 {
-    answer(answer_line(alloc, book, line, out, length))
+    match answer_behind(alloc, book, line) {
+        Ok(text) => answer(put_bytes(text.as_slice(), out, length)),
+        Err(error) => error.number(),
+    }
 }

@@ -6,7 +6,7 @@ ghost use Rattle.legumeyet_c.specs.CallErrors.{answer_of, book_answer, book_text
 use locale_numbers::BookError;
 
 /// Why a call was refused: `Tag` of `e` as a locale tag. The header says when each comes.
-#[derive(Clone, Copy, Debug, Drop, PartialEq, Eq)]
+#[derive(Clone, Copy, Drop)]
 pub enum CallError {
     /// Out of memory.
     Memory,

@@ -1,14 +1,14 @@
 // The options of calls, by their numbers.
 
 ghost use Rattle.std.specs.Prelude.{◌≡◌};
-ghost use Rattle.legumeyet_c.specs.Choices.{Changes, RoundsAs, choices_of, grouping_of, mode_of, sign_of, signed_as, width_of};
+ghost use Rattle.legumeyet_c.specs.Choices.{Changes, RoundsAs, choice_of, choices_of, grouping_of, mode_of, sign_of, signed_as, width_of};
 
 use fixed_decimal::{Decimal, SignDisplay, SignedRoundingMode, UnsignedRoundingMode};
 use icu_decimal::options::GroupingStrategy;
 
 /// What is made of a number before it is written, by numbers: `legumeyet_options`.
 #[repr(C)]
-#[derive(Clone, Copy, Debug, Drop)]
+#[derive(Clone, Copy, Drop)]
 pub struct Options {
     /// Which sign is written: 1 is that of ICU4X's `Auto`.
     pub sign: u32,
@@ -19,7 +19,7 @@ pub struct Options {
 }
 
 /// The same, where each number is known.
-#[derive(Clone, Copy, Debug, Drop)]
+#[derive(Clone, Copy, Drop)]
 pub struct Choices {
     /// `None`: the sign of the number as it was given.
     pub sign: Option<SignDisplay>,
@@ -30,7 +30,7 @@ pub struct Choices {
 }
 
 /// Which patterns compact numbers are written in.
-#[derive(Clone, Copy, Debug, Drop, PartialEq, Eq)]
+#[derive(Clone, Copy, Drop)]
 pub enum Width {
     /// `1.6K`.
     Short,
@@ -86,8 +86,8 @@ pub(crate) fn grouping_by(number: u32) -> Option<GroupingStrategy>
     }
 }
 
-/// The width of a number: `Long` of 1, and none of 2.
-pub(crate) fn width_by(number: u32) -> Option<Width>
+// The width of a number.
+fn width_by(number: u32) -> Option<Width>
     ensures { result ≡ width_of number }
 {
     match number {
@@ -95,6 +95,15 @@ pub(crate) fn width_by(number: u32) -> Option<Width>
         1 => Some(Width::Long),
         _ => None,
     }
+}
+
+/// The width and the strategy of two numbers, where both are known.
+pub(crate) fn choice_by(width: u32, grouping: u32) -> Option<(Width, GroupingStrategy)>
+    ensures { result ≡ choice_of width grouping }
+{
+    let width = width_by(width)?;
+    let strategy = grouping_by(grouping)?;
+    Some((width, strategy))
 }
 
 impl Options {

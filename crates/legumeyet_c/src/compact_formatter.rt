@@ -8,10 +8,10 @@ ghost use Rattle.legumeyet_c.specs.Putting.{Answers};
 ghost use Rattle.legumeyet_c.specs.Views.{book_open, compact_open};
 
 use crate::call_error::{CallError, answer};
-use crate::choices::{Width, grouping_by, width_by};
+use crate::choices::{Width, choice_by};
 use crate::compact_tables::OwnedCompactTables;
-use crate::content::{Content, Held};
 use crate::handles::{BookHandle, CompactHandle};
+use crate::opening::{Found, close, open};
 use icu_decimal::CompactDecimalFormatter;
 use icu_decimal::options::GroupingStrategy;
 use locale_numbers::{Book, FormatterError};
@@ -54,108 +54,28 @@ fn formatter_for<'b>(
     }
 }
 
-// The tables that a book has for a tag in a width, in a copy of their own.
-fn tables_for(
-    alloc: Global,
-    book: &Book,
-    tag: &[u8],
-    width: Width,
-    strategy: GroupingStrategy,
-) -> Result<OwnedCompactTables, CallError>
-    ensures value { IfOk result (λ tables. IsCompactFor book.now tag.now width strategy tables) }
-    ensures fault { IfErr result (λ error. IsTagFault (compact_for_width width book.now tag.now) tag.now error) }
-{
-    let formatter = formatter_for(alloc, book, tag, width)?;
-    match OwnedCompactTables::of(alloc, &formatter, strategy) {
-        Ok(tables) => Ok(tables),
-        Err(_) => Err(CallError::Memory),
-    }
-}
+impl Found for OwnedCompactTables {
+    type Choice = (Width, GroupingStrategy);
 
-// The tables of a width, a grouping and a tag, where both numbers are known.
-fn tables_by(
-    alloc: Global,
-    book: &Book,
-    tag: &[u8],
-    width: u32,
-    grouping: u32,
-) -> Result<OwnedCompactTables, CallError>
-    ensures value { IfOk result (λ tables. FindsCompact (Some book.now) (width_of width) (grouping_of grouping) tag.now tables) }
-    ensures fault { IfErr result (λ error. IsCompactFault (Some book.now) (width_of width) (grouping_of grouping) tag.now error) }
-{
-    let Some(width) = width_by(width) else {
-        return Err(CallError::UnknownOption);
-    };
-    let Some(strategy) = grouping_by(grouping) else {
-        return Err(CallError::UnknownOption);
-    };
-    tables_for(alloc, book, tag, width, strategy)
-}
+    ghost finds = { λ book choice tag tables. IsCompactFor book tag choice.0 choice.1 tables };
 
-// The same of the book behind a handle, which stays as it is.
-fn tables_behind(
-    alloc: Global,
-    book: &mut BookHandle,
-    tag: &[u8],
-    width: u32,
-    grouping: u32,
-) -> Result<OwnedCompactTables, CallError>
-    ensures same { book_open book.new ≡ book_open book.old }
-    ensures value { IfOk result (λ tables. FindsCompact (book_open book.old) (width_of width) (grouping_of grouping) tag.now tables) }
-    ensures fault { IfErr result (λ error. IsCompactFault (book_open book.old) (width_of width) (grouping_of grouping) tag.now error) }
-{
-    let Some(content) = book.handle.take(alloc) else {
-        return Err(CallError::Closed);
-    };
-    let found = tables_by(alloc, Book::held_by(&content), tag, width, grouping);
-    book.handle.put(alloc, content);
-    found
-}
+    ghost misses = { λ book choice tag error. IsTagFault (compact_for_width choice.0 book tag) tag error };
 
-// Puts tables behind a handle, and closes what it had open.
-fn put_tables(
-    alloc: Global,
-    handle: &mut CompactHandle,
-    tables: OwnedCompactTables,
-) -> Result<(), CallError>
-    ensures { IsOpening (λ opened. opened ≡ tables) (λ error. error ≡ CallError.Memory) (compact_open handle.old) (compact_open handle.new) result }
-{
-    match Box::new(alloc, Content::Compact(tables)) {
-        Ok(content) => {
-            handle.handle.put(alloc, content);
-            Ok(())
+    fn find(
+        alloc: Global,
+        book: &Book,
+        choice: (Width, GroupingStrategy),
+        tag: &[u8],
+    ) -> Result<OwnedCompactTables, CallError> {
+        let (width, strategy) = choice;
+        let formatter = formatter_for(alloc, book, tag, width)?;
+        match OwnedCompactTables::of(alloc, &formatter, strategy) {
+            Ok(tables) => Ok(tables),
+            Err(_) => Err(CallError::Memory),
         }
-        Err(_) => Err(CallError::Memory),
     }
-}
 
-// Opens a formatter.
-fn open(
-    alloc: Global,
-    book: &mut BookHandle,
-    tag: &[u8],
-    width: u32,
-    grouping: u32,
-    formatter: &mut CompactHandle,
-) -> Result<(), CallError>
-    ensures same { book_open book.new ≡ book_open book.old }
-    ensures told { IsOpening (FindsCompact (book_open book.old) (width_of width) (grouping_of grouping) tag.now) (IsCompactFault (book_open book.old) (width_of width) (grouping_of grouping) tag.now) (compact_open formatter.old) (compact_open formatter.new) result }
-{
-    match tables_behind(alloc, book, tag, width, grouping) {
-        Ok(tables) => put_tables(alloc, formatter, tables),
-        Err(error) => Err(error),
-    }
-}
-
-// Closes a formatter.
-fn close(alloc: Global, formatter: &mut CompactHandle) -> Result<(), CallError>
-    ensures closed { compact_open formatter.new ≡ None }
-    ensures told { IsClosing (compact_open formatter.old) result }
-{
-    match formatter.handle.take(alloc) {
-        Some(_) => Ok(()),
-        None => Err(CallError::Closed),
-    }
+    ghost memory = { λ book choice tag. tt };
 }
 
 /// Opens the formatter of compact numbers for a locale tag, short or long: those of `en` write 1650 as `1.6K` and as `1.6 thousand`.
@@ -176,7 +96,9 @@ pub extern "C" fn legumeyet_compact_formatter_open(
     ensures same { book_open book.new ≡ book_open book.old }
     ensures told { Answers (IsOpening (FindsCompact (book_open book.old) (width_of width) (grouping_of grouping) tag.now) (IsCompactFault (book_open book.old) (width_of width) (grouping_of grouping) tag.now) (compact_open formatter.old) (compact_open formatter.new)) result }
 {
-    answer(open(alloc, book, tag, width, grouping, formatter))
+    let choice = choice_by(width, grouping);
+    let (book, formatter) = (&mut book.handle, &mut formatter.handle);
+    answer(open::<OwnedCompactTables>(alloc, book, choice, tag, formatter))
 }
 
 /// Closes a formatter, and lets go of its memory.
@@ -190,5 +112,5 @@ pub extern "C" fn legumeyet_compact_formatter_close(
     ensures closed { compact_open formatter.new ≡ None }
     ensures told { Answers (IsClosing (compact_open formatter.old)) result }
 {
-    answer(close(alloc, formatter))
+    answer(close::<OwnedCompactTables>(alloc, &mut formatter.handle))
 }

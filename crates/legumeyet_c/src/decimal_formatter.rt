@@ -14,10 +14,10 @@ ghost use Rattle.legumeyet_c.specs.Writing.{IsChangedFault, WritesChanged};
 
 use crate::call_error::{CallError, answer};
 use crate::choices::{Options, grouping_by};
-use crate::content::{Content, Held};
 use crate::decimal_tables::DecimalTables;
 use crate::handles::{BookHandle, DecimalHandle};
 use crate::numbers::{number_of_i64, number_of_text};
+use crate::opening::{Found, close, open};
 use crate::putting::put;
 use crate::writing::{Form, write_behind};
 use fixed_decimal::Decimal;
@@ -46,60 +46,27 @@ fn formatter_for<'b>(
     }
 }
 
-// The tables that a book has for a tag, in a copy of their own.
-fn tables_for(
-    alloc: Global,
-    book: &Book,
-    tag: &[u8],
-    strategy: GroupingStrategy,
-) -> Result<DecimalTables, CallError>
-    ensures value { IfOk result (λ tables. IsDecimalFor book.now tag.now strategy tables) }
-    ensures fault { IfErr result (λ error. IsTagFault (plain_for book.now tag.now) tag.now error) }
-{
-    let formatter = formatter_for(alloc, book, tag)?;
-    match DecimalTables::of(&formatter, strategy) {
-        Ok(tables) => Ok(tables),
-        Err(_) => Err(CallError::Memory),
-    }
-}
+impl Found for DecimalTables {
+    type Choice = GroupingStrategy;
 
-// The tables of a grouping and a tag, of the book behind a handle, which stays as it is.
-fn tables_behind(
-    alloc: Global,
-    book: &mut BookHandle,
-    tag: &[u8],
-    grouping: u32,
-) -> Result<DecimalTables, CallError>
-    ensures same { book_open book.new ≡ book_open book.old }
-    ensures value { IfOk result (λ tables. FindsDecimal (book_open book.old) (grouping_of grouping) tag.now tables) }
-    ensures fault { IfErr result (λ error. IsDecimalFault (book_open book.old) (grouping_of grouping) tag.now error) }
-{
-    let Some(content) = book.handle.take(alloc) else {
-        return Err(CallError::Closed);
-    };
-    let found = match grouping_by(grouping) {
-        Some(strategy) => tables_for(alloc, Book::held_by(&content), tag, strategy),
-        None => Err(CallError::UnknownOption),
-    };
-    book.handle.put(alloc, content);
-    found
-}
+    ghost finds = { λ book strategy tag tables. IsDecimalFor book tag strategy tables };
 
-// Puts tables behind a handle, and closes what it had open.
-fn put_tables(
-    alloc: Global,
-    handle: &mut DecimalHandle,
-    tables: DecimalTables,
-) -> Result<(), CallError>
-    ensures { IsOpening (λ opened. opened ≡ tables) (λ error. error ≡ CallError.Memory) (decimal_open handle.old) (decimal_open handle.new) result }
-{
-    match Box::new(alloc, Content::Decimal(tables)) {
-        Ok(content) => {
-            handle.handle.put(alloc, content);
-            Ok(())
+    ghost misses = { λ book strategy tag error. IsTagFault (plain_for book tag) tag error };
+
+    fn find(
+        alloc: Global,
+        book: &Book,
+        strategy: GroupingStrategy,
+        tag: &[u8],
+    ) -> Result<DecimalTables, CallError> {
+        let formatter = formatter_for(alloc, book, tag)?;
+        match DecimalTables::of(&formatter, strategy) {
+            Ok(tables) => Ok(tables),
+            Err(_) => Err(CallError::Memory),
         }
-        Err(_) => Err(CallError::Memory),
     }
+
+    ghost memory = { λ book choice tag. tt };
 }
 
 /// The text of a number.
@@ -124,34 +91,6 @@ impl Form for DecimalText {
     }
 }
 
-// Opens a formatter.
-fn open(
-    alloc: Global,
-    book: &mut BookHandle,
-    tag: &[u8],
-    grouping: u32,
-    formatter: &mut DecimalHandle,
-) -> Result<(), CallError>
-    ensures same { book_open book.new ≡ book_open book.old }
-    ensures told { IsOpening (FindsDecimal (book_open book.old) (grouping_of grouping) tag.now) (IsDecimalFault (book_open book.old) (grouping_of grouping) tag.now) (decimal_open formatter.old) (decimal_open formatter.new) result }
-{
-    match tables_behind(alloc, book, tag, grouping) {
-        Ok(tables) => put_tables(alloc, formatter, tables),
-        Err(error) => Err(error),
-    }
-}
-
-// Closes a formatter.
-fn close(alloc: Global, formatter: &mut DecimalHandle) -> Result<(), CallError>
-    ensures closed { decimal_open formatter.new ≡ None }
-    ensures told { IsClosing (decimal_open formatter.old) result }
-{
-    match formatter.handle.take(alloc) {
-        Some(_) => Ok(()),
-        None => Err(CallError::Closed),
-    }
-}
-
 /// Opens the formatter of plain numbers for a locale tag: that of `en` writes -1234.5 as `-1,234.5`. It has its own copy of the tables.
 /// What the handle had open is closed, where the call returns 0, and else the handle is as it was; the book stays open.
 ///
@@ -168,7 +107,9 @@ pub extern "C" fn legumeyet_decimal_formatter_open(
     ensures same { book_open book.new ≡ book_open book.old }
     ensures told { Answers (IsOpening (FindsDecimal (book_open book.old) (grouping_of grouping) tag.now) (IsDecimalFault (book_open book.old) (grouping_of grouping) tag.now) (decimal_open formatter.old) (decimal_open formatter.new)) result }
 {
-    answer(open(alloc, book, tag, grouping, formatter))
+    let strategy = grouping_by(grouping);
+    let (book, formatter) = (&mut book.handle, &mut formatter.handle);
+    answer(open::<DecimalTables>(alloc, book, strategy, tag, formatter))
 }
 
 /// Closes a formatter, and lets go of its memory.
@@ -182,7 +123,7 @@ pub extern "C" fn legumeyet_decimal_formatter_close(
     ensures closed { decimal_open formatter.new ≡ None }
     ensures told { Answers (IsClosing (decimal_open formatter.old)) result }
 {
-    answer(close(alloc, formatter))
+    answer(close::<DecimalTables>(alloc, &mut formatter.handle))
 }
 
 /// Writes a decimal number that is given as text: `-987654.321` as `-987,654.321` in English.

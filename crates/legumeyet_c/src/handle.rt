@@ -68,26 +68,6 @@ pub struct Handle {
     ghost told: { is_open ≡ is_some pointer.value },
 }
 
-// An open handle.
-fn opened(content: Box<Content>) -> Handle
-    ensures { result.pointer.value ≡ Some content.value }
-{
-    Handle {
-        pointer: Pointer::to(Unboxed::open(content)),
-        is_open: true,
-    }
-}
-
-// A closed handle.
-fn closed() -> Handle
-    ensures { result.pointer.value ≡ None }
-{
-    Handle {
-        pointer: Pointer::empty(),
-        is_open: false,
-    }
-}
-
 // What a handle had open.
 fn content_of(handle: Handle, alloc: Global) -> Option<Box<Content>>
     ensures { option_map (λ content. content.value) result ≡ handle.pointer.value }
@@ -108,14 +88,22 @@ impl Handle {
         ensures value { option_map (λ content. content.value) result ≡ self.old.pointer.value }
         ensures closed { self.new.pointer.value ≡ None }
     {
-        content_of(std::mem::replace(self, closed()), alloc)
+        let closed = Handle {
+            pointer: Pointer::empty(),
+            is_open: false,
+        };
+        content_of(std::mem::replace(self, closed), alloc)
     }
 
     /// Puts a content in, and lets go of what was there.
     pub(crate) fn put(&mut self, alloc: Global, content: Box<Content>)
         ensures { self.new.pointer.value ≡ Some content.value }
     {
-        let _ = content_of(std::mem::replace(self, opened(content)), alloc);
+        let opened = Handle {
+            pointer: Pointer::to(Unboxed::open(content)),
+            is_open: true,
+        };
+        let _ = content_of(std::mem::replace(self, opened), alloc);
     }
 }
 

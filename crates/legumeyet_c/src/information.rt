@@ -46,16 +46,6 @@ fn error_of(number: i32) -> Option<CallError>
     }
 }
 
-// Writes what the error of a number means.
-fn error_text(error: i32, out: &mut [u8], length: &mut usize) -> Result<(), CallError>
-    ensures { IsPut (SaysError error) (IsInformationFault error) out.old out.new length.old length.new result }
-{
-    match error_of(error) {
-        Some(error) => put(&error.text(), out, length),
-        None => Err(CallError::UnknownOption),
-    }
-}
-
 /// Writes what a number of a call means, in English: of 5 `no locale tag`.
 ///
 /// Returns 0; 4, where no call returns the number; 3, the text needs more room.
@@ -63,7 +53,10 @@ fn error_text(error: i32, out: &mut [u8], length: &mut usize) -> Result<(), Call
 pub extern "C" fn legumeyet_error_text(error: i32, out: &mut [u8], length: &mut usize) -> i32
     ensures { Answers (IsPut (SaysError error) (IsInformationFault error) out.old out.new length.old length.new) result }
 {
-    answer(error_text(error, out, length))
+    match error_of(error) {
+        Some(error) => answer(put(&error.text(), out, length)),
+        None => CallError::UnknownOption.number(),
+    }
 }
 
 /// The version of the library: that of the header that it was built with.

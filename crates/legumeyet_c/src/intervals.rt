@@ -1,13 +1,13 @@
 // Parts as C has them.
 
-ghost use Rattle.std.specs.Prelude.{◌≡◌, map, min};
+ghost use Rattle.std.specs.Prelude.{◌≡◌, map};
 ghost use Rattle.legumeyet_c.specs.Parts.{kind_of, listed_as, over};
 
 use writeable::Part;
 
 /// A part of a text, by bytes: `legumeyet_interval`. That of the minus sign of `-1,234.5` is 0, 1 and 1.
 #[repr(C)]
-#[derive(Clone, Copy, Debug, Drop)]
+#[derive(Clone, Copy, Drop)]
 pub struct Interval {
     /// Its first byte.
     pub start: usize,
@@ -51,18 +51,11 @@ fn interval_by(listed: (usize, usize, Part)) -> Interval
     }
 }
 
-// The lesser of two counts.
-fn lesser(parts: usize, room: usize) -> usize
-    ensures { result ≡ min parts room }
-{
-    if parts < room { parts } else { room }
-}
-
 /// Lists parts at the front of the caller's intervals, as many as have room there; those behind them stay as they were.
 pub(crate) fn list_parts(parts: &[(usize, usize, Part)], intervals: &mut [Interval])
     ensures { intervals.new ≡ over (map listed_as parts.now) intervals.old }
 {
-    let count = lesser(parts.len(), intervals.len());
+    let count = parts.len().min(intervals.len());
     for index in 0..count {
         intervals[index] = interval_by(parts[index]);
     }

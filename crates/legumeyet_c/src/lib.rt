@@ -25,6 +25,7 @@ mod handles;
 pub mod information;
 mod intervals;
 mod numbers;
+mod opening;
 pub mod parts;
 mod putting;
 pub mod reading;

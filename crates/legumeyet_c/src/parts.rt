@@ -1,8 +1,7 @@
 //! Numbers written with their parts: `legumeyet_decimal_formatter_format_parts`.
 
-ghost use Rattle.std.specs.Prelude.{◌≡◌, ◌≢◌, ◌≤◌, ◌↔◌, Some, length, IfOk, IfErr, IsTrue};
+ghost use Rattle.std.specs.Prelude.{◌≡◌, ◌≢◌, ◌≤◌, ◌↔◌, true, length, IfOk, IfErr, IsTrue};
 ghost use Rattle.fixed_decimal.specs.SignedText.{ReadsSigned};
-ghost use Rattle.icu_decimal.specs.PartIntervals.{decimal_annotated};
 ghost use Rattle.legumeyet_c.specs.Choices.{choices_of};
 ghost use Rattle.legumeyet_c.specs.DecimalWriting.{IsDecimalAnnotated, WantsMemory};
 ghost use Rattle.legumeyet_c.specs.Numbers.{IsNumberFault};
@@ -15,6 +14,7 @@ use crate::call_error::{CallError, answer};
 use crate::choices::Options;
 use crate::content::Held;
 use crate::decimal_tables::DecimalTables;
+use crate::handle::Handle;
 use crate::handles::DecimalHandle;
 use crate::intervals::{Interval, list_parts};
 use crate::numbers::number_of_text;
@@ -24,57 +24,67 @@ use std::alloc::Global;
 use writeable::{PartsSink, Writeable};
 use writeable_bytes::copy_to_slice;
 
-// The text of a number with its parts, by tables.
-fn annotated_with(
-    alloc: Global,
-    tables: &DecimalTables,
-    value: &Decimal,
-) -> Result<PartsSink, CallError>
-    ensures value { IfOk result (λ sink. held_text sink ≡ decimal_annotated tables.now value.now) }
-    ensures fault { IfErr result (λ error. error ≡ CallError.Memory) }
-{
-    parts_law();
-    let mut sink = PartsSink::new(alloc);
-    match tables.formatter().format(value).write_to(&mut sink) {
-        Ok(()) => Ok(sink),
-        Err(_) => Err(CallError::Memory),
-    }
+/// Tables whose texts of numbers have parts.
+pub(crate) trait Annotates: Held {
+    ghost use Rattle.legumeyet_c.specs.declared.call_error.CallError.{CallError};
+    ghost use Rattle.fixed_decimal.specs.Number.{Number};
+    ghost use Rattle.fixed_decimal.specs.SignedValue.{SignedValue};
+    ghost use Rattle.writeable.specs.AnnotatedText.{AnnotatedText};
+
+    // the text of a number with its parts
+    ghost says: { Self → SignedValue Number → AnnotatedText → Type 0 };
+
+    // why there is none
+    ghost fails: { Self → SignedValue Number → CallError → Type 0 };
+
+    /// The text of a number with its parts. `Memory`: out of memory.
+    fn annotated(&self, alloc: Global, value: &Decimal) -> Result<PartsSink, CallError>
+        ensures value { IfOk result (λ sink. says self.now value.now (held_text sink)) }
+        ensures fault { IfErr result (λ error. fails self.now value.now error) };
+
+    // not that room lacks
+    ghost other: { (tables : Self) (value : SignedValue Number) (error : CallError) → fails tables value error → error ≢ CallError.TooSmall };
 }
 
-// The text, with its parts, of a number, where there is one, by the formatter behind a handle, which stays as it is.
-fn annotated_behind(
+impl Annotates for DecimalTables {
+    ghost use Rattle.legumeyet_c.specs.DecimalWriting.{memory_other};
+
+    ghost says = { IsDecimalAnnotated };
+
+    ghost fails = { WantsMemory };
+
+    fn annotated(&self, alloc: Global, value: &Decimal) -> Result<PartsSink, CallError> {
+        parts_law();
+        let mut sink = PartsSink::new(alloc);
+        match self.formatter().format(value).write_to(&mut sink) {
+            Ok(()) => Ok(sink),
+            Err(_) => Err(CallError::Memory),
+        }
+    }
+
+    ghost other = { memory_other };
+}
+
+// The text, with its parts, of a number, where there is one, with what stands behind a handle, which stays as it is.
+fn annotated_behind<T: Annotates>(
     alloc: Global,
-    formatter: &mut DecimalHandle,
+    handle: &mut Handle,
     number: &Result<Decimal, CallError>,
 ) -> Result<PartsSink, CallError>
-    ensures same { decimal_open formatter.new ≡ decimal_open formatter.old }
-    ensures value { IfOk result (λ sink. WritesValue IsDecimalAnnotated (decimal_open formatter.old) number.now (held_text sink)) }
-    ensures fault { IfErr result (λ error. IsValueFault WantsMemory (decimal_open formatter.old) number.now error) }
+    requires { T.is_for handle.old.pointer.value ≡ true }
+    ensures same { handle.new.pointer.value ≡ handle.old.pointer.value }
+    ensures value { IfOk result (λ sink. WritesValue T.says (T.held_in handle.old.pointer.value) number.now (held_text sink)) }
+    ensures fault { IfErr result (λ error. IsValueFault T.fails (T.held_in handle.old.pointer.value) number.now error) }
 {
-    let Some(content) = formatter.handle.take(alloc) else {
+    let Some(content) = handle.take(alloc) else {
         return Err(CallError::Closed);
     };
     let found = match number {
-        Ok(value) => annotated_with(alloc, DecimalTables::held_by(&content), value),
+        Ok(value) => T::held_by(&content).annotated(alloc, value),
         Err(error) => Err(*error),
     };
-    formatter.handle.put(alloc, content);
+    handle.put(alloc, content);
     found
-}
-
-// The text, with its parts, of the number that a text spells, by the formatter behind a handle, which stays as it is.
-fn annotated_of(
-    alloc: Global,
-    formatter: &mut DecimalHandle,
-    number: &[u8],
-    options: &Options,
-) -> Result<PartsSink, CallError>
-    ensures same { decimal_open formatter.new ≡ decimal_open formatter.old }
-    ensures value { IfOk result (λ sink. WritesChanged IsDecimalAnnotated (decimal_open formatter.old) (choices_of options.now) (ReadsSigned number.now) (held_text sink)) }
-    ensures fault { IfErr result (λ error. IsChangedFault WantsMemory (decimal_open formatter.old) (choices_of options.now) (ReadsSigned number.now) (IsNumberFault number.now) error) }
-{
-    let number = number_of_text(alloc, number, options);
-    annotated_behind(alloc, formatter, &number)
 }
 
 // Lays a text over the caller's bytes; whether it has room there.
@@ -85,8 +95,8 @@ fn lay_text(text: &str, out: &mut [u8]) -> bool
     copy_to_slice(text.as_bytes(), out).is_ok()
 }
 
-/// Writes a text with its parts to what the caller gives. `TooSmall`: one of both needs more room.
-pub(crate) fn put_parts(
+// Writes a text with its parts to what the caller gives. `TooSmall`: one of both needs more room.
+fn put_parts(
     sink: &PartsSink,
     out: &mut [u8],
     length: &mut usize,
@@ -109,21 +119,22 @@ pub(crate) fn put_parts(
     }
 }
 
-// Writes the number that a text spells with its parts.
-fn format_parts(
+/// Writes a number, where there is one, and its parts, with what stands behind a handle, which stays as it is.
+pub(crate) fn write_parts<T: Annotates>(
     alloc: Global,
-    formatter: &mut DecimalHandle,
-    number: &[u8],
-    options: &Options,
+    handle: &mut Handle,
+    number: &Result<Decimal, CallError>,
     out: &mut [u8],
     length: &mut usize,
     intervals: &mut [Interval],
     count: &mut usize,
 ) -> Result<(), CallError>
-    ensures same { decimal_open formatter.new ≡ decimal_open formatter.old }
-    ensures told { IsPutInParts (WritesChanged IsDecimalAnnotated (decimal_open formatter.old) (choices_of options.now) (ReadsSigned number.now)) (IsChangedFault WantsMemory (decimal_open formatter.old) (choices_of options.now) (ReadsSigned number.now) (IsNumberFault number.now)) (given out.old length.old intervals.old count.old) (given out.new length.new intervals.new count.new) result }
+    requires kind { T.is_for handle.old.pointer.value ≡ true }
+    requires other { IfErr number.now (λ error. error ≢ CallError.TooSmall) }
+    ensures same { handle.new.pointer.value ≡ handle.old.pointer.value }
+    ensures told { IsPutInParts (WritesValue T.says (T.held_in handle.old.pointer.value) number.now) (IsValueFault T.fails (T.held_in handle.old.pointer.value) number.now) (given out.old length.old intervals.old count.old) (given out.new length.new intervals.new count.new) result }
 {
-    match annotated_of(alloc, formatter, number, options) {
+    match annotated_behind::<T>(alloc, handle, number) {
         Ok(sink) => put_parts(&sink, out, length, intervals, count),
         Err(error) => Err(error),
     }
@@ -147,7 +158,7 @@ pub extern "C" fn legumeyet_decimal_formatter_format_parts(
     ensures same { decimal_open formatter.new ≡ decimal_open formatter.old }
     ensures told { Answers (IsPutInParts (WritesChanged IsDecimalAnnotated (decimal_open formatter.old) (choices_of options.now) (ReadsSigned number.now)) (IsChangedFault WantsMemory (decimal_open formatter.old) (choices_of options.now) (ReadsSigned number.now) (IsNumberFault number.now)) (given out.old length.old intervals.old count.old) (given out.new length.new intervals.new count.new)) result }
 {
-    answer(format_parts(
-        alloc, formatter, number, options, out, length, intervals, count,
-    ))
+    let number = number_of_text(alloc, number, options);
+    let handle = &mut formatter.handle;
+    answer(write_parts::<DecimalTables>(alloc, handle, &number, out, length, intervals, count))
 }

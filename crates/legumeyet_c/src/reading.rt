@@ -50,23 +50,6 @@ fn read_behind(
     found
 }
 
-// Writes the digits of the number that the formatter behind a handle writes so.
-fn read(
-    alloc: Global,
-    formatter: &mut DecimalHandle,
-    text: &[u8],
-    out: &mut [u8],
-    length: &mut usize,
-) -> Result<(), CallError>
-    ensures same { decimal_open formatter.new ≡ decimal_open formatter.old }
-    ensures told { IsPut (SaysRead (decimal_open formatter.old) text.now) (IsReadFault (decimal_open formatter.old) text.now) out.old out.new length.old length.new result }
-{
-    match read_behind(alloc, formatter, text) {
-        Ok(value) => put(&value, out, length),
-        Err(error) => Err(error),
-    }
-}
-
 /// Reads a text back as the one number that the formatter writes so, and writes it as digits: in English `-1,234.50` as `-1234.50`.
 ///
 /// Returns 0; 2, the handle is closed; 10, the text is not UTF-8; 11, two numbers may have one text under the symbols; 12, no number
@@ -82,5 +65,8 @@ pub extern "C" fn legumeyet_decimal_formatter_read(
     ensures same { decimal_open formatter.new ≡ decimal_open formatter.old }
     ensures told { Answers (IsPut (SaysRead (decimal_open formatter.old) text.now) (IsReadFault (decimal_open formatter.old) text.now) out.old out.new length.old length.new) result }
 {
-    answer(read(alloc, formatter, text, out, length))
+    match read_behind(alloc, formatter, text) {
+        Ok(value) => answer(put(&value, out, length)),
+        Err(error) => error.number(),
+    }
 }

@@ -1,9 +1,29 @@
-use Rattle.std.proofs.Common.{rules, w32, ◌∙◌}
+use Rattle.std.proofs.Common.{rules, ℕ, List, w32, Err, sym, subst, ◌∙◌}
 use Rattle.std.proofs.lemmas.Int.{to_z-of_z}
 use mir.Val.{SFits}
+use Rattle.legumeyet_c.specs.Answering.{SaysAnswer}
+use Rattle.legumeyet_c.specs.Views.{book_open}
+use Rattle.legumeyet_c.proofs.PuttingLemmas.{answer_fault_other, put_by, put_refused}
 use Rattle.legumeyet_c.proofs.answering.legumeyet_book_answer.Goals as goal
 
-pub returns-clause-told : goal.returns-clause-told
-returns-clause-told c =
+pub returns-in-Ok-clause-told : goal.returns-in-Ok-clause-told
+returns-in-Ok-clause-told c =
     let fits : SFits w32 c.answer.result = search rules in
-    record { outcome = c.answer_line.result; number = to_z-of_z w32 c.answer.result fits ∙ c.answer.ensures; held = c.answer_line.ensures.told }
+    let open_book = book_open c.args.book.now in
+    record {
+      outcome = c.put_bytes.result;
+      number = to_z-of_z w32 c.answer.result fits ∙ c.answer.ensures;
+      held = put_by _ _ _ _ _
+          (λ text is. subst (λ (t : List ℕ). SaysAnswer open_book c.args.line.now t) (sym (is ∙ c.as_slice.ensures.value)) c.in-Ok.ensures.value)
+          (λ error none. absurd none)
+          c.put_bytes.ensures;
+    }
+
+pub returns-in-Err-clause-told : goal.returns-in-Err-clause-told
+returns-in-Err-clause-told c =
+    let fits : SFits w32 c.number.result = search rules in
+    record {
+      outcome = Err c.in-Err.error;
+      number = to_z-of_z w32 c.number.result fits ∙ c.number.ensures;
+      held = put_refused _ _ _ _ _ (answer_fault_other (book_open c.args.book.now) c.in-Err.error c.in-Err.ensures.fault) c.in-Err.ensures.fault;
+    }

@@ -1,9 +1,31 @@
-use Rattle.std.proofs.Common.{rules, w32, ◌∙◌}
+use Rattle.std.proofs.Common.{rules, w32, Err, refl, sym, subst, ◌∙◌}
 use Rattle.std.proofs.lemmas.Int.{to_z-of_z}
 use mir.Val.{SFits}
+use Rattle.legumeyet_c.specs.Opening.{SaysBook}
+use Rattle.legumeyet_c.specs.Views.{book_open}
+use Rattle.legumeyet_c.specs.declared.call_error.CallError.TheVariants.{Book}
+use Rattle.legumeyet_c.proofs.OpeningLemmas.{opening_by, opening_refused}
+use Rattle.locale_numbers.specs.declared.BookError.TheVariants.{Memory}
 use Rattle.legumeyet_c.proofs.book.legumeyet_book_open.Goals as goal
 
-pub returns : goal.returns
-returns c =
+pub returns-in-Ok : goal.returns-in-Ok
+returns-in-Ok c =
     let fits : SFits w32 c.answer.result = search rules in
-    record { outcome = c.open_book.result; number = to_z-of_z w32 c.answer.result fits ∙ c.answer.ensures; held = c.open_book.ensures }
+    record {
+      outcome = c.put_behind.result;
+      number = to_z-of_z w32 c.answer.result fits ∙ c.answer.ensures;
+      held = opening_by _ _ _
+          (λ x is. subst (SaysBook c.args.json.now) (sym is)
+          (record { value = c.in-Ok.ensures.value.0; reads = c.in-Ok.ensures.value.1; is_book = c.in-Ok.ensures.value.2 }))
+          (λ error is. record { fault = Memory; refused = tt; told = is })
+          c.put_behind.ensures.told;
+    }
+
+pub returns-in-Err : goal.returns-in-Err
+returns-in-Err c =
+    let fits : SFits w32 c.number.result = search rules in
+    record {
+      outcome = Err (Book c.in-Err.error);
+      number = to_z-of_z w32 c.number.result fits ∙ c.number.ensures;
+      held = opening_refused _ _ (book_open c.args.book.now) _ (record { fault = c.in-Err.error; refused = c.in-Err.ensures.refused; told = refl });
+    }

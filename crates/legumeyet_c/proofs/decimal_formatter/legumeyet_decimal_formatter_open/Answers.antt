@@ -1,9 +1,26 @@
-use Rattle.std.proofs.Common.{rules, w32, ◌∙◌}
+use Rattle.std.proofs.Common.{rules, ℕ, List, w32, ◌∙◌}
 use Rattle.std.proofs.lemmas.Int.{to_z-of_z}
 use mir.Val.{SFits}
+use Rattle.icu_decimal.specs.PlainText.{Tables}
+use Rattle.icu_decimal.specs.declared.options.GroupingStrategy.{GroupingStrategy}
+use Rattle.locale_numbers.specs.Book.{BookTables}
+use Rattle.locale_numbers.specs.TagFormatters.{plain_for}
+use Rattle.legumeyet_c.specs.Choices.{grouping_of}
+use Rattle.legumeyet_c.specs.Opening.{IsDecimalFor, IsTagFault}
+use Rattle.legumeyet_c.specs.Views.{book_open, decimal_open}
+use Rattle.legumeyet_c.specs.declared.call_error.CallError.{CallError}
+use Rattle.legumeyet_c.proofs.OpeningLemmas.{opening_chosen}
 use Rattle.legumeyet_c.proofs.decimal_formatter.legumeyet_decimal_formatter_open.Goals as goal
 
 pub returns-clause-told : goal.returns-clause-told
 returns-clause-told c =
     let fits : SFits w32 c.answer.result = search rules in
-    record { outcome = c.open.result; number = to_z-of_z w32 c.answer.result fits ∙ c.answer.ensures; held = c.open.ensures.told }
+    record {
+      outcome = c.open.result;
+      number = to_z-of_z w32 c.answer.result fits ∙ c.answer.ensures;
+      held = opening_chosen
+          (λ (book : BookTables) (strategy : GroupingStrategy) (tag : List ℕ) (tables : Tables). IsDecimalFor book tag strategy tables)
+          (λ (book : BookTables) (strategy : GroupingStrategy) (tag : List ℕ) (error : CallError). IsTagFault (plain_for book tag) tag error)
+          (book_open c.args.book.now) c.grouping_by-strategy.result (grouping_of c.args.grouping) c.args.tag.now (decimal_open c.args.formatter.now) _ c.open.result
+          c.grouping_by-strategy.ensures c.open.ensures.told;
+    }

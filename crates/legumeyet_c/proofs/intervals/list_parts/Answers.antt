@@ -16,4 +16,4 @@ pub returns : goal.returns
 returns c =
     let i = c.loop-index in
     over_most (map listed_as c.args.parts.now) c.args.intervals.now i.intervals i.index
-    (omega (arith, c.lesser-count.ensures, i.auto.index-end, c.loop-index-test.false, length-map c.args.parts.now listed_as)) i.invariant.front i.invariant.behind
+    (omega (arith, c.min-count.ensures, i.auto.index-end, c.loop-index-test.false, length-map c.args.parts.now listed_as)) i.invariant.front i.invariant.behind

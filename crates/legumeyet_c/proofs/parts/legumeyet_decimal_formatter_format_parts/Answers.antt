@@ -1,9 +1,32 @@
 use Rattle.std.proofs.Common.{rules, w32, ◌∙◌}
 use Rattle.std.proofs.lemmas.Int.{to_z-of_z}
 use mir.Val.{SFits}
+use Rattle.fixed_decimal.specs.SignedText.{ReadsSigned}
+use Rattle.legumeyet_c.specs.Choices.{choices_of}
+use Rattle.legumeyet_c.specs.DecimalWriting.{IsDecimalAnnotated, WantsMemory}
+use Rattle.legumeyet_c.specs.Numbers.{Gives, IsChangeFault, IsNumberFault}
+use Rattle.legumeyet_c.specs.Views.{decimal_open}
+use Rattle.legumeyet_c.proofs.PartsLemmas.{parts_by}
+use Rattle.legumeyet_c.proofs.PuttingLemmas.{number_fault_other, other_fault, value_fault, value_says}
 use Rattle.legumeyet_c.proofs.parts.legumeyet_decimal_formatter_format_parts.Goals as goal
+
+pub write_parts-requires-clause-other : goal.write_parts-requires-clause-other
+write_parts-requires-clause-other c =
+    other_fault c.number_of_text-number.result c.number_of_text-number.ensures.fault
+    (λ error caused. number_fault_other (choices_of c.args.options.now) c.args.number.now error caused)
 
 pub returns-clause-told : goal.returns-clause-told
 returns-clause-told c =
     let fits : SFits w32 c.answer.result = search rules in
-    record { outcome = c.format_parts.result; number = to_z-of_z w32 c.answer.result fits ∙ c.answer.ensures; held = c.format_parts.ensures.told }
+    let choices = choices_of c.args.options.now in
+    let open_tables = decimal_open c.args.formatter.now in
+    let is_given = Gives choices (ReadsSigned c.args.number.now) in
+    let number = c.number_of_text-number in
+    record {
+      outcome = c.write_parts.result;
+      number = to_z-of_z w32 c.answer.result fits ∙ c.answer.ensures;
+      held = parts_by _ _ _
+          (value_says IsDecimalAnnotated open_tables is_given number.result number.ensures.value)
+          (value_fault WantsMemory open_tables is_given (IsChangeFault choices (IsNumberFault c.args.number.now)) number.result number.ensures.value number.ensures.fault)
+          c.write_parts.ensures.told;
+    }
