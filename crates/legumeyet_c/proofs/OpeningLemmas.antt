@@ -1,7 +1,8 @@
 -- Outcomes of calls that open, one by the other.
 use Rattle.std.proofs.Common.{◌≡◌, ℕ, List, Option, Some, None, Result, Ok, Err, refl, sym, subst}
 use Rattle.locale_numbers.specs.Book.{BookTables}
-use Rattle.legumeyet_c.specs.Opening.{Finds, IsFindingFault, IsOpening}
+use Rattle.locale_numbers.specs.declared.FormatterError.{FormatterError}
+use Rattle.legumeyet_c.specs.Opening.{Finds, IsFindingFault, IsOpening, IsTagFault}
 use Rattle.legumeyet_c.specs.declared.call_error.CallError.{CallError}
 use Rattle.legumeyet_c.specs.declared.call_error.CallError.TheVariants.{Memory}
 
@@ -26,17 +27,18 @@ opening_by before after (Err error) text cause opening = record {
 }
 
 -- where something is found, out of memory is a fault
-pub memory_misses : {C T : Type 0} (says : BookTables → C → List ℕ → T → Type 0) (misses : BookTables → C → List ℕ → CallError → Type 0)
-    → ((book : BookTables) (choice : C) (tag : List ℕ) → misses book choice tag Memory) → (book : Option BookTables) (choice : Option C) (tag : List ℕ) (tables : T)
-    → Finds says book choice tag tables → (error : CallError) → error ≡ Memory → IsFindingFault misses book choice tag error
-memory_misses says misses memory None choice tag tables found error is = absurd found
-memory_misses says misses memory (Some book) None tag tables found error is = absurd found
-memory_misses says misses memory (Some book) (Some choice) tag tables found error is = subst (λ (e : CallError). misses book choice tag e) (sym is) (memory book choice tag)
+pub memory_misses : {C T : Type 0} (says : BookTables → C → List ℕ → T → Type 0) (finds : BookTables → C → List ℕ → Result T FormatterError)
+    (book : Option BookTables) (choice : Option C) (tag : List ℕ) (tables : T)
+    → Finds says book choice tag tables → (error : CallError) → error ≡ Memory → IsFindingFault finds book choice tag error
+memory_misses says finds None choice tag tables found error is = absurd found
+memory_misses says finds (Some book) None tag tables found error is = absurd found
+memory_misses says finds (Some book) (Some choice) tag tables found error is =
+    subst (λ (e : CallError). IsTagFault (finds book choice tag) tag e) (sym is) tt
 
 -- the same of a choice that is known to be another one
-pub opening_chosen : {C T : Type 0} (says : BookTables → C → List ℕ → T → Type 0) (misses : BookTables → C → List ℕ → CallError → Type 0) (book : Option BookTables)
+pub opening_chosen : {C T : Type 0} (says : BookTables → C → List ℕ → T → Type 0) (finds : BookTables → C → List ℕ → Result T FormatterError) (book : Option BookTables)
     (choice chosen : Option C) (tag : List ℕ) (before after : Option T) (outcome : Result (Unit {0}) CallError) → choice ≡ chosen
-    → IsOpening (Finds says book choice tag) (IsFindingFault misses book choice tag) before after outcome
-    → IsOpening (Finds says book chosen tag) (IsFindingFault misses book chosen tag) before after outcome
-opening_chosen {C} says misses book choice chosen tag before after outcome is opening =
-    subst (λ (c : Option C). IsOpening (Finds says book c tag) (IsFindingFault misses book c tag) before after outcome) is opening
+    → IsOpening (Finds says book choice tag) (IsFindingFault finds book choice tag) before after outcome
+    → IsOpening (Finds says book chosen tag) (IsFindingFault finds book chosen tag) before after outcome
+opening_chosen {C} says finds book choice chosen tag before after outcome is opening =
+    subst (λ (c : Option C). IsOpening (Finds says book c tag) (IsFindingFault finds book c tag) before after outcome) is opening

@@ -55,10 +55,10 @@ Finds says (Some book) None tag tables = ⊥
 Finds says (Some book) (Some choice) tag tables = says book choice tag tables
 
 -- a closed book comes first, then an unknown choice
-abbrev pub IsFindingFault : {C : Type 0} → (BookTables → C → List ℕ → CallError → Type 0) → Option BookTables → Option C → List ℕ → CallError → Type 0
-IsFindingFault misses None choice tag error = error ≡ Closed
-IsFindingFault misses (Some book) None tag error = error ≡ UnknownOption
-IsFindingFault misses (Some book) (Some choice) tag error = misses book choice tag error
+abbrev pub IsFindingFault : {C T : Type 0} → (BookTables → C → List ℕ → Result T FormatterError) → Option BookTables → Option C → List ℕ → CallError → Type 0
+IsFindingFault found None choice tag error = error ≡ Closed
+IsFindingFault found (Some book) None tag error = error ≡ UnknownOption
+IsFindingFault found (Some book) (Some choice) tag error = IsTagFault (found book choice tag) tag error
 
 -- ---- of plain numbers
 
@@ -72,7 +72,7 @@ abbrev pub FindsDecimal : Option BookTables → Option GroupingStrategy → List
 FindsDecimal book strategy tag tables = Finds (λ book strategy tag tables. IsDecimalFor book tag strategy tables) book strategy tag tables
 
 abbrev pub IsDecimalFault : Option BookTables → Option GroupingStrategy → List ℕ → CallError → Type 0
-IsDecimalFault book strategy tag error = IsFindingFault (λ book strategy tag error. IsTagFault (plain_for book tag) tag error) book strategy tag error
+IsDecimalFault book strategy tag error = IsFindingFault (λ book strategy tag. plain_for book tag) book strategy tag error
 
 -- ---- of compact numbers
 
@@ -95,7 +95,7 @@ abbrev pub FindsCompact : Option BookTables → Option Width → Option Grouping
 FindsCompact book width strategy tag tables = Finds (λ book choice tag tables. IsCompactFor book tag choice.0 choice.1 tables) book (both_of width strategy) tag tables
 
 abbrev pub IsCompactFault : Option BookTables → Option Width → Option GroupingStrategy → List ℕ → CallError → Type 0
-IsCompactFault book width strategy tag error = IsFindingFault (λ book choice tag error. IsTagFault (compact_for_width choice.0 book tag) tag error) book (both_of width strategy) tag error
+IsCompactFault book width strategy tag error = IsFindingFault (λ book choice tag. compact_for_width choice.0 book tag) book (both_of width strategy) tag error
 
 -- ---- closing
 

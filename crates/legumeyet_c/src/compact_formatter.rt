@@ -1,9 +1,9 @@
 //! Formatters of compact numbers: `legumeyet_compact_formatter_open` and `_close`.
 
-ghost use Rattle.std.specs.Prelude.{◌≡◌, ◌⊎◌, Ok, Err, Some, None, IfOk, IfErr};
+ghost use Rattle.std.specs.Prelude.{◌≡◌, ◌⊎◌, Ok, Err, None, IfOk, IfErr};
 ghost use Rattle.icu_decimal.specs.HeldCompact.{compact_tables_of};
 ghost use Rattle.legumeyet_c.specs.Choices.{grouping_of, width_of};
-ghost use Rattle.legumeyet_c.specs.Opening.{FindsCompact, IsClosing, IsCompactFault, IsCompactFor, IsOpening, IsTagFault, compact_for_width};
+ghost use Rattle.legumeyet_c.specs.Opening.{FindsCompact, IsClosing, IsCompactFault, IsCompactFor, IsOpening, compact_for_width};
 ghost use Rattle.legumeyet_c.specs.Putting.{Answers};
 ghost use Rattle.legumeyet_c.specs.Views.{book_open, compact_open};
 
@@ -33,49 +33,26 @@ fn formatter_in<'b>(
     }
 }
 
-// The same, with the errors of calls.
-fn formatter_for<'b>(
-    alloc: Global,
-    book: &'b Book,
-    tag: &[u8],
-    width: Width,
-) -> Result<CompactDecimalFormatter<'b>, CallError>
-    ensures value { IfOk result (λ formatter. compact_for_width width book.now tag.now ≡ Ok (compact_tables_of formatter)) }
-    ensures fault { IfErr result (λ error. IsTagFault (compact_for_width width book.now tag.now) tag.now error) }
-{
-    let Ok(tag) = str::from_utf8(tag) else {
-        return Err(CallError::Tag);
-    };
-    match formatter_in(alloc, book, tag, width) {
-        Ok(formatter) => Ok(formatter),
-        Err(FormatterError::Tag) => Err(CallError::Tag),
-        Err(FormatterError::Table) => Err(CallError::Table),
-        Err(FormatterError::Memory) => Err(CallError::Memory),
-    }
-}
-
 impl Found for OwnedCompactTables {
     type Choice = (Width, GroupingStrategy);
 
-    ghost finds = { λ book choice tag tables. IsCompactFor book tag choice.0 choice.1 tables };
+    ghost found = { λ book choice tag. compact_for_width choice.0 book tag };
 
-    ghost misses = { λ book choice tag error. IsTagFault (compact_for_width choice.0 book tag) tag error };
+    ghost finds = { λ book choice tag tables. IsCompactFor book tag choice.0 choice.1 tables };
 
     fn find(
         alloc: Global,
         book: &Book,
         choice: (Width, GroupingStrategy),
-        tag: &[u8],
-    ) -> Result<OwnedCompactTables, CallError> {
+        tag: &str,
+    ) -> Result<OwnedCompactTables, FormatterError> {
         let (width, strategy) = choice;
-        let formatter = formatter_for(alloc, book, tag, width)?;
+        let formatter = formatter_in(alloc, book, tag, width)?;
         match OwnedCompactTables::of(alloc, &formatter, strategy) {
             Ok(tables) => Ok(tables),
-            Err(_) => Err(CallError::Memory),
+            Err(_) => Err(FormatterError::Memory),
         }
     }
-
-    ghost memory = { λ book choice tag. tt };
 }
 
 /// Opens the formatter of compact numbers for a locale tag, short or long: those of `en` write 1650 as `1.6K` and as `1.6 thousand`.

@@ -1,6 +1,6 @@
 // What an open handle has.
 
-ghost use Rattle.std.specs.Prelude.{◌≡◌, Bool, Option, Some, None, true};
+ghost use Rattle.std.specs.Prelude.{◌≡◌, Some, None, true, refl};
 ghost use Rattle.legumeyet_c.specs.Kinds.{book_in, book_is, compact_in, compact_is, decimal_in, decimal_is, is_for_book, is_for_compact, is_for_decimal};
 
 use crate::compact_tables::OwnedCompactTables;
@@ -47,8 +47,6 @@ pub(crate) trait Held: Drop {
 }
 
 impl Held for Book {
-    ghost use Rattle.std.specs.Prelude.{refl};
-
     ghost is_for = { is_for_book };
 
     ghost held_in = { book_in };
@@ -70,8 +68,6 @@ impl Held for Book {
 }
 
 impl Held for DecimalTables {
-    ghost use Rattle.std.specs.Prelude.{refl};
-
     ghost is_for = { is_for_decimal };
 
     ghost held_in = { decimal_in };
@@ -93,8 +89,6 @@ impl Held for DecimalTables {
 }
 
 impl Held for OwnedCompactTables {
-    ghost use Rattle.std.specs.Prelude.{refl};
-
     ghost is_for = { is_for_compact };
 
     ghost held_in = { compact_in };

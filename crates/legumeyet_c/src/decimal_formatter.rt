@@ -1,13 +1,12 @@
 //! Formatters of plain numbers: `legumeyet_decimal_formatter_open`, `_close`, `_format` and `_format_i64`.
 
-ghost use Rattle.std.specs.Prelude.{◌≡◌, Ok, Some, None, IfOk, IfErr};
+ghost use Rattle.std.specs.Prelude.{◌≡◌, None};
 ghost use Rattle.fixed_decimal.specs.SignedText.{ReadsSigned};
-ghost use Rattle.icu_decimal.specs.HeldTables.{tables_of};
 ghost use Rattle.locale_numbers.specs.TagFormatters.{plain_for};
 ghost use Rattle.legumeyet_c.specs.Choices.{choices_of, grouping_of};
 ghost use Rattle.legumeyet_c.specs.DecimalWriting.{HasNoFault, IsDecimalText};
 ghost use Rattle.legumeyet_c.specs.Numbers.{IsNumberFault, IsScaled, IsScaledFault};
-ghost use Rattle.legumeyet_c.specs.Opening.{FindsDecimal, IsClosing, IsDecimalFault, IsDecimalFor, IsOpening, IsTagFault};
+ghost use Rattle.legumeyet_c.specs.Opening.{FindsDecimal, IsClosing, IsDecimalFault, IsDecimalFor, IsOpening};
 ghost use Rattle.legumeyet_c.specs.Putting.{Answers, IsPut};
 ghost use Rattle.legumeyet_c.specs.Views.{book_open, decimal_open};
 ghost use Rattle.legumeyet_c.specs.Writing.{IsChangedFault, WritesChanged};
@@ -21,52 +20,29 @@ use crate::opening::{Found, close, open};
 use crate::putting::put;
 use crate::writing::{Form, write_behind};
 use fixed_decimal::Decimal;
-use icu_decimal::DecimalFormatter;
 use icu_decimal::options::GroupingStrategy;
 use locale_numbers::{Book, FormatterError};
 use std::alloc::Global;
 
-// The formatter that a book has for a tag.
-fn formatter_for<'b>(
-    alloc: Global,
-    book: &'b Book,
-    tag: &[u8],
-) -> Result<DecimalFormatter<'b>, CallError>
-    ensures value { IfOk result (λ formatter. plain_for book.now tag.now ≡ Ok (tables_of formatter)) }
-    ensures fault { IfErr result (λ error. IsTagFault (plain_for book.now tag.now) tag.now error) }
-{
-    let Ok(tag) = str::from_utf8(tag) else {
-        return Err(CallError::Tag);
-    };
-    match book.formatter(alloc, tag) {
-        Ok(formatter) => Ok(formatter),
-        Err(FormatterError::Tag) => Err(CallError::Tag),
-        Err(FormatterError::Table) => Err(CallError::Table),
-        Err(FormatterError::Memory) => Err(CallError::Memory),
-    }
-}
-
 impl Found for DecimalTables {
     type Choice = GroupingStrategy;
 
-    ghost finds = { λ book strategy tag tables. IsDecimalFor book tag strategy tables };
+    ghost found = { λ book strategy tag. plain_for book tag };
 
-    ghost misses = { λ book strategy tag error. IsTagFault (plain_for book tag) tag error };
+    ghost finds = { λ book strategy tag tables. IsDecimalFor book tag strategy tables };
 
     fn find(
         alloc: Global,
         book: &Book,
         strategy: GroupingStrategy,
-        tag: &[u8],
-    ) -> Result<DecimalTables, CallError> {
-        let formatter = formatter_for(alloc, book, tag)?;
+        tag: &str,
+    ) -> Result<DecimalTables, FormatterError> {
+        let formatter = book.formatter(alloc, tag)?;
         match DecimalTables::of(&formatter, strategy) {
             Ok(tables) => Ok(tables),
-            Err(_) => Err(CallError::Memory),
+            Err(_) => Err(FormatterError::Memory),
         }
     }
-
-    ghost memory = { λ book choice tag. tt };
 }
 
 /// The text of a number.

@@ -1,37 +1,60 @@
 // Handles opened and closed.
 
-ghost use Rattle.std.specs.Prelude.{◌≡◌, Option, None, true, IfOk, IfErr};
+ghost use Rattle.std.specs.Prelude.{◌≡◌, ◌⊎◌, Err, None, true, IfOk, IfErr};
 ghost use Rattle.legumeyet_c.specs.Kinds.{book_in, is_for_book};
-ghost use Rattle.legumeyet_c.specs.Opening.{Finds, IsClosing, IsFindingFault, IsOpening};
+ghost use Rattle.legumeyet_c.specs.Opening.{Finds, IsClosing, IsFindingFault, IsOpening, IsTagFault};
 
 use crate::call_error::CallError;
 use crate::content::Held;
 use crate::handle::Handle;
-use locale_numbers::Book;
+use locale_numbers::{Book, FormatterError};
 use std::alloc::Global;
 
 /// What a book has for a tag, in a copy of its own.
 pub(crate) trait Found: Held {
-    ghost use Rattle.std.specs.Prelude.{List, ℕ};
+    ghost use Rattle.std.specs.Prelude.{List, Result, ℕ};
     ghost use Rattle.locale_numbers.specs.Book.{BookTables};
-    ghost use Rattle.legumeyet_c.specs.declared.call_error.CallError.{CallError};
+    ghost use Rattle.locale_numbers.specs.declared.FormatterError.{FormatterError};
 
     /// What is chosen beside the tag.
     type Choice: Drop;
 
-    // what is found
+    // what the book has
+    ghost found: { BookTables → Self.Choice → List ℕ → Result Self FormatterError };
+
+    // the copy of it
     ghost finds: { BookTables → Self.Choice → List ℕ → Self → Type 0 };
 
-    // why nothing is
-    ghost misses: { BookTables → Self.Choice → List ℕ → CallError → Type 0 };
-
     /// What the book has for the tag. `Tag`: it is no locale tag. `Table`: the book lacks a table for it. `Memory`: out of memory.
-    fn find(alloc: Global, book: &Book, choice: Self::Choice, tag: &[u8]) -> Result<Self, CallError>
+    fn find(
+        alloc: Global,
+        book: &Book,
+        choice: Self::Choice,
+        tag: &str,
+    ) -> Result<Self, FormatterError>
         ensures value { IfOk result (λ tables. finds book.now choice tag.now tables) }
-        ensures fault { IfErr result (λ error. misses book.now choice tag.now error) };
+        ensures fault { IfErr result (λ fault. (fault ≡ FormatterError.Memory) ⊎ (found book.now choice tag.now ≡ Err fault)) };
+}
 
-    // out of memory comes in place of any
-    ghost memory: { (book : BookTables) (choice : Self.Choice) (tag : List ℕ) → misses book choice tag CallError.Memory };
+// The same, with the errors of calls.
+fn find_for<T: Found>(
+    alloc: Global,
+    book: &Book,
+    choice: T::Choice,
+    tag: &[u8],
+) -> Result<T, CallError>
+    ensures value { IfOk result (λ tables. T.finds book.now choice tag.now tables) }
+    ensures fault { IfErr result (λ error. IsTagFault (T.found book.now choice tag.now) tag.now error) }
+{
+    let Ok(tag) = str::from_utf8(tag) else {
+        return Err(CallError::Tag);
+    };
+    match T::find(alloc, book, choice, tag) {
+        Ok(tables) => Ok(tables),
+        Err(FormatterError::Tag) => Err(CallError::Tag),
+        Err(FormatterError::Table) => Err(CallError::Table),
+        Err(FormatterError::Memory) => Err(CallError::Memory),
+    }
 }
 
 // What the book behind a handle has for a tag, where a choice is known; the book stays as it is.
@@ -44,13 +67,13 @@ fn find_behind<T: Found>(
     requires { is_for_book book.old.pointer.value ≡ true }
     ensures same { book.new.pointer.value ≡ book.old.pointer.value }
     ensures value { IfOk result (λ tables. Finds T.finds (book_in book.old.pointer.value) choice tag.now tables) }
-    ensures fault { IfErr result (λ error. IsFindingFault T.misses (book_in book.old.pointer.value) choice tag.now error) }
+    ensures fault { IfErr result (λ error. IsFindingFault T.found (book_in book.old.pointer.value) choice tag.now error) }
 {
     let Some(content) = book.take(alloc) else {
         return Err(CallError::Closed);
     };
     let found = match choice {
-        Some(choice) => T::find(alloc, Book::held_by(&content), choice, tag),
+        Some(choice) => find_for::<T>(alloc, Book::held_by(&content), choice, tag),
         None => Err(CallError::UnknownOption),
     };
     book.put(alloc, content);
@@ -89,7 +112,7 @@ pub(crate) fn open<T: Found>(
     requires kind { T.is_for handle.old.pointer.value ≡ true }
     ensures same { book.new.pointer.value ≡ book.old.pointer.value }
     ensures kind { T.is_for handle.new.pointer.value ≡ true }
-    ensures told { IsOpening (Finds T.finds (book_in book.old.pointer.value) choice tag.now) (IsFindingFault T.misses (book_in book.old.pointer.value) choice tag.now) (T.held_in handle.old.pointer.value) (T.held_in handle.new.pointer.value) result }
+    ensures told { IsOpening (Finds T.finds (book_in book.old.pointer.value) choice tag.now) (IsFindingFault T.found (book_in book.old.pointer.value) choice tag.now) (T.held_in handle.old.pointer.value) (T.held_in handle.new.pointer.value) result }
 {
     match find_behind::<T>(alloc, book, choice, tag) {
         Ok(tables) => put_behind(alloc, handle, tables, CallError::Memory),

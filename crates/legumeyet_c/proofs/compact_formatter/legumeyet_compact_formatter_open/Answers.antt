@@ -5,9 +5,8 @@ use Rattle.icu_decimal.specs.CompactTables.{CompactTables}
 use Rattle.icu_decimal.specs.declared.options.GroupingStrategy.{GroupingStrategy}
 use Rattle.locale_numbers.specs.Book.{BookTables}
 use Rattle.legumeyet_c.specs.Choices.{choice_of}
-use Rattle.legumeyet_c.specs.Opening.{IsCompactFor, IsTagFault, compact_for_width}
+use Rattle.legumeyet_c.specs.Opening.{IsCompactFor, compact_for_width}
 use Rattle.legumeyet_c.specs.Views.{book_open, compact_open}
-use Rattle.legumeyet_c.specs.declared.call_error.CallError.{CallError}
 use Rattle.legumeyet_c.specs.declared.choices.Width.{Width}
 use Rattle.legumeyet_c.proofs.OpeningLemmas.{opening_chosen}
 use Rattle.legumeyet_c.proofs.compact_formatter.legumeyet_compact_formatter_open.Goals as goal
@@ -20,7 +19,7 @@ returns-clause-told c =
       number = to_z-of_z w32 c.answer.result fits ∙ c.answer.ensures;
       held = opening_chosen
           (λ (book : BookTables) (choice : Width × GroupingStrategy) (tag : List ℕ) (tables : CompactTables). IsCompactFor book tag choice.0 choice.1 tables)
-          (λ (book : BookTables) (choice : Width × GroupingStrategy) (tag : List ℕ) (error : CallError). IsTagFault (compact_for_width choice.0 book tag) tag error)
+          (λ (book : BookTables) (choice : Width × GroupingStrategy) (tag : List ℕ). compact_for_width choice.0 book tag)
           (book_open c.args.book.now) c.choice_by-choice.result (choice_of c.args.width c.args.grouping) c.args.tag.now (compact_open c.args.formatter.now) _ c.open.result
           c.choice_by-choice.ensures c.open.ensures.told;
     }
