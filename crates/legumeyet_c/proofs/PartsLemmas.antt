@@ -1,5 +1,5 @@
 -- Outcomes of calls that write a text with its parts, one by the other.
-use Rattle.std.proofs.Common.{◌≡◌, ◌≢◌, ◌≤◌, ◌<◌, ◌↔◌, ◌⊎◌, ℕ, List, length, map, Bool, true, false, IsTrue, Option, Some, None, Result, Ok, Err, IfOk, IfErr, refl, sym, ap, subst, ◌∙◌, inl, inr}
+use Rattle.std.proofs.Common.{◌≡◌, ◌≢◌, ℕ, List, length, map, Result, Ok, Err, refl, sym, ap, ◌∙◌}
 use Rattle.std.proofs.lemmas.List.{length-map}
 use Rattle.std.proofs.lemmas.Simd.{map-map}
 use Rattle.writeable.specs.AnnotatedText.{AnnotatedText, Interval as PartInterval}

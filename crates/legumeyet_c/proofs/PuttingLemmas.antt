@@ -1,5 +1,5 @@
 -- Outcomes of calls that write, one by the other.
-use Rattle.std.proofs.Common.{◌≡◌, ◌≢◌, ℕ, ℤ, ◌-◌, ◌<◌, ◌≤◌, ◌^◌, List, ◌++◌, length, take, drop, min, Option, Some, None, Result, Ok, Err, IsOk, IfOk, IfErr, IsErrOf, refl, sym, subst, inl, inr}
+use Rattle.std.proofs.Common.{◌≡◌, ◌≢◌, ℕ, ℤ, ◌-◌, ◌<◌, ◌≤◌, ◌^◌, List, ◌++◌, length, take, drop, min, Option, Some, None, Result, Ok, Err, IfOk, IfErr, refl, sym, subst, inl, inr}
 use Rattle.std.proofs.Math.Nat.{lt_of_not-le}
 use Rattle.fixed_decimal.specs.Number.{Number}
 use Rattle.fixed_decimal.specs.SignedValue.{SignedValue}
@@ -7,8 +7,8 @@ use Rattle.icu_decimal.specs.PlainText.{Tables}
 use Rattle.locale_numbers.specs.Book.{BookTables}
 use Rattle.legumeyet_c.specs.Answering.{IsAnswerFault}
 use Rattle.legumeyet_c.specs.Choices.{Changes}
-use Rattle.legumeyet_c.specs.Numbers.{Gives, IsChanged, IsChangeFault, IsCompactNumberFault, IsNumberFault, IsScaledFault}
-use Rattle.legumeyet_c.specs.Putting.{IsPut, IsWhole, IsCut, IsUntouched}
+use Rattle.legumeyet_c.specs.Numbers.{Gives, IsChangeFault, IsCompactNumberFault, IsNumberFault, IsScaledFault}
+use Rattle.legumeyet_c.specs.Putting.{IsPut}
 use Rattle.legumeyet_c.specs.Reading.{IsReadFault, IsUnread}
 use Rattle.legumeyet_c.specs.Writing.{IsValueFault, IsWritingFault, Writes, WritesValue}
 use Rattle.legumeyet_c.specs.declared.choices.Choices.{Choices}

@@ -1,4 +1,4 @@
-use Rattle.std.proofs.Common.{◌<◌, rules, arith, map, ◌∙◌}
+use Rattle.std.proofs.Common.{rules, arith, map, ◌∙◌}
 use Rattle.std.proofs.lemmas.List.{length-map, length-set}
 use Rattle.legumeyet_c.specs.Parts.{listed_as}
 use Rattle.legumeyet_c.proofs.ListingLemmas.{more_behind, more_front, over_most}

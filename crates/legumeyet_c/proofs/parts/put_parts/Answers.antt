@@ -1,7 +1,7 @@
-use Rattle.std.proofs.Common.{◌≡◌, ◌≤◌, List, ℕ, length, IsTrue, refl, sym, ap, subst, ◌∙◌, arith, rules}
+use Rattle.std.proofs.Common.{◌≤◌, List, ℕ, length, refl, sym, ap, subst, ◌∙◌, arith}
 use Rattle.std.proofs.lemmas.List.{length-map}
 use Rattle.writeable.specs.ListedParts.{interval_of}
-use Rattle.legumeyet_c.specs.Parts.{given, held_text, over, written_over}
+use Rattle.legumeyet_c.specs.Parts.{held_text, over}
 use Rattle.legumeyet_c.proofs.PartsLemmas.{parts_cut, parts_whole, written_is}
 use Rattle.legumeyet_c.proofs.parts.put_parts.Goals as goal
 use Rattle.legumeyet_c.proofs.parts.put_parts.Goals.{else-is_whole-via-then-is_whole+else-is_listed, else-is_whole-via-else-is_whole}

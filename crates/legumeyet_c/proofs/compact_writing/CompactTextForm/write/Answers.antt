@@ -1,4 +1,4 @@
-use Rattle.std.proofs.Common.{rules, true, ap, sym, subst, ◌∙◌}
+use Rattle.std.proofs.Common.{rules, ap, ◌∙◌}
 use Rattle.icu_decimal.specs.Affixes.{WithSign}
 use Rattle.icu_decimal.specs.CompactTables.{CompactTables}
 use Rattle.icu_decimal.specs.CompactText.{CompactNumber, compact_decimal_events, compact_formatted}

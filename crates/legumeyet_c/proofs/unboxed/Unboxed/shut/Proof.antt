@@ -25,10 +25,9 @@ use denote.Triple.Spec.{triple_of}
 use denote.Triple.Table.{framed}
 use denote.Triple.Walked.{Stays, stay_dropped, walk_of, says, ends_at}
 use Rattle.std.proofs.VecSteps.Shapes.{after}
-use Rattle.std.specs.Box.Ownership.{box_owns}
 use Rattle.std.proofs.BoxSteps.Form.{Bx, B, D, P, R, box_ty, word, box_typed}
 use Rattle.std.proofs.BoxSteps.Steps.{box_in, box_out}
-use Rattle.std.proofs.alloc.Calls.{token, Goes-blank}
+use Rattle.std.proofs.alloc.Calls.{Goes-blank}
 use Rattle.std.proofs.raw_atomic.Walks.{proved_at}
 use Rattle.std.specs.contracts.boxed.Box.from_raw as making
 use Rattle.std.proofs.boxed.Box.from_raw.Met.{met}
