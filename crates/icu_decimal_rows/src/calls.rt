@@ -34,7 +34,9 @@ fn answer_by(name: &str, passed: &[&str], out: &mut String) -> Result<(), Stop> 
         "category" | "rules" | "operands" | "is_exactly" | "get_for_cldr_bytes" => {
             plurals::answer(name, passed, out)
         }
-        "show" | "exact_entry" | "exponent_for_magnitude" => shown::answer(name, passed, out),
+        "show" | "show_in_place" | "exact_entry" | "exponent_for_magnitude" => {
+            shown::answer(name, passed, out)
+        }
         "table" => tables::answer(passed, out),
         "to_json" | "from_json" | "category_by_copy" => copies::answer(name, passed, out),
         "preferences" => preferences::answer(passed, out),

@@ -4,8 +4,9 @@ use crate::parts::{put_by, put_parts, put_range};
 use crate::refusals::parsed;
 use fixed_decimal::{Decimal, SignDisplay, UnsignedDecimal};
 use icu_decimal::{CompactDecimalFormatter, FormattedUnsignedCompactDecimal};
-use rows::{Stop, number_of, put, put_last};
+use rows::{Bounded, Stop, number_of, put, put_last, put_text};
 use std::alloc::Global;
+use writeable::Error;
 
 // The sign that a word asks for; none where the sign is as it is written.
 fn display_of(word: &str) -> Result<Option<SignDisplay>, Stop> {
@@ -75,6 +76,36 @@ fn put_exact(
     }
 }
 
+// Writes the text that was written of a number, what the number became, and the exponent that was returned.
+fn put_taken(
+    out: &mut String,
+    text: &str,
+    number: &Decimal,
+    written: Result<u8, Error>,
+) -> Result<(), Stop> {
+    let Ok(exponent) = written else {
+        return put_text(out, "refused");
+    };
+    write!(out, "{text} {number} {exponent}")?;
+    Ok(())
+}
+
+// Writes a number in its place.
+fn put_in_place(
+    formatter: &CompactDecimalFormatter<'_>,
+    number: &mut Decimal,
+    out: &mut String,
+) -> Result<(), Stop> {
+    if !formatter.can_format(number) {
+        return put_range(out);
+    }
+    let mut sink = Bounded::new(*out.allocator(), 1_000);
+    let written = formatter.write_shown(number, &mut sink);
+    let put = put_taken(out, sink.text(), number, written);
+    drop(sink);
+    put
+}
+
 // Writes a significand and its exponent, with `c` between.
 fn put_significand(
     shown: &FormattedUnsignedCompactDecimal<'_>,
@@ -104,10 +135,11 @@ fn put_significand_of(
 fn answer_of_number(
     formatter: &CompactDecimalFormatter<'_>,
     call: &str,
-    number: &Decimal,
+    number: &mut Decimal,
     out: &mut String,
 ) -> Result<(), Stop> {
     match call {
+        "write_shown" => put_in_place(formatter, number, out),
         "format" => put_text_of(formatter, number, out),
         "format_parts" => put_parts_of(formatter, number, out),
         "significand" => put_significand_of(formatter, number, out),
@@ -173,8 +205,8 @@ pub fn answer_of_two(
             answer_of_exact(formatter, call, one, other, out)
         }
         _ => {
-            let number = signed(*out.allocator(), one, other)?;
-            let put = answer_of_number(formatter, call, &number, out);
+            let mut number = signed(*out.allocator(), one, other)?;
+            let put = answer_of_number(formatter, call, &mut number, out);
             drop(number);
             put
         }

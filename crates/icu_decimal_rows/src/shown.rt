@@ -5,6 +5,7 @@ use crate::refusals::parsed;
 use fixed_decimal::UnsignedDecimal;
 use icu_decimal_compact_value::{
     CompactEntry, Shown, can_show, exact_entry, exponent_for_magnitude, exponent_in_range, show,
+    show_in_place,
 };
 use rows::{Stop, filled, number_of, push, put, put_text};
 use std::alloc::Global;
@@ -67,10 +68,27 @@ fn shown_under(
     put
 }
 
+// What a number becomes in its place under these entries.
+fn shown_in_place(
+    entries: &[CompactEntry],
+    number: &mut UnsignedDecimal,
+    out: &mut String,
+) -> Result<(), Stop> {
+    if !can_show(number, entries) {
+        return put_range(out);
+    }
+    let under = show_in_place(number, entries);
+    write!(out, "{number} {} ", under.exponent)?;
+    put_index(out, under.entry)
+}
+
 // What the number of a text is shown as: the significand, the exponent, and the index of the entry.
-fn shown(entries: &[CompactEntry], number: &str, out: &mut String) -> Result<(), Stop> {
-    let number = parsed(UnsignedDecimal::try_from_str(*out.allocator(), number))?;
-    let put = shown_under(entries, &number, out);
+fn shown(entries: &[CompactEntry], call: &str, number: &str, out: &mut String) -> Result<(), Stop> {
+    let mut number = parsed(UnsignedDecimal::try_from_str(*out.allocator(), number))?;
+    let put = match call {
+        "show" => shown_under(entries, &number, out),
+        _ => shown_in_place(entries, &mut number, out),
+    };
     drop(number);
     put
 }
@@ -113,7 +131,9 @@ fn answer_under(
     out: &mut String,
 ) -> Result<(), Stop> {
     match passed {
-        [number] if call == "show" => shown(entries, number, out),
+        [number] if call == "show" || call == "show_in_place" => {
+            shown(entries, call, number, out)
+        }
         [magnitude] if call == "exponent_for_magnitude" => {
             put(out, &exponent_for_magnitude(number_of(magnitude)?, entries))
         }
