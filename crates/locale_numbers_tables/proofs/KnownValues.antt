@@ -1,5 +1,5 @@
--- Worked rows of `specs/TagReading.antt` and `specs/Fields.antt`: what known texts and fields say.
-use Rattle.std.proofs.Common.{◌≡◌, ◌∷◌, [], true, codes, Option, Some, None, option_map, refl}
+-- Worked rows of `specs/TagReading.antt`, `specs/Fields.antt` and `specs/Seeding.antt`: what known texts and fields say, and what keys hash to.
+use Rattle.std.proofs.Common.{◌≡◌, ◌∷◌, [], true, codes, ℕ, List, Option, Some, None, option_map, refl}
 use Rattle.serde_json.specs.Data.{number, string, unsigned, array, no_items}
 use Rattle.icu_locale_core.specs.Subtags.{Text}
 use Rattle.icu_locale_core.specs.Pieces.{pieces}
@@ -9,7 +9,10 @@ use Rattle.icu_locale_core.specs.TagStages.{with_piece, body_after}
 use Rattle.locale_numbers_tables.specs.TagReading.{tag_of, data_locale_of}
 use Rattle.locale_numbers_tables.specs.Fields.{size_in, system_in, system_or_none_in, digits_in, plain_text_in}
 use Rattle.locale_numbers_tables.specs.Entries.{has_count}
+use Rattle.locale_numbers_tables.specs.Seeding.{hash_under}
 use Rattle.std.specs.Str.{chars}
+use Rattle.std.specs.Hash as fed
+use Rattle.std.specs.Hash.FoldHasher.{initial, write, folded_multiply, mix_blocks, read_short, read_u32, read_u64}
 
 -- ---- what a tag asks for
 
@@ -115,3 +118,21 @@ tab_in_symbol = refl
 
 no_fields : has_count 0 (array no_items) ≡ true
 no_fields = refl
+
+-- ---- what a key hashes to
+
+-- the digest of `abc` that FIPS 180-4 gives as an example
+abbrev abc_digest : List ℕ
+abc_digest =
+    0xdd ∷ 0xaf ∷ 0x35 ∷ 0xa1 ∷ 0x93 ∷ 0x61 ∷ 0x7a ∷ 0xba ∷ 0xcc ∷ 0x41 ∷ 0x73 ∷ 0x49 ∷ 0xae ∷ 0x20 ∷ 0x41 ∷ 0x31
+    ∷ 0x12 ∷ 0xe6 ∷ 0xfa ∷ 0x4e ∷ 0x89 ∷ 0xa9 ∷ 0x7e ∷ 0xa2 ∷ 0x0a ∷ 0x9e ∷ 0xee ∷ 0xe6 ∷ 0x4b ∷ 0x55 ∷ 0xd3 ∷ 0x9a
+    ∷ 0x21 ∷ 0x92 ∷ 0x99 ∷ 0x2a ∷ 0x27 ∷ 0x4f ∷ 0xc1 ∷ 0xa8 ∷ 0x36 ∷ 0xba ∷ 0x3c ∷ 0x23 ∷ 0xa3 ∷ 0xfe ∷ 0xeb ∷ 0xbd
+    ∷ 0x45 ∷ 0x4d ∷ 0x44 ∷ 0x23 ∷ 0x64 ∷ 0x3c ∷ 0xe8 ∷ 0x0e ∷ 0x2a ∷ 0x9a ∷ 0xc9 ∷ 0x4f ∷ 0xa5 ∷ 0x4c ∷ 0xa4 ∷ 0x9f ∷ []
+
+latn_under_abc : hash_under abc_digest (fed.str (codes "latn")) ≡ 16506538025277134298
+unfolding initial write folded_multiply mix_blocks read_short read_u32 read_u64 fed.le_bytes
+latn_under_abc = refl
+
+thai_under_abc : hash_under abc_digest (fed.str (codes "thai")) ≡ 661353821065822550
+unfolding initial write folded_multiply mix_blocks read_short read_u32 read_u64 fed.le_bytes
+thai_under_abc = refl

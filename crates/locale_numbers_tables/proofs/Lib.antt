@@ -7,4 +7,5 @@ pub mod AddLemmas
 pub mod RulesLemmas
 pub mod CompactLemmas
 pub mod CompactFaults
+pub mod SeedLemmas
 pub mod KnownValues

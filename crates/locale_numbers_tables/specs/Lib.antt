@@ -10,3 +10,4 @@ pub mod Faults
 pub mod CompactSteps
 pub mod Allocation
 pub mod Adding
+pub mod Seeding

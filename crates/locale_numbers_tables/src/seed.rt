@@ -3,9 +3,12 @@
 //! With a hash that is known, keys can be chosen that all have one: they would make the loading of a book quadratic. Here they would
 //! have to be chosen for the digest of the text that they stand in.
 
+ghost use Rattle.std.specs.Prelude.{◌≡◌};
 ghost use Rattle.std.specs.Hash as fed;
+ghost use Rattle.std.specs.Hash.{HashWrites};
 ghost use Rattle.std.specs.Hash.FoldHasher as folding;
 ghost use Rattle.std.specs.List.{fold};
+ghost use Rattle.locale_numbers_tables.specs.Seeding.{first_hasher, last_number, key_hash};
 
 use sha2::{Digest, Sha512};
 use std::hash::{BuildHasher, FoldHasher, Hasher};
@@ -39,16 +42,21 @@ pub struct Seed {
     first: SeededHasher,
 }
 
-/// A number of eight bytes of a digest.
-fn hasher_of(bytes: &[u8]) -> FoldHasher {
+/// A hasher that was fed these bytes of a digest.
+fn hasher_of(bytes: &[u8]) -> FoldHasher
+    ensures { result ≡ folding.write folding.initial bytes.now }
+{
     let mut hasher = FoldHasher::default();
     hasher.write(bytes);
     hasher
 }
 
 impl Seed {
-    // The seed of a digest: each half is one number.
-    fn of_digest(digest: &[u8]) -> Self {
+    // The seed of a digest: a hasher of the first half, and the number of the second.
+    fn of_digest(digest: &[u8]) -> Self
+        ensures first { result.first.state ≡ first_hasher digest.now }
+        ensures last { result.first.last ≡ last_number digest.now }
+    {
         let middle = digest.len() / 2;
         Seed {
             first: SeededHasher {
@@ -58,8 +66,11 @@ impl Seed {
         }
     }
 
-    /// The seed of a text: the halves of its SHA-512 digest, each as one number. It does not allocate.
-    pub fn of_text(text: &[u8]) -> Self {
+    /// The seed of a text: the halves of its SHA-512 digest, each as one number. The hash of a key begins with the first and ends
+    /// with the second. It does not allocate.
+    pub fn of_text(text: &[u8]) -> Self
+        ensures value { (writes : HashWrites) → ⟦<SeededHasher as Hasher>⟧.finish (fold ⟦<SeededHasher as Hasher>⟧.write (⟦<Seed as BuildHasher>⟧.build_hasher result) writes) ≡ key_hash text.now writes }
+    {
         Seed::of_digest(&Sha512::digest(text)[..])
     }
 }
