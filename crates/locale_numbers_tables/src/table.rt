@@ -1,6 +1,6 @@
 //! A table that has no key twice.
 ghost use Rattle.std.specs.Prelude.{◌≡◌, ◌⊎◌, ◌++◌, [], ◌∷◌, None, IsSome, OnOk, IsErrOf, IfErr};
-ghost use Rattle.indexmap.specs.IndexMap.{get};
+ghost use Rattle.indexmap.specs.IndexMap.{get, hasher_of};
 ghost use Rattle.locale_numbers_tables.specs.declared.error.BookError.{BookError};
 
 use crate::BookError;
@@ -32,6 +32,7 @@ pub fn add<K: Eq + Hash + Drop, V: Drop>(
 
     // A key that stands already is never reported as out of memory.
     ensures twice { IsSome (get K.eq table.old key) → IsErrOf result BookError.Duplicate }
+    ensures seeded { hasher_of table.new ≡ hasher_of table.old }
     ensures only { IfErr result (λ fault. (fault ≡ BookError.Duplicate) ⊎ (fault ≡ BookError.Memory)) }
 {
     if table.contains_key(&key) {

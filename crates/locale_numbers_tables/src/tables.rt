@@ -1,5 +1,6 @@
 //! The arrays of a book as tables.
 ghost use Rattle.std.specs.Prelude.{◌≡◌, true, IfOk, IsErrOf, IfErr, OnOk, Some, None, [], map};
+ghost use Rattle.indexmap.specs.IndexMap.{hasher_of};
 ghost use Rattle.serde_json.specs.Data.{item, no_items};
 ghost use Rattle.serde_json.specs.View.{items_view, view};
 ghost use Rattle.locale_numbers_tables.specs.Adding.{Adds};
@@ -24,6 +25,7 @@ fn add_entry<V: Entry>(
 ) -> Result<(), BookError>
     ensures added { OnOk result (Adds V.Key.eq V.meaning V.key_in V.fault_in (view entry) table.old.entries table.new.entries) }
     ensures fault { IfErr result (λ fault. IsTold (first_fault_behind V.Key.eq V.key_in V.fault_in (map (λ pair. pair.0) table.old.entries) (item (view entry) no_items)) fault) }
+    ensures seeded { OnOk result (hasher_of table.new ≡ hasher_of table.old) }
     ensures grows { OnOk result (V.may_grow (view entry) ≡ true) }
     ensures room { IsErrOf result BookError.Memory → V.may_grow (view entry) ≡ true }
 {
@@ -46,6 +48,7 @@ fn fill<V: Entry>(
 ) -> Result<(), BookError>
     requires { table.old.entries ≡ [] }
     ensures value { OnOk result (table_in V.Key.eq V.meaning (items_view entries.items) ≡ Some table.new.entries) }
+    ensures seeded { OnOk result (hasher_of table.new ≡ hasher_of table.old) }
     ensures sound { OnOk result (first_fault_behind V.Key.eq V.key_in V.fault_in [] (items_view entries.items) ≡ None) }
     ensures fault { IfErr result (λ fault. IsTold (first_fault_behind V.Key.eq V.key_in V.fault_in [] (items_view entries.items)) fault) }
     ensures room { IsErrOf result BookError.Memory → begins_with V.may_grow (items_view entries.items) ≡ true }
@@ -66,6 +69,7 @@ pub fn table_of<V: Entry>(
     entries: Vec<Value>,
 ) -> Result<Table<V::Key, V>, BookError>
     ensures value { IfOk result (λ table. table_in V.Key.eq V.meaning (items_view entries.items) ≡ Some table.map.entries) }
+    ensures seeded { IfOk result (λ table. hasher_of table.map ≡ seed) }
     ensures sound { OnOk result (first_fault_behind V.Key.eq V.key_in V.fault_in [] (items_view entries.items) ≡ None) }
     ensures fault { IfErr result (λ fault. IsTold (first_fault_behind V.Key.eq V.key_in V.fault_in [] (items_view entries.items)) fault) }
 

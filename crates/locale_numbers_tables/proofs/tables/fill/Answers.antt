@@ -20,5 +20,6 @@ loop-entry-preserved g c =
       all = one_more_said g.V.Key.PartialEq.eq g.V.Entry.meaning g.V.Entry.key_in g.V.Entry.fault_in _ entry rest _ _ adds read;
       once = still_once g.V.Key.PartialEq.eq g.V.Entry.meaning g.V.Entry.key_in g.V.Entry.fault_in entry _ _ g.met.V.Key.Eq.laws.symm adds c.loop-entry.invariant.once;
       left = sym passes ∙ sym (ap (faults_behind g.V.Key.PartialEq.eq g.V.Entry.key_in g.V.Entry.fault_in before) step) ∙ c.loop-entry.invariant.left;
+      seeded = c.in-Ok.ensures.seeded ∙ c.loop-entry.invariant.seeded;
       first = λ h. c.loop-entry.invariant.first (ap (begins_with g.V.Entry.may_grow) step ∙ c.in-Ok.ensures.grows);
     }
