@@ -1,117 +1,129 @@
-//! Rows of data locales.
+//! Rows of data locales, and of subdivisions.
 
-use crate::answers::{debug, made, printed, shown_or_hyphen, two_texts};
 use crate::call::Call;
-use crate::part::{TagPart, copied, part};
-use crate::single::one_variant;
-use crate::unanswered::{Answer, Unanswered};
-use crate::whole_tag::language_and_region;
-use icu_locale_core::extensions::unicode::SubdivisionId;
+use crate::identifiers::triple;
+use crate::part::{self, Part, put_copy};
+use crate::refusals::{read, read_some};
+use crate::single::put_parts;
+use crate::writing::{put_next, put_optional};
+use icu_locale_core::extensions::unicode::{SubdivisionId, SubdivisionSuffix};
 use icu_locale_core::laws::preferences::same_data_locales;
-use icu_locale_core::{DataLocale, LanguageIdentifier, Locale, ParseError};
-use std::alloc::Global;
-use std::cmp::Ordering;
+use icu_locale_core::subtags::Region;
+use icu_locale_core::{DataLocale, LanguageIdentifier, Locale};
+use rows::{Stop, put, put_debug, put_last_written, put_text, put_written};
 
-/// The answer to a call of data locales.
-pub fn data_locale(alloc: Global, call: Call<'_>) -> Answer {
+/// The answer of a call of data locales.
+pub fn data_locale(call: Call<'_>, out: &mut String) -> Result<(), Stop> {
     match call.name {
-        "default" => printed(alloc, &DataLocale::default()),
-        "From<&Locale>" => of_lent_locale(alloc, Locale::try_from_str(alloc, call.first)?),
-        "From<Locale>" => of_locale(alloc, Locale::try_from_str(alloc, call.first)?),
-        "From<&LanguageIdentifier>" => {
-            of_lent_identifier(alloc, LanguageIdentifier::try_from_str(alloc, call.first)?)
-        }
-        "From<LanguageIdentifier>" => {
-            of_identifier(alloc, LanguageIdentifier::try_from_str(alloc, call.first)?)
-        }
-        "From<(Language, Option<Script>, Option<Region>)>" => {
-            let triple = language_and_region(call.first, call.second)?;
-            printed(alloc, &DataLocale::from(triple))
-        }
-        "with_subdivision" => with_subdivision(alloc, SubdivisionId::try_from_str(call.first)?),
-        _ => part::<DataLocale>(alloc, call),
+        "with_subdivision" => with_subdivision(call, out),
+        _ => part::answer::<DataLocale>(call, out),
     }
 }
 
-fn of_lent_locale(alloc: Global, locale: Locale) -> Answer {
+// Writes the text of the data locale that has this subdivision alone, and of its locale, and whether that one's data locale is unknown.
+fn with_subdivision(call: Call<'_>, out: &mut String) -> Result<(), Stop> {
+    let mut data_locale = DataLocale::default();
+    data_locale.subdivision = Some(read(SubdivisionId::try_from_str(call.first), out)?);
+    put_written(out, &data_locale)?;
+    let locale = data_locale.into_locale(call.alloc)?;
+    let is_unknown = DataLocale::from(&locale).is_unknown();
+    put_text(out, " ")?;
+    put_last_written(out, locale)?;
+    write!(out, " {is_unknown}")?;
+    Ok(())
+}
+
+impl Part for DataLocale {
+    fn make(call: Call<'_>, out: &mut String) -> Result<Option<Self>, Stop> {
+        match call.name {
+            "try_from_str" => read_some(Self::try_from_str(call.alloc, call.first), out),
+            "try_from_utf8" => read_some(Self::try_from_utf8(call.alloc, call.bytes), out),
+            "default" => Ok(Some(Self::default())),
+            "From<Locale>" => {
+                let locale = read(Locale::try_from_str(call.alloc, call.first), out)?;
+                Ok(Some(Self::from(locale)))
+            }
+            "From<&Locale>" => {
+                let locale = read(Locale::try_from_str(call.alloc, call.first), out)?;
+                Ok(Some(of_lent_locale(locale)))
+            }
+            "From<LanguageIdentifier>" => {
+                let id = read(LanguageIdentifier::try_from_str(call.alloc, call.first), out)?;
+                Ok(Some(Self::from(id)))
+            }
+            "From<&LanguageIdentifier>" => {
+                let id = read(LanguageIdentifier::try_from_str(call.alloc, call.first), out)?;
+                Ok(Some(of_lent_identifier(id)))
+            }
+            "From<(Language, Option<Script>, Option<Region>)>" => {
+                Ok(Some(Self::from(triple(call, out)?)))
+            }
+            _ => Ok(None),
+        }
+    }
+
+    fn answer(&mut self, call: Call<'_>, out: &mut String) -> Result<(), Stop> {
+        match call.name {
+            "try_clone" => put_copy(self, Ok(*self), out),
+            "strict_cmp" => put_debug(out, &self.strict_cmp(call.bytes)),
+            "into_locale" => put_last_written(out, self.into_locale(call.alloc)?),
+            "is_unknown" => put(out, &self.is_unknown()),
+            "truncated" => put_optional(out, self.truncated().as_ref()),
+            "{:?}" => put_debug(out, self),
+            "parts" => {
+                put_parts((self.language, self.script, self.region, self.variant), out)?;
+                put_next(out, self.subdivision.as_ref())
+            }
+            "same_data_locales" => {
+                let other = read(Self::try_from_str(call.alloc, call.second), out)?;
+                put(out, &same_data_locales(self, &other))
+            }
+            _ => Err(Stop::Unknown),
+        }
+    }
+
+    fn put_order(&self, other: &Self, _name: &str, out: &mut String) -> Result<(), Stop> {
+        put_debug(out, &self.total_cmp(other))
+    }
+}
+
+fn of_lent_locale(locale: Locale) -> DataLocale {
     let data_locale = DataLocale::from(&locale);
     drop(locale);
-    printed(alloc, &data_locale)
+    data_locale
 }
 
-fn of_locale(alloc: Global, locale: Locale) -> Answer {
-    printed(alloc, &DataLocale::from(locale))
-}
-
-fn of_lent_identifier(alloc: Global, id: LanguageIdentifier) -> Answer {
+fn of_lent_identifier(id: LanguageIdentifier) -> DataLocale {
     let data_locale = DataLocale::from(&id);
     drop(id);
-    printed(alloc, &data_locale)
+    data_locale
 }
 
-fn of_identifier(alloc: Global, id: LanguageIdentifier) -> Answer {
-    printed(alloc, &DataLocale::from(id))
-}
-
-// The text of the data locale that has this subdivision alone, and of its locale, and whether that one's data locale is unknown.
-fn with_subdivision(alloc: Global, subdivision: SubdivisionId) -> Answer {
-    let mut data_locale = DataLocale::default();
-    data_locale.subdivision = Some(subdivision);
-    let locale = data_locale.into_locale(alloc)?;
-    let text = held(alloc, &locale);
-    drop(locale);
-    two_texts(printed(alloc, &data_locale), text)
-}
-
-fn held(alloc: Global, locale: &Locale) -> Answer {
-    two_texts(
-        printed(alloc, locale),
-        debug(alloc, DataLocale::from(locale).is_unknown()),
-    )
-}
-
-impl TagPart for DataLocale {
-    fn of_text(alloc: Global, text: &str) -> Result<Self, ParseError> {
-        Self::try_from_str(alloc, text)
+impl Part for SubdivisionId {
+    fn make(call: Call<'_>, out: &mut String) -> Result<Option<Self>, Stop> {
+        match call.name {
+            "try_from_str" => read_some(Self::try_from_str(call.first), out),
+            "try_from_utf8" => read_some(Self::try_from_utf8(call.bytes), out),
+            "new" => {
+                let region = read(Region::try_from_str(call.first), out)?;
+                let suffix = read(SubdivisionSuffix::try_from_str(call.second), out)?;
+                Ok(Some(Self::new(region, suffix)))
+            }
+            _ => Ok(None),
+        }
     }
 
-    fn of_bytes(alloc: Global, bytes: &[u8]) -> Result<Self, ParseError> {
-        Self::try_from_utf8(alloc, bytes)
+    fn answer(&mut self, call: Call<'_>, out: &mut String) -> Result<(), Stop> {
+        match call.name {
+            "try_clone" => put_copy(self, Ok(*self), out),
+            "region" => put_written(out, &self.region),
+            "suffix" => put_written(out, &self.suffix),
+            "into_subtag" => put_written(out, &self.into_subtag()),
+            _ => Err(Stop::Unknown),
+        }
     }
 
-    fn order(&self, other: &Self) -> Ordering {
-        self.total_cmp(other)
+    fn put_order(&self, other: &Self, _name: &str, out: &mut String) -> Result<(), Stop> {
+        put_debug(out, &self.cmp(other))
     }
-
-    fn answer(&mut self, alloc: Global, call: Call<'_>) -> Answer {
-        of_data_locale(alloc, call, *self)
-    }
-}
-
-fn of_data_locale(alloc: Global, call: Call<'_>, data_locale: DataLocale) -> Answer {
-    match call.name {
-        "try_clone" => copied(alloc, &data_locale, Ok(data_locale)),
-        "strict_cmp" => debug(alloc, data_locale.strict_cmp(call.second.as_bytes())),
-        "into_locale" => made(alloc, data_locale.into_locale(alloc)),
-        "is_unknown" => debug(alloc, data_locale.is_unknown()),
-        "truncated" => shown_or_hyphen(alloc, data_locale.truncated().as_ref()),
-        "{:?}" => debug(alloc, data_locale),
-        "parts" => parts_of(alloc, data_locale),
-        "same_data_locales" => is_same(alloc, &data_locale, call.second),
-        _ => Err(Unanswered::NotUnderstood),
-    }
-}
-
-fn is_same(alloc: Global, one: &DataLocale, other: &str) -> Answer {
-    let other = DataLocale::try_from_str(alloc, other)?;
-    debug(alloc, same_data_locales(one, &other))
-}
-
-// The texts of the parts, with `-` for each that is missing.
-fn parts_of(alloc: Global, parts: DataLocale) -> Answer {
-    let front = (parts.language, parts.script, parts.region, parts.variant);
-    two_texts(
-        one_variant(alloc, Ok(front)),
-        shown_or_hyphen(alloc, parts.subdivision.as_ref()),
-    )
 }

@@ -1,197 +1,160 @@
 //! Rows of keywords and fields.
 
-use crate::answers::{
-    change, debug, filled, last_printed, made, printed, shown_or_hyphen, text, written_text,
-};
 use crate::call::Call;
-use crate::part::{TagPart, copied, part};
+use crate::part::{Part, put_copy};
+use crate::refusals::{read, read_some};
 use crate::steps::headed;
-use crate::unanswered::{Answer, Unanswered};
-use icu_locale_core::ParseError;
+use crate::writing::{put_last_optional, put_next, put_optional, put_taken};
 use icu_locale_core::extensions::transform::Fields;
 use icu_locale_core::extensions::unicode::Keywords;
 use icu_locale_core::subtags::{Subtag, SubtagOf};
 use icu_locale_core_keywords_fields::{EntriesOf, EntryKind, ValueOf};
 use icu_locale_core_subtags::{transform, unicode};
-use std::alloc::Global;
-use std::cmp::Ordering;
+use rows::{Stop, filled, push, put, put_debug, put_last_written, put_text, put_written};
 use writeable::TextSink;
 
-/// The answer to a call of keywords.
-pub fn keywords(alloc: Global, call: Call<'_>) -> Answer {
-    match call.name {
-        "retain_by_key" => kept_keywords(alloc, call),
-        _ => entries::<unicode::KeyRule>(alloc, call),
+/// A kind of entries, with the call that only the map of each kind has.
+pub trait Kind: EntryKind + Sized {
+    /// Keeps the entry of this key alone, by `retain_by_key`.
+    fn keep(map: &mut EntriesOf<Self>, key: &str);
+}
+
+impl Kind for unicode::KeyRule {
+    fn keep(map: &mut Keywords, key: &str) {
+        map.retain_by_key(|own| own.as_str() == key);
     }
 }
 
-// The keywords of which the closure keeps this key alone.
-fn kept_keywords(alloc: Global, call: Call<'_>) -> Answer {
-    let mut map = Keywords::try_from_str(alloc, call.first)?;
-    let key = call.second;
-    map.retain_by_key(|own| own.as_str() == key);
-    last_printed(alloc, map)
-}
-
-/// The answer to a call of fields.
-pub fn fields(alloc: Global, call: Call<'_>) -> Answer {
-    match call.name {
-        "retain_by_key" => kept_fields(alloc, call),
-        _ => entries::<transform::KeyRule>(alloc, call),
+impl Kind for transform::KeyRule {
+    fn keep(map: &mut Fields, key: &str) {
+        map.retain_by_key(|own| own.as_str() == key);
     }
 }
 
-// The fields of which the closure keeps this key alone.
-fn kept_fields(alloc: Global, call: Call<'_>) -> Answer {
-    let mut map = Fields::try_from_str(alloc, call.first)?;
-    let key = call.second;
-    map.retain_by_key(|own| own.as_str() == key);
-    last_printed(alloc, map)
-}
-
-// The answer to a call of keywords, or of fields.
-fn entries<K: EntryKind>(alloc: Global, call: Call<'_>) -> Answer {
-    match call.name {
-        "new" => last_printed(alloc, EntriesOf::<K>::new(alloc)),
-        "new_single" => one_entry::<K>(alloc, call),
-        "try_from_iter" => collected::<K>(alloc, call.first),
-        "headed_after" => headed::<K>(alloc, call.first),
-        _ => part::<EntriesOf<K>>(alloc, call),
-    }
-}
-
-fn one_entry<K: EntryKind>(alloc: Global, call: Call<'_>) -> Answer {
-    let key = SubtagOf::try_from_str(call.first)?;
-    let value = ValueOf::try_from_str(alloc, call.second)?;
-    made(alloc, EntriesOf::<K>::new_single(alloc, key, value))
-}
-
-// The entries between spaces, each a key, a hyphen and its value.
-fn entries_of<K: EntryKind>(
-    alloc: Global,
-    texts: &str,
-) -> Result<Vec<(SubtagOf<K, 2>, ValueOf<K>)>, Unanswered> {
-    let mut entries = Vec::new(alloc);
-    let pushed = push_entries(alloc, &mut entries, texts);
-    filled(entries, pushed)
-}
-
-fn push_entries<K: EntryKind>(
-    alloc: Global,
-    entries: &mut Vec<(SubtagOf<K, 2>, ValueOf<K>)>,
-    texts: &str,
-) -> Result<(), Unanswered> {
-    for text in texts.split_whitespace() {
-        entries.push(entry_of(alloc, text)?)?;
-    }
-    Ok(())
-}
-
-fn entry_of<K: EntryKind>(
-    alloc: Global,
-    text: &str,
-) -> Result<(SubtagOf<K, 2>, ValueOf<K>), ParseError> {
-    let (key, value) = text.split_once('-').unwrap_or((text, ""));
-    let key = SubtagOf::try_from_str(key)?;
-    Ok((key, ValueOf::try_from_str(alloc, value)?))
-}
-
-fn collected<K: EntryKind>(alloc: Global, texts: &str) -> Answer {
-    let entries = entries_of::<K>(alloc, texts)?;
-    made(alloc, EntriesOf::<K>::try_from_iter(alloc, entries))
-}
-
-impl<K: EntryKind> TagPart for EntriesOf<K> {
-    fn of_text(alloc: Global, text: &str) -> Result<Self, ParseError> {
-        Self::try_from_str(alloc, text)
-    }
-
-    fn of_bytes(alloc: Global, bytes: &[u8]) -> Result<Self, ParseError> {
-        Self::try_from_utf8(alloc, bytes)
-    }
-
-    fn order(&self, other: &Self) -> Ordering {
-        self.cmp(other)
-    }
-
-    fn answer(&mut self, alloc: Global, call: Call<'_>) -> Answer {
+impl<K: Kind> Part for EntriesOf<K> {
+    fn make(call: Call<'_>, out: &mut String) -> Result<Option<Self>, Stop> {
         match call.name {
-            "try_clone" => copied(alloc, self, self.try_clone()),
-            "is_empty" => debug(alloc, self.is_empty()),
-            "is_well_formed" => debug(alloc, self.is_well_formed()),
-            "hyphened_length" => debug(alloc, self.hyphened_length()),
-            "iter" => debug(alloc, self.iter().count()),
-            "write_hyphened" => hyphened(alloc, self),
-            "partial_cmp" => partial_order(alloc, self, call.second),
-            "extend_from_keywords" => extended(alloc, self, call.second),
-            _ => at_key(alloc, call, self),
+            "try_from_str" => read_some(Self::try_from_str(call.alloc, call.first), out),
+            "try_from_utf8" => read_some(Self::try_from_utf8(call.alloc, call.bytes), out),
+            "new" => Ok(Some(Self::new(call.alloc))),
+            "new_single" => {
+                let (key, value) = entry(call, call.first, call.second, out)?;
+                Ok(Some(Self::new_single(call.alloc, key, value)?))
+            }
+            "try_from_iter" => Ok(Some(collected(call, out)?)),
+            "headed_after" => Ok(Some(headed(call, out)?)),
+            _ => Ok(None),
+        }
+    }
+
+    fn answer(&mut self, call: Call<'_>, out: &mut String) -> Result<(), Stop> {
+        match call.name {
+            "try_clone" => put_copy(self, self.try_clone(), out),
+            "is_empty" => put(out, &self.is_empty()),
+            "is_well_formed" => put(out, &self.is_well_formed()),
+            "hyphened_length" => put_debug(out, &self.hyphened_length()),
+            "iter" => put(out, &self.iter().count()),
+            "write_hyphened" => put_hyphened(out, self),
+            "extend_from_keywords" => {
+                let others = read(Self::try_from_str(call.alloc, call.second), out)?;
+                self.extend_from_keywords(others)?;
+                put_written(out, self)
+            }
+            "retain_by_key" => {
+                K::keep(self, call.second);
+                put_written(out, self)
+            }
+            "clear" => {
+                drop(self.clear());
+                put_written(out, self)
+            }
+            "clear_answers" => put_last_written(out, self.clear()),
+            _ => at_key(self, call, out),
+        }
+    }
+
+    fn put_order(&self, other: &Self, name: &str, out: &mut String) -> Result<(), Stop> {
+        if name == "cmp" {
+            put_debug(out, &self.cmp(other))
+        } else {
+            put_debug(out, &self.partial_cmp(other))
         }
     }
 }
 
-// The text of the entries with a hyphen before it.
-fn hyphened<K: EntryKind>(alloc: Global, map: &EntriesOf<K>) -> Answer {
-    let mut sink = TextSink::new(alloc);
-    let written = map.write_hyphened(&mut sink).is_ok();
-    written_text(alloc, written, sink)
+// A key and its value.
+fn entry<K: EntryKind>(
+    call: Call<'_>,
+    key: &str,
+    value: &str,
+    out: &mut String,
+) -> Result<(SubtagOf<K, 2>, ValueOf<K>), Stop> {
+    let key = read(SubtagOf::try_from_str(key), out)?;
+    Ok((key, read(ValueOf::try_from_str(call.alloc, value), out)?))
 }
 
-fn partial_order<K: EntryKind>(alloc: Global, one: &EntriesOf<K>, other: &str) -> Answer {
-    let other = EntriesOf::try_from_str(alloc, other)?;
-    let order = one.partial_cmp(&other);
-    drop(other);
-    debug(alloc, order)
+// Puts the entries between spaces to the others, each a key, a hyphen and its value.
+fn push_entries<K: EntryKind>(
+    entries: &mut Vec<(SubtagOf<K, 2>, ValueOf<K>)>,
+    call: Call<'_>,
+    out: &mut String,
+) -> Result<(), Stop> {
+    for text in call.first.split(' ') {
+        let (key, value) = text.split_once('-').unwrap_or((text, ""));
+        push(entries, entry(call, key, value, out)?)?;
+    }
+    Ok(())
 }
 
-fn extended<K: EntryKind>(alloc: Global, map: &mut EntriesOf<K>, others: &str) -> Answer {
-    map.extend_from_keywords(EntriesOf::try_from_str(alloc, others)?)?;
-    printed(alloc, map)
+fn collected<K: EntryKind>(call: Call<'_>, out: &mut String) -> Result<EntriesOf<K>, Stop> {
+    let mut entries = Vec::new(call.alloc);
+    let pushed = push_entries(&mut entries, call, out);
+    let entries = filled(entries, pushed)?;
+    Ok(EntriesOf::try_from_iter(call.alloc, entries)?)
 }
 
-// The answer to a call of entries and a key.
-fn at_key<K: EntryKind>(alloc: Global, call: Call<'_>, map: &mut EntriesOf<K>) -> Answer {
+// Writes the text of the entries with a hyphen before it.
+fn put_hyphened<K: EntryKind>(out: &mut String, map: &EntriesOf<K>) -> Result<(), Stop> {
+    let mut sink = TextSink::new(*out.allocator());
+    let is_written = map.write_hyphened(&mut sink).is_ok();
+    put_taken(out, is_written, sink)
+}
+
+// The answer of a call of entries and a key.
+fn at_key<K: EntryKind>(
+    map: &mut EntriesOf<K>,
+    call: Call<'_>,
+    out: &mut String,
+) -> Result<(), Stop> {
+    let key = read(SubtagOf::<K, 2>::try_from_str(call.second), out)?;
     match call.name {
-        "get" => shown_or_hyphen(alloc, map.get(&SubtagOf::try_from_str(call.second)?)),
-        "contains_key" => debug(
-            alloc,
-            map.contains_key(&SubtagOf::try_from_str(call.second)?),
-        ),
-        "set" => with_entry(alloc, call, map),
-        "get_mut" => pushed_at(alloc, call, map),
-        "remove" => without_key(alloc, map, SubtagOf::try_from_str(call.second)?),
-        "clear" => cleared(alloc, map),
-        "clear_answers" => last_printed(alloc, map.clear()),
-        _ => Err(Unanswered::NotUnderstood),
+        "get" => put_optional(out, map.get(&key)),
+        "contains_key" => put(out, &map.contains_key(&key)),
+        "get_mut" => put_pushed(map, &key, call, out),
+        "remove" => {
+            put_last_optional(out, map.remove(&key))?;
+            put_next(out, Some(map))
+        }
+        "set" => {
+            let value = read(ValueOf::try_from_str(call.alloc, call.third), out)?;
+            put_last_optional(out, map.set(key, value)?)?;
+            put_next(out, Some(map))
+        }
+        _ => Err(Stop::Unknown),
     }
 }
 
-fn cleared<K: EntryKind>(alloc: Global, map: &mut EntriesOf<K>) -> Answer {
-    let old = map.clear();
-    drop(old);
-    printed(alloc, map)
-}
-
-// The value that stood at the key, and the entries with another one there.
-fn with_entry<K: EntryKind>(alloc: Global, call: Call<'_>, map: &mut EntriesOf<K>) -> Answer {
-    let key = SubtagOf::try_from_str(call.second)?;
-    let value = ValueOf::try_from_str(alloc, call.third)?;
-    let old = map.set(key, value)?;
-    change(alloc, old, map)
-}
-
-// The entries with one more subtag in the value at the key; `-` where there is none.
-fn pushed_at<K: EntryKind>(alloc: Global, call: Call<'_>, map: &mut EntriesOf<K>) -> Answer {
-    let key = SubtagOf::try_from_str(call.second)?;
-    let subtag = Subtag::try_from_str(call.third)?;
-    match map.get_mut(&key) {
+// Writes the entries with one more subtag in the value at the key; `-` where there is none.
+fn put_pushed<K: EntryKind>(
+    map: &mut EntriesOf<K>,
+    key: &SubtagOf<K, 2>,
+    call: Call<'_>,
+    out: &mut String,
+) -> Result<(), Stop> {
+    let subtag = read(Subtag::try_from_str(call.third), out)?;
+    match map.get_mut(key) {
         Some(value) => value.push_subtag(subtag)?,
-        None => return text(alloc, "-"),
+        None => return put_text(out, "-"),
     }
-    printed(alloc, map)
-}
-
-// The value that stood at the key, and the entries without it.
-fn without_key<K: EntryKind>(alloc: Global, map: &mut EntriesOf<K>, key: SubtagOf<K, 2>) -> Answer {
-    let old = map.remove(&key);
-    change(alloc, old, map)
+    put_written(out, map)
 }

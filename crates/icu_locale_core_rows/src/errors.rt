@@ -1,40 +1,44 @@
 //! Rows of the words and numbers of errors.
 
-use crate::answers::debug;
 use crate::call::Call;
-use crate::unanswered::{Answer, Unanswered};
 use icu_locale_core::ParseError;
 use icu_locale_core::preferences::extensions::unicode::errors::PreferencesParseError;
-use std::alloc::Global;
+use rows::{Stop, put};
+use std::fmt::Display;
 
-// The error of this name.
-fn error_of(name: &str) -> Result<ParseError, Unanswered> {
-    match name {
+// The error of a text that is no tag, by its case.
+fn parse_error(case: &str) -> Result<ParseError, Stop> {
+    match case {
         "InvalidLanguage" => Ok(ParseError::InvalidLanguage),
         "InvalidSubtag" => Ok(ParseError::InvalidSubtag),
         "InvalidExtension" => Ok(ParseError::InvalidExtension),
         "DuplicatedExtension" => Ok(ParseError::DuplicatedExtension),
         "Memory" => Ok(ParseError::Memory),
-        _ => Err(Unanswered::NotUnderstood),
+        _ => Err(Stop::Unknown),
     }
 }
 
-/// The answer to a call of the error of a text that is no tag.
-pub fn parse_error(alloc: Global, call: Call<'_>) -> Answer {
-    let error = error_of(call.first)?;
-    match call.name {
-        "to_string" => Ok(error.to_string(alloc)?),
-        "number" => debug(alloc, error.number()),
-        _ => Err(Unanswered::NotUnderstood),
+// Writes the words or the number of an error.
+fn put_error<E: Display>(
+    out: &mut String,
+    name: &str,
+    error: &E,
+    number: u8,
+) -> Result<(), Stop> {
+    match name {
+        "to_string" => put(out, error),
+        "number" => put(out, &number),
+        _ => Err(Stop::Unknown),
     }
 }
 
-/// The answer to a call of the error of a value that states no preference, which has one case.
-pub fn preferences_parse_error(alloc: Global, call: Call<'_>) -> Answer {
-    let error = PreferencesParseError::InvalidKeywordValue;
-    match call.name {
-        "to_string" => Ok(error.to_string(alloc)?),
-        "number" => debug(alloc, error.number()),
-        _ => Err(Unanswered::NotUnderstood),
+/// The answer of a call of an error by its type and its case; `PreferencesParseError` has one case.
+pub fn answer(call: Call<'_>, out: &mut String) -> Result<(), Stop> {
+    if call.kind == "ParseError" {
+        let error = parse_error(call.first)?;
+        put_error(out, call.name, &error, error.number())
+    } else {
+        let error = PreferencesParseError::InvalidKeywordValue;
+        put_error(out, call.name, &error, error.number())
     }
 }

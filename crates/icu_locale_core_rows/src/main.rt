@@ -1,51 +1,37 @@
-//! Answers rows of calls of `icu_locale_core`, one a line, and repeats each with its answer.
-//!
-//! A row is a type, a call and its arguments, with tabs between. The row `Locale`, `try_from_str`, `EN-us` is answered by
-//! `en-US`, and behind `en-` by `InvalidSubtag`. A row that is not understood is answered by `?`.
+//! Answers rows of calls of `icu_locale_core`: each line of standard input is a row, and is written on standard output with a tab and
+//! its answer behind it. The README lists the calls.
+
 #![tactic(auto)]
 
-mod answers;
-mod bytes;
 mod call;
+mod calls;
 mod data_locales;
 mod entries;
 mod errors;
 mod extensions;
-mod language_identifiers;
+mod identifiers;
+mod keywords;
 mod locales;
 mod part;
+mod pieces;
 mod preferences;
-mod rows;
+mod private_pieces;
+mod refusals;
 mod sets;
 mod single;
 mod steps;
 mod subtags;
-mod typed_keywords;
-mod unanswered;
 mod values;
-mod whole_tag;
+mod writing;
 
-use rows::answer;
-use std::io::{self, BufRead, BufReader};
+use calls::Calls;
+use rows::print_answers;
+use std::io;
 
 fn main(rt: HostRuntime) -> io::Result<()> {
     let alloc = rt.alloc();
-    for line in BufReader::new(alloc, rt.reader())?.lines(alloc) {
-        repeated(&rt, line?)?;
-    }
-    Ok(())
-}
-
-// Repeats a row with its answer.
-fn repeated(rt: &HostRuntime, row: String) -> io::Result<()> {
-    let printed = with_answer(rt, row.as_str());
-    drop(row);
-    printed
-}
-
-fn with_answer(rt: &HostRuntime, row: &str) -> io::Result<()> {
-    let text = answer(rt.alloc(), row)?;
-    let printed = println!(rt; "{row}\t{text}");
-    drop(text);
+    let input = io::read_to_string(alloc, rt.stdin())?;
+    let printed = print_answers(&rt, alloc, input.as_str(), &Calls { alloc });
+    drop(input);
     printed
 }

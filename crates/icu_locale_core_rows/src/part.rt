@@ -1,90 +1,83 @@
-//! Rows that every part of a tag has: read from a text, printed, copied and compared.
+//! Rows that every part of a tag has: made, printed, copied and compared.
 
-use crate::answers::{debug, printed, shown, text, two_texts};
-use crate::bytes::{json_of, unescaped};
 use crate::call::Call;
-use crate::unanswered::Answer;
-use icu_locale_core::ParseError;
-use serde_json::Value;
-use std::alloc::{AllocError, Global};
-use std::cmp::Ordering;
+use rows::{Stop, put, put_debug, put_last_written, put_text, put_written};
+use std::alloc::AllocError;
 use std::collections::hash_map::DefaultHasher;
 use std::fmt::Display;
 use std::hash::{Hash, Hasher};
 use writeable::{LengthHint, Writeable};
 
-/// A tag or a part of one, which is read from a text, printed, copied and compared.
-pub trait TagPart: Sized + Writeable + Display + PartialEq + Hash + Drop {
-    /// The value of a text, by `try_from_str`.
-    fn of_text(alloc: Global, text: &str) -> Result<Self, ParseError>;
+/// A tag or a part of one.
+pub trait Part: Display + Drop + Hash + PartialEq + Sized + Writeable {
+    /// The value that a call makes, `try_from_str` and others; `None` where the call makes none.
+    fn make(call: Call<'_>, out: &mut String) -> Result<Option<Self>, Stop>;
 
-    /// The value of bytes, by `try_from_utf8`.
-    fn of_bytes(alloc: Global, bytes: &[u8]) -> Result<Self, ParseError>;
+    /// Writes the answer of a call that only the type has, of a value that it may change.
+    fn answer(&mut self, call: Call<'_>, out: &mut String) -> Result<(), Stop>;
 
-    /// The order of two values, by `total_cmp` or `cmp`.
-    fn order(&self, other: &Self) -> Ordering;
-
-    /// The answer to a call of the type's own, on the value of the first argument, which it may change.
-    fn answer(&mut self, alloc: Global, call: Call<'_>) -> Answer;
-}
-
-/// A tag or a part of one, which is read from a JSON value.
-pub trait JsonPart: Sized + Writeable + Drop {
-    /// The value of a JSON value, by `from_json`.
-    fn of_json(alloc: Global, value: &Value) -> Result<Self, ParseError>;
-}
-
-/// The answer to `from_json`.
-pub fn of_json<T: JsonPart>(alloc: Global, json: &str) -> Answer {
-    let value = json_of(alloc, json)?;
-    let read = T::of_json(alloc, &value);
-    drop(value);
-    shown(alloc, read)
-}
-
-/// The answer to a call of a part of a tag.
-pub fn part<T: TagPart>(alloc: Global, call: Call<'_>) -> Answer {
-    match call.name {
-        "try_from_utf8" => of_bytes::<T>(alloc, call.first),
-        "total_cmp" | "cmp" | "==" | "hash" => of_two::<T>(alloc, call),
-        _ => of_text::<T>(alloc, call),
+    /// Writes how the value and another are ordered, by the order of this name.
+    fn put_order(&self, _other: &Self, _name: &str, _out: &mut String) -> Result<(), Stop> {
+        Err(Stop::Unknown)
     }
 }
 
-fn of_bytes<T: TagPart>(alloc: Global, bytes: &str) -> Answer {
-    let bytes = unescaped(alloc, bytes)?;
-    let read = T::of_bytes(alloc, &bytes);
-    drop(bytes);
-    shown(alloc, read)
+/// Writes the answer of a call of a part of a tag.
+pub fn answer<T: Part>(call: Call<'_>, out: &mut String) -> Result<(), Stop> {
+    match call.name {
+        "==" | "hash" | "cmp" | "partial_cmp" | "total_cmp" => answer_two::<T>(call, out),
+        _ => match T::make(call, out)? {
+            Some(value) => put_last_written(out, value),
+            None => answer_one::<T>(call, out),
+        },
+    }
 }
 
-fn of_text<T: TagPart>(alloc: Global, call: Call<'_>) -> Answer {
-    let mut value = T::of_text(alloc, call.first)?;
-    let answer = of_one(alloc, call, &mut value);
+/// The value of a text, by `try_from_str`.
+pub fn of_text<T: Part>(call: Call<'_>, text: &str, out: &mut String) -> Result<T, Stop> {
+    match T::make(call.reading(text), out)? {
+        Some(value) => Ok(value),
+        None => Err(Stop::Unknown),
+    }
+}
+
+// The answer of a call of the value of the first argument.
+fn answer_one<T: Part>(call: Call<'_>, out: &mut String) -> Result<(), Stop> {
+    let mut value = of_text::<T>(call, call.first, out)?;
+    let done = answer_of(&mut value, call, out);
     drop(value);
-    answer
+    done
 }
 
-fn of_two<T: TagPart>(alloc: Global, call: Call<'_>) -> Answer {
-    let one = T::of_text(alloc, call.first)?;
-    let answer = with_second(alloc, call, &one);
+fn answer_of<T: Part>(value: &mut T, call: Call<'_>, out: &mut String) -> Result<(), Stop> {
+    match call.name {
+        "to_string" => put(out, value),
+        "writeable_length_hint" => put_hint(out, value.writeable_length_hint()),
+        _ => value.answer(call, out),
+    }
+}
+
+// The answer of a call that compares the values of the first two arguments.
+fn answer_two<T: Part>(call: Call<'_>, out: &mut String) -> Result<(), Stop> {
+    let one = of_text::<T>(call, call.first, out)?;
+    let done = answer_second(&one, call, out);
     drop(one);
-    answer
+    done
 }
 
-fn with_second<T: TagPart>(alloc: Global, call: Call<'_>, one: &T) -> Answer {
-    let other = T::of_text(alloc, call.second)?;
-    let answer = compared(alloc, call.name, one, &other);
+fn answer_second<T: Part>(one: &T, call: Call<'_>, out: &mut String) -> Result<(), Stop> {
+    let other = of_text::<T>(call, call.second, out)?;
+    let done = put_compared(one, &other, call.name, out);
     drop(other);
-    answer
+    done
 }
 
-// Whether two values are equal, have one hash, or how they are ordered.
-fn compared<T: TagPart>(alloc: Global, name: &str, one: &T, other: &T) -> Answer {
+// Writes whether two values are equal, whether they have one hash, or how they are ordered.
+fn put_compared<T: Part>(one: &T, other: &T, name: &str, out: &mut String) -> Result<(), Stop> {
     match name {
-        "==" => debug(alloc, one == other),
-        "hash" => debug(alloc, hash_of(one) == hash_of(other)),
-        _ => debug(alloc, one.order(other)),
+        "==" => put(out, &(*one == *other)),
+        "hash" => put(out, &(hash_of(one) == hash_of(other))),
+        _ => one.put_order(other, name, out),
     }
 }
 
@@ -95,40 +88,28 @@ pub fn hash_of<T: Hash>(value: &T) -> u64 {
     hasher.finish()
 }
 
-fn of_one<T: TagPart>(alloc: Global, call: Call<'_>, value: &mut T) -> Answer {
-    match call.name {
-        "try_from_str" => printed(alloc, value),
-        "to_string" => Ok(value.to_string(alloc)?),
-        "writeable_length_hint" => hint(alloc, value.writeable_length_hint()),
-        _ => value.answer(alloc, call),
+// Writes the lowest and the highest length that a hint tells, with `-` where it tells no highest.
+fn put_hint(out: &mut String, hint: LengthHint) -> Result<(), Stop> {
+    put(out, &hint.low)?;
+    put_text(out, " ")?;
+    match hint.high {
+        Some(high) => put(out, &high),
+        None => put_text(out, "-"),
     }
 }
 
-/// The lowest and the highest length that the hint tells, with `-` where it tells no highest.
-pub fn hint(alloc: Global, hint: LengthHint) -> Answer {
-    let high = match hint.high {
-        Some(high) => debug(alloc, high),
-        None => text(alloc, "-"),
-    };
-    two_texts(debug(alloc, hint.low), high)
-}
-
-/// The text of the copy of a value, which is equal.
-pub fn copied<T: Writeable + PartialEq + Drop>(
-    alloc: Global,
+/// Writes the text of the copy of a value, which is equal, and is then let go.
+pub fn put_copy<T: Writeable + PartialEq + Drop>(
     value: &T,
     copy: Result<T, AllocError>,
-) -> Answer {
+    out: &mut String,
+) -> Result<(), Stop> {
     let copy = copy?;
-    let text = equal_text(alloc, value, &copy);
-    drop(copy);
-    text
-}
-
-fn equal_text<T: Writeable + PartialEq>(alloc: Global, value: &T, copy: &T) -> Answer {
-    if copy == value {
-        printed(alloc, copy)
+    let done = if copy == *value {
+        put_written(out, &copy)
     } else {
-        text(alloc, "not equal")
-    }
+        put_text(out, "not equal")
+    };
+    drop(copy);
+    done
 }

@@ -1,83 +1,88 @@
 //! Rows of what locales prefer.
 
-use crate::answers::{debug, made, printed, shown_or_hyphen};
 use crate::call::Call;
-use crate::unanswered::{Answer, Unanswered};
+use crate::part::of_text;
+use crate::refusals::stated;
+use crate::writing::put_optional;
+use icu_locale_core::Locale;
 use icu_locale_core::laws::preferences::same_preferences;
 use icu_locale_core::preferences::{LocalePreferences, numbering_system};
-use icu_locale_core::{Locale, ParseError};
-use std::alloc::Global;
+use rows::{Stop, put, put_last_written, put_written};
 
-/// The answer to a call of preferences, which are those of the locale of a text.
-pub fn preferences(alloc: Global, call: Call<'_>) -> Answer {
+/// The answer of a call of preferences, which are those of the locale of a text.
+pub fn preferences(call: Call<'_>, out: &mut String) -> Result<(), Stop> {
     match call.name {
-        "from_locale_strict" => strictly(alloc, Locale::try_from_str(alloc, call.first)?),
-        "numbering_system" => system_of(alloc, Locale::try_from_str(alloc, call.first)?),
-        "default" => made(alloc, LocalePreferences::default().to_locale(alloc)),
-        "==" | "extend" | "same_preferences" => of_two(alloc, call),
-        _ => of_one(alloc, call, preferences_of(alloc, call.first)?),
+        "default" => put_locale(out, call, LocalePreferences::default()),
+        "from_locale_strict" | "numbering_system" => {
+            let locale: Locale = of_text(call, call.first, out)?;
+            let done = answer_lent(&locale, call, out);
+            drop(locale);
+            done
+        }
+        "==" | "extend" | "same_preferences" => answer_two(call, out),
+        _ => answer_one(preferences_of(call, call.first, out)?, call, out),
     }
 }
 
+// Writes the locale that has these preferences.
+fn put_locale(
+    out: &mut String,
+    call: Call<'_>,
+    preferences: LocalePreferences,
+) -> Result<(), Stop> {
+    put_last_written(out, preferences.to_locale(call.alloc)?)
+}
+
+// The answer of a call that is lent a locale.
+fn answer_lent(locale: &Locale, call: Call<'_>, out: &mut String) -> Result<(), Stop> {
+    if call.name == "numbering_system" {
+        return put_optional(out, numbering_system(locale).as_ref());
+    }
+    let preferences = stated(LocalePreferences::from_locale_strict(locale), out)?;
+    put_locale(out, call, preferences)
+}
+
 // The preferences of the locale of a text.
-fn preferences_of(alloc: Global, text: &str) -> Result<LocalePreferences, ParseError> {
-    let locale = Locale::try_from_str(alloc, text)?;
+fn preferences_of(
+    call: Call<'_>,
+    text: &str,
+    out: &mut String,
+) -> Result<LocalePreferences, Stop> {
+    let locale: Locale = of_text(call, text, out)?;
     let preferences = LocalePreferences::from(&locale);
     drop(locale);
     Ok(preferences)
 }
 
-fn strictly(alloc: Global, locale: Locale) -> Answer {
-    let preferences = LocalePreferences::from_locale_strict(&locale);
-    drop(locale);
-    made(alloc, preferences?.to_locale(alloc))
-}
-
-fn system_of(alloc: Global, locale: Locale) -> Answer {
-    let system = numbering_system(&locale);
-    drop(locale);
-    shown_or_hyphen(alloc, system.as_ref())
-}
-
-fn of_two(alloc: Global, call: Call<'_>) -> Answer {
-    let one = preferences_of(alloc, call.first)?;
-    let other = preferences_of(alloc, call.second)?;
+// The answer of a call of the preferences of two texts.
+fn answer_two(call: Call<'_>, out: &mut String) -> Result<(), Stop> {
+    let mut one = preferences_of(call, call.first, out)?;
+    let other = preferences_of(call, call.second, out)?;
     match call.name {
-        "extend" => joined(alloc, one, other),
-        _ => compared(alloc, call.name, &one, &other),
+        "==" => put(out, &(one == other)),
+        "extend" => {
+            one.extend(other);
+            put_locale(out, call, one)
+        }
+        _ => put(out, &same_preferences(&one, &other)),
     }
 }
 
-fn joined(alloc: Global, one: LocalePreferences, other: LocalePreferences) -> Answer {
-    let mut both = one;
-    both.extend(other);
-    made(alloc, both.to_locale(alloc))
-}
-
-// Whether the preferences are equal, by `==` or by the law's call.
-fn compared(
-    alloc: Global,
-    name: &str,
-    one: &LocalePreferences,
-    other: &LocalePreferences,
-) -> Answer {
-    match name {
-        "==" => debug(alloc, one == other),
-        _ => debug(alloc, same_preferences(one, other)),
-    }
-}
-
-fn of_one(alloc: Global, call: Call<'_>, preferences: LocalePreferences) -> Answer {
+fn answer_one(
+    preferences: LocalePreferences,
+    call: Call<'_>,
+    out: &mut String,
+) -> Result<(), Stop> {
     match call.name {
         "to_data_locale_language_priority" => {
-            printed(alloc, &preferences.to_data_locale_language_priority())
+            put_written(out, &preferences.to_data_locale_language_priority())
         }
         "to_data_locale_region_priority" => {
-            printed(alloc, &preferences.to_data_locale_region_priority())
+            put_written(out, &preferences.to_data_locale_region_priority())
         }
-        "to_locale" => made(alloc, preferences.to_locale(alloc)),
-        "language" => printed(alloc, &preferences.language()),
-        "region" => shown_or_hyphen(alloc, preferences.region().as_ref()),
-        _ => Err(Unanswered::NotUnderstood),
+        "to_locale" => put_locale(out, call, preferences),
+        "language" => put_written(out, &preferences.language()),
+        "region" => put_optional(out, preferences.region().as_ref()),
+        _ => Err(Stop::Unknown),
     }
 }

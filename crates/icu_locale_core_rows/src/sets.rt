@@ -1,181 +1,126 @@
 //! Rows of variants and attributes.
 
-use crate::answers::{debug, filled, joined, shown_or_hyphen, two_texts, written_text};
-use crate::bytes::{number_of, unescaped};
 use crate::call::Call;
-use crate::part::{hash_of, hint};
-use crate::unanswered::{Answer, Unanswered};
-use icu_locale_core::ParseError;
+use crate::part::{Part, put_copy};
+use crate::refusals::{read, read_some};
+use crate::writing::{put_next, put_optional, put_taken};
 use icu_locale_core::extensions::unicode::Attributes;
 use icu_locale_core::subtags::{SubtagOf, SubtagRule, Variant, Variants};
 use icu_locale_core_subtag_lists::{SubtagSet, pieces_length, write_pieces};
-use std::alloc::{AllocError, Global};
-use writeable::{TextSink, Writeable};
+use icu_locale_core_subtags::VariantRule;
+use icu_locale_core_subtags::unicode::AttributeRule;
+use rows::{Stop, filled, number_of, put, put_debug, put_last_written, put_text, put_written};
+use writeable::TextSink;
 
-/// The answer to a call of variants, which stand between spaces.
-pub fn variants(alloc: Global, call: Call<'_>) -> Answer {
-    match call.name {
-        "from_variant" => of_variant(alloc, Variant::try_from_str(call.first)?),
-        "is_empty" => is_new_empty(alloc),
-        "==" | "cmp" | "hash" => of_two(alloc, call),
-        _ => of_set(alloc, call, variants_of(alloc, call.first)?),
+/// A class of subtags that stand in sets.
+pub trait Kind: SubtagRule<8> + Sized {
+    /// The set that a call makes; `None` where the call makes none.
+    fn set(call: Call<'_>, out: &mut String) -> Result<Option<SubtagSet<Self>>, Stop>;
+}
+
+/// Variants stand between spaces, and are pushed one after another.
+impl Kind for VariantRule {
+    fn set(call: Call<'_>, out: &mut String) -> Result<Option<Variants>, Stop> {
+        match call.name {
+            "new" | "try_from_str" => {
+                let mut set = Variants::new(call.alloc);
+                let pushed = push_all(&mut set, call.first, out);
+                Ok(Some(filled(set, pushed)?))
+            }
+            "from_variant" => {
+                let variant = read(Variant::try_from_str(call.first), out)?;
+                Ok(Some(Variants::from_variant(call.alloc, variant)?))
+            }
+            _ => Ok(None),
+        }
     }
 }
 
-fn is_new_empty(alloc: Global) -> Answer {
-    let set = Variants::new(alloc);
-    let is_empty = set.is_empty();
-    drop(set);
-    debug(alloc, is_empty)
-}
-
-// The variants between spaces, pushed one after another.
-fn variants_of(alloc: Global, texts: &str) -> Result<Variants, Unanswered> {
-    let mut set = Variants::new(alloc);
-    let pushed = push_all(&mut set, texts);
-    filled(set, pushed)
-}
-
-fn push_all(set: &mut Variants, texts: &str) -> Result<(), Unanswered> {
-    for text in texts.split(' ') {
-        set.push(Variant::try_from_str(text)?)?;
+fn push_all(set: &mut Variants, texts: &str, out: &mut String) -> Result<(), Stop> {
+    for text in texts.split_whitespace() {
+        set.push(read(Variant::try_from_str(text), out)?)?;
     }
     Ok(())
 }
 
-fn of_variant(alloc: Global, variant: Variant) -> Answer {
-    listed(alloc, Variants::from_variant(alloc, variant))
-}
-
-fn of_two(alloc: Global, call: Call<'_>) -> Answer {
-    let one = variants_of(alloc, call.first)?;
-    let answer = with_second(alloc, call, &one);
-    drop(one);
-    answer
-}
-
-fn with_second(alloc: Global, call: Call<'_>, one: &Variants) -> Answer {
-    let other = variants_of(alloc, call.second)?;
-    let answer = compared(alloc, call.name, one, &other);
-    drop(other);
-    answer
-}
-
-fn compared(alloc: Global, name: &str, one: &Variants, other: &Variants) -> Answer {
-    match name {
-        "==" => debug(alloc, one == other),
-        "hash" => debug(alloc, hash_of(one) == hash_of(other)),
-        _ => debug(alloc, one.cmp(other)),
+/// Attributes have readers.
+impl Kind for AttributeRule {
+    fn set(call: Call<'_>, out: &mut String) -> Result<Option<Attributes>, Stop> {
+        match call.name {
+            "try_from_str" => read_some(Attributes::try_from_str(call.alloc, call.first), out),
+            "try_from_utf8" => read_some(Attributes::try_from_utf8(call.alloc, call.bytes), out),
+            "extend_from_attributes" => {
+                let mut set = read(Attributes::try_from_str(call.alloc, call.first), out)?;
+                let extended = extend(&mut set, call, out);
+                Ok(Some(filled(set, extended)?))
+            }
+            _ => Ok(None),
+        }
     }
 }
 
-/// The answer to a call of attributes.
-pub fn attributes(alloc: Global, call: Call<'_>) -> Answer {
-    match call.name {
-        "try_from_utf8" => of_bytes(alloc, call.first),
-        "extend_from_attributes" => extended(alloc, call, attributes_of(alloc, call.first)?),
-        _ => of_set(alloc, call, attributes_of(alloc, call.first)?),
+fn extend(set: &mut Attributes, call: Call<'_>, out: &mut String) -> Result<(), Stop> {
+    let others = read(Attributes::try_from_str(call.alloc, call.second), out)?;
+    Ok(set.extend_from_attributes(others)?)
+}
+
+impl<R: Kind> Part for SubtagSet<R> {
+    fn make(call: Call<'_>, out: &mut String) -> Result<Option<Self>, Stop> {
+        R::set(call, out)
+    }
+
+    fn answer(&mut self, call: Call<'_>, out: &mut String) -> Result<(), Stop> {
+        match call.name {
+            "try_clone" => put_copy(self, self.try_clone(), out),
+            "is_empty" => put(out, &self.is_empty()),
+            "first" => put_optional(out, self.first()),
+            "get" => put_optional(out, self.get(number_of(call.second)?)),
+            "clear" => put_cleared(self, out),
+            "write_pieces" => put_pieces(self.as_slice(), out),
+            "contains" | "push" | "remove" => at_subtag(self, call, out),
+            _ => Err(Stop::Unknown),
+        }
+    }
+
+    fn put_order(&self, other: &Self, _name: &str, out: &mut String) -> Result<(), Stop> {
+        put_debug(out, &self.cmp(other))
     }
 }
 
-fn attributes_of(alloc: Global, text: &str) -> Result<Attributes, ParseError> {
-    Attributes::try_from_str(alloc, text)
+// Writes the old set, and whether the new one is empty.
+fn put_cleared<R: Kind>(set: &mut SubtagSet<R>, out: &mut String) -> Result<(), Stop> {
+    put_last_written(out, set.clear())?;
+    put_text(out, " ")?;
+    put(out, &set.is_empty())
 }
 
-fn of_bytes(alloc: Global, bytes: &str) -> Answer {
-    let bytes = unescaped(alloc, bytes)?;
-    let read = Attributes::try_from_utf8(alloc, &bytes);
-    drop(bytes);
-    last_joined(alloc, read?)
+// Writes subtags with a hyphen before each, and the length of that text.
+fn put_pieces<R: Kind>(subtags: &[SubtagOf<R, 8>], out: &mut String) -> Result<(), Stop> {
+    let mut sink = TextSink::new(*out.allocator());
+    let is_written = write_pieces(subtags, &mut sink).is_ok();
+    put_taken(out, is_written, sink)?;
+    put_text(out, " ")?;
+    put_debug(out, &pieces_length(subtags))
 }
 
-fn extended(alloc: Global, call: Call<'_>, mut set: Attributes) -> Answer {
-    let extended = extend(alloc, &mut set, call.second);
-    last_joined(alloc, filled(set, extended)?)
-}
-
-fn extend(alloc: Global, set: &mut Attributes, others: &str) -> Result<(), Unanswered> {
-    Ok(set.extend_from_attributes(attributes_of(alloc, others)?)?)
-}
-
-// The answer to a call of a set of subtags, which is then dropped.
-fn of_set<R: SubtagRule<8>>(alloc: Global, call: Call<'_>, mut set: SubtagSet<R>) -> Answer {
-    let answer = at_set(alloc, call, &mut set);
-    drop(set);
-    answer
-}
-
-fn at_set<R: SubtagRule<8>>(alloc: Global, call: Call<'_>, set: &mut SubtagSet<R>) -> Answer {
-    match call.name {
-        "new" | "try_from_str" => joined(alloc, set.as_slice()),
-        "to_string" => Ok(set.to_string(alloc)?),
-        "writeable_length_hint" => hint(alloc, set.writeable_length_hint()),
-        "try_clone" => listed(alloc, set.try_clone()),
-        "first" => shown_or_hyphen(alloc, set.first()),
-        "get" => shown_or_hyphen(alloc, set.get(number_of(call.second)?)),
-        "clear" => cleared(alloc, set),
-        "write_pieces" => behind_hyphens(alloc, set.as_slice()),
-        _ => at_subtag(alloc, call, set, SubtagOf::try_from_str(call.second)?),
-    }
-}
-
-fn listed<R: SubtagRule<8>>(alloc: Global, set: Result<SubtagSet<R>, AllocError>) -> Answer {
-    last_joined(alloc, set?)
-}
-
-// The subtags of a set, which is then dropped.
-fn last_joined<R: SubtagRule<8>>(alloc: Global, set: SubtagSet<R>) -> Answer {
-    let text = joined(alloc, set.as_slice());
-    drop(set);
-    text
-}
-
-// The subtags with a hyphen before each, and the length of that text.
-fn behind_hyphens<R: SubtagRule<8>>(alloc: Global, subtags: &[SubtagOf<R, 8>]) -> Answer {
-    let mut sink = TextSink::new(alloc);
-    let written = write_pieces(subtags, &mut sink).is_ok();
-    let text = written_text(alloc, written, sink);
-    two_texts(text, debug(alloc, pieces_length(subtags)))
-}
-
-// The old set, and whether the new one is empty.
-fn cleared<R: SubtagRule<8>>(alloc: Global, set: &mut SubtagSet<R>) -> Answer {
-    let old = set.clear();
-    two_texts(last_joined(alloc, old), debug(alloc, set.is_empty()))
-}
-
-// The answer to a call of a set and a subtag.
-fn at_subtag<R: SubtagRule<8>>(
-    alloc: Global,
+// The answer of a call of a set and a subtag: whether it is there, or changed the set; how many there then are, and the set.
+fn at_subtag<R: Kind>(
+    set: &mut SubtagSet<R>,
     call: Call<'_>,
-    set: &mut SubtagSet<R>,
-    subtag: SubtagOf<R, 8>,
-) -> Answer {
+    out: &mut String,
+) -> Result<(), Stop> {
+    let subtag = read(SubtagOf::<R, 8>::try_from_str(call.second), out)?;
     match call.name {
-        "contains" => debug(alloc, set.contains(&subtag)),
-        "push" => pushed(alloc, set, subtag),
-        "remove" => removed(alloc, set, subtag),
-        _ => Err(Unanswered::NotUnderstood),
+        "contains" => put(out, &set.contains(&subtag)),
+        "push" => {
+            put(out, &set.push(subtag)?)?;
+            put_text(out, " ")?;
+            put(out, &set.len())?;
+            put_next(out, Some(set))
+        }
+        _ => {
+            put(out, &set.remove(subtag))?;
+            put_next(out, Some(set))
+        }
     }
-}
-
-// Whether the subtag changed the set, how many there then are, and the set.
-fn pushed<R: SubtagRule<8>>(
-    alloc: Global,
-    set: &mut SubtagSet<R>,
-    subtag: SubtagOf<R, 8>,
-) -> Answer {
-    let changed = set.push(subtag)?;
-    let counted = two_texts(debug(alloc, changed), debug(alloc, set.len()));
-    two_texts(counted, joined(alloc, set.as_slice()))
-}
-
-// Whether the subtag was there, and the set without it.
-fn removed<R: SubtagRule<8>>(
-    alloc: Global,
-    set: &mut SubtagSet<R>,
-    subtag: SubtagOf<R, 8>,
-) -> Answer {
-    let there = set.remove(subtag);
-    two_texts(debug(alloc, there), joined(alloc, set.as_slice()))
 }

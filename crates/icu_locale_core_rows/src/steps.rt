@@ -1,19 +1,20 @@
 //! Rows of readers that go piece by piece, by steps that the inner crates alone have.
 
-use crate::answers::{debug, last_printed, text, two_texts};
-use crate::unanswered::Answer;
+use crate::call::Call;
 use icu_locale_core_keywords_fields::{
     EntriesOf, EntryKind, HeadedStage, NoHead, headed_after, headed_finish,
 };
 use icu_locale_core_langid::{LanguageStage, language_after};
 use icu_locale_core_subtags::{Step, SubtagIterator};
+use rows::{Stop, put_last_written, put_text};
 use std::alloc::{AllocError, Global};
 
-/// The language identifier behind the pieces of a text and one more, and whether that one was taken.
-pub fn language_behind(alloc: Global, front: &str, piece: &str) -> Answer {
-    match language_after(alloc, language_stage(alloc, front)?, piece.as_bytes())? {
-        Step::Taken(stage) => two_texts(settled(alloc, stage), debug(alloc, true)),
-        Step::Refused(stage) => two_texts(settled(alloc, stage), debug(alloc, false)),
+/// Writes the language identifier behind the pieces of a text and one more, and whether that one was taken.
+pub fn language_behind(call: Call<'_>, out: &mut String) -> Result<(), Stop> {
+    let stage = language_stage(call.alloc, call.first)?;
+    match language_after(call.alloc, stage, call.second.as_bytes())? {
+        Step::Taken(stage) => put_stage(out, stage, " true"),
+        Step::Refused(stage) => put_stage(out, stage, " false"),
     }
 }
 
@@ -29,17 +30,24 @@ fn language_stage(alloc: Global, front: &str) -> Result<Option<LanguageStage>, A
     Ok(stage)
 }
 
-fn settled(alloc: Global, stage: Option<LanguageStage>) -> Answer {
+fn put_stage(out: &mut String, stage: Option<LanguageStage>, behind: &str) -> Result<(), Stop> {
     match stage {
-        Some(stage) => last_printed(alloc, stage.settled()),
-        None => text(alloc, "-"),
+        Some(stage) => put_last_written(out, stage.settled())?,
+        None => put_text(out, "-")?,
     }
+    put_text(out, behind)
 }
 
-/// The entries of the pieces between spaces, without those that are refused; `-` where the last entry may not end.
-pub fn headed<K: EntryKind>(alloc: Global, pieces: &str) -> Answer {
-    let read = headed_finish(alloc, stage_of::<K>(alloc, pieces)?)?;
-    finished(alloc, read)
+/// The entries of the pieces between spaces, without those that are refused; where the last entry may not end, `-` is the answer.
+pub fn headed<K: EntryKind>(call: Call<'_>, out: &mut String) -> Result<EntriesOf<K>, Stop> {
+    let stage = stage_of::<K>(call.alloc, call.first)?;
+    match headed_finish(call.alloc, stage)? {
+        Some((_, map)) => Ok(map),
+        None => {
+            put_text(out, "-")?;
+            Err(Stop::Written)
+        }
+    }
 }
 
 fn stage_of<K: EntryKind>(alloc: Global, pieces: &str) -> Result<HeadedStage<(), K>, AllocError> {
@@ -51,11 +59,4 @@ fn stage_of<K: EntryKind>(alloc: Global, pieces: &str) -> Result<HeadedStage<(),
         };
     }
     Ok(stage)
-}
-
-fn finished<K: EntryKind>(alloc: Global, read: Option<((), EntriesOf<K>)>) -> Answer {
-    match read {
-        Some((_, map)) => last_printed(alloc, map),
-        None => text(alloc, "-"),
-    }
 }

@@ -1,0 +1,165 @@
+//! Rows of language identifiers.
+
+use crate::call::Call;
+use crate::part::{self, Part, put_copy};
+use crate::refusals::{put_read, read, read_some};
+use crate::single::{mode_of, put_parts};
+use crate::steps::language_behind;
+use crate::writing::{json_of, put_normal, put_taken};
+use icu_locale_core::parser::{
+    SubtagIterator, parse_language_identifier, parse_language_identifier_from_iter,
+};
+use icu_locale_core::subtags::{Language, Region, Script};
+use icu_locale_core::{LanguageIdentifier, TryFromLocaleBytes};
+use rows::{Stop, escaped, put, put_debug, put_last, put_text, put_written};
+use writeable::TextSink;
+
+/// The answer of a call of language identifiers.
+pub fn identifier(call: Call<'_>, out: &mut String) -> Result<(), Stop> {
+    match call.name {
+        "normalize" => put_normal(out, LanguageIdentifier::normalize(call.alloc, call.first)),
+        "normalize_utf8" => {
+            put_normal(out, LanguageIdentifier::normalize_utf8(call.alloc, call.bytes))
+        }
+        "try_from_utf8_with_single_variant" => {
+            let parts = LanguageIdentifier::try_from_utf8_with_single_variant(call.bytes);
+            put_parts(read(parts, out)?, out)
+        }
+        "language_after" => language_behind(call, out),
+        "parse_language_identifier_from_iter" => put_front_and_rest(call, out),
+        "parse_behind_the_end" => behind_the_end(call, out),
+        "peek_behind_refusal" => behind_refusal(call, out),
+        _ => part::answer::<LanguageIdentifier>(call, out),
+    }
+}
+
+// Writes what a mode reads of a text, and the first piece that it leaves, or `-`.
+fn put_front_and_rest(call: Call<'_>, out: &mut String) -> Result<(), Stop> {
+    let mode = mode_of(call.first)?;
+    let mut iter = SubtagIterator::new(call.second.as_bytes());
+    put_read(
+        parse_language_identifier_from_iter(call.alloc, &mut iter, mode),
+        out,
+    )?;
+    put_text(out, " ")?;
+    escaped(out, iter.peek().unwrap_or(b"-"))
+}
+
+// Writes what a mode reads of an iterator that has no piece.
+fn behind_the_end(call: Call<'_>, out: &mut String) -> Result<(), Stop> {
+    let mode = mode_of(call.first)?;
+    let mut iter = SubtagIterator::new(b"");
+    let _first = iter.next();
+    put_read(
+        parse_language_identifier_from_iter(call.alloc, &mut iter, mode),
+        out,
+    )
+}
+
+// Writes the first piece that is there behind a refusal; `-` where the text is read.
+fn behind_refusal(call: Call<'_>, out: &mut String) -> Result<(), Stop> {
+    let mode = mode_of(call.first)?;
+    let mut iter = SubtagIterator::new(call.second.as_bytes());
+    match parse_language_identifier_from_iter(call.alloc, &mut iter, mode) {
+        Ok(id) => {
+            drop(id);
+            put_text(out, "-")
+        }
+        Err(_) => escaped(out, iter.peek().unwrap_or(b"-")),
+    }
+}
+
+impl Part for LanguageIdentifier {
+    fn make(call: Call<'_>, out: &mut String) -> Result<Option<Self>, Stop> {
+        match call.name {
+            "try_from_str" => read_some(Self::try_from_str(call.alloc, call.first), out),
+            "try_from_utf8" => read_some(Self::try_from_utf8(call.alloc, call.bytes), out),
+            "try_from_locale_bytes" => {
+                read_some(Self::try_from_locale_bytes(call.alloc, call.bytes), out)
+            }
+            "parse_language_identifier" => {
+                let mode = mode_of(call.first)?;
+                read_some(parse_language_identifier(call.alloc, call.bytes, mode), out)
+            }
+            "from_json" => of_json(call, out),
+            _ => of_parts(call, out),
+        }
+    }
+
+    fn answer(&mut self, call: Call<'_>, out: &mut String) -> Result<(), Stop> {
+        match call.name {
+            "try_clone" => put_copy(self, self.try_clone(), out),
+            "strict_cmp" => put_debug(out, &self.strict_cmp(call.bytes)),
+            "normalizing_eq" => put(out, &self.normalizing_eq(call.second)),
+            "is_unknown" => put(out, &self.is_unknown()),
+            "as_ref" => put_written(out, self.as_ref()),
+            "to_json" => put_last(out, self.to_json(call.alloc)?),
+            "triple" => {
+                let (language, script, region) = self.triple();
+                put_parts((language, script, region, None), out)
+            }
+            "parts" => {
+                put_parts((self.language, self.script, self.region, None), out)?;
+                write!(out, " {} {}", self.variants.len(), self.variants.iter().count())?;
+                Ok(())
+            }
+            "inner_length" => put_debug(out, &self.inner_length()),
+            "write_inner_to" => put_inner(out, self),
+            _ => Err(Stop::Unknown),
+        }
+    }
+
+    fn put_order(&self, other: &Self, _name: &str, out: &mut String) -> Result<(), Stop> {
+        put_debug(out, &self.total_cmp(other))
+    }
+}
+
+// The language identifier of a JSON value.
+fn of_json(call: Call<'_>, out: &mut String) -> Result<Option<LanguageIdentifier>, Stop> {
+    let value = json_of(call)?;
+    let id = LanguageIdentifier::from_json(call.alloc, &value);
+    drop(value);
+    read_some(id, out)
+}
+
+// The language identifier of parts.
+fn of_parts(call: Call<'_>, out: &mut String) -> Result<Option<LanguageIdentifier>, Stop> {
+    let alloc = call.alloc;
+    let id = match call.name {
+        "unknown" => LanguageIdentifier::unknown(alloc),
+        "from_language" => {
+            let language = read(Language::try_from_str(call.first), out)?;
+            LanguageIdentifier::from_language(alloc, language)
+        }
+        "from_script" => {
+            let script = read(Script::try_from_str(call.first), out)?;
+            LanguageIdentifier::from_script(alloc, Some(script))
+        }
+        "from_region" => {
+            let region = read(Region::try_from_str(call.first), out)?;
+            LanguageIdentifier::from_region(alloc, Some(region))
+        }
+        "from_triple" => {
+            LanguageIdentifier::from_triple(alloc, triple(call, out)?)
+        }
+        _ => return Ok(None),
+    };
+    Ok(Some(id))
+}
+
+/// The language and the region of the first two arguments, without a script.
+pub fn triple(
+    call: Call<'_>,
+    out: &mut String,
+) -> Result<(Language, Option<Script>, Option<Region>), Stop> {
+    let language = read(Language::try_from_str(call.first), out)?;
+    let region = read(Region::try_from_str(call.second), out)?;
+    Ok((language, None, Some(region)))
+}
+
+// Writes the text within `t`.
+fn put_inner(out: &mut String, id: &LanguageIdentifier) -> Result<(), Stop> {
+    let mut sink = TextSink::new(*out.allocator());
+    let is_written = id.write_inner_to(&mut sink).is_ok();
+    put_taken(out, is_written, sink)
+}
