@@ -1,20 +1,22 @@
 //! Which call a row asks for.
 
 use crate::call::Call;
+use crate::data_locales::with_subdivision;
 use crate::keywords::keyword;
 use crate::part::answer;
 use crate::pieces::pieces;
 use crate::preferences::preferences;
-use crate::private_pieces::private_pieces;
+use crate::private_pieces::push_alike;
 use crate::single::in_mode;
-use crate::{data_locales, errors, identifiers, locales, subtags};
+use crate::{errors, identifiers, locales, subtags};
+use icu_locale_core::DataLocale;
+use icu_locale_core::extensions::Extensions;
 use icu_locale_core::extensions::other::Other;
-use icu_locale_core::extensions::private;
+use icu_locale_core::extensions::private::{self, Private};
 use icu_locale_core::extensions::transform::{self, Fields, Transform};
 use icu_locale_core::extensions::unicode::{
     self, Attribute, Attributes, Keywords, SubdivisionId, SubdivisionSuffix, Unicode,
 };
-use icu_locale_core::extensions::Extensions;
 use icu_locale_core::subtags::{Script, Variants};
 use rows::{Stop, Table, put_text, unescaped};
 use std::alloc::Global;
@@ -49,12 +51,14 @@ fn of_tags(call: Call<'_>, out: &mut String) -> Result<(), Stop> {
     match call.kind {
         "Locale" => locales::locale(call, out),
         "LanguageIdentifier" => identifiers::identifier(call, out),
-        "DataLocale" => data_locales::data_locale(call, out),
+        "DataLocale" if call.name == "with_subdivision" => with_subdivision(call, out),
+        "DataLocale" => answer::<DataLocale>(call, out),
         "LocalePreferences" => preferences(call, out),
         "Extensions" => answer::<Extensions>(call, out),
         "Unicode" => answer::<Unicode>(call, out),
         "Transform" => answer::<Transform>(call, out),
-        "Private" => private_pieces(call, out),
+        "Private" if call.name == "push_alike" => push_alike(call, out),
+        "Private" => answer::<Private>(call, out),
         "Other" => answer::<Other>(call, out),
         "Variants" => answer::<Variants>(call, out),
         "Attributes" => answer::<Attributes>(call, out),

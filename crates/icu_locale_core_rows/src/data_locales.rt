@@ -2,7 +2,7 @@
 
 use crate::call::Call;
 use crate::identifiers::triple;
-use crate::part::{self, Part, put_copy};
+use crate::part::{Part, put_copy, second};
 use crate::refusals::{read, read_some};
 use crate::single::put_parts;
 use crate::writing::{put_next, put_optional};
@@ -12,16 +12,8 @@ use icu_locale_core::subtags::Region;
 use icu_locale_core::{DataLocale, LanguageIdentifier, Locale};
 use rows::{Stop, put, put_debug, put_last_written, put_text, put_written};
 
-/// The answer of a call of data locales.
-pub fn data_locale(call: Call<'_>, out: &mut String) -> Result<(), Stop> {
-    match call.name {
-        "with_subdivision" => with_subdivision(call, out),
-        _ => part::answer::<DataLocale>(call, out),
-    }
-}
-
-// Writes the text of the data locale that has this subdivision alone, and of its locale, and whether that one's data locale is unknown.
-fn with_subdivision(call: Call<'_>, out: &mut String) -> Result<(), Stop> {
+/// Writes the text of the data locale that has this subdivision alone, and of its locale, and whether that one's data locale is unknown.
+pub fn with_subdivision(call: Call<'_>, out: &mut String) -> Result<(), Stop> {
     let mut data_locale = DataLocale::default();
     data_locale.subdivision = Some(read(SubdivisionId::try_from_str(call.first), out)?);
     put_written(out, &data_locale)?;
@@ -45,15 +37,25 @@ impl Part for DataLocale {
             }
             "From<&Locale>" => {
                 let locale = read(Locale::try_from_str(call.alloc, call.first), out)?;
-                Ok(Some(of_lent_locale(locale)))
+                let data_locale = Self::from(&locale);
+                drop(locale);
+                Ok(Some(data_locale))
             }
             "From<LanguageIdentifier>" => {
-                let id = read(LanguageIdentifier::try_from_str(call.alloc, call.first), out)?;
+                let id = read(
+                    LanguageIdentifier::try_from_str(call.alloc, call.first),
+                    out,
+                )?;
                 Ok(Some(Self::from(id)))
             }
             "From<&LanguageIdentifier>" => {
-                let id = read(LanguageIdentifier::try_from_str(call.alloc, call.first), out)?;
-                Ok(Some(of_lent_identifier(id)))
+                let id = read(
+                    LanguageIdentifier::try_from_str(call.alloc, call.first),
+                    out,
+                )?;
+                let data_locale = Self::from(&id);
+                drop(id);
+                Ok(Some(data_locale))
             }
             "From<(Language, Option<Script>, Option<Region>)>" => {
                 Ok(Some(Self::from(triple(call, out)?)))
@@ -62,9 +64,18 @@ impl Part for DataLocale {
         }
     }
 
-    fn answer(&mut self, call: Call<'_>, out: &mut String) -> Result<(), Stop> {
+    fn answer(
+        &mut self,
+        other: Option<&Self>,
+        call: Call<'_>,
+        out: &mut String,
+    ) -> Result<(), Stop> {
         match call.name {
-            "try_clone" => put_copy(self, Ok(*self), out),
+            "total_cmp" => put_debug(out, &self.total_cmp(second(other)?)),
+            "try_clone" => {
+                let copy = *self;
+                put_copy(self, Ok(copy), out)
+            }
             "strict_cmp" => put_debug(out, &self.strict_cmp(call.bytes)),
             "into_locale" => put_last_written(out, self.into_locale(call.alloc)?),
             "is_unknown" => put(out, &self.is_unknown()),
@@ -81,22 +92,6 @@ impl Part for DataLocale {
             _ => Err(Stop::Unknown),
         }
     }
-
-    fn put_order(&self, other: &Self, _name: &str, out: &mut String) -> Result<(), Stop> {
-        put_debug(out, &self.total_cmp(other))
-    }
-}
-
-fn of_lent_locale(locale: Locale) -> DataLocale {
-    let data_locale = DataLocale::from(&locale);
-    drop(locale);
-    data_locale
-}
-
-fn of_lent_identifier(id: LanguageIdentifier) -> DataLocale {
-    let data_locale = DataLocale::from(&id);
-    drop(id);
-    data_locale
 }
 
 impl Part for SubdivisionId {
@@ -113,17 +108,22 @@ impl Part for SubdivisionId {
         }
     }
 
-    fn answer(&mut self, call: Call<'_>, out: &mut String) -> Result<(), Stop> {
+    fn answer(
+        &mut self,
+        other: Option<&Self>,
+        call: Call<'_>,
+        out: &mut String,
+    ) -> Result<(), Stop> {
         match call.name {
-            "try_clone" => put_copy(self, Ok(*self), out),
+            "cmp" => put_debug(out, &Self::cmp(self, second(other)?)),
+            "try_clone" => {
+                let copy = *self;
+                put_copy(self, Ok(copy), out)
+            }
             "region" => put_written(out, &self.region),
             "suffix" => put_written(out, &self.suffix),
             "into_subtag" => put_written(out, &self.into_subtag()),
             _ => Err(Stop::Unknown),
         }
-    }
-
-    fn put_order(&self, other: &Self, _name: &str, out: &mut String) -> Result<(), Stop> {
-        put_debug(out, &self.cmp(other))
     }
 }

@@ -1,7 +1,7 @@
 //! Rows of keywords and fields.
 
 use crate::call::Call;
-use crate::part::{Part, put_copy};
+use crate::part::{Part, put_copy, second};
 use crate::refusals::{read, read_some};
 use crate::steps::headed;
 use crate::writing::{put_last_optional, put_next, put_optional, put_taken};
@@ -47,14 +47,25 @@ impl<K: Kind> Part for EntriesOf<K> {
         }
     }
 
-    fn answer(&mut self, call: Call<'_>, out: &mut String) -> Result<(), Stop> {
+    fn answer(
+        &mut self,
+        other: Option<&Self>,
+        call: Call<'_>,
+        out: &mut String,
+    ) -> Result<(), Stop> {
         match call.name {
+            "cmp" => put_debug(out, &Self::cmp(self, second(other)?)),
+            "partial_cmp" => put_debug(out, &Self::partial_cmp(self, second(other)?)),
             "try_clone" => put_copy(self, self.try_clone(), out),
             "is_empty" => put(out, &self.is_empty()),
             "is_well_formed" => put(out, &self.is_well_formed()),
             "hyphened_length" => put_debug(out, &self.hyphened_length()),
             "iter" => put(out, &self.iter().count()),
-            "write_hyphened" => put_hyphened(out, self),
+            "write_hyphened" => {
+                let mut sink = TextSink::new(call.alloc);
+                let is_written = self.write_hyphened(&mut sink).is_ok();
+                put_taken(out, is_written, sink)
+            }
             "extend_from_keywords" => {
                 let others = read(Self::try_from_str(call.alloc, call.second), out)?;
                 self.extend_from_keywords(others)?;
@@ -70,14 +81,6 @@ impl<K: Kind> Part for EntriesOf<K> {
             }
             "clear_answers" => put_last_written(out, self.clear()),
             _ => at_key(self, call, out),
-        }
-    }
-
-    fn put_order(&self, other: &Self, name: &str, out: &mut String) -> Result<(), Stop> {
-        if name == "cmp" {
-            put_debug(out, &self.cmp(other))
-        } else {
-            put_debug(out, &self.partial_cmp(other))
         }
     }
 }
@@ -111,13 +114,6 @@ fn collected<K: EntryKind>(call: Call<'_>, out: &mut String) -> Result<EntriesOf
     let pushed = push_entries(&mut entries, call, out);
     let entries = filled(entries, pushed)?;
     Ok(EntriesOf::try_from_iter(call.alloc, entries)?)
-}
-
-// Writes the text of the entries with a hyphen before it.
-fn put_hyphened<K: EntryKind>(out: &mut String, map: &EntriesOf<K>) -> Result<(), Stop> {
-    let mut sink = TextSink::new(*out.allocator());
-    let is_written = map.write_hyphened(&mut sink).is_ok();
-    put_taken(out, is_written, sink)
 }
 
 // The answer of a call of entries and a key.

@@ -19,12 +19,7 @@ fn parse_error(case: &str) -> Result<ParseError, Stop> {
 }
 
 // Writes the words or the number of an error.
-fn put_error<E: Display>(
-    out: &mut String,
-    name: &str,
-    error: &E,
-    number: u8,
-) -> Result<(), Stop> {
+fn put_error<E: Display>(out: &mut String, name: &str, error: &E, number: u8) -> Result<(), Stop> {
     match name {
         "to_string" => put(out, error),
         "number" => put(out, &number),

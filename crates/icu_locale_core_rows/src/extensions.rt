@@ -1,7 +1,7 @@
 //! Rows of extensions.
 
 use crate::call::Call;
-use crate::part::{Part, put_copy};
+use crate::part::{Part, put_copy, second};
 use crate::refusals::{read, read_some};
 use crate::writing::put_joined;
 use icu_locale_core::extensions::other::Other;
@@ -9,7 +9,7 @@ use icu_locale_core::extensions::transform::Transform;
 use icu_locale_core::extensions::unicode::Unicode;
 use icu_locale_core::extensions::{ExtensionType, Extensions};
 use icu_locale_core::{Locale, ParseError};
-use rows::{Stop, filled, push, put, put_debug, put_text, put_written};
+use rows::{Stop, push, put, put_debug, put_text, put_written};
 use std::alloc::Global;
 
 impl Part for Unicode {
@@ -22,8 +22,14 @@ impl Part for Unicode {
         }
     }
 
-    fn answer(&mut self, call: Call<'_>, out: &mut String) -> Result<(), Stop> {
+    fn answer(
+        &mut self,
+        other: Option<&Self>,
+        call: Call<'_>,
+        out: &mut String,
+    ) -> Result<(), Stop> {
         match call.name {
+            "total_cmp" => return put_debug(out, &self.total_cmp(second(other)?)),
             "try_clone" => return put_copy(self, self.try_clone(), out),
             "is_empty" => return put(out, &self.is_empty()),
             "extend" => self.extend(read(Self::try_from_str(call.alloc, call.second), out)?)?,
@@ -31,10 +37,6 @@ impl Part for Unicode {
             _ => return Err(Stop::Unknown),
         }
         put_written(out, self)
-    }
-
-    fn put_order(&self, other: &Self, _name: &str, out: &mut String) -> Result<(), Stop> {
-        put_debug(out, &self.total_cmp(other))
     }
 }
 
@@ -47,8 +49,14 @@ impl Part for Transform {
         }
     }
 
-    fn answer(&mut self, call: Call<'_>, out: &mut String) -> Result<(), Stop> {
+    fn answer(
+        &mut self,
+        other: Option<&Self>,
+        call: Call<'_>,
+        out: &mut String,
+    ) -> Result<(), Stop> {
         match call.name {
+            "total_cmp" => put_debug(out, &self.total_cmp(second(other)?)),
             "try_clone" => put_copy(self, self.try_clone(), out),
             "is_empty" => put(out, &self.is_empty()),
             "clear" => {
@@ -57,10 +65,6 @@ impl Part for Transform {
             }
             _ => Err(Stop::Unknown),
         }
-    }
-
-    fn put_order(&self, other: &Self, _name: &str, out: &mut String) -> Result<(), Stop> {
-        put_debug(out, &self.total_cmp(other))
     }
 }
 
@@ -73,8 +77,14 @@ impl Part for Other {
         }
     }
 
-    fn answer(&mut self, call: Call<'_>, out: &mut String) -> Result<(), Stop> {
+    fn answer(
+        &mut self,
+        other: Option<&Self>,
+        call: Call<'_>,
+        out: &mut String,
+    ) -> Result<(), Stop> {
         match call.name {
+            "total_cmp" => put_debug(out, &self.total_cmp(second(other)?)),
             "try_clone" => put_copy(self, self.try_clone(), out),
             "get_ext" => put_debug(out, &self.get_ext()),
             "get_ext_byte" => put(out, &self.get_ext_byte()),
@@ -89,10 +99,6 @@ impl Part for Other {
             _ => Err(Stop::Unknown),
         }
     }
-
-    fn put_order(&self, other: &Self, _name: &str, out: &mut String) -> Result<(), Stop> {
-        put_debug(out, &self.total_cmp(other))
-    }
 }
 
 // Writes whether a copy that was emptied is empty, and its order before the whole.
@@ -106,21 +112,11 @@ fn put_emptied_order(out: &mut String, whole: &Other) -> Result<(), Stop> {
     Ok(())
 }
 
-fn extensions_of(locale: Locale) -> Extensions {
-    let Locale { id, extensions } = locale;
-    drop(id);
-    extensions
-}
-
 // The extensions of a tag.
-fn of_tag(
-    tag: Result<Locale, ParseError>,
-    out: &mut String,
-) -> Result<Option<Extensions>, Stop> {
-    match read(tag, out) {
-        Ok(locale) => Ok(Some(extensions_of(locale))),
-        Err(stop) => Err(stop),
-    }
+fn of_tag(tag: Result<Locale, ParseError>, out: &mut String) -> Result<Option<Extensions>, Stop> {
+    let Locale { id, extensions } = read(tag, out)?;
+    drop(id);
+    Ok(Some(extensions))
 }
 
 /// Extensions are read of a whole tag.
@@ -138,8 +134,14 @@ impl Part for Extensions {
         }
     }
 
-    fn answer(&mut self, call: Call<'_>, out: &mut String) -> Result<(), Stop> {
+    fn answer(
+        &mut self,
+        other: Option<&Self>,
+        call: Call<'_>,
+        out: &mut String,
+    ) -> Result<(), Stop> {
         match call.name {
+            "total_cmp" => return put_debug(out, &self.total_cmp(second(other)?)),
             "try_clone" => return put_copy(self, self.try_clone(), out),
             "is_empty" => return put(out, &self.is_empty()),
             "push" => push_others(&mut self.other, call, out)?,
@@ -149,34 +151,25 @@ impl Part for Extensions {
         }
         put_written(out, self)
     }
-
-    fn put_order(&self, other: &Self, _name: &str, out: &mut String) -> Result<(), Stop> {
-        put_debug(out, &self.total_cmp(other))
-    }
 }
 
 // Keeps `u` alone, or all but `a`.
 fn retain(extensions: &mut Extensions, what: &str) -> Result<(), Stop> {
-    match what {
-        "u" => extensions.retain_by_type(|kind| match kind {
-            ExtensionType::Unicode => true,
-            _ => false,
-        }),
-        "not a" => extensions.retain_by_type(|kind| match kind {
-            ExtensionType::Other(97) => false,
-            _ => true,
-        }),
+    let keeps_most = match what {
+        "u" => false,
+        "not a" => true,
         _ => return Err(Stop::Unknown),
-    }
+    };
+    extensions.retain_by_type(|kind| match kind {
+        ExtensionType::Unicode => true,
+        ExtensionType::Other(97) => false,
+        _ => keeps_most,
+    });
     Ok(())
 }
 
 /// Pushes the other extensions that the second argument has between spaces, of which a singleton alone is an emptied one.
-pub fn push_others(
-    others: &mut Vec<Other>,
-    call: Call<'_>,
-    out: &mut String,
-) -> Result<(), Stop> {
+pub fn push_others(others: &mut Vec<Other>, call: Call<'_>, out: &mut String) -> Result<(), Stop> {
     for text in call.second.split_whitespace() {
         push(others, other_of(call.alloc, text, out)?)?;
     }
@@ -188,20 +181,10 @@ fn other_of(alloc: Global, text: &str, out: &mut String) -> Result<Other, Stop> 
     if text.len() > 1 {
         return read(Other::try_from_str(alloc, text), out);
     }
-    let mut whole = String::from_str(alloc, text)?;
-    let pushed = whole.push_str("-foo");
-    let whole = filled(whole, pushed)?;
+    let whole = format!(in alloc; "{text}-foo")?;
     let other = Other::try_from_str(alloc, whole.as_str());
     drop(whole);
-    emptied(read(other, out))
-}
-
-fn emptied(other: Result<Other, Stop>) -> Result<Other, Stop> {
-    match other {
-        Ok(mut other) => {
-            other.clear();
-            Ok(other)
-        }
-        Err(stop) => Err(stop),
-    }
+    let mut other = read(other, out)?;
+    other.clear();
+    Ok(other)
 }

@@ -1,7 +1,7 @@
 //! Rows of language identifiers.
 
 use crate::call::Call;
-use crate::part::{self, Part, put_copy};
+use crate::part::{self, Part, put_copy, second};
 use crate::refusals::{put_read, read, read_some};
 use crate::single::{mode_of, put_parts};
 use crate::steps::language_behind;
@@ -19,7 +19,10 @@ pub fn identifier(call: Call<'_>, out: &mut String) -> Result<(), Stop> {
     match call.name {
         "normalize" => put_normal(out, LanguageIdentifier::normalize(call.alloc, call.first)),
         "normalize_utf8" => {
-            put_normal(out, LanguageIdentifier::normalize_utf8(call.alloc, call.bytes))
+            put_normal(
+                out,
+                LanguageIdentifier::normalize_utf8(call.alloc, call.bytes),
+            )
         }
         "try_from_utf8_with_single_variant" => {
             let parts = LanguageIdentifier::try_from_utf8_with_single_variant(call.bytes);
@@ -81,13 +84,24 @@ impl Part for LanguageIdentifier {
                 let mode = mode_of(call.first)?;
                 read_some(parse_language_identifier(call.alloc, call.bytes, mode), out)
             }
-            "from_json" => of_json(call, out),
+            "from_json" => {
+                let value = json_of(call)?;
+                let id = Self::from_json(call.alloc, &value);
+                drop(value);
+                read_some(id, out)
+            }
             _ => of_parts(call, out),
         }
     }
 
-    fn answer(&mut self, call: Call<'_>, out: &mut String) -> Result<(), Stop> {
+    fn answer(
+        &mut self,
+        other: Option<&Self>,
+        call: Call<'_>,
+        out: &mut String,
+    ) -> Result<(), Stop> {
         match call.name {
+            "total_cmp" => put_debug(out, &self.total_cmp(second(other)?)),
             "try_clone" => put_copy(self, self.try_clone(), out),
             "strict_cmp" => put_debug(out, &self.strict_cmp(call.bytes)),
             "normalizing_eq" => put(out, &self.normalizing_eq(call.second)),
@@ -100,26 +114,23 @@ impl Part for LanguageIdentifier {
             }
             "parts" => {
                 put_parts((self.language, self.script, self.region, None), out)?;
-                write!(out, " {} {}", self.variants.len(), self.variants.iter().count())?;
+                write!(
+                    out,
+                    " {} {}",
+                    self.variants.len(),
+                    self.variants.iter().count()
+                )?;
                 Ok(())
             }
             "inner_length" => put_debug(out, &self.inner_length()),
-            "write_inner_to" => put_inner(out, self),
+            "write_inner_to" => {
+                let mut sink = TextSink::new(call.alloc);
+                let is_written = self.write_inner_to(&mut sink).is_ok();
+                put_taken(out, is_written, sink)
+            }
             _ => Err(Stop::Unknown),
         }
     }
-
-    fn put_order(&self, other: &Self, _name: &str, out: &mut String) -> Result<(), Stop> {
-        put_debug(out, &self.total_cmp(other))
-    }
-}
-
-// The language identifier of a JSON value.
-fn of_json(call: Call<'_>, out: &mut String) -> Result<Option<LanguageIdentifier>, Stop> {
-    let value = json_of(call)?;
-    let id = LanguageIdentifier::from_json(call.alloc, &value);
-    drop(value);
-    read_some(id, out)
 }
 
 // The language identifier of parts.
@@ -139,9 +150,7 @@ fn of_parts(call: Call<'_>, out: &mut String) -> Result<Option<LanguageIdentifie
             let region = read(Region::try_from_str(call.first), out)?;
             LanguageIdentifier::from_region(alloc, Some(region))
         }
-        "from_triple" => {
-            LanguageIdentifier::from_triple(alloc, triple(call, out)?)
-        }
+        "from_triple" => { LanguageIdentifier::from_triple(alloc, triple(call, out)?) }
         _ => return Ok(None),
     };
     Ok(Some(id))
@@ -155,11 +164,4 @@ pub fn triple(
     let language = read(Language::try_from_str(call.first), out)?;
     let region = read(Region::try_from_str(call.second), out)?;
     Ok((language, None, Some(region)))
-}
-
-// Writes the text within `t`.
-fn put_inner(out: &mut String, id: &LanguageIdentifier) -> Result<(), Stop> {
-    let mut sink = TextSink::new(*out.allocator());
-    let is_written = id.write_inner_to(&mut sink).is_ok();
-    put_taken(out, is_written, sink)
 }

@@ -20,7 +20,15 @@ use std::hash::Hash;
 pub fn keyword(call: Call<'_>, out: &mut String) -> Result<(), Stop> {
     match call.name {
         "try_from" => tried(call, out),
-        "try_from_subtag" => of_subtag(call, out),
+        "try_from_subtag" if call.kind == "NumberingSystem" => {
+            let subtag = read(Subtag::try_from_str(call.first), out)?;
+            let system = stated(NumberingSystem::try_from(subtag), out)?;
+            put_text(out, system.as_str())
+        }
+        "iso_code" if call.kind == "CurrencyType" => {
+            let currency = preference::<CurrencyType>(call, call.first, out)?;
+            put_text(out, currency.iso_code().as_str())
+        }
         "as_str" => {
             let word = word_of(call, out)?;
             put_text(out, word)
@@ -35,7 +43,7 @@ fn by_type(call: Call<'_>, out: &mut String) -> Result<(), Stop> {
         "NumberingSystem" => answer::<NumberingSystem>(call, out),
         "RegionalSubdivision" => answer::<RegionalSubdivision>(call, out),
         "RegionOverride" => answer::<RegionOverride>(call, out),
-        "CurrencyType" => currency(call, out),
+        "CurrencyType" => answer::<CurrencyType>(call, out),
         "FirstDay" => of_words::<FirstDay>(call, out),
         "MeasurementSystem" => of_words::<MeasurementSystem>(call, out),
         "CurrencyFormatStyle" => of_words::<CurrencyFormatStyle>(call, out),
@@ -95,7 +103,10 @@ fn answer_of<P: PreferenceKey + Copy + Debug + PartialEq + Hash>(
 ) -> Result<(), Stop> {
     match call.name {
         "try_from_value" => put_debug(out, &one),
-        "unicode_extension_value" => put_last_optional(out, one.unicode_extension_value(call.alloc)?),
+        "unicode_extension_value" => put_last_optional(
+            out,
+            one.unicode_extension_value(call.alloc)?,
+        ),
         "==" => {
             let other = preference::<P>(call, call.second, out)?;
             put(out, &(one == other))
@@ -121,17 +132,6 @@ fn of_words<W: WordKeyword + Debug + PartialEq + Hash + 'static>(
         "cases" => put_debug(out, &W::cases()),
         "key" => put_text(out, W::key()),
         _ => answer::<W>(call, out),
-    }
-}
-
-// The answer of a call of currencies.
-fn currency(call: Call<'_>, out: &mut String) -> Result<(), Stop> {
-    match call.name {
-        "iso_code" => {
-            let currency = preference::<CurrencyType>(call, call.first, out)?;
-            put_text(out, currency.iso_code().as_str())
-        }
-        _ => answer::<CurrencyType>(call, out),
     }
 }
 
@@ -182,13 +182,6 @@ fn put_subdivision(out: &mut String, id: SubdivisionId) -> Result<(), Stop> {
     put_written(out, &id.region)?;
     put_text(out, " ")?;
     put_written(out, &id.suffix)
-}
-
-// The answer of `try_from` of a subtag.
-fn of_subtag(call: Call<'_>, out: &mut String) -> Result<(), Stop> {
-    let subtag = read(Subtag::try_from_str(call.first), out)?;
-    let system = stated(NumberingSystem::try_from(subtag), out)?;
-    put_text(out, system.as_str())
 }
 
 // The word of the case that a text states, by `as_str` of the type.

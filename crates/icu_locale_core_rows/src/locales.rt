@@ -3,7 +3,7 @@
 use crate::call::Call;
 use crate::extensions::push_others;
 use crate::identifiers::triple;
-use crate::part::{self, Part, put_copy};
+use crate::part::{self, Part, put_copy, second};
 use crate::refusals::{read, read_some};
 use crate::single::put_single;
 use crate::writing::{json_of, put_normal, put_optional};
@@ -44,10 +44,7 @@ fn put_repeated(call: Call<'_>, out: &mut String) -> Result<(), Stop> {
     let text = filled(text, pushed)?;
     let locale = Locale::try_from_str(call.alloc, text.as_str());
     drop(text);
-    put_private(read(locale, out)?, out)
-}
-
-fn put_private(locale: Locale, out: &mut String) -> Result<(), Stop> {
+    let locale = read(locale, out)?;
     let count = locale.extensions.private.len();
     drop(locale);
     put(out, &count)
@@ -59,13 +56,24 @@ impl Part for Locale {
             "try_from_str" => read_some(Self::try_from_str(call.alloc, call.first), out),
             "try_from_utf8" => read_some(Self::try_from_utf8(call.alloc, call.bytes), out),
             "parse_locale" => read_some(parse_locale(call.alloc, call.bytes), out),
-            "from_json" => of_json(call, out),
+            "from_json" => {
+                let value = json_of(call)?;
+                let locale = Self::from_json(call.alloc, &value);
+                drop(value);
+                read_some(locale, out)
+            }
             _ => of_parts(call, out),
         }
     }
 
-    fn answer(&mut self, call: Call<'_>, out: &mut String) -> Result<(), Stop> {
+    fn answer(
+        &mut self,
+        other: Option<&Self>,
+        call: Call<'_>,
+        out: &mut String,
+    ) -> Result<(), Stop> {
         match call.name {
+            "total_cmp" => put_debug(out, &self.total_cmp(second(other)?)),
             "push" => {
                 push_others(&mut self.extensions.other, call, out)?;
                 put_written(out, self)
@@ -76,10 +84,6 @@ impl Part for Locale {
             }
             _ => answer_of(self, call, out),
         }
-    }
-
-    fn put_order(&self, other: &Self, _name: &str, out: &mut String) -> Result<(), Stop> {
-        put_debug(out, &self.total_cmp(other))
     }
 }
 
@@ -103,14 +107,6 @@ fn answer_of(locale: &Locale, call: Call<'_>, out: &mut String) -> Result<(), St
         }
         _ => Err(Stop::Unknown),
     }
-}
-
-// The locale of a JSON value.
-fn of_json(call: Call<'_>, out: &mut String) -> Result<Option<Locale>, Stop> {
-    let value = json_of(call)?;
-    let locale = Locale::from_json(call.alloc, &value);
-    drop(value);
-    read_some(locale, out)
 }
 
 // The locale of parts.

@@ -13,13 +13,14 @@ pub trait Part: Display + Drop + Hash + PartialEq + Sized + Writeable {
     /// The value that a call makes, `try_from_str` and others; `None` where the call makes none.
     fn make(call: Call<'_>, out: &mut String) -> Result<Option<Self>, Stop>;
 
-    /// Writes the answer of a call that only the type has, of a value that it may change.
-    fn answer(&mut self, call: Call<'_>, out: &mut String) -> Result<(), Stop>;
-
-    /// Writes how the value and another are ordered, by the order of this name.
-    fn put_order(&self, _other: &Self, _name: &str, _out: &mut String) -> Result<(), Stop> {
-        Err(Stop::Unknown)
-    }
+    /// Writes the answer of a call that only the type has, of a value that it may change, and of another one where the call compares
+    /// two.
+    fn answer(
+        &mut self,
+        other: Option<&Self>,
+        call: Call<'_>,
+        out: &mut String,
+    ) -> Result<(), Stop>;
 }
 
 /// Writes the answer of a call of a part of a tag.
@@ -53,31 +54,34 @@ fn answer_of<T: Part>(value: &mut T, call: Call<'_>, out: &mut String) -> Result
     match call.name {
         "to_string" => put(out, value),
         "writeable_length_hint" => put_hint(out, value.writeable_length_hint()),
-        _ => value.answer(call, out),
+        _ => value.answer(None, call, out),
     }
 }
 
 // The answer of a call that compares the values of the first two arguments.
 fn answer_two<T: Part>(call: Call<'_>, out: &mut String) -> Result<(), Stop> {
-    let one = of_text::<T>(call, call.first, out)?;
-    let done = answer_second(&one, call, out);
+    let mut one = of_text::<T>(call, call.first, out)?;
+    let done = answer_second(&mut one, call, out);
     drop(one);
     done
 }
 
-fn answer_second<T: Part>(one: &T, call: Call<'_>, out: &mut String) -> Result<(), Stop> {
+fn answer_second<T: Part>(one: &mut T, call: Call<'_>, out: &mut String) -> Result<(), Stop> {
     let other = of_text::<T>(call, call.second, out)?;
-    let done = put_compared(one, &other, call.name, out);
+    let done = match call.name {
+        "==" => put(out, &(*one == other)),
+        "hash" => put(out, &(hash_of(one) == hash_of(&other))),
+        _ => one.answer(Some(&other), call, out),
+    };
     drop(other);
     done
 }
 
-// Writes whether two values are equal, whether they have one hash, or how they are ordered.
-fn put_compared<T: Part>(one: &T, other: &T, name: &str, out: &mut String) -> Result<(), Stop> {
-    match name {
-        "==" => put(out, &(*one == *other)),
-        "hash" => put(out, &(hash_of(one) == hash_of(other))),
-        _ => one.put_order(other, name, out),
+/// The other value, where there is one.
+pub fn second<T>(other: Option<&T>) -> Result<&T, Stop> {
+    match other {
+        Some(other) => Ok(other),
+        None => Err(Stop::Unknown),
     }
 }
 

@@ -43,11 +43,7 @@ fn answer_lent(locale: &Locale, call: Call<'_>, out: &mut String) -> Result<(), 
 }
 
 // The preferences of the locale of a text.
-fn preferences_of(
-    call: Call<'_>,
-    text: &str,
-    out: &mut String,
-) -> Result<LocalePreferences, Stop> {
+fn preferences_of(call: Call<'_>, text: &str, out: &mut String) -> Result<LocalePreferences, Stop> {
     let locale: Locale = of_text(call, text, out)?;
     let preferences = LocalePreferences::from(&locale);
     drop(locale);

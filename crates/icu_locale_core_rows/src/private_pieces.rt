@@ -1,7 +1,7 @@
 //! Rows of private subtags.
 
 use crate::call::Call;
-use crate::part::{self, Part, hash_of, put_copy};
+use crate::part::{Part, hash_of, put_copy, second};
 use crate::refusals::{read, read_some};
 use crate::writing::{put_joined, put_optional};
 use icu_locale_core::ParseError;
@@ -25,8 +25,15 @@ impl Part for Private {
         }
     }
 
-    fn answer(&mut self, call: Call<'_>, out: &mut String) -> Result<(), Stop> {
+    fn answer(
+        &mut self,
+        other: Option<&Self>,
+        call: Call<'_>,
+        out: &mut String,
+    ) -> Result<(), Stop> {
         match call.name {
+            "cmp" => put_debug(out, &Self::cmp(self, second(other)?)),
+            "partial_cmp" => put_debug(out, &Self::partial_cmp(self, second(other)?)),
             "try_clone" => put_copy(self, self.try_clone(), out),
             "len" => put(out, &self.len()),
             "iter" => put(out, &self.iter().count()),
@@ -41,14 +48,6 @@ impl Part for Private {
             _ => Err(Stop::Unknown),
         }
     }
-
-    fn put_order(&self, other: &Self, name: &str, out: &mut String) -> Result<(), Stop> {
-        if name == "cmp" {
-            put_debug(out, &self.cmp(other))
-        } else {
-            put_debug(out, &self.partial_cmp(other))
-        }
-    }
 }
 
 // The pieces of a text, each of which is private.
@@ -56,16 +55,8 @@ fn collected(alloc: Global, text: &str) -> Result<Private, ParseError> {
     Private::try_from_iter(alloc, SubtagIterator::new(text.as_bytes()))
 }
 
-/// The answer of a call of private subtags.
-pub fn private_pieces(call: Call<'_>, out: &mut String) -> Result<(), Stop> {
-    match call.name {
-        "push_alike" => push_alike(call, out),
-        _ => part::answer::<Private>(call, out),
-    }
-}
-
-// The answer of a call of one subtag, another that is pushed behind it, and a text.
-fn push_alike(call: Call<'_>, out: &mut String) -> Result<(), Stop> {
+/// The answer of a call of one subtag, another that is pushed behind it, and a text.
+pub fn push_alike(call: Call<'_>, out: &mut String) -> Result<(), Stop> {
     let first = read(Subtag::try_from_str(call.first), out)?;
     let second = read(Subtag::try_from_str(call.second), out)?;
     let mut one = Private::new_single(call.alloc, first)?;

@@ -1,7 +1,7 @@
 //! Rows of variants and attributes.
 
 use crate::call::Call;
-use crate::part::{Part, put_copy};
+use crate::part::{Part, put_copy, second};
 use crate::refusals::{read, read_some};
 use crate::writing::{put_next, put_optional, put_taken};
 use icu_locale_core::extensions::unicode::Attributes;
@@ -69,29 +69,28 @@ impl<R: Kind> Part for SubtagSet<R> {
         R::set(call, out)
     }
 
-    fn answer(&mut self, call: Call<'_>, out: &mut String) -> Result<(), Stop> {
+    fn answer(
+        &mut self,
+        other: Option<&Self>,
+        call: Call<'_>,
+        out: &mut String,
+    ) -> Result<(), Stop> {
         match call.name {
+            "cmp" => put_debug(out, &Self::cmp(self, second(other)?)),
             "try_clone" => put_copy(self, self.try_clone(), out),
             "is_empty" => put(out, &self.is_empty()),
             "first" => put_optional(out, self.first()),
             "get" => put_optional(out, self.get(number_of(call.second)?)),
-            "clear" => put_cleared(self, out),
+            "clear" => {
+                put_last_written(out, self.clear())?;
+                put_text(out, " ")?;
+                put(out, &self.is_empty())
+            }
             "write_pieces" => put_pieces(self.as_slice(), out),
             "contains" | "push" | "remove" => at_subtag(self, call, out),
             _ => Err(Stop::Unknown),
         }
     }
-
-    fn put_order(&self, other: &Self, _name: &str, out: &mut String) -> Result<(), Stop> {
-        put_debug(out, &self.cmp(other))
-    }
-}
-
-// Writes the old set, and whether the new one is empty.
-fn put_cleared<R: Kind>(set: &mut SubtagSet<R>, out: &mut String) -> Result<(), Stop> {
-    put_last_written(out, set.clear())?;
-    put_text(out, " ")?;
-    put(out, &set.is_empty())
 }
 
 // Writes subtags with a hyphen before each, and the length of that text.

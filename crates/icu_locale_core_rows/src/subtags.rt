@@ -1,7 +1,7 @@
 //! Rows of subtags.
 
 use crate::call::Call;
-use crate::part::{self, Part, put_copy};
+use crate::part::{self, Part, put_copy, second};
 use crate::refusals::{put_read, read, read_some};
 use crate::writing::json_of;
 use icu_locale_core::subtags::{Language, Region, Script, Subtag, SubtagOf, SubtagRule, Variant};
@@ -15,14 +15,28 @@ impl<R: SubtagRule<N>, const N: usize> Part for SubtagOf<R, N> {
             "try_from_str" => read_some(Self::try_from_str(call.first), out),
             "try_from_utf8" => read_some(Self::try_from_utf8(call.bytes), out),
             "parse" => read_some(call.first.parse::<Self>(), out),
-            "try_from_raw" => of_raw(call, out),
-            "from_json" => of_json(call, out),
+            "try_from_raw" => match <[u8; N]>::try_from(call.bytes) {
+                Ok(raw) => read_some(Self::try_from_raw(raw), out),
+                Err(_) => Err(Stop::Unknown),
+            },
+            "from_json" => {
+                let value = json_of(call)?;
+                let subtag = Self::from_json(&value);
+                drop(value);
+                read_some(subtag, out)
+            }
             _ => Ok(None),
         }
     }
 
-    fn answer(&mut self, call: Call<'_>, out: &mut String) -> Result<(), Stop> {
+    fn answer(
+        &mut self,
+        other: Option<&Self>,
+        call: Call<'_>,
+        out: &mut String,
+    ) -> Result<(), Stop> {
         match call.name {
+            "cmp" => put_debug(out, &Self::cmp(self, second(other)?)),
             "try_clone" => put_copy(self, self.clone(), out),
             "to_tinystr" => put_text(out, self.to_tinystr().as_str()),
             "into_raw" => escaped(out, &self.clone()?.into_raw()),
@@ -33,32 +47,6 @@ impl<R: SubtagRule<N>, const N: usize> Part for SubtagOf<R, N> {
             _ => Err(Stop::Unknown),
         }
     }
-
-    fn put_order(&self, other: &Self, _name: &str, out: &mut String) -> Result<(), Stop> {
-        put_debug(out, &self.cmp(other))
-    }
-}
-
-// The subtag of a raw form.
-fn of_raw<R: SubtagRule<N>, const N: usize>(
-    call: Call<'_>,
-    out: &mut String,
-) -> Result<Option<SubtagOf<R, N>>, Stop> {
-    match <[u8; N]>::try_from(call.bytes) {
-        Ok(raw) => read_some(SubtagOf::try_from_raw(raw), out),
-        Err(_) => Err(Stop::Unknown),
-    }
-}
-
-// The subtag of a JSON value.
-fn of_json<R: SubtagRule<N>, const N: usize>(
-    call: Call<'_>,
-    out: &mut String,
-) -> Result<Option<SubtagOf<R, N>>, Stop> {
-    let value = json_of(call)?;
-    let subtag = SubtagOf::from_json(&value);
-    drop(value);
-    read_some(subtag, out)
 }
 
 /// The answer of a call of languages.
@@ -102,11 +90,7 @@ pub fn variant(call: Call<'_>, out: &mut String) -> Result<(), Stop> {
     done
 }
 
-fn insert_all(
-    set: &mut BTreeSet<Variant>,
-    texts: &str,
-    out: &mut String,
-) -> Result<(), Stop> {
+fn insert_all(set: &mut BTreeSet<Variant>, texts: &str, out: &mut String) -> Result<(), Stop> {
     for text in texts.split(' ') {
         set.insert(read(Variant::try_from_str(text), out)?)?;
     }
@@ -123,20 +107,16 @@ fn put_spaced(out: &mut String, set: &BTreeSet<Variant>) -> Result<(), Stop> {
 /// The answer of a call of the subtags that any extension may have.
 pub fn subtag(call: Call<'_>, out: &mut String) -> Result<(), Stop> {
     match call.name {
-        "try_from" => of_tinystr(call, out),
+        "try_from" => match TinyAsciiStr::<16>::try_from_str(call.first) {
+            Ok(small) => put_read(Subtag::try_from(small), out),
+            Err(_) => Err(Stop::Unknown),
+        },
         "from" => {
             let script = read(Script::try_from_str(call.first), out)?;
             put_written(out, &Subtag::from(script))
         }
         "as_tinystr" | "len" | "eq_str" => of_subtag(call, out),
         _ => part::answer::<Subtag>(call, out),
-    }
-}
-
-fn of_tinystr(call: Call<'_>, out: &mut String) -> Result<(), Stop> {
-    match TinyAsciiStr::<16>::try_from_str(call.first) {
-        Ok(small) => put_read(Subtag::try_from(small), out),
-        Err(_) => Err(Stop::Unknown),
     }
 }
 

@@ -1,7 +1,7 @@
 //! Rows of the values of keywords and fields.
 
 use crate::call::Call;
-use crate::part::{Part, put_copy};
+use crate::part::{Part, put_copy, second};
 use crate::refusals::{read, read_some};
 use crate::writing::{put_joined, put_last_optional, put_next, put_optional};
 use icu_locale_core::subtags::Subtag;
@@ -14,14 +14,26 @@ impl<K: EntryKind> Part for ValueOf<K> {
             "try_from_str" => read_some(Self::try_from_str(call.alloc, call.first), out),
             "try_from_utf8" => read_some(Self::try_from_utf8(call.alloc, call.bytes), out),
             "new_empty" => Ok(Some(Self::new_empty(call.alloc))),
-            "from_subtag" => Ok(Some(of_subtag(call, out)?)),
+            "from_subtag" if call.first.is_empty() => {
+                Ok(Some(Self::from_subtag(call.alloc, None)?))
+            }
+            "from_subtag" => {
+                let subtag = read(Subtag::try_from_str(call.first), out)?;
+                Ok(Some(Self::from_subtag(call.alloc, Some(subtag))?))
+            }
             "try_from_iter" => Ok(Some(of_three(call, out)?)),
             _ => Ok(None),
         }
     }
 
-    fn answer(&mut self, call: Call<'_>, out: &mut String) -> Result<(), Stop> {
+    fn answer(
+        &mut self,
+        other: Option<&Self>,
+        call: Call<'_>,
+        out: &mut String,
+    ) -> Result<(), Stop> {
         match call.name {
+            "cmp" => put_debug(out, &Self::cmp(self, second(other)?)),
             "try_clone" => put_copy(self, self.try_clone(), out),
             "is_empty" => put(out, &self.is_empty()),
             "eq_str" => put(out, &self.eq_str(call.second)),
@@ -39,20 +51,6 @@ impl<K: EntryKind> Part for ValueOf<K> {
             _ => with_subtag(self, call, out),
         }
     }
-
-    fn put_order(&self, other: &Self, _name: &str, out: &mut String) -> Result<(), Stop> {
-        put_debug(out, &self.cmp(other))
-    }
-}
-
-// The value of one subtag, or of none.
-fn of_subtag<K: EntryKind>(call: Call<'_>, out: &mut String) -> Result<ValueOf<K>, Stop> {
-    let subtag = if call.first.is_empty() {
-        None
-    } else {
-        Some(read(Subtag::try_from_str(call.first), out)?)
-    };
-    Ok(ValueOf::from_subtag(call.alloc, subtag)?)
 }
 
 // The value of three subtags.

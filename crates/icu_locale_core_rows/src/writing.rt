@@ -1,9 +1,9 @@
 //! How answers are written.
 
-use icu_locale_core::ParseError;
-use icu_locale_core::subtags::{SubtagOf, SubtagRule};
 use crate::call::Call;
 use crate::refusals::read;
+use icu_locale_core::ParseError;
+use icu_locale_core::subtags::{SubtagOf, SubtagRule};
 use rows::{Stop, put_behind, put_last_written, put_text, put_written};
 use serde_json::Value;
 use std::alloc::Global;
