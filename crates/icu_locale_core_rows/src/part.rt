@@ -25,12 +25,9 @@ pub trait Part: Display + Drop + Hash + PartialEq + Sized + Writeable {
 
 /// Writes the answer of a call of a part of a tag.
 pub fn answer<T: Part>(call: Call<'_>, out: &mut String) -> Result<(), Stop> {
-    match call.name {
-        "==" | "hash" | "cmp" | "partial_cmp" | "total_cmp" => answer_two::<T>(call, out),
-        _ => match T::make(call, out)? {
-            Some(value) => put_last_written(out, value),
-            None => answer_one::<T>(call, out),
-        },
+    match T::make(call, out)? {
+        Some(value) => put_last_written(out, value),
+        None => answer_one::<T>(call, out),
     }
 }
 
@@ -44,37 +41,42 @@ pub fn of_text<T: Part>(call: Call<'_>, text: &str, out: &mut String) -> Result<
 
 // The answer of a call of the value of the first argument.
 fn answer_one<T: Part>(call: Call<'_>, out: &mut String) -> Result<(), Stop> {
-    let mut value = of_text::<T>(call, call.first, out)?;
-    let done = answer_of(&mut value, call, out);
-    drop(value);
-    done
-}
-
-fn answer_of<T: Part>(value: &mut T, call: Call<'_>, out: &mut String) -> Result<(), Stop> {
-    match call.name {
-        "to_string" => put(out, value),
-        "writeable_length_hint" => put_hint(out, value.writeable_length_hint()),
-        _ => value.answer(None, call, out),
-    }
-}
-
-// The answer of a call that compares the values of the first two arguments.
-fn answer_two<T: Part>(call: Call<'_>, out: &mut String) -> Result<(), Stop> {
     let mut one = of_text::<T>(call, call.first, out)?;
-    let done = answer_second(&mut one, call, out);
+    let done = answer_beside(&mut one, call, out);
     drop(one);
     done
 }
 
-fn answer_second<T: Part>(one: &mut T, call: Call<'_>, out: &mut String) -> Result<(), Stop> {
-    let other = of_text::<T>(call, call.second, out)?;
-    let done = match call.name {
-        "==" => put(out, &(*one == other)),
-        "hash" => put(out, &(hash_of(one) == hash_of(&other))),
-        _ => one.answer(Some(&other), call, out),
-    };
+// The value of the second argument, where the call compares two.
+fn other_of<T: Part>(call: Call<'_>, out: &mut String) -> Result<Option<T>, Stop> {
+    match call.name {
+        "==" | "hash" | "cmp" | "partial_cmp" | "total_cmp" => {
+            Ok(Some(of_text(call, call.second, out)?))
+        }
+        _ => Ok(None),
+    }
+}
+
+fn answer_beside<T: Part>(one: &mut T, call: Call<'_>, out: &mut String) -> Result<(), Stop> {
+    let other: Option<T> = other_of(call, out)?;
+    let done = answer_of(one, other.as_ref(), call, out);
     drop(other);
     done
+}
+
+fn answer_of<T: Part>(
+    one: &mut T,
+    other: Option<&T>,
+    call: Call<'_>,
+    out: &mut String,
+) -> Result<(), Stop> {
+    match call.name {
+        "to_string" => put(out, one),
+        "writeable_length_hint" => put_hint(out, one.writeable_length_hint()),
+        "==" => put(out, &(*one == *second(other)?)),
+        "hash" => put(out, &(hash_of(one) == hash_of(second(other)?))),
+        _ => one.answer(other, call, out),
+    }
 }
 
 /// The other value, where there is one.
