@@ -90,7 +90,14 @@ impl Part for Other {
             "get_ext_byte" => put(out, &self.get_ext_byte()),
             "get_ext_str" => put_text(out, self.get_ext_str()),
             "as_slice" => put_joined(out, self.as_slice()),
-            "clear_total_cmp" => put_emptied_order(out, self),
+            "clear_total_cmp" => {
+                let mut other = self.try_clone()?;
+                other.clear();
+                let is_empty = other.is_empty();
+                let order = other.total_cmp(self);
+                drop(other);
+                Ok(write!(out, "{is_empty} {order:?}")?)
+            }
             "is_empty" => put(out, &self.is_empty()),
             "clear" => {
                 self.clear();
@@ -99,17 +106,6 @@ impl Part for Other {
             _ => Err(Stop::Unknown),
         }
     }
-}
-
-// Writes whether a copy that was emptied is empty, and its order before the whole.
-fn put_emptied_order(out: &mut String, whole: &Other) -> Result<(), Stop> {
-    let mut other = whole.try_clone()?;
-    other.clear();
-    let is_empty = other.is_empty();
-    let order = other.total_cmp(whole);
-    drop(other);
-    write!(out, "{is_empty} {order:?}")?;
-    Ok(())
 }
 
 // The extensions of a tag.

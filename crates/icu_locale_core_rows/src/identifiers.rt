@@ -10,7 +10,7 @@ use icu_locale_core::parser::{
     SubtagIterator, parse_language_identifier, parse_language_identifier_from_iter,
 };
 use icu_locale_core::subtags::{Language, Region, Script};
-use icu_locale_core::{LanguageIdentifier, TryFromLocaleBytes};
+use icu_locale_core::{LanguageIdentifier, ParseError, TryFromLocaleBytes};
 use rows::{Stop, escaped, put, put_debug, put_last, put_text, put_written};
 use writeable::TextSink;
 
@@ -29,46 +29,47 @@ pub fn identifier(call: Call<'_>, out: &mut String) -> Result<(), Stop> {
             put_parts(read(parts, out)?, out)
         }
         "language_after" => language_behind(call, out),
-        "parse_language_identifier_from_iter" => put_front_and_rest(call, out),
-        "parse_behind_the_end" => behind_the_end(call, out),
-        "peek_behind_refusal" => behind_refusal(call, out),
+        "parse_language_identifier_from_iter" | "parse_behind_the_end" | "peek_behind_refusal" => {
+            of_iterator(call, out)
+        }
         _ => part::answer::<LanguageIdentifier>(call, out),
     }
 }
 
-// Writes what a mode reads of a text, and the first piece that it leaves, or `-`.
-fn put_front_and_rest(call: Call<'_>, out: &mut String) -> Result<(), Stop> {
+// Writes what a mode reads of the pieces of a text, of none where the call is `parse_behind_the_end`; the first piece that it leaves, or
+// `-`; and of a refused text that piece alone, by `peek_behind_refusal`.
+fn of_iterator(call: Call<'_>, out: &mut String) -> Result<(), Stop> {
     let mode = mode_of(call.first)?;
     let mut iter = SubtagIterator::new(call.second.as_bytes());
-    put_read(
-        parse_language_identifier_from_iter(call.alloc, &mut iter, mode),
-        out,
-    )?;
-    put_text(out, " ")?;
-    escaped(out, iter.peek().unwrap_or(b"-"))
-}
-
-// Writes what a mode reads of an iterator that has no piece.
-fn behind_the_end(call: Call<'_>, out: &mut String) -> Result<(), Stop> {
-    let mode = mode_of(call.first)?;
-    let mut iter = SubtagIterator::new(b"");
-    let _first = iter.next();
-    put_read(
-        parse_language_identifier_from_iter(call.alloc, &mut iter, mode),
-        out,
-    )
+    if call.name == "parse_behind_the_end" {
+        let _first = iter.next();
+    }
+    let id = parse_language_identifier_from_iter(call.alloc, &mut iter, mode);
+    let left = iter.peek().unwrap_or(b"-");
+    match call.name {
+        "peek_behind_refusal" => put_behind_refusal(id, left, out),
+        "parse_behind_the_end" => put_read(id, out),
+        _ => {
+            put_read(id, out)?;
+            put_text(out, " ")?;
+            escaped(out, left)
+        }
+    }
 }
 
 // Writes the first piece that is there behind a refusal; `-` where the text is read.
-fn behind_refusal(call: Call<'_>, out: &mut String) -> Result<(), Stop> {
-    let mode = mode_of(call.first)?;
-    let mut iter = SubtagIterator::new(call.second.as_bytes());
-    match parse_language_identifier_from_iter(call.alloc, &mut iter, mode) {
+fn put_behind_refusal(
+    id: Result<LanguageIdentifier, ParseError>,
+    left: &[u8],
+    out: &mut String,
+) -> Result<(), Stop> {
+    match id {
         Ok(id) => {
             drop(id);
             put_text(out, "-")
         }
-        Err(_) => escaped(out, iter.peek().unwrap_or(b"-")),
+        Err(ParseError::Memory) => Err(Stop::Memory),
+        Err(_) => escaped(out, left),
     }
 }
 

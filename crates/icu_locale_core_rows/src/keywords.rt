@@ -68,18 +68,6 @@ fn preference<P: PreferenceKey + Copy>(
     stated(preference, out)
 }
 
-// The preference that the value of the second argument states at the key of the first one.
-fn preference_at<P: PreferenceKey + Copy>(
-    call: Call<'_>,
-    out: &mut String,
-) -> Result<Option<P>, Stop> {
-    let key = read(Key::try_from_str(call.first), out)?;
-    let value = read(Value::try_from_str(call.alloc, call.second), out)?;
-    let preference = P::try_from_key_value(&key, &value);
-    drop(value);
-    stated(preference, out)
-}
-
 // The answer of a call that every keyword has.
 fn answer<P: PreferenceKey + Copy + Debug + PartialEq + Hash>(
     call: Call<'_>,
@@ -88,7 +76,11 @@ fn answer<P: PreferenceKey + Copy + Debug + PartialEq + Hash>(
     match call.name {
         "unicode_extension_key" => put_optional(out, P::unicode_extension_key().as_ref()),
         "try_from_key_value" => {
-            let preference = preference_at::<P>(call, out)?;
+            let key = read(Key::try_from_str(call.first), out)?;
+            let value = read(Value::try_from_str(call.alloc, call.second), out)?;
+            let preference = P::try_from_key_value(&key, &value);
+            drop(value);
+            let preference = stated(preference, out)?;
             put_debug(out, &preference)
         }
         _ => answer_of(preference::<P>(call, call.first, out)?, call, out),

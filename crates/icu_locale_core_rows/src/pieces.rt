@@ -4,13 +4,34 @@ use crate::call::Call;
 use icu_locale_core::parser::SubtagIterator;
 use rows::{Stop, escaped, put_text};
 
-/// The answer of a call of the pieces of a text.
+/// The answer of a call of the pieces of a text: all of them; the first as `peek` gives it, of the iterator and of its copy, and as
+/// `next` does, then what is left in a copy, and in the iterator itself; the first as `next_const` gives it, the one that is peeked at
+/// behind it, and what three more steps give.
 pub fn pieces(call: Call<'_>, out: &mut String) -> Result<(), Stop> {
-    let pieces = SubtagIterator::new(call.first.as_bytes());
+    let mut pieces = SubtagIterator::new(call.first.as_bytes());
     match call.name {
         "new" => put_all(out, pieces),
-        "peek" => put_peeked(out, pieces),
-        "next_const" => put_handed_on(out, pieces),
+        "peek" => {
+            let own = pieces.peek();
+            let copied = pieces.again().peek();
+            let first = pieces.next();
+            let mut same = pieces.again();
+            let second = same.next();
+            let third = same.next();
+            let left = same.peek();
+            put_listed(
+                out,
+                &[own, copied, first, second, third, left, pieces.next()],
+            )
+        }
+        "next_const" => {
+            let (pieces, first) = pieces.next_const();
+            let behind = pieces.peek();
+            let (pieces, second) = pieces.next_const();
+            let (pieces, third) = pieces.next_const();
+            let (_, last) = pieces.next_const();
+            put_listed(out, &[first, behind, second, third, last])
+        }
         _ => Err(Stop::Unknown),
     }
 }
@@ -36,30 +57,4 @@ fn put_piece(out: &mut String, piece: Option<&[u8]>) -> Result<(), Stop> {
     put_text(out, "[")?;
     escaped(out, piece)?;
     put_text(out, "]")
-}
-
-// Writes the first piece as `peek` gives it, of the iterator and of its copy, and as `next` does; what then is left in a copy, and in
-// the iterator itself.
-fn put_peeked(out: &mut String, mut pieces: SubtagIterator<'_>) -> Result<(), Stop> {
-    let own = pieces.peek();
-    let copied = pieces.again().peek();
-    let first = pieces.next();
-    let mut same = pieces.again();
-    let second = same.next();
-    let third = same.next();
-    let left = same.peek();
-    put_listed(
-        out,
-        &[own, copied, first, second, third, left, pieces.next()],
-    )
-}
-
-// Writes the first piece, the one that is peeked at behind it, and what three more steps give.
-fn put_handed_on(out: &mut String, pieces: SubtagIterator<'_>) -> Result<(), Stop> {
-    let (pieces, first) = pieces.next_const();
-    let behind = pieces.peek();
-    let (pieces, second) = pieces.next_const();
-    let (pieces, third) = pieces.next_const();
-    let (_, last) = pieces.next_const();
-    put_listed(out, &[first, behind, second, third, last])
 }

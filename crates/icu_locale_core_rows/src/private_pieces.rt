@@ -4,18 +4,19 @@ use crate::call::Call;
 use crate::part::{Part, hash_of, put_copy, second};
 use crate::refusals::{read, read_some};
 use crate::writing::{put_joined, put_optional};
-use icu_locale_core::ParseError;
 use icu_locale_core::extensions::private::{Private, Subtag};
 use icu_locale_core::parser::SubtagIterator;
 use rows::{Stop, number_of, put, put_debug, put_written};
-use std::alloc::Global;
 
 impl Part for Private {
     fn make(call: Call<'_>, out: &mut String) -> Result<Option<Self>, Stop> {
         match call.name {
             "try_from_str" => read_some(Self::try_from_str(call.alloc, call.first), out),
             "try_from_utf8" => read_some(Self::try_from_utf8(call.alloc, call.bytes), out),
-            "try_from_iter" => read_some(collected(call.alloc, call.first), out),
+            "try_from_iter" => {
+                let pieces = SubtagIterator::new(call.first.as_bytes());
+                read_some(Self::try_from_iter(call.alloc, pieces), out)
+            }
             "new" => Ok(Some(Self::new(call.alloc))),
             "new_single" => {
                 let subtag = read(Subtag::try_from_str(call.first), out)?;
@@ -50,11 +51,6 @@ impl Part for Private {
     }
 }
 
-// The pieces of a text, each of which is private.
-fn collected(alloc: Global, text: &str) -> Result<Private, ParseError> {
-    Private::try_from_iter(alloc, SubtagIterator::new(text.as_bytes()))
-}
-
 /// The answer of a call of one subtag, another that is pushed behind it, and a text.
 pub fn push_alike(call: Call<'_>, out: &mut String) -> Result<(), Stop> {
     let first = read(Subtag::try_from_str(call.first), out)?;
@@ -73,7 +69,8 @@ fn put_alike(
     out: &mut String,
 ) -> Result<(), Stop> {
     one.push(more)?;
-    let other = read(collected(call.alloc, call.third), out)?;
+    let pieces = SubtagIterator::new(call.third.as_bytes());
+    let other = read(Private::try_from_iter(call.alloc, pieces), out)?;
     let is_equal = *one == other;
     let has_one_hash = hash_of(one) == hash_of(&other);
     drop(other);

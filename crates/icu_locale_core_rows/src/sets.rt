@@ -86,20 +86,17 @@ impl<R: Kind> Part for SubtagSet<R> {
                 put_text(out, " ")?;
                 put(out, &self.is_empty())
             }
-            "write_pieces" => put_pieces(self.as_slice(), out),
+            "write_pieces" => {
+                let mut sink = TextSink::new(call.alloc);
+                let is_written = write_pieces(self.as_slice(), &mut sink).is_ok();
+                put_taken(out, is_written, sink)?;
+                put_text(out, " ")?;
+                put_debug(out, &pieces_length(self.as_slice()))
+            }
             "contains" | "push" | "remove" => at_subtag(self, call, out),
             _ => Err(Stop::Unknown),
         }
     }
-}
-
-// Writes subtags with a hyphen before each, and the length of that text.
-fn put_pieces<R: Kind>(subtags: &[SubtagOf<R, 8>], out: &mut String) -> Result<(), Stop> {
-    let mut sink = TextSink::new(*out.allocator());
-    let is_written = write_pieces(subtags, &mut sink).is_ok();
-    put_taken(out, is_written, sink)?;
-    put_text(out, " ")?;
-    put_debug(out, &pieces_length(subtags))
 }
 
 // The answer of a call of a set and a subtag: whether it is there, or changed the set; how many there then are, and the set.

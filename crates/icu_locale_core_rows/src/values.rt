@@ -21,7 +21,13 @@ impl<K: EntryKind> Part for ValueOf<K> {
                 let subtag = read(Subtag::try_from_str(call.first), out)?;
                 Ok(Some(Self::from_subtag(call.alloc, Some(subtag))?))
             }
-            "try_from_iter" => Ok(Some(of_three(call, out)?)),
+            "try_from_iter" => {
+                let first = read(Subtag::try_from_str(call.first), out)?;
+                let second = read(Subtag::try_from_str(call.second), out)?;
+                let third = read(Subtag::try_from_str(call.third), out)?;
+                let subtags = [first, second, third];
+                Ok(Some(Self::try_from_iter(call.alloc, subtags)?))
+            }
             _ => Ok(None),
         }
     }
@@ -51,14 +57,6 @@ impl<K: EntryKind> Part for ValueOf<K> {
             _ => with_subtag(self, call, out),
         }
     }
-}
-
-// The value of three subtags.
-fn of_three<K: EntryKind>(call: Call<'_>, out: &mut String) -> Result<ValueOf<K>, Stop> {
-    let first = read(Subtag::try_from_str(call.first), out)?;
-    let second = read(Subtag::try_from_str(call.second), out)?;
-    let third = read(Subtag::try_from_str(call.third), out)?;
-    Ok(ValueOf::try_from_iter(call.alloc, [first, second, third])?)
 }
 
 // The answer of a call of a value with one more subtag.

@@ -63,17 +63,12 @@ pub fn put_normal(
     normal: Result<CowStr<'_, Global>, ParseError>,
 ) -> Result<(), Stop> {
     let normal = read(normal, out)?;
-    let done = put_held(out, &normal);
+    let done = match &normal {
+        CowStr::Borrowed(text) => write!(out, "borrowed {text}"),
+        CowStr::Owned(text) => write!(out, "owned {}", text.as_str()),
+    };
     drop(normal);
-    done
-}
-
-fn put_held(out: &mut String, normal: &CowStr<'_, Global>) -> Result<(), Stop> {
-    match normal {
-        CowStr::Borrowed(text) => write!(out, "borrowed {text}")?,
-        CowStr::Owned(text) => write!(out, "owned {}", text.as_str())?,
-    }
-    Ok(())
+    Ok(done?)
 }
 
 /// The JSON value of the first argument: `"en"` is a text, `null` is none.
