@@ -1,7 +1,7 @@
 //! Rows that every part of a tag has: made, printed, copied and compared.
 
 use crate::call::Call;
-use rows::{Stop, put, put_debug, put_last_written, put_text, put_written};
+use rows::{Stop, put, put_last_written, put_text, put_written};
 use std::alloc::AllocError;
 use std::collections::hash_map::DefaultHasher;
 use std::fmt::Display;

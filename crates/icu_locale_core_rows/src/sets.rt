@@ -9,7 +9,7 @@ use icu_locale_core::subtags::{SubtagOf, SubtagRule, Variant, Variants};
 use icu_locale_core_subtag_lists::{SubtagSet, pieces_length, write_pieces};
 use icu_locale_core_subtags::VariantRule;
 use icu_locale_core_subtags::unicode::AttributeRule;
-use rows::{Stop, filled, number_of, put, put_debug, put_last_written, put_text, put_written};
+use rows::{Stop, filled, number_of, put, put_debug, put_last_written, put_text};
 use writeable::TextSink;
 
 /// A class of subtags that stand in sets.
