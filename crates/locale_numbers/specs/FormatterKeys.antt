@@ -112,11 +112,6 @@ pub record IsKeptFor (book : BookTables) (key : FormatterKey) (formatter : KeptF
   pub made : IsMadeFor book key formatter
   pub known : KnowsAll formatter
 
--- the formatter is one of plain numbers
-abbrev pub IsPlain : KeptFormatter → Type 0
-IsPlain (Plain plain) = Unit {0}
-IsPlain (Compact formatter) = ⊥
-
 -- the answer of a formatter to a number
 abbrev pub answer_by : KeptFormatter → SignedValue Number → List ℕ
 answer_by (Plain plain) value = written (decimal_text (tables_of plain.formatter) value)

@@ -8,11 +8,10 @@ ghost use Rattle.locale_numbers_lines.specs.Growth.{Grows};
 ghost use Rattle.locale_numbers.specs.Answer.{written, answer_to};
 ghost use Rattle.locale_numbers.specs.AnswerSink.{HasRoom};
 ghost use Rattle.locale_numbers.specs.Changing.{MayGrowRead, ReadsMore};
-ghost use Rattle.locale_numbers.specs.FormatterKeys.{IsPlain, answer_by, answer_of_kind, key_text};
+ghost use Rattle.locale_numbers.specs.FormatterKeys.{answer_by, answer_of_kind, key_text};
 ghost use Rattle.locale_numbers.specs.Front.{if_text, key_if_text};
 ghost use Rattle.locale_numbers.specs.NumberReading.{number, beyond, nothing, reading_of};
 ghost use Rattle.locale_numbers.specs.declared.formatter_key.FormatterKey.{FormatterKey};
-ghost use Rattle.locale_numbers.specs.declared.formatter_key.Kind.{Kind};
 
 use crate::answer_line::{push_answer, push_refusal, push_refusal_of};
 use crate::changing::change;
@@ -65,7 +64,7 @@ fn push_with(
 ) -> Result<(), AllocError>
     ensures text { OnOk result (string_bytes out.new ≡ string_bytes out.old ++ answer_by formatter.now value.old) }
     ensures err { OnErr result (Grows (string_bytes out.old) (string_bytes out.new)) }
-    ensures room { HasRoom out.old (answer_by formatter.now value.old) → IsPlain formatter.now → IsOk result }
+    ensures room { HasRoom out.old (answer_by formatter.now value.old) → IsOk result }
 {
     match formatter {
         KeptFormatter::Plain(plain) => push_formatted(&plain.formatter, value, out),
@@ -87,7 +86,7 @@ fn push_number<'a, F: Formatters<'a>>(
         ≡ string_bytes out.old ++ answer_of_kind key.now.kind (F.book formatters.old) key.now.preferences key.now.grouping value.old) }
     ensures err { OnErr result (Grows (string_bytes out.old) (string_bytes out.new)) }
     ensures room { HasRoom out.old (answer_of_kind key.now.kind (F.book formatters.old) key.now.preferences key.now.grouping value.old)
-        → key.now.kind ≡ Kind.Plain → ¬ (F.may_take_memory formatters.old) → IsOk result }
+        → ¬ (F.may_take_memory formatters.old) → IsOk result }
     ensures counted { OnOk result ((more : List (Option FormatterKey)) →
         F.counted_over formatters.old (Some key.now ∷ more) ≡ F.counted_over formatters.new more) }
     ensures same { F.book formatters.new ≡ F.book formatters.old }
@@ -120,10 +119,10 @@ pub(crate) fn push_text<'a, F: Formatters<'a>>(
         ≡ string_bytes out.old ++ if_text text.now (answer_to (answer_of_kind key.now.kind (F.book formatters.old) key.now.preferences key.now.grouping) sign rounding (reading_of text.now))) }
     ensures err { OnErr result (Grows (string_bytes out.old) (string_bytes out.new)) }
 
-    // In plain form, where there is room for the answer, and handing out a formatter takes none, only a number of more than
-    // eight digits, and of more than `value` had, may be out of memory, and a rounding to multiples of 25 that may lengthen one of eight.
+    // Where there is room for the answer, and handing out a formatter takes none, only a number of more than eight digits, and
+    // of more than `value` had, may be out of memory, and a rounding to multiples of 25 that may lengthen one of eight.
     ensures room { HasRoom out.old (if_text text.now (answer_to (answer_of_kind key.now.kind (F.book formatters.old) key.now.preferences key.now.grouping) sign rounding (reading_of text.now)))
-        → key.now.kind ≡ Kind.Plain → ¬ (F.may_take_memory formatters.old) → ¬ (ReadsMore text.now value.old) → ¬ (MayGrowRead rounding (reading_of text.now)) → IsOk result }
+        → ¬ (F.may_take_memory formatters.old) → ¬ (ReadsMore text.now value.old) → ¬ (MayGrowRead rounding (reading_of text.now)) → IsOk result }
     ensures counted { OnOk result ((more : List (Option FormatterKey)) →
         F.counted_over formatters.old (key_if_text text.now (key_text key.now (reading_of text.now)) ∷ more) ≡ F.counted_over formatters.new more) }
     ensures same { F.book formatters.new ≡ F.book formatters.old }
