@@ -9,6 +9,7 @@ pub mod FoundCompactLemmas
 pub mod FoundLemmas
 pub mod FoundSound
 pub mod FrontLemmas
+pub mod FrontMemory
 pub mod KeptLemmas
 pub mod KnownCompactAnswers
 pub mod KnownPrinted

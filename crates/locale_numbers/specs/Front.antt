@@ -1,17 +1,25 @@
 -- What the front of a line asks, all that stands before its text: it is read as a line with no text.
 -- Defined in docs/requests.md, "Request line" and "What a cache keeps".
 -- Cited by the private steps of an answer.
-use Rattle.std.specs.Prelude.{◌≡◌, ℕ, List, [], Option, Some, None, option_map, IfSome, if◌then◌else◌}
+use Rattle.std.specs.Prelude.{◌≡◌, ◌⊎◌, ℕ, List, [], Option, Some, None, true, option_map, IfSome, if◌then◌else◌}
 use Rattle.std.specs.Str.{is_utf8}
+use Rattle.fixed_decimal.specs.CompactText.{ReadsLongCompact}
+use Rattle.fixed_decimal.specs.Number.{Number}
+use Rattle.fixed_decimal.specs.SignedValue.{SignedValue}
 use Rattle.locale_numbers_book.specs.Book.{BookTables}
-use Rattle.locale_numbers.specs.Answer.{answer_in, refused}
+use Rattle.locale_numbers.specs.Answer.{answer_in, found_in, refused}
+use Rattle.locale_numbers.specs.Changing.{MayGrowRead, ReadsMore}
 use Rattle.locale_numbers.specs.FormatterKeys.{key_in, key_with, kind_of}
+use Rattle.locale_numbers.specs.NumberReading.{reading_of}
+use Rattle.locale_numbers.specs.ReadAnswer.{HasManyDigitsWith}
 use Rattle.locale_numbers.specs.Request.{Asked, request_of}
 use Rattle.locale_numbers_book.specs.Wanted.{wanted_of}
 use Rattle.locale_numbers.specs.declared.formatter_key.FormatterKey.{FormatterKey}
 use Rattle.locale_numbers.specs.declared.front.Front.{Front}
 use Rattle.locale_numbers.specs.declared.refusal.Refusal.TheVariants as refusal
 use Rattle.locale_numbers.specs.declared.request.Form.{Form}
+use Rattle.locale_numbers.specs.declared.request.Form.TheVariants as form
+use Rattle.locale_numbers.specs.declared.rounding_field.RoundingAsked.{RoundingAsked}
 
 -- a request with another text
 abbrev pub with_text : List ℕ → Option Asked → Option Asked
@@ -80,3 +88,22 @@ key_if_text text key = if is_utf8 text then key else None
 
 abbrev pub key_behind : Option Front → List ℕ → Option FormatterKey
 key_behind front text = key_if_text text (key_front front text)
+
+-- a text that may want memory, beside its answer and its formatter. To write a number: one that says a number of more than eight digits, and
+-- of more than the one that is there, or one whose number a rounding to multiples of 25 may lengthen. In an exact form: one that says a
+-- number of more than eight digits. To be read back: one with more than eight digits of the tables.
+abbrev pub MayTakeIn : Form → BookTables → FormatterKey → RoundingAsked → List ℕ → SignedValue Number → Type 0
+MayTakeIn form.Plain book key rounding text value = ReadsMore text value ⊎ MayGrowRead rounding (reading_of text)
+MayTakeIn (form.Compact length) book key rounding text value = ReadsMore text value ⊎ MayGrowRead rounding (reading_of text)
+MayTakeIn (form.Exact length) book key rounding text value = ReadsLongCompact text
+MayTakeIn form.Read book key rounding text value = (is_utf8 text ≡ true) × HasManyDigitsWith (found_in book key.preferences key.grouping) text
+
+-- the same behind a front, by its key: where its tag is none, no text wants memory
+abbrev pub MayTakeKeyed : BookTables → Front → Option FormatterKey → List ℕ → SignedValue Number → Type 0
+MayTakeKeyed book front None text value = ⊥
+MayTakeKeyed book front (Some key) text value = MayTakeIn front.form book key front.rounding text value
+
+-- nor behind a front that asks nothing
+abbrev pub MayTakeBehind : BookTables → Option Front → List ℕ → SignedValue Number → Type 0
+MayTakeBehind book None text value = ⊥
+MayTakeBehind book (Some front) text value = MayTakeKeyed book front front.key text value

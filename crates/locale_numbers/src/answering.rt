@@ -1,8 +1,9 @@
 // The answer of a book to a line.
-ghost use Rattle.std.specs.Prelude.{◌≡◌, ◌∷◌, ◌++◌, List, Option, IfOk, IfSome, IsTrue, OnOk, OnErr, string_bytes};
+ghost use Rattle.std.specs.Prelude.{◌≡◌, ◌∷◌, ◌++◌, List, Option, IfOk, IfSome, IsOk, IsTrue, OnOk, OnErr, string_bytes};
 ghost use Rattle.locale_numbers_lines.specs.Growth.{Grows};
 ghost use Rattle.locale_numbers.specs.Answer.{answer_of};
-ghost use Rattle.locale_numbers.specs.Front.{FitsForm, HasKeyThat, answer_behind, key_behind};
+ghost use Rattle.locale_numbers.specs.AnswerSink.{HasRoom};
+ghost use Rattle.locale_numbers.specs.Front.{FitsForm, HasKeyThat, MayTakeBehind, answer_behind, key_behind};
 ghost use Rattle.locale_numbers.specs.declared.formatter_key.FormatterKey.{FormatterKey};
 
 use crate::answer_line::{push_refusal, push_refusal_of};
@@ -37,6 +38,11 @@ pub(crate) fn push_behind<'a, F: Formatters<'a>>(
     ensures text { OnOk result (string_bytes out.new
         ≡ string_bytes out.old ++ answer_behind (F.book formatters.old) front.now text.now) }
     ensures err { OnErr result (Grows (string_bytes out.old) (string_bytes out.new)) }
+
+    // Where there is room for the answer, and handing out a formatter takes none, only a text of more than eight digits may be out
+    // of memory, to write a number only one of more than `value` had, and a rounding to multiples of 25 that may lengthen one of eight.
+    ensures room { HasRoom out.old (answer_behind (F.book formatters.old) front.now text.now)
+        → ¬ (F.may_take_memory formatters.old) → ¬ (MayTakeBehind (F.book formatters.old) front.now text.now value.old) → IsOk result }
     ensures counted { OnOk result ((more : List (Option FormatterKey)) →
         F.counted_over formatters.old (key_behind front.now text.now ∷ more) ≡ F.counted_over formatters.new more) }
     ensures same { F.book formatters.new ≡ F.book formatters.old }

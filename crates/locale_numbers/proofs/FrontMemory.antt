@@ -1,0 +1,83 @@
+-- What a text wants memory for behind a front, by the front's form, and which answer it has there: `specs/Front.antt`.
+use Rattle.std.proofs.Common.{◌≡◌, ℕ, List, Option, Some, true, sym, ap, ◌∙◌, subst, ◌⊎◌, inl, inr}
+use Rattle.std.specs.Prelude.{if◌then◌else◌, IfSome}
+use Rattle.std.specs.Str.{is_utf8}
+use Rattle.fixed_decimal.specs.CompactText.{ReadsLongCompact}
+use Rattle.fixed_decimal.specs.Number.{Number}
+use Rattle.fixed_decimal.specs.SignedValue.{SignedValue}
+use Rattle.icu_locale_core.specs.TagPreferences.{Preferences}
+use Rattle.locale_numbers_book.specs.Book.{BookTables}
+use Rattle.locale_numbers.specs.Answer.{answer_in, answer_to, exact_to, refused}
+use Rattle.locale_numbers.specs.Changing.{MayGrowRead, ReadsMore}
+use Rattle.locale_numbers.specs.CompactAnswer.{found_compact}
+use Rattle.locale_numbers.specs.CompactReading.{compact_reading_of}
+use Rattle.locale_numbers.specs.FormatterKeys.{answer_of_kind, kind_of}
+use Rattle.locale_numbers.specs.Front.{FitsForm, MayTakeBehind, MayTakeIn, MayTakeKeyed, answer_behind, answer_keyed, asked_behind, if_text}
+use Rattle.locale_numbers.specs.NumberReading.{reading_of}
+use Rattle.locale_numbers.specs.Request.{Asked}
+use Rattle.locale_numbers.specs.declared.formatter_key.FormatterKey.{FormatterKey}
+use Rattle.locale_numbers.specs.declared.front.Front.{Front}
+use Rattle.locale_numbers.specs.declared.refusal.Refusal.TheVariants as refusal
+use Rattle.locale_numbers.specs.declared.request.Form.{Form}
+use Rattle.locale_numbers.specs.declared.request.Form.TheVariants.{Plain, Compact, Exact}
+use Rattle.locale_numbers.specs.declared.request.PatternLength.{PatternLength}
+use Rattle.locale_numbers.specs.declared.rounding_field.RoundingAsked.{RoundingAsked}
+
+-- a form that writes a number: in plain form, or in compact form
+abbrev WritesNumber : Form → Type 0
+WritesNumber form = (form ≡ Plain) ⊎ ((length : PatternLength) × (form ≡ Compact length))
+
+-- the answer to a number goes by the kind of its form
+number_in : (form : Form) (book : BookTables) (p : Preferences) (asked : Asked) → WritesNumber form
+    → answer_in form book p asked ≡ answer_to (answer_of_kind (kind_of form) book p asked.grouping) asked.sign asked.rounding (reading_of asked.text)
+number_in form book p asked (inl plain) =
+    ap (λ f. answer_in f book p asked) plain
+    ∙ ap (λ f. answer_to (answer_of_kind (kind_of f) book p asked.grouping) asked.sign asked.rounding (reading_of asked.text)) (sym plain)
+number_in form book p asked (inr compact) =
+    ap (λ f. answer_in f book p asked) compact.1
+    ∙ ap (λ f. answer_to (answer_of_kind (kind_of f) book p asked.grouping) asked.sign asked.rounding (reading_of asked.text)) (sym compact.1)
+
+-- and so does what may want memory
+number_may_take : (form : Form) (book : BookTables) (key : FormatterKey) (rounding : RoundingAsked) (text : List ℕ) (value : SignedValue Number) → WritesNumber form
+    → ReadsMore text value ⊎ MayGrowRead rounding (reading_of text) → MayTakeIn form book key rounding text value
+number_may_take form book key rounding text value (inl plain) wants = subst (λ f. MayTakeIn f book key rounding text value) (sym plain) wants
+number_may_take form book key rounding text value (inr compact) wants = subst (λ f. MayTakeIn f book key rounding text value) (sym compact.1) wants
+
+module _ (book : BookTables) (asked : Option Front) (front : Front) (key : FormatterKey) (text : List ℕ) (is : asked ≡ Some front) (keyed : front.key ≡ Some key) where
+  -- ---- the answer
+
+  answer_formed : answer_behind book asked text ≡ if_text text (answer_in front.form book key.preferences (asked_behind front key text))
+  answer_formed = ap (λ a. answer_behind book a text) is ∙ ap (λ k. if_text text (answer_keyed book front k text)) keyed
+
+  -- the key is of the kind of the form
+  kind_fits : IfSome asked FitsForm → key.kind ≡ kind_of front.form
+  kind_fits fits = subst (λ k. IfSome k (λ (x : FormatterKey). x.kind ≡ kind_of front.form)) keyed (subst (λ a. IfSome a FitsForm) is fits)
+
+  -- to a number
+  pub answer_number : WritesNumber front.form → IfSome asked FitsForm
+      → answer_behind book asked text ≡ if_text text (answer_to (answer_of_kind key.kind book key.preferences key.grouping) front.sign front.rounding (reading_of text))
+  answer_number form fits =
+      answer_formed
+      ∙ ap (λ answer. if_text text answer) (number_in front.form book key.preferences (asked_behind front key text) form)
+      ∙ ap (λ kind. if_text text (answer_to (answer_of_kind kind book key.preferences key.grouping) front.sign front.rounding (reading_of text))) (sym (kind_fits fits))
+
+  -- to the text of an exact form
+  pub answer_exact : (length : PatternLength) (shown : List ℕ) → front.form ≡ Exact length → is_utf8 text ≡ true → shown ≡ text
+      → answer_behind book asked text ≡ exact_to (found_compact length book key.preferences key.grouping) front.sign (compact_reading_of shown)
+  answer_exact length shown form utf8 whole =
+      answer_formed
+      ∙ ap (λ f. if_text text (answer_in f book key.preferences (asked_behind front key text))) form
+      ∙ ap (λ b. if b then exact_to (found_compact length book key.preferences key.grouping) front.sign (compact_reading_of text) else refused refusal.Shape) utf8
+      ∙ ap (λ t. exact_to (found_compact length book key.preferences key.grouping) front.sign (compact_reading_of t)) (sym whole)
+
+  -- ---- the memory
+
+  module _ (value : SignedValue Number) where
+    may_take : MayTakeIn front.form book key front.rounding text value → MayTakeBehind book asked text value
+    may_take wants = subst (λ a. MayTakeBehind book a text value) (sym is) (subst (λ k. MayTakeKeyed book front k text value) (sym keyed) wants)
+
+    pub number_may_take_behind : WritesNumber front.form → ReadsMore text value ⊎ MayGrowRead front.rounding (reading_of text) → MayTakeBehind book asked text value
+    number_may_take_behind form wants = may_take (number_may_take front.form book key front.rounding text value form wants)
+
+    pub exact_may_take_behind : (length : PatternLength) (shown : List ℕ) → front.form ≡ Exact length → shown ≡ text → ReadsLongCompact shown → MayTakeBehind book asked text value
+    exact_may_take_behind length shown form whole long = may_take (subst (λ f. MayTakeIn f book key front.rounding text value) (sym form) (subst ReadsLongCompact whole long))
