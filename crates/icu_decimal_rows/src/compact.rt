@@ -4,7 +4,7 @@ use crate::parts::{put_by, put_parts, put_range};
 use crate::refusals::parsed;
 use fixed_decimal::{Decimal, SignDisplay, UnsignedDecimal};
 use icu_decimal::{CompactDecimalFormatter, FormattedUnsignedCompactDecimal};
-use rows::{Bounded, Stop, number_of, put, put_last, put_text};
+use rows::{Bounded, Stop, number_of, put, put_last};
 use std::alloc::Global;
 use writeable::Error;
 
@@ -83,8 +83,9 @@ fn put_taken(
     number: &Decimal,
     written: Result<u8, Error>,
 ) -> Result<(), Stop> {
+    // the sink has room, so it refuses only where memory lacks
     let Ok(exponent) = written else {
-        return put_text(out, "refused");
+        return Err(Stop::Memory);
     };
     write!(out, "{text} {number} {exponent}")?;
     Ok(())
