@@ -1,11 +1,11 @@
 -- A call of a list that may want memory, and where a run's first text is not read.
 use Rattle.std.proofs.Common.{◌≡◌, ℕ, zero, suc, ◌+◌, ◌<◌, ◌↔◌, List, [], ◌∷◌, length, get_or, drop, Result, Ok, Err, refl, ap, subst, arith, inl, inr}
 use Rattle.std.specs.Prelude.{IsErrOf}
-use Rattle.fixed_decimal_unsigned.specs.Number.{Number}
+use Rattle.fixed_decimal_signed.specs.Number.{Number}
 use Rattle.fixed_decimal.specs.Calls.{Makes, Run, MayGrowBy, MayGrowIn}
 use Rattle.fixed_decimal.specs.RefusalNumbers.{calls_error_number}
-use Rattle.fixed_decimal.specs.SignedText.{ReadsSigned, ReadsLongSigned, ReadsNothing}
-use Rattle.fixed_decimal.specs.SignedValue.{SignedValue}
+use Rattle.fixed_decimal_signed.specs.SignedText.{ReadsSigned, ReadsLongSigned, ReadsNothing}
+use Rattle.fixed_decimal_signed.specs.SignedValue.{SignedValue}
 use Rattle.fixed_decimal.specs.declared.call.Call.{Call}
 use Rattle.fixed_decimal.specs.declared.call.CallsError.{CallsError}
 use Rattle.fixed_decimal.specs.declared.call.CallsError.TheVariants.{Parse, Write, Memory}

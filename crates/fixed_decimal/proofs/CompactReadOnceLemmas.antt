@@ -3,14 +3,14 @@ use Rattle.std.proofs.Common.{◌≡◌, ℕ, zero, suc, ◌+◌, ◌*◌, ◌<�
 use Rattle.std.proofs.lemmas.Int.Digits.{all_below_base_digits_of, first_digits_of, number_digits_of}
 use Rattle.std.specs.Int.Digits.{AllBelowBase, digits_of, number_from_digits_after}
 use Rattle.std.specs.Str.Parse.{digits_value_after}
-use Rattle.fixed_decimal_unsigned.specs.Number.{Number}
-use Rattle.fixed_decimal_unsigned.specs.NumberText.{AreDigits, spelled, character, digit_zero}
-use Rattle.fixed_decimal_unsigned.proofs.PrintedLemmas.{character_value}
-use Rattle.fixed_decimal_unsigned.proofs.TextPartsLemmas.{cons_tail}
+use Rattle.fixed_decimal_signed.specs.Number.{Number}
+use Rattle.fixed_decimal_signed.specs.NumberText.{AreDigits, spelled, character, digit_zero}
+use Rattle.fixed_decimal_signed.proofs.PrintedLemmas.{character_value}
+use Rattle.fixed_decimal_signed.proofs.TextPartsLemmas.{cons_tail}
 use Rattle.fixed_decimal.specs.CompactText.{CompactValue, IsCompact, behind_compact_mark, StartsNoZero, SpellsCompact, ReadsCompact, PassesExponent, IsBeyondCompact, compact_text_of}
 use Rattle.fixed_decimal.specs.PlainText.{compact_mark}
-use Rattle.fixed_decimal.specs.SignedText.{ReadsSigned, signed_text_of}
-use Rattle.fixed_decimal.specs.SignedValue.{SignedValue}
+use Rattle.fixed_decimal_signed.specs.SignedText.{ReadsSigned, signed_text_of}
+use Rattle.fixed_decimal_signed.specs.SignedValue.{SignedValue}
 use Rattle.fixed_decimal.proofs.CompactTextLemmas.{behind_marked, found_compact}
 use Rattle.fixed_decimal.proofs.PlainTextLemmas.{plain_printed}
 use Rattle.fixed_decimal.proofs.SignedReadOnceLemmas.{signed_reads_once, signed_not_beyond, signed_printed, same_printed}

@@ -1,17 +1,13 @@
 -- A compact text has one front and one list of digits.
-use Rattle.std.proofs.Common.{◌≡◌, ℕ, ◌<◌, List, [], ◌∷◌, ◌++◌, length, get_or, refl, sym, ◌∙◌, subst, arith, inl}
-use Rattle.std.specs.Char.{digit_value}
-use Rattle.fixed_decimal_unsigned.specs.NumberText.{AreDigits}
-use Rattle.fixed_decimal_unsigned.proofs.SpelledLemmas.{digits_at}
-use Rattle.fixed_decimal_unsigned.proofs.TextPartsLemmas.{cons_head, cons_tail}
+use Rattle.std.proofs.Common.{◌≡◌, ℕ, List, [], ◌∷◌, ◌++◌, refl, sym, ◌∙◌, subst, arith, inl}
+use Rattle.fixed_decimal_signed.specs.NumberText.{AreDigits}
+pub use Rattle.fixed_decimal_signed.proofs.SpelledLemmas.{digits_at}
+use Rattle.fixed_decimal_signed.proofs.TextPartsLemmas.{cons_head, cons_tail}
 use Rattle.fixed_decimal.specs.PlainText.{compact_mark, MarksExponent, HasNoMark}
 use Rattle.fixed_decimal.specs.PlainParts.{StartsWithMark, IsCompactExponent, IsNotCompact}
 use Rattle.fixed_decimal.specs.CompactText.{behind_compact_mark, StartsNoZero, SpellsCompact, IsNoCompactText}
-use Rattle.fixed_decimal.specs.SignedText.{IsNoSignedText}
+use Rattle.fixed_decimal_signed.specs.SignedText.{IsNoSignedText}
 use Rattle.fixed_decimal.proofs.PlainTextLemmas.{plain_fronts}
-
-pub digit_at : (text : List ℕ) (i : ℕ) → AreDigits text → i < length text → digit_value (get_or text i 0) < 10
-digit_at text i h l = digits_at text i h l
 
 pub behind_marked : (digits : List ℕ) → StartsWithMark (behind_compact_mark digits)
 behind_marked [] = tt

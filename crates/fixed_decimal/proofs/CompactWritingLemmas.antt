@@ -7,11 +7,11 @@ use Rattle.std.proofs.lemmas.Int.Digits.{digits_of_step, length-digits_of_step}
 use Rattle.std.proofs.lemmas.List.{map-append, length-map}
 use Rattle.std.proofs.lemmas.Str.{encode_ascii}
 use Rattle.writeable.specs.AnnotatedText.{bytes}
-use Rattle.fixed_decimal_unsigned.specs.NumberText.{character}
+use Rattle.fixed_decimal_signed.specs.NumberText.{character}
 use Rattle.writeable.proofs.AnnotatedTextLemmas.{bytes_joined}
 use Rattle.fixed_decimal.specs.CompactText.{behind_compact_mark, compact_text_of, CompactValue}
 use Rattle.fixed_decimal.specs.PlainText.{compact_mark}
-use Rattle.fixed_decimal.specs.SignedText.{signed_text_of}
+use Rattle.fixed_decimal_signed.specs.SignedText.{signed_text_of}
 
 -- the digits of a number are those of its tenth, and one more
 pub next_digit : (n c : ℕ) → 0 < n → c ≡ character (n % 10)

@@ -1,85 +1,26 @@
--- Rows of docs/numbers.md on signs, texts, equality and calls, so that a wrong definition does not pass.
+-- Rows of docs/numbers.md on whole, compact and scientific texts, equality and calls, so that a wrong definition does not pass.
 use Rattle.std.proofs.Common.{◌≡◌, ℕ, ◌+◌, ◌*◌, ◌^◌, true, false, inl, inr, List, [], ◌∷◌, codes, refl, sym, arith, lit≤}
-use Rattle.fixed_decimal_unsigned.specs.Number.{Number}
-use Rattle.fixed_decimal_unsigned.specs.NumberText.{Reads, digit_zero}
-use Rattle.fixed_decimal_unsigned.proofs.TextPartsLemmas.{cons_head, cons_tail}
+use Rattle.fixed_decimal_signed.specs.Number.{Number}
+use Rattle.fixed_decimal_signed.specs.NumberText.{Reads, digit_zero}
+use Rattle.fixed_decimal_signed.proofs.KnownValues.{padded, one, one_read, minus_one_read, plain_one_read}
+use Rattle.fixed_decimal_signed.proofs.TextPartsLemmas.{cons_head, cons_tail}
 use Rattle.fixed_decimal.specs.Calls.{Run}
 use Rattle.fixed_decimal.specs.CompactText.{behind_compact_mark, StartsNoZero, SpellsCompact, ReadsCompact, IsBeyondCompact, IsNoCompactText, compact_text_of}
 use Rattle.fixed_decimal.specs.IntegerText.{ReadsInteger, ReadsFraction}
 use Rattle.fixed_decimal.specs.PlainText.{MarksExponent, HasNoMark, compact_mark}
 use Rattle.fixed_decimal.specs.ScientificText.{ReadsScientific, scientific_text_of}
-use Rattle.fixed_decimal.specs.SignChoice.{chosen_sign}
-use Rattle.fixed_decimal.specs.SignedEquality.{are_equal_decimals, are_equal_compact}
-use Rattle.fixed_decimal.specs.SignedText.{ReadsSigned, signed_text_of}
+use Rattle.fixed_decimal.specs.ExponentEquality.{are_equal_compact}
+use Rattle.fixed_decimal_signed.specs.SignedText.{ReadsSigned}
 use Rattle.fixed_decimal.specs.declared.call.Call.TheVariants.{SetSign, ApplySignDisplay}
-use Rattle.fixed_decimal.specs.declared.sign.Sign.TheVariants.{None, Negative, Positive}
-use Rattle.fixed_decimal.specs.declared.sign.SignDisplay.TheVariants as choice
+use Rattle.fixed_decimal_signed.specs.declared.Sign.TheVariants.{None, Negative, Positive}
+use Rattle.fixed_decimal_signed.specs.declared.SignDisplay.TheVariants as choice
 use Rattle.fixed_decimal.proofs.CompactTextLemmas.{found_compact}
-
--- the choice of sign
-
-minus_stays : chosen_sign choice.Auto Negative false ≡ Negative
-minus_stays = refl
-
-plus_goes : chosen_sign choice.Auto Positive false ≡ None
-plus_goes = refl
-
-plus_comes : chosen_sign choice.Always None true ≡ Positive
-plus_comes = refl
-
-none_at_zero : chosen_sign choice.ExceptZero Negative true ≡ None
-none_at_zero = refl
-
-plus_but_at_zero : chosen_sign choice.ExceptZero None false ≡ Positive
-plus_but_at_zero = refl
-
-minus_of_zero_goes : chosen_sign choice.Negative Negative true ≡ None
-minus_of_zero_goes = refl
-
-plus_never : chosen_sign choice.Negative Positive false ≡ None
-plus_never = refl
 
 -- texts
 
--- 12.3 with the magnitudes 2 and -2 shown too, the ones, and 1.0
-padded : Number
-padded = record { count = 123 * 10 ^ 32767; low = 32766; high = 32770 }
-
-one : Number
-one = record { count = 1 * 10 ^ 32768; low = 32768; high = 32768 }
-
+-- 1.0
 one_and_tenths : Number
 one_and_tenths = record { count = 10 * 10 ^ 32767; low = 32767; high = 32768 }
-
-minus_text : signed_text_of (record { sign = Negative; absolute = padded }) ≡ codes "-012.30"
-unfolding padded
-minus_text = refl
-
-plus_text : signed_text_of (record { sign = Positive; absolute = one }) ≡ codes "+1"
-unfolding one
-plus_text = refl
-
-one_read : Reads (codes "1") one
-unfolding one
-one_read = record {
-  parts = record { integer = codes "1"; fraction = []; negative = false; exponent = [] };
-  spells = record {
-    last = [];
-    whole = refl;
-    integer_digits = (lit≤ tt, tt);
-    fraction_digits = tt;
-    some = lit≤ tt;
-    power = record { mark = 101; is_mark = inl refl; digits = tt; whole = refl };
-  };
-  within = record { exponent_high = lit≤ tt; exponent_low = lit≤ tt; first = lit≤ tt; last = lit≤ tt };
-  is = refl;
-}
-
-minus_one_read : ReadsSigned (codes "-1") (record { sign = Negative; absolute = one })
-minus_one_read = record { rest = codes "1"; whole = refl; reads = one_read }
-
-plain_one_read : ReadsSigned (codes "1") (record { sign = None; absolute = one })
-plain_one_read = record { rest = codes "1"; whole = refl; reads = one_read }
 
 whole_one : ReadsInteger (codes "-1") (record { sign = Negative; absolute = one })
 unfolding one
@@ -190,9 +131,6 @@ scientific_read = record {
 }
 
 -- equality
-
-signs_tell : are_equal_decimals (record { sign = None; absolute = one }) (record { sign = Positive; absolute = one }) ≡ false
-signs_tell = refl
 
 exponents_tell : are_equal_compact (record { significand = record { sign = None; absolute = one }; exponent = 3 }) (record { significand = record { sign = None; absolute = one }; exponent = 4 }) ≡ false
 unfolding one

@@ -1,8 +1,6 @@
 pub mod CallsLemmas
 pub mod RunOnceLemmas
 pub mod KnownValues
-pub mod KnownRoundings
-pub mod SignedOrderLemmas
 pub mod SignedEqualityLemmas
 pub mod CompactReadOnceLemmas
 pub mod ScientificTextLemmas
@@ -10,8 +8,11 @@ pub mod SignedReadOnceLemmas
 pub mod CompactWritingLemmas
 pub mod CompactTextLemmas
 pub mod PlainTextLemmas
-pub mod SignedTextLemmas
-pub mod WritingLemmas
-pub use Rattle.fixed_decimal_unsigned.proofs.TextPartsLemmas
-pub use Rattle.fixed_decimal_unsigned.proofs.WritingLemmas as UnsignedWritingLemmas
-pub use Rattle.fixed_decimal_unsigned.proofs.SpelledLemmas
+pub use Rattle.fixed_decimal_signed.proofs.SignedTextLemmas
+pub use Rattle.fixed_decimal_signed.proofs.DigitsLemmas
+pub use Rattle.fixed_decimal_signed.proofs.PrintedLemmas
+pub use Rattle.fixed_decimal_signed.proofs.RoundingLemmas
+pub use Rattle.fixed_decimal_signed.proofs.TenLemmas
+pub use Rattle.fixed_decimal_signed.proofs.TextPartsLemmas
+pub use Rattle.fixed_decimal_signed.proofs.UnsignedWritingLemmas
+pub use Rattle.fixed_decimal_signed.proofs.SpelledLemmas

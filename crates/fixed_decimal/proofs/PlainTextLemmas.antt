@@ -1,15 +1,15 @@
 -- A text has one first mark: what stands before it, and the rest.
 use Rattle.std.proofs.Common.{◌≡◌, ℕ, zero, suc, ◌+◌, ◌-◌, ◌<◌, List, [], ◌∷◌, ◌++◌, length, get_or, map, take, refl, sym, subst, arith, add-one, inl, inr}
 use Rattle.std.specs.Char.{digit_value}
-use Rattle.fixed_decimal_unsigned.specs.Number.{Number, whole_digits, fraction_digits}
-use Rattle.fixed_decimal_unsigned.specs.NumberText.{AreDigits, minus, point, behind_point, character, text_of}
-use Rattle.fixed_decimal_unsigned.proofs.PrintedLemmas.{printed_digits}
-use Rattle.fixed_decimal_unsigned.proofs.TextPartsLemmas.{cons_head, cons_tail}
+use Rattle.fixed_decimal_signed.specs.Number.{Number, whole_digits, fraction_digits}
+use Rattle.fixed_decimal_signed.specs.NumberText.{AreDigits, minus, point, behind_point, character, text_of}
+use Rattle.fixed_decimal_signed.proofs.PrintedLemmas.{printed_digits}
+use Rattle.fixed_decimal_signed.proofs.TextPartsLemmas.{cons_both, cons_head, cons_tail}
 use Rattle.fixed_decimal.specs.PlainText.{MarksExponent, HasNoMark}
-use Rattle.fixed_decimal.specs.SignedText.{plus, sign_text, signed_text_of}
-use Rattle.fixed_decimal.specs.SignedValue.{SignedValue}
-use Rattle.fixed_decimal.specs.declared.sign.Sign.{Sign}
-use Rattle.fixed_decimal.specs.declared.sign.Sign.TheVariants.{None, Negative, Positive}
+use Rattle.fixed_decimal_signed.specs.SignedText.{plus, sign_text, signed_text_of}
+use Rattle.fixed_decimal_signed.specs.SignedValue.{SignedValue}
+use Rattle.fixed_decimal_signed.specs.declared.Sign.{Sign}
+use Rattle.fixed_decimal_signed.specs.declared.Sign.TheVariants.{None, Negative, Positive}
 use Rattle.fixed_decimal.specs.PlainParts.{StartsWithMark}
 
 plain_next : (text : List ℕ) (i : ℕ) → i < length text → HasNoMark (take i text) → ¬ (MarksExponent (get_or text i 0)) → HasNoMark (take (suc i) text)
@@ -19,9 +19,6 @@ plain_next (c ∷ cs) (suc i) l h lacks = (h.0, plain_next cs i (omega arith) h.
 
 pub plain_more : (text : List ℕ) (i : ℕ) → i < length text → HasNoMark (take i text) → ¬ (MarksExponent (get_or text i 0)) → HasNoMark (take (i + 1) text)
 plain_more text i l h lacks = subst (λ n. HasNoMark (take n text)) (sym (add-one i)) (plain_next text i l h lacks)
-
-cons_both : (c d : ℕ) (cs ds : List ℕ) → c ≡ d → cs ≡ ds → c ∷ cs ≡ d ∷ ds
-cons_both c d cs ds e f = cc
 
 -- a front ends where a mark follows
 pub plain_fronts : (a x b y : List ℕ) → HasNoMark a → HasNoMark b → StartsWithMark x → StartsWithMark y → a ++ x ≡ b ++ y → (a ≡ b) × (x ≡ y)

@@ -3,21 +3,21 @@ use Rattle.std.proofs.Common.{◌≡◌, ◌≢◌, ℕ, zero, suc, ◌+◌, ◌
 use Rattle.std.specs.Prelude.{ℤ}
 use Rattle.std.proofs.Math.Nat.{mul-div_cancel, mul-le-mul_right}
 use Rattle.std.proofs.lemmas.Bool.{cases_lt}
-use Rattle.fixed_decimal_unsigned.specs.Number.{Number, place}
-use Rattle.fixed_decimal_unsigned.specs.Range.{IsHighest, IsLowest, Rounds}
-use Rattle.fixed_decimal_unsigned.specs.Rounding.{IsMultiple, distance, IsNearest, IsRounded, IsLimited, count_limit, Takes, increment_number}
-use Rattle.fixed_decimal_unsigned.specs.Shifts.{rise, fall, KeepsPlaces, IsShifted, Shifts, TrimsStart, TrimsEnd, TrimsWhole, PadsStart, PadsEnd, Cuts}
-use Rattle.fixed_decimal_unsigned.specs.declared.UnsignedRoundingMode.{UnsignedRoundingMode}
-use Rattle.fixed_decimal_unsigned.specs.declared.UnsignedRoundingMode.TheVariants.{Expand, Trunc, HalfExpand, HalfTrunc, HalfEven}
-use Rattle.fixed_decimal_unsigned.specs.declared.RoundingIncrement.{RoundingIncrement}
-use Rattle.fixed_decimal_unsigned.proofs.MantissaLemmas.{same_number}
-use Rattle.fixed_decimal_unsigned.proofs.TenLemmas.{tens_positive}
+use Rattle.fixed_decimal_signed.specs.Number.{Number, place}
+use Rattle.fixed_decimal_signed.specs.Range.{IsHighest, IsLowest, Rounds}
+use Rattle.fixed_decimal_signed.specs.Rounding.{IsMultiple, distance, IsNearest, IsRounded, IsLimited, count_limit, Takes, increment_number}
+use Rattle.fixed_decimal_signed.specs.Shifts.{rise, fall, KeepsPlaces, IsShifted, Shifts, TrimsStart, TrimsEnd, TrimsWhole, PadsStart, PadsEnd, Cuts}
+use Rattle.fixed_decimal_signed.specs.declared.UnsignedRoundingMode.{UnsignedRoundingMode}
+use Rattle.fixed_decimal_signed.specs.declared.UnsignedRoundingMode.TheVariants.{Expand, Trunc, HalfExpand, HalfTrunc, HalfEven}
+use Rattle.fixed_decimal_signed.specs.declared.RoundingIncrement.{RoundingIncrement}
+use Rattle.fixed_decimal_signed.proofs.MantissaLemmas.{same_number}
+use Rattle.fixed_decimal_signed.proofs.TenLemmas.{tens_positive}
 use Rattle.fixed_decimal.specs.Calls.{Makes, Run, RunsFrom}
-use Rattle.fixed_decimal.specs.SignedRounding.{size_mode, RoundsSigned}
-use Rattle.fixed_decimal.specs.SignedValue.{SignedValue, OnAbsolute}
+use Rattle.fixed_decimal_signed.specs.SignedRounding.{size_mode, RoundsSigned}
+use Rattle.fixed_decimal_signed.specs.SignedValue.{SignedValue, OnAbsolute}
 use Rattle.fixed_decimal.specs.declared.call.Call.{Call}
 use Rattle.fixed_decimal.specs.declared.call.Call.TheVariants.{MultiplyPow10, TrimStart, TrimEnd, TrimEndIfInteger, PadStart, PadEnd, SetMaxPosition, Round, SetSign, ApplySignDisplay}
-use Rattle.fixed_decimal.specs.declared.modes.SignedRoundingMode.{SignedRoundingMode}
+use Rattle.fixed_decimal_signed.specs.declared.SignedRoundingMode.{SignedRoundingMode}
 use Rattle.fixed_decimal.proofs.SignedReadOnceLemmas.{same_signed, signed_reads_once}
 
 both_least : (m k : ℕ) → m ≤ k → k ≤ m → m ≡ k

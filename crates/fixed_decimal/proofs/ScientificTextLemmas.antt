@@ -1,18 +1,18 @@
 -- A scientific text has two sides and one reading, and a printed one reads back.
 use Rattle.std.proofs.Common.{◌≡◌, ℕ, List, [], ◌∷◌, ◌++◌, length, refl, sym, ap, ◌∙◌, subst, inl, inr}
 use Rattle.writeable.specs.AnnotatedText.{bytes}
-use Rattle.fixed_decimal_unsigned.specs.Number.{Number}
-use Rattle.fixed_decimal_unsigned.specs.NumberText.{small_mark}
-use Rattle.fixed_decimal_unsigned.specs.declared.ParseError.{ParseError}
-use Rattle.fixed_decimal_unsigned.specs.declared.ParseError.TheVariants.{Limit, Syntax, Memory}
-use Rattle.fixed_decimal_unsigned.proofs.TextPartsLemmas.{cons_head, cons_tail}
+use Rattle.fixed_decimal_signed.specs.Number.{Number}
+use Rattle.fixed_decimal_signed.specs.NumberText.{small_mark}
+use Rattle.fixed_decimal_signed.specs.declared.ParseError.{ParseError}
+use Rattle.fixed_decimal_signed.specs.declared.ParseError.TheVariants.{Limit, Syntax, Memory}
+use Rattle.fixed_decimal_signed.proofs.TextPartsLemmas.{cons_head, cons_tail}
 use Rattle.writeable.proofs.AnnotatedTextLemmas.{bytes_joined}
 use Rattle.fixed_decimal.specs.IntegerText.{ReadsInteger, IsBeyondInteger}
 use Rattle.fixed_decimal.specs.PlainParts.{StartsWithMark, IsNotScientific, without_limit}
 use Rattle.fixed_decimal.specs.PlainText.{MarksExponent, HasNoMark}
 use Rattle.fixed_decimal.specs.ScientificText.{ScientificValue, IsScientific, SpellsScientific, ReadsScientific, ReadsLongScientific, IsNoScientificText, scientific_text_of}
-use Rattle.fixed_decimal.specs.SignedText.{ReadsSigned, ReadsLongSigned, IsBeyondSigned, IsNoSignedText, signed_text_of}
-use Rattle.fixed_decimal.specs.SignedValue.{SignedValue}
+use Rattle.fixed_decimal_signed.specs.SignedText.{ReadsSigned, ReadsLongSigned, IsBeyondSigned, IsNoSignedText, signed_text_of}
+use Rattle.fixed_decimal_signed.specs.SignedValue.{SignedValue}
 use Rattle.fixed_decimal.proofs.PlainTextLemmas.{plain_fronts, plain_printed}
 use Rattle.fixed_decimal.proofs.SignedReadOnceLemmas.{signed_reads_once, signed_not_beyond, signed_is_text, signed_printed, integer_not_beyond, same_printed}
 

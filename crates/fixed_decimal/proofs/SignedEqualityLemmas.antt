@@ -2,17 +2,18 @@
 use Rattle.std.proofs.Common.{◌≡◌, ℕ, ◌==◌, Bool, List, refl, ap, arith}
 use Rattle.std.specs.Bool.{Decides}
 use Rattle.std.proofs.lemmas.Bool.Decides.{Decides-like, Decides-and, Decides-eqb}
-use Rattle.fixed_decimal_unsigned.specs.Equality.{are_equal}
-use Rattle.fixed_decimal_unsigned.specs.Number.{Number}
-use Rattle.fixed_decimal_unsigned.proofs.EqualityLemmas.{equal_decides}
+use Rattle.fixed_decimal_signed.specs.Equality.{are_equal}
+use Rattle.fixed_decimal_signed.specs.Number.{Number}
+use Rattle.fixed_decimal_signed.proofs.EqualityLemmas.{equal_decides}
 use Rattle.fixed_decimal.specs.CompactText.{CompactValue, IsCompact, compact_text_of}
 use Rattle.fixed_decimal.specs.ScientificText.{ScientificValue, IsScientific, scientific_text_of}
-use Rattle.fixed_decimal.specs.SignedEquality.{sign_number, are_equal_decimals, are_equal_compact, are_equal_scientific}
-use Rattle.fixed_decimal.specs.SignedText.{ReadsSigned, signed_text_of}
-use Rattle.fixed_decimal.specs.SignedValue.{SignedValue}
+use Rattle.fixed_decimal_signed.specs.SignedEquality.{sign_number, are_equal_decimals}
+use Rattle.fixed_decimal.specs.ExponentEquality.{are_equal_compact, are_equal_scientific}
+use Rattle.fixed_decimal_signed.specs.SignedText.{ReadsSigned, signed_text_of}
+use Rattle.fixed_decimal_signed.specs.SignedValue.{SignedValue}
 use Rattle.fixed_decimal.specs.TextLaws.{IsEqualityOfTexts, IsDecimal}
-use Rattle.fixed_decimal.specs.declared.sign.Sign.{Sign}
-use Rattle.fixed_decimal.specs.declared.sign.Sign.TheVariants.{None, Negative, Positive}
+use Rattle.fixed_decimal_signed.specs.declared.Sign.{Sign}
+use Rattle.fixed_decimal_signed.specs.declared.Sign.TheVariants.{None, Negative, Positive}
 use Rattle.fixed_decimal.proofs.CompactReadOnceLemmas.{same_compact, compact_equal}
 use Rattle.fixed_decimal.proofs.ScientificTextLemmas.{same_scientific, scientific_equal}
 use Rattle.fixed_decimal.proofs.SignedReadOnceLemmas.{same_signed, signed_reads_once, signed_printed, same_printed}

@@ -1,15 +1,15 @@
 -- A text has one reading with a sign, and a printed one reads back.
 use Rattle.std.proofs.Common.{◌≡◌, ℕ, List, ◌++◌, refl, sym, ap, ◌∙◌, subst, arith, inl, inr}
-use Rattle.fixed_decimal_unsigned.specs.Number.{Number, IsNumber}
-use Rattle.fixed_decimal_unsigned.specs.NumberText.{minus, Parts, Spells, Reads, text_of}
-use Rattle.fixed_decimal_unsigned.proofs.TextPartsLemmas.{no_sign, cons_head, cons_tail}
-use Rattle.fixed_decimal_unsigned.proofs.ReadOnceLemmas.{reads_once, reads_not_beyond}
-use Rattle.fixed_decimal_unsigned.proofs.PrintedLemmas.{reads_printed}
+use Rattle.fixed_decimal_signed.specs.Number.{Number, IsNumber}
+use Rattle.fixed_decimal_signed.specs.NumberText.{minus, Parts, Spells, Reads, text_of}
+use Rattle.fixed_decimal_signed.proofs.TextPartsLemmas.{no_sign, cons_head, cons_tail}
+use Rattle.fixed_decimal_signed.proofs.ReadOnceLemmas.{reads_once, reads_not_beyond}
+use Rattle.fixed_decimal_signed.proofs.PrintedLemmas.{reads_printed}
 use Rattle.fixed_decimal.specs.IntegerText.{ReadsInteger, ReadsFraction, IsBeyondInteger}
-use Rattle.fixed_decimal.specs.SignedText.{plus, sign_text, ReadsSigned, IsBeyondSigned, IsNoSignedText, signed_text_of}
-use Rattle.fixed_decimal.specs.SignedValue.{SignedValue}
-use Rattle.fixed_decimal.specs.declared.sign.Sign.{Sign}
-use Rattle.fixed_decimal.specs.declared.sign.Sign.TheVariants.{None, Negative, Positive}
+use Rattle.fixed_decimal_signed.specs.SignedText.{plus, sign_text, ReadsSigned, IsBeyondSigned, IsNoSignedText, signed_text_of}
+use Rattle.fixed_decimal_signed.specs.SignedValue.{SignedValue}
+use Rattle.fixed_decimal_signed.specs.declared.Sign.{Sign}
+use Rattle.fixed_decimal_signed.specs.declared.Sign.TheVariants.{None, Negative, Positive}
 
 pub record IsSameSplit (a b : Sign) (one other : List ℕ) : Type 0 where
   pub sign : a ≡ b

@@ -2,14 +2,14 @@
 -- Defined in docs/numbers.md, "Runs of calls".
 -- Cited by `run_calls`, and by the law that a run has one end.
 use Rattle.std.specs.Prelude.{◌≡◌, ℕ, ◌==◌, ◌⊎◌, List, [], ◌∷◌}
-use Rattle.fixed_decimal_unsigned.specs.Number.{Number, place}
-use Rattle.fixed_decimal_unsigned.specs.Range.{MayGrowAt}
-use Rattle.fixed_decimal_unsigned.specs.Shifts.{Shifts, TrimsStart, TrimsEnd, TrimsWhole, PadsStart, PadsEnd, Cuts}
-use Rattle.fixed_decimal_unsigned.specs.declared.RoundingIncrement.TheVariants.{MultiplesOf25}
-use Rattle.fixed_decimal.specs.SignChoice.{chosen_sign}
-use Rattle.fixed_decimal.specs.SignedRounding.{RoundsSigned}
-use Rattle.fixed_decimal.specs.SignedText.{ReadsSigned}
-use Rattle.fixed_decimal.specs.SignedValue.{SignedValue, OnAbsolute}
+use Rattle.fixed_decimal_signed.specs.Number.{Number, place}
+use Rattle.fixed_decimal_signed.specs.Range.{MayGrowAt}
+use Rattle.fixed_decimal_signed.specs.Shifts.{Shifts, TrimsStart, TrimsEnd, TrimsWhole, PadsStart, PadsEnd, Cuts}
+use Rattle.fixed_decimal_signed.specs.declared.RoundingIncrement.TheVariants.{MultiplesOf25}
+use Rattle.fixed_decimal_signed.specs.SignChoice.{chosen_sign}
+use Rattle.fixed_decimal_signed.specs.SignedRounding.{RoundsSigned}
+use Rattle.fixed_decimal_signed.specs.SignedText.{ReadsSigned}
+use Rattle.fixed_decimal_signed.specs.SignedValue.{SignedValue, OnAbsolute}
 use Rattle.fixed_decimal.specs.declared.call.Call.{Call}
 use Rattle.fixed_decimal.specs.declared.call.Call.TheVariants.{MultiplyPow10, TrimStart, TrimEnd, TrimEndIfInteger, PadStart, PadEnd, SetMaxPosition, Round, SetSign, ApplySignDisplay}
 

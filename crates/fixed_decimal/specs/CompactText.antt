@@ -3,11 +3,11 @@
 -- Cited by `try_from_str` of `CompactDecimal` and by its printed text.
 use Rattle.std.specs.Prelude.{◌≡◌, ℕ, ◌<◌, ◌≤◌, ◌⊎◌, List, [], ◌∷◌, ◌++◌, map}
 use Rattle.std.specs.Int.Digits.{digits_of}
-use Rattle.fixed_decimal_unsigned.specs.Number.{Number, IsNumber}
-use Rattle.fixed_decimal_unsigned.specs.NumberText.{AreDigits, spelled, digit_zero, character}
+use Rattle.fixed_decimal_signed.specs.Number.{Number, IsNumber}
+use Rattle.fixed_decimal_signed.specs.NumberText.{AreDigits, spelled, digit_zero, character}
 use Rattle.fixed_decimal.specs.PlainText.{compact_mark, HasNoMark}
-use Rattle.fixed_decimal.specs.SignedText.{ReadsSigned, ReadsLongSigned, IsBeyondSigned, IsNoSignedText, signed_text_of}
-use Rattle.fixed_decimal.specs.SignedValue.{SignedValue}
+use Rattle.fixed_decimal_signed.specs.SignedText.{ReadsSigned, ReadsLongSigned, IsBeyondSigned, IsNoSignedText, signed_text_of}
+use Rattle.fixed_decimal_signed.specs.SignedValue.{SignedValue}
 
 -- a number and the exponent that is shown beside it
 pub record CompactValue : Type 0 where

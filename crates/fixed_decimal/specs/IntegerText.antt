@@ -2,9 +2,9 @@
 -- Defined in docs/numbers.md, "Whole numbers as a type".
 -- Cited by `try_from_str`, `try_from_utf8` and `try_from` of `FixedInteger`.
 use Rattle.std.specs.Prelude.{◌≡◌, ℕ, ◌<◌, ◌⊎◌, List}
-use Rattle.fixed_decimal_unsigned.specs.Number.{Number}
-use Rattle.fixed_decimal.specs.SignedText.{ReadsSigned, IsBeyondSigned}
-use Rattle.fixed_decimal.specs.SignedValue.{SignedValue}
+use Rattle.fixed_decimal_signed.specs.Number.{Number}
+use Rattle.fixed_decimal_signed.specs.SignedText.{ReadsSigned, IsBeyondSigned}
+use Rattle.fixed_decimal_signed.specs.SignedValue.{SignedValue}
 
 -- no digit behind the point is shown
 abbrev pub ShowsNoFraction : SignedValue Number → Type 0

@@ -2,9 +2,9 @@
 -- Defined in docs/numbers.md, "Compact and scientific texts".
 -- Cited by the private functions that take such a text apart, and by no public clause.
 use Rattle.std.specs.Prelude.{◌<◌, ℕ, List, [], ◌∷◌, length}
-use Rattle.fixed_decimal_unsigned.specs.NumberText.{AreDigits}
-use Rattle.fixed_decimal_unsigned.specs.declared.ParseError.{ParseError}
-use Rattle.fixed_decimal_unsigned.specs.declared.ParseError.TheVariants.{Limit, Syntax, Memory}
+use Rattle.fixed_decimal_signed.specs.NumberText.{AreDigits}
+use Rattle.fixed_decimal_signed.specs.declared.ParseError.{ParseError}
+use Rattle.fixed_decimal_signed.specs.declared.ParseError.TheVariants.{Limit, Syntax, Memory}
 use Rattle.fixed_decimal.specs.PlainText.{MarksExponent}
 use Rattle.fixed_decimal.specs.CompactText.{StartsNoZero, SpellsCompact}
 use Rattle.fixed_decimal.specs.ScientificText.{SpellsScientific}

@@ -2,7 +2,7 @@
 -- Defined in docs/numbers.md, "Compact and scientific texts".
 -- Cited by the definitions of the compact and the scientific text.
 use Rattle.std.specs.Prelude.{◌≡◌, ℕ, ◌⊎◌, List, [], ◌∷◌}
-use Rattle.fixed_decimal_unsigned.specs.NumberText.{small_mark, capital_mark}
+use Rattle.fixed_decimal_signed.specs.NumberText.{small_mark, capital_mark}
 
 -- the letter `c`, before the exponent of a compact text
 abbrev pub compact_mark : ℕ

@@ -2,12 +2,12 @@
 -- Defined in docs/numbers.md, "Compact and scientific texts".
 -- Cited by `try_from_str` and `try_from_utf8` of `ScientificDecimal`, and by its printed text.
 use Rattle.std.specs.Prelude.{◌≡◌, ℕ, ◌⊎◌, List, ◌∷◌, ◌++◌}
-use Rattle.fixed_decimal_unsigned.specs.Number.{Number, IsNumber}
-use Rattle.fixed_decimal_unsigned.specs.NumberText.{small_mark}
+use Rattle.fixed_decimal_signed.specs.Number.{Number, IsNumber}
+use Rattle.fixed_decimal_signed.specs.NumberText.{small_mark}
 use Rattle.fixed_decimal.specs.IntegerText.{ShowsNoFraction, ReadsInteger}
 use Rattle.fixed_decimal.specs.PlainText.{HasNoMark}
-use Rattle.fixed_decimal.specs.SignedText.{ReadsSigned, ReadsLongSigned, signed_text_of}
-use Rattle.fixed_decimal.specs.SignedValue.{SignedValue}
+use Rattle.fixed_decimal_signed.specs.SignedText.{ReadsSigned, ReadsLongSigned, signed_text_of}
+use Rattle.fixed_decimal_signed.specs.SignedValue.{SignedValue}
 
 -- a number, and the whole number that is shown as its exponent
 pub record ScientificValue : Type 0 where

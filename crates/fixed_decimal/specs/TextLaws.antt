@@ -3,13 +3,14 @@
 -- Cited by the functions of the module `laws`, and by `try_clone` of `FixedInteger`.
 use Rattle.std.specs.Prelude.{◌≡◌, ℕ, Bool, List}
 use Rattle.std.specs.Bool.{Decides}
-use Rattle.fixed_decimal_unsigned.specs.Number.{Number, IsNumber}
+use Rattle.fixed_decimal_signed.specs.Number.{Number, IsNumber}
 use Rattle.fixed_decimal.specs.CompactText.{IsCompact, ReadsCompact, IsBeyondCompact, compact_text_of}
 use Rattle.fixed_decimal.specs.IntegerText.{ShowsNoFraction, ReadsInteger, IsBeyondInteger}
 use Rattle.fixed_decimal.specs.ScientificText.{ScientificValue, IsScientific, ReadsScientific, scientific_text_of}
-use Rattle.fixed_decimal.specs.SignedEquality.{are_equal_decimals, are_equal_compact, are_equal_scientific}
-use Rattle.fixed_decimal.specs.SignedText.{ReadsSigned, IsBeyondSigned, signed_text_of}
-use Rattle.fixed_decimal.specs.SignedValue.{SignedValue}
+use Rattle.fixed_decimal_signed.specs.SignedEquality.{are_equal_decimals}
+use Rattle.fixed_decimal.specs.ExponentEquality.{are_equal_compact, are_equal_scientific}
+use Rattle.fixed_decimal_signed.specs.SignedText.{ReadsSigned, IsBeyondSigned, signed_text_of}
+use Rattle.fixed_decimal_signed.specs.SignedValue.{SignedValue}
 
 -- a text has one reading, or one error
 pub record HasOneReading {V : Type 0} (Reading : V → Type 0) (Beyond : Type 0) : Type 0 where

@@ -1,8 +1,6 @@
 ghost use Rattle.std.specs.Prelude.{◌≡◌};
 
-use crate::modes::SignedRoundingMode;
-use crate::sign::{Sign, SignDisplay};
-use fixed_decimal_unsigned::RoundingIncrement;
+use fixed_decimal_signed::{RoundingIncrement, Sign, SignDisplay, SignedRoundingMode};
 use thiserror::Error;
 
 /// A call on a `Decimal` that changes it, with what is passed to it: by `PadStart(4)`, `12` becomes `0012`.

@@ -1,14 +1,13 @@
 ghost use Rattle.std.specs.Prelude.{◌≡◌, ◌≢◌, ◌↔◌, IsTrue, false, IfOk, IfErr, IsErrOf, OnOk, OnErr, ◌⊎◌};
 ghost use Rattle.writeable.specs.AnnotatedText.{bytes};
 ghost use Rattle.writeable.specs.Taking.{HasBegun};
-ghost use Rattle.fixed_decimal_unsigned.specs.Number.{Number};
+ghost use Rattle.fixed_decimal_signed.specs.Number.{Number};
 ghost use Rattle.fixed_decimal.specs.Calls.{Makes, Run, RunsFrom, RunsLong, MayGrowBy, MayGrowIn};
-ghost use Rattle.fixed_decimal.specs.SignedText.{ReadsSigned, ReadsLongSigned, ReadsNothing, signed_text_of};
-ghost use Rattle.fixed_decimal.specs.SignedValue.{SignedValue};
+ghost use Rattle.fixed_decimal_signed.specs.SignedText.{ReadsSigned, ReadsLongSigned, ReadsNothing, signed_text_of};
+ghost use Rattle.fixed_decimal_signed.specs.SignedValue.{SignedValue};
 
 use crate::call::{Call, CallsError};
-use crate::decimal::Decimal;
-use fixed_decimal_unsigned::ParseError;
+use fixed_decimal_signed::{Decimal, ParseError};
 use std::alloc::{AllocError, Global};
 use writeable::{Sink, Writeable};
 

@@ -2,19 +2,17 @@ ghost use Rattle.std.specs.Prelude.{◌≡◌, ◌<◌, ◌≤◌, ◌++◌, ◌
 ghost use Rattle.std.specs.Int.Digits.{digits_of};
 ghost use Rattle.writeable.specs.AnnotatedText.{bytes};
 ghost use Rattle.writeable.specs.Taking.{HasBegun};
-ghost use Rattle.fixed_decimal_unsigned.specs.NumberText.{AreDigits, spelled, character};
-ghost use Rattle.fixed_decimal_unsigned.specs.Range.{IsLong};
+ghost use Rattle.fixed_decimal_signed.specs.NumberText.{AreDigits, spelled, character};
+ghost use Rattle.fixed_decimal_signed.specs.Range.{IsLong};
 ghost use Rattle.fixed_decimal.specs.CompactText.{SpellsCompact, ReadsCompact, ReadsLongCompact, IsBeyondCompact, IsNoCompactText, IsCompact, behind_compact_mark, compact_text_of};
 ghost use Rattle.fixed_decimal.specs.PlainParts.{IsCompactExponent, IsNotCompact};
-ghost use Rattle.fixed_decimal.specs.SignedText.{signed_text_of};
+ghost use Rattle.fixed_decimal_signed.specs.SignedText.{signed_text_of};
 ghost use Rattle.std.specs.Cmp.Rules.{comparing};
 ghost use Rattle.std.proofs.Common.{rules};
-ghost use Rattle.fixed_decimal.specs.SignedEquality.{are_equal_compact};
+ghost use Rattle.fixed_decimal.specs.ExponentEquality.{are_equal_compact};
 
-use crate::decimal::Decimal;
 use crate::plain_text::split_mark;
-use crate::writing::text_length;
-use fixed_decimal_unsigned::{ParseError, capped_number};
+use fixed_decimal_signed::{Decimal, ParseError, capped_number, text_length};
 use std::alloc::{AllocError, Global};
 use std::fmt;
 use std::marker::Model;
@@ -36,7 +34,7 @@ impl Model for CompactDecimal {
 }
 
 // Whether every character is a digit.
-#[tactic(auto, using(std::proofs::lemmas::Int::Digits::digits_more, std::proofs::lemmas::List::take_all, crate::proofs::CompactTextLemmas::digit_at))]
+#[tactic(auto, using(std::proofs::lemmas::Int::Digits::digits_more, std::proofs::lemmas::List::take_all, crate::proofs::CompactTextLemmas::digits_at))]
 fn are_digits(text: &[u8]) -> bool
     ensures { IsTrue result ↔ AreDigits text.now }
 {

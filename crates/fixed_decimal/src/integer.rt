@@ -1,17 +1,15 @@
 ghost use Rattle.std.specs.Prelude.{◌≡◌, ◌<◌, ◌≤◌, length, IfOk, IsErrOf, IsOk, OnErr};
-ghost use Rattle.fixed_decimal_unsigned.specs.Range.{IsLong};
+ghost use Rattle.fixed_decimal_signed.specs.Range.{IsLong};
 ghost use Rattle.fixed_decimal.specs.IntegerText.{ShowsNoFraction, ReadsInteger, IsBeyondInteger};
-ghost use Rattle.fixed_decimal.specs.SignedText.{ReadsLongSigned, IsNoSignedText, signed_text_of};
+ghost use Rattle.fixed_decimal_signed.specs.SignedText.{ReadsLongSigned, IsNoSignedText, signed_text_of};
 ghost use Rattle.fixed_decimal.specs.TextLaws.{IsWholeNumber};
-ghost use Rattle.fixed_decimal.specs.WholeNumbers.{IsWhole, IsSignedWhole, size_of};
+ghost use Rattle.fixed_decimal_signed.specs.WholeNumbers.{IsWhole, IsSignedWhole, size_of};
 ghost use Rattle.std.specs.Cmp.Rules.{comparing};
 ghost use Rattle.std.proofs.Common.{rules};
-ghost use Rattle.fixed_decimal.specs.SignedEquality.{are_equal_decimals};
+ghost use Rattle.fixed_decimal_signed.specs.SignedEquality.{are_equal_decimals};
 
-use crate::decimal::Decimal;
 use crate::error::LimitError;
-use crate::writing::text_length;
-use fixed_decimal_unsigned::ParseError;
+use fixed_decimal_signed::{Decimal, ParseError, text_length};
 use std::alloc::{AllocError, Global};
 use std::fmt;
 use std::marker::Model;
@@ -26,9 +24,9 @@ pub struct FixedInteger {
 }
 
 impl Model for FixedInteger {
-    ghost use Rattle.fixed_decimal_unsigned.specs.Number.{Number};
+    ghost use Rattle.fixed_decimal_signed.specs.Number.{Number};
     ghost use Rattle.fixed_decimal.specs.IntegerText.{ShowsNoFraction};
-    ghost use Rattle.fixed_decimal.specs.SignedValue.{SignedValue};
+    ghost use Rattle.fixed_decimal_signed.specs.SignedValue.{SignedValue};
 
     ghost Value = { SignedValue Number };
 
@@ -263,7 +261,7 @@ impl Writeable for FixedInteger {
     ghost use Rattle.std.specs.Prelude.{◌≡◌, Some, length};
     ghost use Rattle.writeable.specs.AnnotatedText.{bytes, text_of as written};
     ghost use Rattle.writeable.specs.LengthHint.{IsWithinHint};
-    ghost use Rattle.fixed_decimal.specs.SignedText.{signed_text_of};
+    ghost use Rattle.fixed_decimal_signed.specs.SignedText.{signed_text_of};
 
     ghost events = { λ v. bytes (signed_text_of v) };
 
@@ -283,7 +281,7 @@ impl Writeable for FixedInteger {
 
 impl fmt::Display for FixedInteger {
     ghost use Rattle.std.specs.Prelude.{Some};
-    ghost use Rattle.fixed_decimal.specs.SignedText.{signed_text_of};
+    ghost use Rattle.fixed_decimal_signed.specs.SignedText.{signed_text_of};
 
     ghost output = { λ v. Some (signed_text_of v) };
 

@@ -1,11 +1,10 @@
 //! Laws on texts and numbers. No call is made: each clause is the law.
 ghost use Rattle.fixed_decimal.specs.Calls.{RunsHaveOneEnd};
-ghost use Rattle.fixed_decimal.specs.SignedOrder.{SignedModesGoByOrder};
 ghost use Rattle.fixed_decimal.specs.TextLaws.{DecimalTextsReadOnce, IntegerTextsReadOnce, CompactTextsReadOnce, ScientificTextsReadOnce, PrintedDecimalsReadBack, PrintedIntegersReadBack, PrintedCompactsReadBack, PrintedScientificsReadBack, DecimalEqualityIsThatOfTexts, CompactEqualityIsThatOfTexts, ScientificEqualityIsThatOfTexts};
 
-pub use fixed_decimal_unsigned::laws::{
+pub use fixed_decimal_signed::laws::{
     equal_texts_are_equal_numbers, equality_is_that_of_texts, printed_texts_read_back,
-    texts_read_once,
+    signed_modes_go_by_order, texts_read_once,
 };
 
 /// A text spells at most one decimal, and is not both within the limits and beyond them: `-12.30` spells only -12.3,
@@ -68,13 +67,6 @@ pub fn compact_equality_is_that_of_texts()
 /// Scientific numbers are equal where their printed texts are, and nowhere else: `1e3` and `10e2` are two.
 pub fn scientific_equality_is_that_of_texts()
     ensures { ScientificEqualityIsThatOfTexts }
-{}
-
-/// Rounding goes by order: `Ceil` takes the least multiple that is not smaller than the signed number, `Floor`
-/// the greatest that is not larger, `HalfCeil` and `HalfFloor` the nearest, with a tie upwards and downwards.
-/// At 0, `-7.3` becomes `-7` by `Ceil` and `-8` by `Floor`.
-pub fn signed_modes_go_by_order()
-    ensures { SignedModesGoByOrder }
 {}
 
 /// A text and a list of calls lead to one decimal, so `run_calls` writes one text: of `1729` with

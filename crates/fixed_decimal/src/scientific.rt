@@ -1,20 +1,18 @@
 ghost use Rattle.std.specs.Prelude.{◌≡◌, ◌⊎◌, ◌++◌, codes, false, is_err, length, IfOk, IfSome, IfNone, IsErrOf, OnOk, OnErr};
 ghost use Rattle.writeable.specs.AnnotatedText.{bytes};
 ghost use Rattle.writeable.specs.Taking.{HasBegun};
-ghost use Rattle.fixed_decimal_unsigned.specs.Range.{IsLong};
-ghost use Rattle.fixed_decimal_unsigned.specs.declared.ParseError.{ParseError};
+ghost use Rattle.fixed_decimal_signed.specs.Range.{IsLong};
+ghost use Rattle.fixed_decimal_signed.specs.declared.ParseError.{ParseError};
 ghost use Rattle.fixed_decimal.specs.PlainParts.{IsNotScientific, without_limit};
 ghost use Rattle.fixed_decimal.specs.ScientificText.{SpellsScientific, ReadsScientific, ReadsLongScientific, IsNoScientificText, IsScientific, scientific_text_of};
-ghost use Rattle.fixed_decimal.specs.SignedText.{signed_text_of};
+ghost use Rattle.fixed_decimal_signed.specs.SignedText.{signed_text_of};
 ghost use Rattle.std.specs.Cmp.Rules.{comparing};
 ghost use Rattle.std.proofs.Common.{rules};
-ghost use Rattle.fixed_decimal.specs.SignedEquality.{are_equal_scientific};
+ghost use Rattle.fixed_decimal.specs.ExponentEquality.{are_equal_scientific};
 
-use crate::decimal::Decimal;
 use crate::integer::FixedInteger;
 use crate::plain_text::split_mark;
-use crate::writing::text_length;
-use fixed_decimal_unsigned::ParseError;
+use fixed_decimal_signed::{Decimal, ParseError, text_length};
 use std::alloc::{AllocError, Global};
 use std::fmt;
 use std::marker::Model;

@@ -1,6 +1,6 @@
 -- Blocks of digits: the bytes of a text, and digits by the block behind other digits.
 use Rattle.std.proofs.Common.{◌≡◌, ℕ, zero, suc, ◌+◌, ◌-◌, ◌*◌, ◌%◌, ◌/◌, ◌<◌, ◌≤◌, Bool, true, false, IsTrue, true≢false, ◌&&◌, List, [], ◌∷◌, ◌++◌, length, length-append, get_or, map, set, take, drop, refl, sym, ap, ◌∙◌, subst, arith}
-use Rattle.std.proofs.lemmas.List.{append_assoc, append-nil, drop_all, take_all, drop_more, take_more_set, length-map, map-append}
+use Rattle.std.proofs.lemmas.List.{append_assoc, append-nil, drop_all, drop_more, take_more_set, length-map, map-append}
 use Rattle.std.proofs.lemmas.Int.Digits.{digits_more}
 use Rattle.std.specs.Bool.{OnTrue}
 use Rattle.std.specs.Char.{digit_value}

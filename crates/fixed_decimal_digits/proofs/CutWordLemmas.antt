@@ -6,7 +6,7 @@ use Rattle.std.proofs.lemmas.Int.Digits.{number_push}
 use Rattle.std.proofs.lemmas.Bool.{cases_lt}
 use Rattle.std.specs.Int.Count.{count_leading_zeros, leading_of_zero}
 use Rattle.std.specs.Int.Digits.{number_from_digits, AllBelowBase}
-use Rattle.fixed_decimal_digits.specs.DigitWord.{word_digits, SpellsNumber, IsCutWord}
+use Rattle.fixed_decimal_digits.specs.DigitWord.{word_digits, IsCutWord}
 use Rattle.fixed_decimal_digits.proofs.DigitsLemmas.{number_joined, number_reaches}
 use Rattle.fixed_decimal_digits.proofs.WordLemmas.{word_length, power_positive, powers_rise}
 use Rattle.fixed_decimal_digits.proofs.TenLemmas.{tens_next, tens_apart}

@@ -4,10 +4,10 @@ use Rattle.std.proofs.Math.Nat.{pow-suc, mul-le-mul_right}
 use Rattle.std.specs.Int.Digits.{number_from_digits, number_from_digits_after, AllBelowBase}
 use Rattle.std.proofs.lemmas.Int.Digits.{number_lt, number_after_append, number_more}
 use Rattle.std.proofs.lemmas.Nat.{div-mul-add, mod-mul-add}
-use Rattle.std.proofs.lemmas.List.{take-append-drop}
+use Rattle.std.proofs.lemmas.List.{take-append-drop, take_all}
 use Rattle.fixed_decimal_digits.proofs.TenLemmas.{tens_positive}
 
-spread : (n d t u : ℕ) → u ≡ t * 10 → (n * 10 + d) * t ≡ n * u + (0 * 10 + d) * t
+pub spread : (n d t u : ℕ) → u ≡ t * 10 → (n * 10 + d) * t ≡ n * u + (0 * 10 + d) * t
 spread n d t u e = omega (arith, ap (λ x. n * x) e)
 
 joined : (a b c : ℕ) → a + b + c ≡ a + (b + c)
@@ -51,6 +51,10 @@ pub below_drop : (n : ℕ) (ds : List ℕ) → AllBelowBase 10 ds → AllBelowBa
 below_drop zero ds h = h
 below_drop (suc n) [] h = tt
 below_drop (suc n) (d ∷ ds) h = below_drop n ds h.1
+
+-- all the digits that there are
+pub number_all : (ds : List ℕ) → number_from_digits 10 (take (length ds) ds) ≡ number_from_digits 10 ds
+number_all ds = ap (number_from_digits 10) (take_all (length ds) ds (omega arith))
 
 pub below_at : (ds : List ℕ) (i : ℕ) → AllBelowBase 10 ds → get_or ds i 0 < 10
 below_at [] i h = omega arith

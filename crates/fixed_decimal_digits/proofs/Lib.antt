@@ -9,6 +9,7 @@ pub mod LoopLemmas
 pub mod PackedChanges
 pub mod PackedLemmas
 pub mod PairLemmas
+pub mod PlaceLemmas
 pub mod OddLemmas
 pub mod TenLemmas
 pub mod RoundingStepLemmas
@@ -22,3 +23,4 @@ pub mod KnownRoundings
 pub mod KnownDigits
 pub mod NumberWordLemmas
 pub mod CutWordLemmas
+pub mod LongNumberLemmas

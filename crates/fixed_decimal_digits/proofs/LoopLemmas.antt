@@ -22,28 +22,28 @@ carried n = omega arith
 shifted : (a b t u v w : ℕ) → a ≡ b * 10 + 0 → u ≡ t * 10 → v ≡ a * t → v ≡ b * u
 shifted a b t u v w e f h = h ∙ ap (λ x. x * t) e ∙ by_product b t u f
 
-pub zeros_more : (value : ℕ) (ds : List ℕ) (n : ℕ) → 0 < n → n ≤ length ds → get_or ds (n - 1) 0 ≡ 0
-    → value ≡ number_from_digits 10 (take n ds) * 10 ^ (length ds - n) → value ≡ number_from_digits 10 (take (n - 1) ds) * 10 ^ (length ds - (n - 1))
-zeros_more value ds n p l z h =
-    let e : length ds - n + 1 ≡ length ds - (n - 1) = omega arith in
-    shifted (number_from_digits 10 (take n ds)) (number_from_digits 10 (take (n - 1) ds)) (10 ^ (length ds - n)) (10 ^ (length ds - (n - 1))) value 0
-    (front_more ds n p l ∙ ap (λ d. number_from_digits 10 (take (n - 1) ds) * 10 + d) z) (ap (λ k. 10 ^ k) (sym e) ∙ tens_next (length ds - n)) h
+pub zeros_more : (value : ℕ) (ds : List ℕ) (n long : ℕ) → 0 < n → n ≤ length ds → n ≤ long → get_or ds (n - 1) 0 ≡ 0
+    → value ≡ number_from_digits 10 (take n ds) * 10 ^ (long - n) → value ≡ number_from_digits 10 (take (n - 1) ds) * 10 ^ (long - (n - 1))
+zeros_more value ds n long p l k z h =
+    let e : long - n + 1 ≡ long - (n - 1) = omega arith in
+    shifted (number_from_digits 10 (take n ds)) (number_from_digits 10 (take (n - 1) ds)) (10 ^ (long - n)) (10 ^ (long - (n - 1))) value 0
+    (front_more ds n p l ∙ ap (λ d. number_from_digits 10 (take (n - 1) ds) * 10 + d) z) (ap (λ k. 10 ^ k) (sym e) ∙ tens_next (long - n)) h
 
-pub nines_more : (value : ℕ) (ds : List ℕ) (n : ℕ) → 0 < n → n ≤ length ds → get_or ds (n - 1) 0 ≡ 9
-    → value ≡ (number_from_digits 10 (take n ds) + 1) * 10 ^ (length ds - n) → value ≡ (number_from_digits 10 (take (n - 1) ds) + 1) * 10 ^ (length ds - (n - 1))
-nines_more value ds n p l z h =
-    let e : length ds - n + 1 ≡ length ds - (n - 1) = omega arith in
-    shifted (number_from_digits 10 (take n ds) + 1) (number_from_digits 10 (take (n - 1) ds) + 1) (10 ^ (length ds - n)) (10 ^ (length ds - (n - 1))) value 0
-    (ap (λ d. d + 1) (front_more ds n p l ∙ ap (λ d. number_from_digits 10 (take (n - 1) ds) * 10 + d) z) ∙ carried (number_from_digits 10 (take (n - 1) ds))) (ap (λ k. 10 ^ k) (sym e) ∙ tens_next (length ds - n)) h
+pub nines_more : (value : ℕ) (ds : List ℕ) (n long : ℕ) → 0 < n → n ≤ length ds → n ≤ long → get_or ds (n - 1) 0 ≡ 9
+    → value ≡ (number_from_digits 10 (take n ds) + 1) * 10 ^ (long - n) → value ≡ (number_from_digits 10 (take (n - 1) ds) + 1) * 10 ^ (long - (n - 1))
+nines_more value ds n long p l k z h =
+    let e : long - n + 1 ≡ long - (n - 1) = omega arith in
+    shifted (number_from_digits 10 (take n ds) + 1) (number_from_digits 10 (take (n - 1) ds) + 1) (10 ^ (long - n)) (10 ^ (long - (n - 1))) value 0
+    (ap (λ d. d + 1) (front_more ds n p l ∙ ap (λ d. number_from_digits 10 (take (n - 1) ds) * 10 + d) z) ∙ carried (number_from_digits 10 (take (n - 1) ds))) (ap (λ k. 10 ^ k) (sym e) ∙ tens_next (long - n)) h
 
-pub nines_two : (value : ℕ) (ds : List ℕ) (n : ℕ) → 1 < n → n ≤ length ds → get_or ds (n - 2) 0 ≡ 9 → get_or ds (n - 2 + 1) 0 ≡ 9
-    → value ≡ (number_from_digits 10 (take n ds) + 1) * 10 ^ (length ds - n) → value ≡ (number_from_digits 10 (take (n - 2) ds) + 1) * 10 ^ (length ds - (n - 2))
-nines_two value ds n p l y z h =
+pub nines_two : (value : ℕ) (ds : List ℕ) (n long : ℕ) → 1 < n → n ≤ length ds → n ≤ long → get_or ds (n - 2) 0 ≡ 9 → get_or ds (n - 2 + 1) 0 ≡ 9
+    → value ≡ (number_from_digits 10 (take n ds) + 1) * 10 ^ (long - n) → value ≡ (number_from_digits 10 (take (n - 2) ds) + 1) * 10 ^ (long - (n - 2))
+nines_two value ds n long p l q y z h =
     let last : n - 2 + 1 ≡ n - 1 = omega arith in
     let before : n - 1 - 1 ≡ n - 2 = omega arith in
-    let one = nines_more value ds n (omega arith) l (ap (λ k. get_or ds k 0) (sym last) ∙ z) h in
-    let two = nines_more value ds (n - 1) (omega arith) (omega arith) (ap (λ k. get_or ds k 0) before ∙ y) one in
-    subst (λ k. value ≡ (number_from_digits 10 (take k ds) + 1) * 10 ^ (length ds - k)) before two
+    let one = nines_more value ds n long (omega arith) l q (ap (λ k. get_or ds k 0) (sym last) ∙ z) h in
+    let two = nines_more value ds (n - 1) long (omega arith) (omega arith) (omega arith) (ap (λ k. get_or ds k 0) before ∙ y) one in
+    subst (λ k. value ≡ (number_from_digits 10 (take k ds) + 1) * 10 ^ (long - k)) before two
 
 pub front_last : (ds : List ℕ) (n : ℕ) → AllBelowBase 10 ds → 0 < n → n ≤ length ds → number_from_digits 10 (take n ds) % 10 ≡ get_or ds (n - 1) 0
 front_last ds n h p l =
@@ -62,7 +62,7 @@ raised ds n = take (n - 1) ds ++ ((get_or ds (n - 1) 0 + 1) ∷ [])
 pub raised_length : (ds : List ℕ) (n : ℕ) → 0 < n → n ≤ length ds → length (raised ds n) ≡ n
 raised_length ds n p l = length-append (take (n - 1) ds) ((get_or ds (n - 1) 0 + 1) ∷ []) ∙ ap (λ k. k + 1) (length-take-le (n - 1) ds (omega arith)) ∙ back n p
 
-raised_number : (ds : List ℕ) (n : ℕ) → 0 < n → n ≤ length ds → number_from_digits 10 (raised ds n) ≡ number_from_digits 10 (take n ds) + 1
+pub raised_number : (ds : List ℕ) (n : ℕ) → 0 < n → n ≤ length ds → number_from_digits 10 (raised ds n) ≡ number_from_digits 10 (take n ds) + 1
 raised_number ds n p l = number_push 10 (take (n - 1) ds) (get_or ds (n - 1) 0 + 1) ∙ regrouped (number_from_digits 10 (take (n - 1) ds) * 10) (get_or ds (n - 1) 0) ∙ ap (λ k. k + 1) (sym (front_more ds n p l))
 
 pub raised_value : (value : ℕ) (ds : List ℕ) (n : ℕ) → 0 < n → n ≤ length ds → value ≡ (number_from_digits 10 (take n ds) + 1) * 10 ^ (length ds - n)

@@ -1,10 +1,10 @@
 -- Bytes after a change are packed, and hold the digits wanted.
 use Rattle.std.proofs.Common.{◌≡◌, ℕ, zero, suc, min, ◌+◌, ◌-◌, ◌*◌, ◌/◌, ◌%◌, ◌<◌, ◌≤◌, ◌↔◌, List, [], ◌∷◌, ◌++◌, length, get_or, set, take, drop, refl, sym, ap, ◌∙◌, subst, arith, length-drop, length-append, drop-cons, add-one}
-use Rattle.std.proofs.lemmas.List.{length_push, length-take-le, drop-drop}
+use Rattle.std.proofs.lemmas.List.{length_push, length-take-le, get_or-take, drop-drop}
 use Rattle.std.specs.Int.Digits.{AllBelowBase}
 use Rattle.fixed_decimal_digits.specs.Packed.{packed, digits_in, IsPacked, shifted}
 use Rattle.fixed_decimal_digits.proofs.DigitsLemmas.{below_take, below_drop, below_push}
-use Rattle.fixed_decimal_digits.proofs.PackedLemmas.{kept_so, packed_length, upper_packed, lower_packed, pushed_upper, pushed_both, pushed_lower, last_room, taken_even, taken_odd, dropped_even, dropped_one}
+use Rattle.fixed_decimal_digits.proofs.PackedLemmas.{kept_so, packed_length, upper_packed, lower_packed, pushed_upper, pushed_both, pushed_lower, last_room, taken_even, taken_odd, raised_upper, raised_lower, dropped_even, dropped_one}
 
 pub bytes_length : (bytes : List ℕ) (count : ℕ) → IsPacked bytes count → length bytes ≡ (count + 1) / 2
 bytes_length bytes count p = ap length p.packed_are ∙ packed_length (digits_in bytes count) ∙ ap (λ n. (n + 1) / 2) p.all
@@ -82,6 +82,50 @@ odd_taken bytes new count n p l odd e =
     ∙ ap (λ b. set (take (suc (n / 2)) b) (n / 2) (get_or (take (suc (n / 2)) b) (n / 2) 0 / 16 * 16)) p.packed_are
     ∙ sym (taken_odd n (n / 2) ds p.tens within (omega arith)))
     (sym (length-take-le n ds within))
+
+-- the last of the first n digits, in the last of their bytes
+pub upper_taken : (bytes : List ℕ) (count n : ℕ) → IsPacked bytes count → n ≤ count → n % 2 ≡ 1 → get_or (take ((n - 1) / 2 + 1) bytes) ((n - 1) / 2) 0 / 16 ≡ get_or (digits_in bytes count) (n - 1) 0
+upper_taken bytes count n p l odd =
+    ap (λ b. b / 16) (get_or-take ((n - 1) / 2 + 1) bytes ((n - 1) / 2) 0 (omega arith)) ∙ upper_digit bytes count (n - 1) p (omega arith) (omega arith)
+
+pub lower_taken : (bytes : List ℕ) (count n : ℕ) → IsPacked bytes count → 0 < n → n ≤ count → n % 2 ≡ 0 → get_or (take ((n - 1) / 2 + 1) bytes) ((n - 1) / 2) 0 % 16 ≡ get_or (digits_in bytes count) (n - 1) 0
+lower_taken bytes count n p q l even =
+    ap (λ b. b % 16) (get_or-take ((n - 1) / 2 + 1) bytes ((n - 1) / 2) 0 (omega arith)) ∙ lower_digit bytes count (n - 1) p (omega arith) (omega arith)
+
+-- the first n digits, with so many more at the last of them
+abbrev pub raised_by : List ℕ → ℕ → ℕ → List ℕ
+raised_by ds n up = take (n - 1) ds ++ (get_or ds (n - 1) 0 + up) ∷ []
+
+length_raised : (ds : List ℕ) (n d : ℕ) → 0 < n → n ≤ length ds → length (take (n - 1) ds ++ d ∷ []) ≡ n
+length_raised ds n d p l = omega (arith, length_push (take (n - 1) ds) d, length-take-le (n - 1) ds (omega (arith, l)), p)
+
+pub odd_raised : (bytes new : List ℕ) (count n up : ℕ) → IsPacked bytes count → n ≤ count → n % 2 ≡ 1 → get_or (digits_in bytes count) (n - 1) 0 + up < 10
+    → new ≡ set (take ((n - 1) / 2 + 1) bytes) ((n - 1) / 2) ((get_or (take ((n - 1) / 2 + 1) bytes) ((n - 1) / 2) 0 / 16 + up) * 16)
+    → IsPacked new n × (digits_in new n ≡ raised_by (digits_in bytes count) n up)
+odd_raised bytes new count n up p l odd t e =
+    let ds = digits_in bytes count in
+    let k = (n - 1) / 2 in
+    let within : n ≤ length ds = omega (arith, p.all) in
+    let next : k + 1 ≡ suc k = omega arith in
+    kept_so new (raised_by ds n up) n (below_push (take (n - 1) ds) (get_or ds (n - 1) 0 + up) (below_take (n - 1) ds p.tens) t)
+    (e ∙ ap (λ j. set (take j bytes) k ((get_or (take j bytes) k 0 / 16 + up) * 16)) next
+    ∙ ap (λ b. set (take (suc k) b) k ((get_or (take (suc k) b) k 0 / 16 + up) * 16)) p.packed_are
+    ∙ sym (raised_upper (n - 1) k up ds p.tens (omega (arith, within, odd)) (omega arith)))
+    (sym (length_raised ds n (get_or ds (n - 1) 0 + up) (omega arith) within))
+
+pub even_raised : (bytes new : List ℕ) (count n up : ℕ) → IsPacked bytes count → 0 < n → n ≤ count → n % 2 ≡ 0 → get_or (digits_in bytes count) (n - 1) 0 + up < 10
+    → new ≡ set (take ((n - 1) / 2 + 1) bytes) ((n - 1) / 2) (get_or (take ((n - 1) / 2 + 1) bytes) ((n - 1) / 2) 0 + up)
+    → IsPacked new n × (digits_in new n ≡ raised_by (digits_in bytes count) n up)
+even_raised bytes new count n up p q l even t e =
+    let ds = digits_in bytes count in
+    let k = (n - 1) / 2 in
+    let within : n ≤ length ds = omega (arith, p.all) in
+    let next : k + 1 ≡ suc k = omega arith in
+    kept_so new (raised_by ds n up) n (below_push (take (n - 1) ds) (get_or ds (n - 1) 0 + up) (below_take (n - 1) ds p.tens) t)
+    (e ∙ ap (λ j. set (take j bytes) k (get_or (take j bytes) k 0 + up)) next
+    ∙ ap (λ b. set (take (suc k) b) k (get_or (take (suc k) b) k 0 + up)) p.packed_are
+    ∙ sym (raised_lower (n - 1) k up ds (omega (arith, within, q)) (omega arith)))
+    (sym (length_raised ds n (get_or ds (n - 1) 0 + up) q within))
 
 pub even_dropped : (bytes new : List ℕ) (count n : ℕ) → IsPacked bytes count → n ≤ count → n % 2 ≡ 0 → new ≡ drop (n / 2) bytes
     → IsPacked new (count - n) × (digits_in new (count - n) ≡ drop n (digits_in bytes count))

@@ -107,6 +107,28 @@ taken_odd (suc (suc n)) k (x ∷ []) h l e = absurd (omega arith)
 taken_odd (suc (suc n)) zero (x ∷ y ∷ ds) h l e = absurd (omega arith)
 taken_odd (suc (suc n)) (suc k) (x ∷ y ∷ ds) h l e = ap (λ r. (x * 16 + y) ∷ r) (taken_odd n k ds h.1.1 (omega arith) (omega arith))
 
+-- a front of the digits, and the one behind it made more
+pub raised_upper : (m k up : ℕ) (ds : List ℕ) → AllBelowBase 10 ds → m < length ds → m ≡ 2 * k
+    → packed (take m ds ++ (get_or ds m 0 + up) ∷ []) ≡ set (take (suc k) (packed ds)) k ((get_or (take (suc k) (packed ds)) k 0 / 16 + up) * 16)
+raised_upper m k up [] h l e = absurd (omega arith)
+raised_upper zero zero up (x ∷ []) h l e = ap (λ v. v ∷ []) (omega arith)
+raised_upper zero zero up (x ∷ y ∷ ds) h l e = let low : y < 10 = h.1.0 in ap (λ v. v ∷ []) (omega arith)
+raised_upper zero (suc k) up (x ∷ xs) h l e = absurd (omega arith)
+raised_upper (suc m) k up (x ∷ []) h l e = absurd (omega arith)
+raised_upper (suc zero) k up (x ∷ y ∷ ds) h l e = absurd (omega arith)
+raised_upper (suc (suc m)) zero up (x ∷ y ∷ ds) h l e = absurd (omega arith)
+raised_upper (suc (suc m)) (suc k) up (x ∷ y ∷ ds) h l e = ap (λ r. (x * 16 + y) ∷ r) (raised_upper m k up ds h.1.1 (omega arith) (omega arith))
+
+pub raised_lower : (m k up : ℕ) (ds : List ℕ) → m < length ds → m ≡ 2 * k + 1
+    → packed (take m ds ++ (get_or ds m 0 + up) ∷ []) ≡ set (take (suc k) (packed ds)) k (get_or (take (suc k) (packed ds)) k 0 + up)
+raised_lower m k up [] l e = absurd (omega arith)
+raised_lower zero k up (x ∷ xs) l e = absurd (omega arith)
+raised_lower (suc m) k up (x ∷ []) l e = absurd (omega arith)
+raised_lower (suc zero) zero up (x ∷ y ∷ ds) l e = ap (λ v. v ∷ []) (omega arith)
+raised_lower (suc zero) (suc k) up (x ∷ y ∷ ds) l e = absurd (omega arith)
+raised_lower (suc (suc m)) zero up (x ∷ y ∷ ds) l e = absurd (omega arith)
+raised_lower (suc (suc m)) (suc k) up (x ∷ y ∷ ds) l e = ap (λ r. (x * 16 + y) ∷ r) (raised_lower m k up ds (omega arith) (omega arith))
+
 -- the digits behind a front
 pub dropped_even : (k : ℕ) (ds : List ℕ) → 2 * k ≤ length ds → packed (drop (2 * k) ds) ≡ drop k (packed ds)
 dropped_even zero ds l = refl

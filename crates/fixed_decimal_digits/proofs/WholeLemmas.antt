@@ -1,10 +1,8 @@
--- Whole numbers: the zeros at their end, and how many digits they have.
-use Rattle.std.proofs.Common.{◌≡◌, ℕ, ◌+◌, ◌-◌, ◌*◌, ◌/◌, ◌%◌, ◌^◌, ◌<◌, ◌≤◌, List, length, get_or, ap, ◌∙◌, arith, ⊎_elim, Result, Ok, Err, OnErr}
+-- Whole numbers: the zeros at their end.
+use Rattle.std.proofs.Common.{◌≡◌, ℕ, ◌+◌, ◌*◌, ◌/◌, ◌%◌, ◌^◌, ◌<◌, ◌≤◌, ap, ◌∙◌, arith, ⊎_elim, Result, Ok, Err, OnErr}
 use Rattle.std.proofs.Math.Nat.{mul-le-mul_right}
 use Rattle.std.proofs.lemmas.Bool.{cases_lt}
-use Rattle.std.specs.Int.Digits.{number_from_digits}
 use Rattle.fixed_decimal_digits.proofs.TenLemmas.{tens_apart, tens_next}
-use Rattle.fixed_decimal_digits.proofs.DigitsLemmas.{number_reaches}
 
 tenfold : (q t u : ℕ) → u ≡ t * 10 → q * 10 * t ≡ q * u
 tenfold q t u e = omega (arith, ap (λ x. q * x) e)
@@ -20,14 +18,6 @@ power_under left zeros p = let h : 1 * 10 ^ zeros ≤ left * 10 ^ zeros = mul-le
 pub zeros_few : (n left zeros : ℕ) → 0 < left → n < 2 ^ 128 → n ≡ left * 10 ^ zeros → zeros < 39
 zeros_few n left zeros p l e =
     ⊎_elim (λ a. a) (λ a. let up = tens_apart 39 zeros a in let under = power_under left zeros p in absurd (omega arith)) (cases_lt zeros 39)
-
-eight_digits : (ds : List ℕ) → 8 ≤ length ds → (0 < length ds → 0 < get_or ds 0 0) → 10 ^ 7 ≤ number_from_digits 10 ds
-eight_digits ds l first =
-    let reach = number_reaches ds (omega arith) (first (omega arith)) in let up = tens_apart 7 (length ds - 1) (omega arith) in omega arith
-
--- a number whose digits but the last are at least eight
-pub nine_digits : (ds : List ℕ) (n : ℕ) → 8 ≤ length ds → (0 < length ds → 0 < get_or ds 0 0) → number_from_digits 10 ds ≡ n / 10 → 10 ^ 8 ≤ n
-nine_digits ds n l first e = let many = eight_digits ds l first in omega arith
 
 -- what holds anyway holds where memory is refused
 pub refused_anyway : {T E P : Type 0} (r : Result T E) → P → OnErr r P

@@ -148,6 +148,16 @@ pub fn copy_bytes(kept: &mut SmallVec<u8, INLINE>, bytes: &[u8])
     kept.extend_from_slice(bytes).unwrap();
 }
 
+// Adds the bytes of a word, for which there is room, the highest first.
+#[tactic(auto, using(crate::proofs::WordLemmas::last_bytes))]
+pub fn push_bytes(kept: &mut SmallVec<u8, INLINE>, word: u64)
+    requires { length kept.old.items + 8 ≤ kept.old.capacity }
+    ensures items { kept.new.items ≡ kept.old.items ++ word_bytes word 8 }
+    ensures capacity { kept.old.capacity ≤ kept.new.capacity }
+{
+    copy_bytes(kept, &word.to_be_bytes());
+}
+
 // Puts a byte in the place of another.
 pub fn set_byte(kept: &mut SmallVec<u8, INLINE>, index: usize, byte: u8)
     requires { index < length kept.old.items }

@@ -1,30 +1,20 @@
 // Digits added to a list, and removed from either end.
-ghost use Rattle.std.specs.Prelude.{◌≡◌, ◌+◌, ◌%◌, ◌^◌, ◌<◌, ◌≤◌, [], ◌∷◌, ◌++◌, length, take, drop, map, IsOk, OnOk, OnErr};
+ghost use Rattle.std.specs.Prelude.{◌≡◌, ◌+◌, ◌%◌, ◌^◌, ◌<◌, ◌≤◌, [], ◌∷◌, ◌++◌, length, drop, map, IsOk, OnOk, OnErr};
 ghost use Rattle.std.specs.Char.{digit_value};
 ghost use Rattle.std.specs.Int.Digits.{AllBelowBase};
 ghost use Rattle.fixed_decimal_digits.specs.DigitText.{AreDigits};
 ghost use Rattle.fixed_decimal_digits.specs.DigitWord.{word_digits};
 
 use crate::digit_bytes::{
-    assign_bytes, bytes_of_block, copy_bytes, drop_bytes, set_byte, shift_half,
+    assign_bytes, bytes_of_block, copy_bytes, drop_bytes, push_bytes, set_byte, shift_half,
 };
 use crate::digits::{Digits, INLINE_DIGITS};
 use std::alloc::AllocError;
 
-impl Digits {
-    // Adds a digit behind the last.
-    pub(crate) fn push(&mut self, digit: u8) -> Result<(), AllocError>
-        requires { digit < 10 }
-        ensures ok { OnOk result (self.new.items ≡ self.old.items ++ digit ∷ []) }
-        ensures err { OnErr result (self.new ≡ self.old) }
-        ensures room { OnErr result (8 ≤ length self.old.items) }
-    {
-        let _inline = self.len();
-        self.reserve(1)?;
-        self.push_reserved(digit);
-        Ok(())
-    }
+// What the first digit of sixteen counts in a word.
+const FIRST_OF_SIXTEEN: u64 = 0x1000_0000_0000_0000;
 
+impl Digits {
     /// Makes room for `more` more digits: with room for two more behind 9, 0, 5, pushing both does not allocate.
     ///
     /// The digits stay. It allocates where there is less room. `AllocError`: out of memory, only there; the list is
@@ -88,6 +78,44 @@ impl Digits {
         }
         self.put_word(word, count);
         Ok(())
+    }
+
+    // Adds the sixteen digits of a word, for which there is room, behind an even count.
+    fn push_whole(&mut self, word: u64)
+        requires tens { AllBelowBase 10 (word_digits word 16) }
+        requires room { length self.old.items + 16 ≤ self.old.capacity }
+        requires even { length self.old.items % 2 ≡ 0 }
+        ensures items { self.new.items ≡ self.old.items ++ word_digits word 16 }
+    {
+        push_bytes(&mut self.kept, word);
+        self.count += 16;
+    }
+
+    // Adds the fifteen digits of a word, for which there is room, behind an even count.
+    fn push_fifteen(&mut self, word: u64)
+        requires fits { word < 16 ^ 15 }
+        requires tens { AllBelowBase 10 (word_digits word 15) }
+        requires room { length self.old.items + 15 ≤ self.old.capacity }
+        requires even { length self.old.items % 2 ≡ 0 }
+        ensures items { self.new.items ≡ self.old.items ++ word_digits word 15 }
+    {
+        push_bytes(&mut self.kept, word * 16);
+        self.count += 15;
+    }
+
+    // Adds the sixteen digits of a word, for which there is room, behind those that are there.
+    #[tactic(auto, using(crate::proofs::LongNumberLemmas::first_of_sixteen, crate::proofs::LongNumberLemmas::rest_of_sixteen, crate::proofs::LongNumberLemmas::pushed_sixteen, crate::proofs::LongNumberLemmas::even_behind))]
+    pub(crate) fn push_sixteen(&mut self, word: u64)
+        requires tens { AllBelowBase 10 (word_digits word 16) }
+        requires room { length self.old.items + 16 ≤ self.old.capacity }
+        ensures items { self.new.items ≡ self.old.items ++ word_digits word 16 }
+    {
+        if self.len() % 2 == 0 {
+            self.push_whole(word);
+        } else {
+            self.push_reserved((word / FIRST_OF_SIXTEEN) as u8);
+            self.push_fifteen(word % FIRST_OF_SIXTEEN);
+        }
     }
 
     // Adds a digit behind an even count: it begins a byte.
@@ -156,47 +184,6 @@ impl Digits {
     {
         copy_bytes(&mut self.kept, other.kept.as_slice());
         self.count += other.count;
-    }
-
-    // Keeps an even count of the first digits.
-    fn keep_even(&mut self, len: usize)
-        requires within { len ≤ length self.old.items }
-        requires even { len % 2 ≡ 0 }
-        ensures items { self.new.items ≡ take len self.old.items }
-        ensures capacity { self.new.capacity ≡ self.old.capacity }
-    {
-        self.kept.truncate(len / 2);
-        self.count = len;
-    }
-
-    // Keeps an odd count of the first digits: the lower half of the last byte is cleared.
-    fn keep_odd(&mut self, len: usize)
-        requires within { len ≤ length self.old.items }
-        requires odd { len % 2 ≡ 1 }
-        ensures items { self.new.items ≡ take len self.old.items }
-        ensures capacity { self.new.capacity ≡ self.old.capacity }
-    {
-        let last = len / 2;
-        self.kept.truncate(last + 1);
-        let byte = self.kept.as_slice()[last];
-        set_byte(&mut self.kept, last, byte / 16 * 16);
-        self.count = len;
-    }
-
-    // Keeps the first `len` digits.
-    pub(crate) fn truncate(&mut self, len: usize)
-        ensures items { self.new.items ≡ take len self.old.items }
-        ensures capacity { self.new.capacity ≡ self.old.capacity }
-        ensures fits { length self.old.items ≤ self.old.capacity }
-        ensures inline { 8 ≤ self.new.capacity }
-    {
-        if len < self.len() {
-            if len % 2 == 0 {
-                self.keep_even(len);
-            } else {
-                self.keep_odd(len);
-            }
-        }
     }
 
     // Removes an even count of digits from the front.

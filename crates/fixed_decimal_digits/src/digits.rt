@@ -1,4 +1,5 @@
-// The digits of a number: only this file, `digit_changes.rt` and `digit_run.rt` know how they lie in memory.
+// The digits of a number: only this file, `digit_changes.rt`, `digit_fronts.rt` and `digit_run.rt` know how they lie in
+// memory.
 ghost use Rattle.std.specs.Prelude.{◌≡◌, ◌==◌, ◌+◌, ◌%◌, ◌<◌, ◌≤◌, ◌↔◌, [], length, slice_index, take, drop, map, IsTrue, IfOk, OnErr};
 ghost use Rattle.std.specs.Bool.{Decides};
 ghost use Rattle.fixed_decimal_digits.specs.DigitText.{character};

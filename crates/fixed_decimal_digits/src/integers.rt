@@ -2,13 +2,33 @@
 ghost use Rattle.std.specs.Prelude.{◌≡◌, ◌*◌, ◌%◌, ◌^◌, ◌<◌, ◌≤◌, [], length, slice_index, OnOk, OnErr};
 ghost use Rattle.std.specs.Int.Digits.{number_from_digits, AllBelowBase};
 
+use crate::digit_words::{WORD_DIGITS, word_of_number};
 use crate::digits::Digits;
 use std::alloc::AllocError;
+
+// Ten to the power of the digits that a word has.
+const WORD_LIMIT: u128 = 10_000_000_000_000_000;
+
+// Puts the digits of a number, at most sixteen, into a list in place of those that are there.
+#[tactic(auto, using(crate::proofs::LongNumberLemmas::word_first, crate::proofs::LongNumberLemmas::number_of_first, crate::proofs::LongNumberLemmas::first_reaches, crate::proofs::LongNumberLemmas::none_of_zero))]
+fn assign_number(digits: &mut Digits, number: u64) -> Result<(), AllocError>
+    requires { number < 10 ^ 16 }
+    ensures value { OnOk result (number_from_digits 10 digits.new.items ≡ number) }
+    ensures tens { OnOk result (AllBelowBase 10 digits.new.items) }
+    ensures none { OnOk result (number ≡ 0 → digits.new.items ≡ []) }
+    ensures first { OnOk result (0 < length digits.new.items → 0 < slice_index digits.new.items 0) }
+    ensures room { OnErr result (10 ^ 8 ≤ number) }
+{
+    let _inline = digits.len();
+    let word = word_of_number(number);
+    let count = WORD_DIGITS - (word.leading_zeros() / 4) as usize;
+    digits.assign_word(word, count)
+}
 
 /// Puts the digits of a number into an empty list: 9, 0, 5 of 905.
 ///
 /// It allocates where there are more than eight. `AllocError`: out of memory, only there.
-#[tactic(auto, using(std::proofs::lemmas::Int::Digits::number_push))]
+#[tactic(auto, using(crate::proofs::LongNumberLemmas::number_behind, crate::proofs::LongNumberLemmas::tens_behind, crate::proofs::LongNumberLemmas::first_behind))]
 pub fn push_number(digits: &mut Digits, number: u128) -> Result<(), AllocError>
     requires { digits.old.items ≡ [] }
     ensures value { OnOk result (number_from_digits 10 digits.new.items ≡ number) }
@@ -17,11 +37,13 @@ pub fn push_number(digits: &mut Digits, number: u128) -> Result<(), AllocError>
     ensures first { OnOk result (0 < length digits.new.items → 0 < slice_index digits.new.items 0) }
     ensures room { OnErr result (10 ^ 8 ≤ number) }
 {
-    if number == 0 {
-        return Ok(());
+    if number < WORD_LIMIT {
+        return assign_number(digits, number as u64);
     }
-    push_number(digits, number / 10)?;
-    digits.push((number % 10) as u8)?;
+    push_number(digits, number / WORD_LIMIT)?;
+    digits.reserve(WORD_DIGITS)?;
+    let word = word_of_number((number % WORD_LIMIT) as u64);
+    digits.push_sixteen(word);
     Ok(())
 }
 

@@ -6,8 +6,28 @@ use crate::digits::Digits;
 use crate::turns::Turns;
 use std::sync::ledger::Ledger;
 
+// How many of the first `from` digits come before the zeros that these end in.
+#[tactic(auto, using(crate::proofs::LoopLemmas::zeros_more, crate::proofs::LoopLemmas::front_last))]
+pub fn count_before_zeros<L: Ledger>(digits: &Digits, from: usize, turns: &mut Turns<L>) -> usize
+    requires tens { AllBelowBase 10 digits.now.items }
+    requires first { 0 < length digits.now.items → 0 < slice_index digits.now.items 0 }
+    requires from { from ≤ length digits.now.items }
+    ensures within { result ≤ from }
+    ensures some { 0 < from → 0 < result }
+    ensures last { 0 < result → 0 < number_from_digits 10 (take result digits.now.items) % 10 }
+    ensures value { number_from_digits 10 (take from digits.now.items) ≡ number_from_digits 10 (take result digits.now.items) * 10 ^ (from - result) }
+    ensures turns { turns.new + result ≡ turns.old + from }
+{
+    let mut count = from;
+    while count > 0 && digits.get(count - 1) == 0 {
+        turns.turn();
+        count -= 1;
+    }
+    count
+}
+
 // Removes the zeros that the digits end in.
-#[tactic(auto, using(crate::proofs::LoopLemmas::zeros_more, crate::proofs::LoopLemmas::front_last, crate::proofs::DigitsLemmas::below_take))]
+#[tactic(auto, using(crate::proofs::DigitsLemmas::number_all, crate::proofs::DigitsLemmas::below_take))]
 pub fn drop_zeros<L: Ledger>(digits: &mut Digits, turns: &mut Turns<L>)
     requires tens { AllBelowBase 10 digits.old.items }
     requires first { 0 < length digits.old.items → 0 < slice_index digits.old.items 0 }
@@ -20,22 +40,20 @@ pub fn drop_zeros<L: Ledger>(digits: &mut Digits, turns: &mut Turns<L>)
     ensures capacity { digits.new.capacity ≡ digits.old.capacity }
     ensures turns { turns.new ≡ turns.old + (length digits.old.items - length digits.new.items) }
 {
-    let mut count = digits.len();
-    while count > 0 && digits.get(count - 1) == 0 {
-        turns.turn();
-        count -= 1;
-    }
+    let count = count_before_zeros(digits, digits.len(), turns);
     digits.truncate(count);
 }
 
-// How many digits come before the pairs of nines that the digits end in. A turn that takes two digits counts as two.
+// How many of the first `from` digits come before the pairs of nines that these end in. A turn that takes two digits
+// counts as two.
 #[tactic(auto, using(crate::proofs::LoopLemmas::nines_two))]
-fn count_before_nine_pairs<L: Ledger>(digits: &Digits, turns: &mut Turns<L>) -> usize
-    ensures within { result ≤ length digits.now.items }
-    ensures value { number_from_digits 10 digits.now.items + 1 ≡ (number_from_digits 10 (take result digits.now.items) + 1) * 10 ^ (length digits.now.items - result) }
-    ensures turns { turns.new + result ≡ turns.old + length digits.now.items }
+fn count_before_nine_pairs<L: Ledger>(digits: &Digits, from: usize, turns: &mut Turns<L>) -> usize
+    requires from { from ≤ length digits.now.items }
+    ensures within { result ≤ from }
+    ensures value { number_from_digits 10 (take from digits.now.items) + 1 ≡ (number_from_digits 10 (take result digits.now.items) + 1) * 10 ^ (from - result) }
+    ensures turns { turns.new + result ≡ turns.old + from }
 {
-    let mut count = digits.len();
+    let mut count = from;
     while count > 1 && digits.are_both(count - 2, 9) {
         turns.turn();
         turns.turn();
@@ -44,16 +62,17 @@ fn count_before_nine_pairs<L: Ledger>(digits: &Digits, turns: &mut Turns<L>) -> 
     count
 }
 
-// How many digits come before the nines that the digits end in.
+// How many of the first `from` digits come before the nines that these end in, two a turn.
 #[tactic(auto, using(crate::proofs::LoopLemmas::nines_more))]
-fn count_before_nines<L: Ledger>(digits: &Digits, turns: &mut Turns<L>) -> usize
-    ensures within { result ≤ length digits.now.items }
-    ensures value { number_from_digits 10 digits.now.items + 1 ≡ (number_from_digits 10 (take result digits.now.items) + 1) * 10 ^ (length digits.now.items - result) }
+fn count_before_many_nines<L: Ledger>(digits: &Digits, from: usize, turns: &mut Turns<L>) -> usize
+    requires from { from ≤ length digits.now.items }
+    ensures within { result ≤ from }
+    ensures value { number_from_digits 10 (take from digits.now.items) + 1 ≡ (number_from_digits 10 (take result digits.now.items) + 1) * 10 ^ (from - result) }
     ensures last { 0 < result → ¬ (slice_index digits.now.items (result - 1) ≡ 9) }
-    ensures turns { 0 < result → turns.new + result ≡ turns.old + length digits.now.items + 1 }
-    ensures all { result ≡ 0 → turns.new ≡ turns.old + length digits.now.items }
+    ensures turns { 0 < result → turns.new + result ≡ turns.old + from + 1 }
+    ensures all { result ≡ 0 → turns.new ≡ turns.old + from }
 {
-    let mut count = count_before_nine_pairs(digits, turns);
+    let mut count = count_before_nine_pairs(digits, from, turns);
     while count > 0 {
         turns.turn();
         if digits.get(count - 1) != 9 {
@@ -64,8 +83,24 @@ fn count_before_nines<L: Ledger>(digits: &Digits, turns: &mut Turns<L>) -> usize
     count
 }
 
+// How many of the first `from` digits come before the nines that these end in.
+pub fn count_before_nines<L: Ledger>(digits: &Digits, from: usize, turns: &mut Turns<L>) -> usize
+    requires from { from ≤ length digits.now.items }
+    ensures within { result ≤ from }
+    ensures value { number_from_digits 10 (take from digits.now.items) + 1 ≡ (number_from_digits 10 (take result digits.now.items) + 1) * 10 ^ (from - result) }
+    ensures last { 0 < result → ¬ (slice_index digits.now.items (result - 1) ≡ 9) }
+    ensures turns { 0 < result → turns.new + result ≡ turns.old + from + 1 }
+    ensures all { result ≡ 0 → turns.new ≡ turns.old + from }
+{
+    if from > 0 && digits.get(from - 1) != 9 {
+        turns.turn();
+        return from;
+    }
+    count_before_many_nines(digits, from, turns)
+}
+
 // Adds one at the last digit, and returns whether the number has a digit more before its first.
-#[tactic(auto, using(crate::proofs::LoopLemmas::raised_value, crate::proofs::LoopLemmas::raised_last, crate::proofs::LoopLemmas::raised_below, crate::proofs::LoopLemmas::raised_first, crate::proofs::LoopLemmas::raised_length))]
+#[tactic(auto, using(crate::proofs::DigitsLemmas::number_all, crate::proofs::LoopLemmas::raised_value, crate::proofs::LoopLemmas::raised_last, crate::proofs::LoopLemmas::raised_below, crate::proofs::LoopLemmas::raised_first, crate::proofs::LoopLemmas::raised_length))]
 pub fn add_one<L: Ledger>(digits: &mut Digits, turns: &mut Turns<L>) -> bool
     requires tens { AllBelowBase 10 digits.old.items }
     requires first { 0 < length digits.old.items → 0 < slice_index digits.old.items 0 }
@@ -77,14 +112,12 @@ pub fn add_one<L: Ledger>(digits: &mut Digits, turns: &mut Turns<L>) -> bool
     ensures some { 0 < length digits.new.items }
     ensures turns { turns.new ≤ turns.old + length digits.old.items }
 {
-    let count = count_before_nines(digits, turns);
+    let count = count_before_nines(digits, digits.len(), turns);
     if count == 0 {
         digits.clear();
         digits.push_reserved(1);
         return true;
     }
-    let last = digits.get(count - 1);
-    digits.truncate(count - 1);
-    digits.push_reserved(last + 1);
+    digits.raise(count, 1);
     false
 }

@@ -10,6 +10,7 @@ use crate::digits::Digits;
 use crate::modes::{RoundingIncrement, UnsignedRoundingMode};
 use crate::places::ONES;
 use crate::rounding_digits::{add_one, drop_zeros};
+use crate::rounding_place::round_at_place;
 use crate::rounding_steps::{compare_below, compare_half, has_below, pair_at, takes_upper};
 use crate::turns::Turns;
 use std::alloc::AllocError;
@@ -140,14 +141,8 @@ fn append_pair<L: Ledger>(digits: &mut Digits, pair: u8, turns: &mut Turns<L>) -
     }
 }
 
-/// Rounds the digits of a number at a place: 9, 9 at 32768, rounded at 32768 by `Expand`, are 1, and the result is
-/// 32770.
-///
-/// It returns the new place of the first digit, which may be past the last place. The condition is that the digits
-/// neither begin with a zero nor end in one, which then holds of the new ones. It allocates only for a multiple that
-/// ends in 25 or 75 and a last digit right above the place, the first at least eight above it. `AllocError`: out of
-/// memory, only there; the digits are then as before.
-pub fn round_digits<L: Ledger>(
+// Rounds the digits of a number at a place by the two digits there.
+fn round_by_pair<L: Ledger>(
     digits: &mut Digits,
     top: u32,
     place: u32,
@@ -175,6 +170,39 @@ pub fn round_digits<L: Ledger>(
     digits.truncate(kept);
     let below = append_pair(digits, pair, turns);
     Ok(top_of(digits, place + below))
+}
+
+/// Rounds the digits of a number at a place: 9, 9 at 32768, rounded at 32768 by `Expand`, are 1, and the result is
+/// 32770.
+///
+/// It returns the new place of the first digit, which may be past the last place. The condition is that the digits
+/// neither begin with a zero nor end in one, which then holds of the new ones. It allocates only for a multiple that
+/// ends in 25 or 75 and a last digit right above the place, the first at least eight above it. `AllocError`: out of
+/// memory, only there; the digits are then as before.
+pub fn round_digits<L: Ledger>(
+    digits: &mut Digits,
+    top: u32,
+    place: u32,
+    mode: UnsignedRoundingMode,
+    increment: RoundingIncrement,
+    turns: &mut Turns<L>,
+) -> Result<u32, AllocError>
+    requires trimmed { IsTrimmed digits.old.items top }
+    requires place { place < 65536 }
+    requires top { top < 65536 }
+    ensures trimmed { IfOk result (λ t. IsTrimmed digits.new.items t) }
+    ensures value { IfOk result (λ t. IsRounded mode (increment_number increment * 10 ^ place) (count_of digits.old.items top) (count_of digits.new.items t)) }
+    ensures same { OnErr result (digits.new ≡ digits.old) }
+    ensures succeeds { increment ≢ RoundingIncrement.MultiplesOf25 → IsOk result }
+    ensures room { OnErr result (place + 8 ≤ top) }
+    ensures last { OnErr result (place + length digits.old.items ≡ top) }
+    ensures odd { OnErr result (TakesOdd mode (increment_number increment * 10 ^ place) (count_of digits.old.items top)) }
+    ensures turns { turns.new ≤ turns.old + length digits.old.items }
+{
+    if increment == RoundingIncrement::MultiplesOf1 {
+        return Ok(round_at_place(digits, top, place, mode, turns));
+    }
+    round_by_pair(digits, top, place, mode, increment, turns)
 }
 
 // The place of the first digit, where the last is at a place; that of the ones where there is no digit.

@@ -1,10 +1,11 @@
+use crate::concatenation::{self, Concatenate};
 use crate::number::{Number, parsed};
 use crate::rounding::{Passed, Rounding};
 use crate::step::Step;
 use crate::words::{sign_display_of, sign_of};
-use crate::{concatenation, counted, in_place, integers};
-use fixed_decimal::{Decimal, ParseError, Sign, SignDisplay, UnsignedDecimal};
-use rows::{Stop, number_of, put_debug, put_last_written, split_word, unescaped};
+use crate::{counted, in_place, integers};
+use fixed_decimal::{ConcatenateError, Decimal, ParseError, Sign, SignDisplay, UnsignedDecimal};
+use rows::{Stop, number_of, put_debug, put_last_written, split_word};
 use std::alloc::{AllocError, Global};
 
 // A decimal of a sign and an absolute value.
@@ -129,42 +130,13 @@ fn consumed(number: Decimal, step: Step<'_>, out: &mut String) -> Result<(), Sto
     }
 }
 
-// The answer of `concatenate_end` of the absolute value.
-fn concatenate_end(mut number: Decimal, other: &str, out: &mut String) -> Result<(), Stop> {
-    match parsed(UnsignedDecimal::try_from_str(*out.allocator(), other)) {
-        Ok(other) => {
-            let done = number.concatenate_end(other);
-            concatenation::left(out, number, done)
-        }
-        Err(stop) => {
-            drop(number);
-            Err(stop)
-        }
-    }
-}
-
-// The answer of `concatenated_end`.
-fn concatenated_end(number: Decimal, other: &str, out: &mut String) -> Result<(), Stop> {
-    match parsed(UnsignedDecimal::try_from_str(*out.allocator(), other)) {
-        Ok(other) => concatenation::given(out, number.concatenated_end(other)),
-        Err(stop) => {
-            drop(number);
-            Err(stop)
-        }
-    }
-}
-
-// The decimal of bytes.
-fn of_bytes(alloc: Global, text: &str) -> Result<Decimal, Stop> {
-    let bytes = unescaped(alloc, text)?;
-    let read = Decimal::try_from_utf8(alloc, bytes.as_slice());
-    drop(bytes);
-    parsed(read)
-}
-
 impl Number for Decimal {
     fn read(alloc: Global, text: &str) -> Result<Decimal, ParseError> {
         Decimal::try_from_str(alloc, text)
+    }
+
+    fn read_utf8(alloc: Global, bytes: &[u8]) -> Option<Result<Decimal, ParseError>> {
+        Some(Decimal::try_from_utf8(alloc, bytes))
     }
 
     fn make(alloc: Global, step: Step<'_>) -> Result<Decimal, Stop> {
@@ -172,7 +144,6 @@ impl Number for Decimal {
             "zero" => Ok(Decimal::zero(alloc)),
             "one" => Ok(Decimal::one(alloc)),
             "new" => of_parts(alloc, step.passed),
-            "try_from_utf8" => of_bytes(alloc, step.passed),
             _ => integers::decimal(alloc, step),
         }
     }
@@ -203,9 +174,21 @@ impl Number for Decimal {
 
     fn finish(self, step: Step<'_>, out: &mut String) -> Result<(), Stop> {
         match step.name {
-            "concatenate_end" => concatenate_end(self, step.passed, out),
-            "concatenated_end" => concatenated_end(self, step.passed, out),
+            "concatenate_end" | "concatenated_end" => concatenation::answer(self, step, out),
             _ => consumed(self, step, out),
         }
+    }
+}
+
+impl Concatenate for Decimal {
+    fn put_end(&mut self, other: UnsignedDecimal) -> Result<(), ConcatenateError<UnsignedDecimal>> {
+        self.concatenate_end(other)
+    }
+
+    fn with_end(
+        self,
+        other: UnsignedDecimal,
+    ) -> Result<Decimal, ConcatenateError<(Decimal, UnsignedDecimal)>> {
+        self.concatenated_end(other)
     }
 }

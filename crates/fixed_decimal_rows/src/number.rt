@@ -11,6 +11,11 @@ pub trait Number: Display + Drop + PartialEq + Sized + Writeable {
     /// `try_from_str` of the type.
     fn read(alloc: Global, text: &str) -> Result<Self, ParseError>;
 
+    /// `try_from_utf8` of the type; none where the type has no such call.
+    fn read_utf8(_alloc: Global, _bytes: &[u8]) -> Option<Result<Self, ParseError>> {
+        None
+    }
+
     /// The number that another call makes.
     fn make(alloc: Global, step: Step<'_>) -> Result<Self, Stop>;
 
@@ -59,6 +64,17 @@ fn read_escaped<N: Number>(alloc: Global, text: &str) -> Result<N, Stop> {
     number
 }
 
+// The number that the bytes of a text spell, by `try_from_utf8`.
+fn read_utf8<N: Number>(alloc: Global, text: &str) -> Result<N, Stop> {
+    let bytes = unescaped(alloc, text)?;
+    let read = N::read_utf8(alloc, bytes.as_slice());
+    drop(bytes);
+    match read {
+        Some(read) => parsed(read),
+        None => Err(Stop::Unknown),
+    }
+}
+
 // The number that a long text spells, by `try_from_str`.
 fn read_long<N: Number>(alloc: Global, word: &str) -> Result<N, Stop> {
     let text = long_text(alloc, word)?;
@@ -71,6 +87,7 @@ fn read_long<N: Number>(alloc: Global, word: &str) -> Result<N, Stop> {
 fn started<N: Number>(alloc: Global, step: Step<'_>) -> Result<N, Stop> {
     match step.name {
         "try_from_str" => read_escaped(alloc, step.passed),
+        "try_from_utf8" => read_utf8(alloc, step.passed),
         "try_from_long_str" => read_long(alloc, step.passed),
         _ => N::make(alloc, step),
     }
@@ -154,7 +171,8 @@ fn common_answer<N: Number>(
     }
 }
 
-// Writes the answer of a call that changes the number, its text, or of one that changes nothing; false where it is none of these.
+// Writes the answer of a call that changes the number, its text, or of one that changes nothing; false where it is none
+// of these.
 fn plain_answer<N: Number>(
     alloc: Global,
     number: &mut N,
@@ -178,7 +196,8 @@ fn change_all<N: Number>(number: &mut N, calls: &[&str]) -> Result<(), Stop> {
     Ok(())
 }
 
-// Makes calls, of which the last one is answered: writes the answer, or returns false where the last call consumes the number.
+// Makes calls, of which the last one is answered: writes the answer, or returns false where the last call consumes the
+// number.
 fn answer_calls<N: Number>(
     alloc: Global,
     number: &mut N,
@@ -211,7 +230,8 @@ fn answer_on<N: Number>(
     }
 }
 
-/// Writes the answer of a row of calls: the first makes a number, each further one is made on what the one before it left.
+/// Writes the answer of a row of calls: the first makes a number, each further one is made on what the one before it
+/// left.
 pub fn answer<N: Number>(alloc: Global, fields: &[&str], out: &mut String) -> Result<(), Stop> {
     let Some((start, calls)) = fields.split_first() else {
         return Err(Stop::Unknown);

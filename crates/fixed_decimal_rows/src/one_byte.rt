@@ -1,8 +1,9 @@
 //! Whole numbers of one digit to a byte: the plain program that the calls of `UnsignedDecimal`, which keeps two to a
 //! byte, are compared with on many numbers.
 
+use crate::concatenation;
 use crate::number::parsed;
-use crate::unsigned::concatenate_end;
+use crate::step::Step;
 use fixed_decimal::UnsignedDecimal;
 use rows::{Stop, filled, number_of, put, put_last_written};
 use std::alloc::{AllocError, Global};
@@ -138,7 +139,13 @@ fn put_packed(out: &mut String, text: &str, change: Change<'_>) -> Result<(), St
         Change::Nothing => (),
         Change::Expanded(place) => number.expand(place as i16),
         Change::Cut(place) => number.set_max_position(place as i16),
-        Change::Concatenated(back) => return concatenate_end(number, back, out),
+        Change::Concatenated(back) => {
+            let step = Step {
+                name: "concatenate_end",
+                passed: back,
+            };
+            return concatenation::answer(number, step, out);
+        }
     }
     put_last_written(out, number)
 }
@@ -181,7 +188,8 @@ fn concatenates_alike(alloc: Global, text: &str, index: u8) -> Result<bool, Stop
     alike
 }
 
-// Whether both are the same after each of the changes, at each place of a number with this many digits behind its first.
+// Whether both are the same after each of the changes, at each place of a number with this many digits behind its
+// first.
 fn is_alike(alloc: Global, text: &str, count: u8) -> Result<bool, Stop> {
     let mut alike = is_same(alloc, text, text, Change::Nothing)?;
     for place in 1..count {

@@ -1,7 +1,7 @@
 use crate::number::{Number, parsed};
 use crate::step::Step;
 use fixed_decimal::{Decimal, FixedInteger, ParseError, ScientificDecimal};
-use rows::{Stop, split_word, unescaped};
+use rows::{Stop, split_word};
 use std::alloc::{AllocError, Global};
 
 // A scientific number of its significand and its exponent.
@@ -17,23 +17,18 @@ fn of_parts(alloc: Global, words: &str) -> Result<ScientificDecimal, Stop> {
     }
 }
 
-// The scientific number of bytes.
-fn of_bytes(alloc: Global, text: &str) -> Result<ScientificDecimal, Stop> {
-    let bytes = unescaped(alloc, text)?;
-    let read = ScientificDecimal::try_from_utf8(alloc, bytes.as_slice());
-    drop(bytes);
-    parsed(read)
-}
-
 impl Number for ScientificDecimal {
     fn read(alloc: Global, text: &str) -> Result<ScientificDecimal, ParseError> {
         ScientificDecimal::try_from_str(alloc, text)
     }
 
+    fn read_utf8(alloc: Global, bytes: &[u8]) -> Option<Result<ScientificDecimal, ParseError>> {
+        Some(ScientificDecimal::try_from_utf8(alloc, bytes))
+    }
+
     fn make(alloc: Global, step: Step<'_>) -> Result<ScientificDecimal, Stop> {
         match step.name {
             "from" => of_parts(alloc, step.passed),
-            "try_from_utf8" => of_bytes(alloc, step.passed),
             _ => Err(Stop::Unknown),
         }
     }

@@ -1,9 +1,12 @@
-use crate::number::{Number, parsed};
+use crate::concatenation::{self, Concatenate};
+use crate::number::Number;
 use crate::rounding::{Passed, Rounding};
 use crate::step::Step;
-use crate::{concatenation, given, in_place, integers};
-use fixed_decimal::{ParseError, SignedRoundingMode, UnsignedDecimal, UnsignedRoundingMode};
-use rows::{Stop, put_last_written, unescaped};
+use crate::{given, in_place, integers};
+use fixed_decimal::{
+    ConcatenateError, ParseError, SignedRoundingMode, UnsignedDecimal, UnsignedRoundingMode,
+};
+use rows::{Stop, put_last_written};
 use std::alloc::{AllocError, Global};
 
 // The number that a call leaves which is passed nothing.
@@ -90,53 +93,19 @@ fn consumed(number: UnsignedDecimal, step: Step<'_>, out: &mut String) -> Result
     }
 }
 
-/// The answer of `concatenate_end`.
-pub fn concatenate_end(
-    mut number: UnsignedDecimal,
-    other: &str,
-    out: &mut String,
-) -> Result<(), Stop> {
-    match parsed(UnsignedDecimal::try_from_str(*out.allocator(), other)) {
-        Ok(other) => {
-            let done = number.concatenate_end(other);
-            concatenation::left(out, number, done)
-        }
-        Err(stop) => {
-            drop(number);
-            Err(stop)
-        }
-    }
-}
-
-// The answer of `concatenated_end`.
-fn concatenated_end(number: UnsignedDecimal, other: &str, out: &mut String) -> Result<(), Stop> {
-    match parsed(UnsignedDecimal::try_from_str(*out.allocator(), other)) {
-        Ok(other) => concatenation::given(out, number.concatenated_end(other)),
-        Err(stop) => {
-            drop(number);
-            Err(stop)
-        }
-    }
-}
-
-// The number of bytes.
-fn of_bytes(alloc: Global, text: &str) -> Result<UnsignedDecimal, Stop> {
-    let bytes = unescaped(alloc, text)?;
-    let read = UnsignedDecimal::try_from_utf8(alloc, bytes.as_slice());
-    drop(bytes);
-    parsed(read)
-}
-
 impl Number for UnsignedDecimal {
     fn read(alloc: Global, text: &str) -> Result<UnsignedDecimal, ParseError> {
         UnsignedDecimal::try_from_str(alloc, text)
+    }
+
+    fn read_utf8(alloc: Global, bytes: &[u8]) -> Option<Result<UnsignedDecimal, ParseError>> {
+        Some(UnsignedDecimal::try_from_utf8(alloc, bytes))
     }
 
     fn make(alloc: Global, step: Step<'_>) -> Result<UnsignedDecimal, Stop> {
         match step.name {
             "zero" => Ok(UnsignedDecimal::zero(alloc)),
             "one" => Ok(UnsignedDecimal::one(alloc)),
-            "try_from_utf8" => of_bytes(alloc, step.passed),
             "given_digits" => given::number(alloc, step.passed),
             _ => integers::unsigned(alloc, step),
         }
@@ -162,9 +131,21 @@ impl Number for UnsignedDecimal {
 
     fn finish(self, step: Step<'_>, out: &mut String) -> Result<(), Stop> {
         match step.name {
-            "concatenate_end" => concatenate_end(self, step.passed, out),
-            "concatenated_end" => concatenated_end(self, step.passed, out),
+            "concatenate_end" | "concatenated_end" => concatenation::answer(self, step, out),
             _ => consumed(self, step, out),
         }
+    }
+}
+
+impl Concatenate for UnsignedDecimal {
+    fn put_end(&mut self, other: UnsignedDecimal) -> Result<(), ConcatenateError<UnsignedDecimal>> {
+        self.concatenate_end(other)
+    }
+
+    fn with_end(
+        self,
+        other: UnsignedDecimal,
+    ) -> Result<UnsignedDecimal, ConcatenateError<(UnsignedDecimal, UnsignedDecimal)>> {
+        self.concatenated_end(other)
     }
 }

@@ -2,7 +2,7 @@ use crate::integers;
 use crate::number::{Number, parsed};
 use crate::step::Step;
 use fixed_decimal::{Decimal, FixedInteger, ParseError};
-use rows::{Stop, put_last_written, unescaped};
+use rows::{Stop, put_last_written};
 use std::alloc::{AllocError, Global};
 
 // The whole number that the decimal of a text becomes.
@@ -13,23 +13,18 @@ fn of_decimal(alloc: Global, text: &str) -> Result<FixedInteger, Stop> {
     }
 }
 
-// The whole number of bytes.
-fn of_bytes(alloc: Global, text: &str) -> Result<FixedInteger, Stop> {
-    let bytes = unescaped(alloc, text)?;
-    let read = FixedInteger::try_from_utf8(alloc, bytes.as_slice());
-    drop(bytes);
-    parsed(read)
-}
-
 impl Number for FixedInteger {
     fn read(alloc: Global, text: &str) -> Result<FixedInteger, ParseError> {
         FixedInteger::try_from_str(alloc, text)
     }
 
+    fn read_utf8(alloc: Global, bytes: &[u8]) -> Option<Result<FixedInteger, ParseError>> {
+        Some(FixedInteger::try_from_utf8(alloc, bytes))
+    }
+
     fn make(alloc: Global, step: Step<'_>) -> Result<FixedInteger, Stop> {
         match step.name {
             "try_from" => of_decimal(alloc, step.passed),
-            "try_from_utf8" => of_bytes(alloc, step.passed),
             _ => integers::whole(alloc, step),
         }
     }

@@ -17,4 +17,6 @@ pub mod KnownValues
 pub mod KnownRanges
 pub mod KnownRoundings
 pub mod WritingLemmas
+pub use Rattle.fixed_decimal_digits.proofs.DigitsLemmas
+pub use Rattle.fixed_decimal_digits.proofs.RoundingLemmas
 pub use Rattle.fixed_decimal_digits.proofs.TenLemmas

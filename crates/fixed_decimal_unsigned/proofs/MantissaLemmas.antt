@@ -6,15 +6,13 @@ use Rattle.std.specs.Char.{digit_value}
 use Rattle.std.specs.Str.Parse.{digits_value_after}
 use Rattle.fixed_decimal_unsigned.specs.Number.{Number}
 use Rattle.fixed_decimal_unsigned.specs.NumberText.{spelled, AreEndsIn, number_at}
+use Rattle.fixed_decimal_digits.proofs.DigitsLemmas.{spread}
 use Rattle.fixed_decimal_digits.proofs.TenLemmas.{tens_split, tens_next, tens_positive}
 use Rattle.fixed_decimal_unsigned.proofs.StoredLemmas.{positive_tested}
 
 pub spelled_after : (xs ys : List ℕ) (n : ℕ) → digits_value_after 10 (digits_value_after 10 n xs) ys ≡ digits_value_after 10 n (xs ++ ys)
 spelled_after [] ys n = refl
 spelled_after (x ∷ xs) ys n = spelled_after xs ys (n * 10 + digit_value x)
-
-spread : (n d t u : ℕ) → u ≡ t * 10 → (n * 10 + d) * t ≡ n * u + (0 * 10 + d) * t
-spread n d t u e = omega (arith, ap (λ x. n * x) e)
 
 joined : (a b c : ℕ) → a + b + c ≡ a + (b + c)
 joined a b c = omega arith

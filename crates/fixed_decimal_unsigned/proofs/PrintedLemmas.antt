@@ -1,12 +1,13 @@
 -- The printed text of a number spells that number.
 use Rattle.std.proofs.Common.{◌≡◌, ℕ, zero, suc, ◌+◌, ◌-◌, ◌*◌, ◌/◌, ◌%◌, ◌^◌, ◌<◌, ◌≤◌, min, max, ◌==◌, ◌||◌, Bool, true, false, cond, List, [], ◌∷◌, ◌++◌, length, length-append, map, refl, sym, ap, ◌∙◌, subst, arith, inl}
-use Rattle.std.proofs.Math.Nat.{mod-lt, mod-eq_of_lt, div-div-eq-div-mul, mod-one, div-add-mod', pow-suc, zero-add, suc-add}
+use Rattle.std.proofs.Math.Nat.{mod-lt, mod-eq_of_lt, div-div-eq-div-mul, mod-one, div-add-mod', pow-suc}
 use Rattle.std.proofs.lemmas.Nat.{div_below}
 use Rattle.std.proofs.lemmas.List.{append-nil, map-append}
 use Rattle.std.proofs.lemmas.Bool.Decides.{nat_tests}
 use Rattle.std.specs.Char.{digit_value}
 use Rattle.fixed_decimal_unsigned.specs.Number.{Number, IsNumber, digit, digits_down, whole_digits, fraction_digits}
 use Rattle.fixed_decimal_unsigned.specs.NumberText.{AreDigits, spelled, behind_point, character, small_mark, Parts, number_at, mantissa_of, up_of, down_of, AreEndsIn, Reads, text_of}
+use Rattle.fixed_decimal_digits.proofs.ShownDigitsLemmas.{down_split}
 use Rattle.fixed_decimal_digits.proofs.TenLemmas.{tens_positive, tens_split, remainder_more}
 use Rattle.fixed_decimal_unsigned.proofs.MantissaLemmas.{spelled_from, number_made, same_number}
 use Rattle.fixed_decimal_unsigned.proofs.ReadOnceLemmas.{same_at, reads_once}
@@ -45,17 +46,6 @@ printed_value count base (suc k) =
     ∙ sym (remainder_more (count / 10 ^ base) (10 ^ k) (tens_positive k))
     ∙ ap (λ t. count / 10 ^ base % t) (sym (pow-suc 10 k))
 
-cons_same : (c d : ℕ) (cs ds : List ℕ) → c ≡ d → cs ≡ ds → c ∷ cs ≡ d ∷ ds
-cons_same c d cs ds e f = cc
-
--- digits above digits are digits one behind the other
-pub digits_joined : (count base k n : ℕ) → digits_down count (base + k) n ++ digits_down count base k ≡ digits_down count base (n + k)
-digits_joined count base k zero = ap (digits_down count base) (sym (zero-add k))
-digits_joined count base k (suc n) =
-    let e : base + k + n ≡ base + (n + k) = omega arith in
-    cons_same (digit count (base + k + n)) (digit count (base + (n + k))) (digits_down count (base + k) n ++ digits_down count base k) (digits_down count base (n + k))
-    (ap (digit count) e) (digits_joined count base k n) ∙ ap (digits_down count base) (sym (suc-add n k))
-
 quotient_whole : (n low k top : ℕ) → low + k ≡ top → n < 10 ^ top → n / 10 ^ low % 10 ^ k ≡ n / 10 ^ low
 quotient_whole n low k top e h =
     let under : n < 10 ^ k * 10 ^ low = subst (λ x. n < x) (tens_split k low top (omega arith)) h in
@@ -89,7 +79,7 @@ reads_printed v h =
     let parts : Parts = record { integer = map character (whole_digits v); fraction = map character (fraction_digits v); negative = false; exponent = [] } in
     let base : v.low + below ≡ 32768 = let a = h.low in omega arith in
     let all : whole_digits v ++ fraction_digits v ≡ digits_down v.count v.low (above + below) =
-    ap (λ b. digits_down v.count b above ++ fraction_digits v) (sym base) ∙ digits_joined v.count v.low below above in
+    ap (λ b. digits_down v.count b above ++ fraction_digits v) (sym base) ∙ sym (down_split v.count v.low above below) in
     let mantissa : spelled (parts.integer ++ parts.fraction) ≡ v.count / 10 ^ v.low =
     ap spelled (sym (map-append character (whole_digits v) (fraction_digits v)) ∙ ap (map character) all)
     ∙ printed_value v.count v.low (above + below)

@@ -8,9 +8,9 @@ use Rattle.fixed_decimal_digits.specs.DigitList.{IsTrimmed, count_of}
 use Rattle.fixed_decimal_unsigned.specs.Range.{IsHighest, HoldsDigits, Rounds}
 use Rattle.fixed_decimal_unsigned.specs.Stored.{IsStored}
 use Rattle.fixed_decimal_digits.specs.declared.UnsignedRoundingMode.{UnsignedRoundingMode}
-use Rattle.fixed_decimal_digits.specs.declared.UnsignedRoundingMode.TheVariants.{Expand, Trunc, HalfExpand, HalfTrunc, HalfEven}
 use Rattle.fixed_decimal_digits.proofs.TenLemmas.{tens_apart, tens_positive}
 use Rattle.fixed_decimal_digits.proofs.CountLemmas.{count_reaches, count_below, count_none}
+use Rattle.fixed_decimal_digits.proofs.RoundingLemmas.{rounded_multiple}
 use Rattle.fixed_decimal_digits.proofs.RoundingStepLemmas.{whole_room, top_below}
 
 pub trimmed_of : (ds : List ℕ) (top low high : ℕ) → IsStored ds top low high → IsTrimmed ds top
@@ -51,13 +51,6 @@ multiple_power c k u = omega arith
 
 pub multiple_whole : (k place n : ℕ) → IsMultiple (k * 10 ^ place) n → n % 10 ^ place ≡ 0
 multiple_whole k place n m = ap (λ x. x % 10 ^ place) (m.1 ∙ multiple_power m.0 k (10 ^ place)) ∙ mul-mod_left (m.0 * k) (10 ^ place)
-
-pub rounded_multiple : (mode : UnsignedRoundingMode) (unit n m : ℕ) → IsRounded mode unit n m → IsMultiple unit m
-rounded_multiple Expand unit n m h = h.multiple
-rounded_multiple Trunc unit n m h = h.multiple
-rounded_multiple HalfExpand unit n m h = h.multiple
-rounded_multiple HalfTrunc unit n m h = h.multiple
-rounded_multiple HalfEven unit n m h = h.multiple
 
 pub limited_whole : (place n limited : ℕ) → IsLimited n limited → n % 10 ^ place ≡ 0 → limited % 10 ^ place ≡ 0
 limited_whole place n limited (inl h) w = ap (λ x. x % 10 ^ place) h.1 ∙ w

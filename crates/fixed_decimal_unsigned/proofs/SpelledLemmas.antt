@@ -1,12 +1,13 @@
 -- What digits spell: one more digit, zeros at the end, and the digits kept.
-use Rattle.std.proofs.Common.{◌≡◌, ℕ, ◌+◌, ◌*◌, ◌%◌, ◌^◌, ◌<◌, min, List, [], ◌∷◌, ◌++◌, length, get_or, take, sym, ap, ◌∙◌, arith}
-use Rattle.std.proofs.lemmas.Int.Digits.{digits_value_more, digits_value_push}
+use Rattle.std.proofs.Common.{◌≡◌, ℕ, ◌+◌, ◌*◌, ◌%◌, ◌^◌, ◌<◌, min, List, [], ◌∷◌, ◌++◌, length, get_or, take, sym, ap, ◌∙◌, subst, arith, length-append}
+use Rattle.std.proofs.lemmas.Int.Digits.{digits_value-lt, digits_value_more, digits_value_push}
 use Rattle.std.proofs.lemmas.Nat.{mod-mul-add}
 use Rattle.std.proofs.lemmas.Bool.Decides.{nat_tests}
 use Rattle.std.specs.Char.{digit_value}
 use Rattle.std.specs.Str.Parse.{digits_value_after}
 use Rattle.fixed_decimal_unsigned.specs.NumberText.{AreDigits, spelled}
 use Rattle.fixed_decimal_digits.proofs.TenLemmas.{tens_next}
+use Rattle.fixed_decimal_digits.proofs.WordLemmas.{digits_joined}
 pub use Rattle.fixed_decimal_digits.proofs.DigitTextLemmas.{digits_at}
 
 capped_step : (n d : ℕ) → min (min n 65536 * 10 + d) 65536 ≡ min (n * 10 + d) 65536
@@ -16,6 +17,10 @@ pub capped_more : (text : List ℕ) (i n : ℕ) → i < length text → n ≡ mi
 capped_more text i n l h =
     ap (λ k. min (k * 10 + digit_value (get_or text i 0)) 65536) h ∙ capped_step (spelled (take i text)) (digit_value (get_or text i 0))
     ∙ ap (λ k. min k 65536) (sym (digits_value_more 10 text i l))
+
+pub spelled_below : (whole fraction : List ℕ) → AreDigits whole → AreDigits fraction → spelled (whole ++ fraction) < 10 ^ (length whole + length fraction)
+spelled_below whole fraction are more =
+    subst (λ n. spelled (whole ++ fraction) < 10 ^ n) (length-append whole fraction) (digits_value-lt 10 (whole ++ fraction) (digits_joined whole fraction are more))
 
 pub digits_front : (front : List ℕ) (c : ℕ) → AreDigits (front ++ (c ∷ [])) → AreDigits front
 digits_front [] c h = tt

@@ -12,7 +12,7 @@ cons_head c d cs ds e = cc
 pub cons_tail : (c d : ℕ) (cs ds : List ℕ) → c ∷ cs ≡ d ∷ ds → cs ≡ ds
 cons_tail c d cs ds e = cc
 
-cons_both : (c d : ℕ) (cs ds : List ℕ) → c ≡ d → cs ≡ ds → c ∷ cs ≡ d ∷ ds
+pub cons_both : (c d : ℕ) (cs ds : List ℕ) → c ≡ d → cs ≡ ds → c ∷ cs ≡ d ∷ ds
 cons_both c d cs ds e f = cc
 
 mark_no_digit : (m : ℕ) → (m ≡ small_mark) ⊎ (m ≡ capital_mark) → ¬ (digit_value m < 10)

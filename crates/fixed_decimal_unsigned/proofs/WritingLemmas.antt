@@ -9,24 +9,15 @@ use Rattle.writeable.specs.AnnotatedText.{bytes, text_of as written}
 use Rattle.writeable.proofs.AnnotatedTextLemmas.{text_of_bytes, bytes_joined}
 use Rattle.fixed_decimal_unsigned.specs.Number.{Number, digit, digits_down, whole_digits, fraction_digits}
 use Rattle.fixed_decimal_unsigned.specs.NumberText.{character, behind_point, point, text_of as printed}
+use Rattle.fixed_decimal_digits.proofs.ShownDigitsLemmas.{down_split}
 use Rattle.fixed_decimal_unsigned.proofs.PrintedLemmas.{digit_below_ten, printed_length}
-
--- so many digits are the upper of them, and the rest
-digits_apart : (count base size rest : ℕ) → digits_down count base (size + rest) ≡ digits_down count (base + rest) size ++ digits_down count base rest
-digits_apart count base zero rest = ap (digits_down count base) (omega arith)
-digits_apart count base (suc k) rest =
-    let more : suc k + rest ≡ suc (k + rest) = omega arith in
-    let at : base + (k + rest) ≡ base + rest + k = omega arith in
-    ap (digits_down count base) more
-    ∙ ap (λ p. digit count p ∷ digits_down count base (k + rest)) at
-    ∙ ap (λ ds. digit count (base + rest + k) ∷ ds) (digits_apart count base k rest)
 
 -- the events of the digits that are left: those of the next piece, and those of the rest
 pub next_piece : (count base left size rest : ℕ) → left ≡ size + rest
     → bytes (map character (digits_down count base left)) ≡ bytes (map character (digits_down count (base + rest) size)) ++ bytes (map character (digits_down count base rest))
 next_piece count base left size rest e =
     ap (λ n. bytes (map character (digits_down count base n))) e
-    ∙ ap (λ ds. bytes (map character ds)) (digits_apart count base size rest)
+    ∙ ap (λ ds. bytes (map character ds)) (down_split count base size rest)
     ∙ ap bytes (map-append character (digits_down count (base + rest) size) (digits_down count base rest))
     ∙ bytes_joined (map character (digits_down count (base + rest) size)) (map character (digits_down count base rest))
 

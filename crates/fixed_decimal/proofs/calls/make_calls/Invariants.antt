@@ -1,7 +1,7 @@
 use Rattle.std.proofs.Common.{drop}
-use Rattle.fixed_decimal_unsigned.specs.Number.{Number}
+use Rattle.fixed_decimal_signed.specs.Number.{Number}
 use Rattle.fixed_decimal.specs.Calls.{Run, MayGrowIn}
-use Rattle.fixed_decimal.specs.SignedValue.{SignedValue}
+use Rattle.fixed_decimal_signed.specs.SignedValue.{SignedValue}
 use Rattle.fixed_decimal.proofs.calls.make_calls.Given as goal
 
 abbrev pub invariant-loop-call : goal.invariant-loop-call

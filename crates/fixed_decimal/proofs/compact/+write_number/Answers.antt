@@ -3,7 +3,7 @@ use Rattle.std.specs.Char.{encode_utf8}
 use Rattle.std.specs.Int.Digits.{digits_of}
 use Rattle.writeable.specs.AnnotatedText.{bytes}
 use Rattle.writeable.specs.Taking.{HasBegun}
-use Rattle.fixed_decimal_unsigned.specs.NumberText.{character}
+use Rattle.fixed_decimal_signed.specs.NumberText.{character}
 use Rattle.fixed_decimal.proofs.CompactWritingLemmas.{next_digit}
 use Rattle.fixed_decimal.proofs.compact.+write_number.Goals as goal
 

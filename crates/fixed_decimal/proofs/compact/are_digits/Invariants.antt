@@ -1,5 +1,5 @@
 use Rattle.std.proofs.Common.{take}
-use Rattle.fixed_decimal_unsigned.specs.NumberText.{AreDigits}
+use Rattle.fixed_decimal_signed.specs.NumberText.{AreDigits}
 use Rattle.fixed_decimal.proofs.compact.are_digits.Given as goal
 
 abbrev pub invariant-loop-c : goal.invariant-loop-c

@@ -1,4 +1,4 @@
-use Rattle.fixed_decimal.specs.SignedText.{ReadsSigned, signed_text_of}
+use Rattle.fixed_decimal_signed.specs.SignedText.{ReadsSigned, signed_text_of}
 use Rattle.fixed_decimal.proofs.SignedReadOnceLemmas.{signed_reads_once, signed_printed, same_printed}
 use Rattle.fixed_decimal.proofs.laws.printed_integers_read_back.Goals as goal
 

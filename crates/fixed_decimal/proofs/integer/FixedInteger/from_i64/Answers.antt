@@ -1,7 +1,7 @@
 use Rattle.std.proofs.Common.{subst}
 use Rattle.std.specs.Int.{w64}
 use Rattle.std.proofs.lemmas.Int.{to_z-of_z}
-use Rattle.fixed_decimal.specs.WholeNumbers.{IsSignedWhole}
+use Rattle.fixed_decimal_signed.specs.WholeNumbers.{IsSignedWhole}
 use Rattle.fixed_decimal.proofs.integer.FixedInteger.from_i64.Goals as goal
 
 pub returns-clause-value : goal.returns-clause-value

@@ -1,8 +1,8 @@
 use Rattle.std.proofs.Common.{subst}
 use Rattle.writeable.specs.Taking.{on_err}
-use Rattle.fixed_decimal_unsigned.specs.Number.{Number}
-use Rattle.fixed_decimal_unsigned.specs.Range.{IsLong}
-use Rattle.fixed_decimal.specs.SignedValue.{SignedValue}
+use Rattle.fixed_decimal_signed.specs.Number.{Number}
+use Rattle.fixed_decimal_signed.specs.Range.{IsLong}
+use Rattle.fixed_decimal_signed.specs.SignedValue.{SignedValue}
 use Rattle.fixed_decimal.proofs.integer.FixedInteger.try_clone.Goals as goal
 
 pub returns-in_err-decimal-clause-room : goal.returns-in_err-decimal-clause-room

@@ -1,5 +1,5 @@
 use Rattle.std.proofs.Common.{subst}
-use Rattle.fixed_decimal.specs.SignedText.{IsNoSignedText}
+use Rattle.fixed_decimal_signed.specs.SignedText.{IsNoSignedText}
 use Rattle.fixed_decimal.proofs.integer.FixedInteger.try_from_str.Goals as goal
 
 pub returns-clause-syntax : goal.returns-clause-syntax

@@ -1,5 +1,5 @@
 use Rattle.std.proofs.Common.{◌≡◌, ◌∙◌, Err, ap, sym, rules}
-use Rattle.fixed_decimal_unsigned.specs.declared.ParseError.TheVariants.{Syntax, Memory}
+use Rattle.fixed_decimal_signed.specs.declared.ParseError.TheVariants.{Syntax, Memory}
 use Rattle.fixed_decimal.specs.ScientificText.{SpellsScientific}
 use Rattle.fixed_decimal.proofs.ScientificTextLemmas.{left_refused, right_refused, right_long}
 use Rattle.fixed_decimal.proofs.scientific.ScientificDecimal.try_from_utf8.Goals as goal

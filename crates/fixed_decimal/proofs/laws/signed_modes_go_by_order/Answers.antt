@@ -1,5 +1,0 @@
-use Rattle.fixed_decimal.proofs.SignedOrderLemmas.{signed_modes}
-use Rattle.fixed_decimal.proofs.laws.signed_modes_go_by_order.Goals as goal
-
-pub returns : goal.returns
-returns c = signed_modes

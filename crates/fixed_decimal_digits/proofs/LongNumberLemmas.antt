@@ -1,0 +1,75 @@
+-- A number of more than sixteen digits: its last sixteen behind the others.
+use Rattle.std.proofs.Common.{◌≡◌, ℕ, ◌+◌, ◌-◌, ◌*◌, ◌/◌, ◌%◌, ◌^◌, ◌<◌, ◌≤◌, List, [], ◌∷◌, ◌++◌, length, length-append, get_or, sym, ap, ◌∙◌, subst, arith, append_assoc, ⊎_elim}
+use Rattle.std.proofs.lemmas.Bool.{cases_lt}
+use Rattle.std.specs.Int.Count.{count_leading_zeros}
+use Rattle.std.specs.Int.Digits.{number_from_digits, AllBelowBase}
+use Rattle.fixed_decimal_digits.specs.DigitWord.{word_digits, SpellsNumber, IsCutWord}
+use Rattle.fixed_decimal_digits.proofs.DigitsLemmas.{number_joined, number_reaches, below_joined}
+use Rattle.fixed_decimal_digits.proofs.TenLemmas.{tens_apart}
+use Rattle.fixed_decimal_digits.proofs.WordLemmas.{word_length}
+use Rattle.fixed_decimal_digits.proofs.NumberWordLemmas.{word_joined}
+use Rattle.fixed_decimal_digits.proofs.CutWordLemmas.{front_counted}
+
+-- the first digit of a word, and the fifteen behind it
+sixteen_split : (w : ℕ) → w < 2 ^ 64 → word_digits w 16 ≡ (w / 1152921504606846976) ∷ word_digits (w % 1152921504606846976) 15
+sixteen_split w h =
+    let rest : w % 1152921504606846976 < 1152921504606846976 = omega arith in
+    let whole : w / 1152921504606846976 * 1152921504606846976 + w % 1152921504606846976 ≡ w = omega arith in
+    let first : w / 1152921504606846976 % 16 ≡ w / 1152921504606846976 = omega arith in
+    ap (λ v. word_digits v 16) (sym whole) ∙ word_joined 15 1 (w / 1152921504606846976) (w % 1152921504606846976) rest
+    ∙ ap (λ d. d ∷ word_digits (w % 1152921504606846976) 15) first
+
+pub first_of_sixteen : (w : ℕ) → w < 2 ^ 64 → AllBelowBase 10 (word_digits w 16) → w / 1152921504606846976 < 10
+first_of_sixteen w h t = (subst (λ ds. AllBelowBase 10 ds) (sixteen_split w h) t).0
+
+pub rest_of_sixteen : (w : ℕ) → w < 2 ^ 64 → AllBelowBase 10 (word_digits w 16) → AllBelowBase 10 (word_digits (w % 1152921504606846976) 15)
+rest_of_sixteen w h t = (subst (λ ds. AllBelowBase 10 ds) (sixteen_split w h) t).1
+
+pub pushed_sixteen : (ds : List ℕ) (w : ℕ) → w < 2 ^ 64 → (ds ++ (w / 1152921504606846976) ∷ []) ++ word_digits (w % 1152921504606846976) 15 ≡ ds ++ word_digits w 16
+pushed_sixteen ds w h = append_assoc ds ((w / 1152921504606846976) ∷ []) (word_digits (w % 1152921504606846976) 15) ∙ ap (λ es. ds ++ es) (sym (sixteen_split w h))
+
+pub even_behind : (ds : List ℕ) (d : ℕ) → length (ds ++ d ∷ []) ≡ length ds + 1
+even_behind ds d = length-append ds (d ∷ [])
+
+-- the digits of a number that fits in a word
+pub word_first : (w : ℕ) → w < 2 ^ 64 → AllBelowBase 10 (word_digits w 16) → IsCutWord w w (16 - count_leading_zeros 64 w / 4) 0
+word_first w h t = front_counted w h t
+
+pub number_of_first : (w k n : ℕ) → SpellsNumber w 16 n → IsCutWord w w k 0 → number_from_digits 10 (word_digits w k) ≡ n
+number_of_first w k n s c =
+    let once : number_from_digits 10 (word_digits w k) ≡ number_from_digits 10 (word_digits w k) * 10 ^ 0 = omega arith in
+    once ∙ sym c.value ∙ s.value
+
+-- more than eight digits
+pub first_reaches : (w k n : ℕ) → SpellsNumber w 16 n → IsCutWord w w k 0 → 8 < k → 10 ^ 8 ≤ n
+first_reaches w k n s c l =
+    let long = word_length k w in
+    let reach = number_reaches (word_digits w k) (omega (arith, long, l)) (c.first (omega (arith, l))) in
+    let up = tens_apart 8 (length (word_digits w k) - 1) (omega (arith, long, l)) in
+    omega (arith, reach, up, number_of_first w k n s c)
+
+-- no digit of a zero
+pub none_of_zero : (w k : ℕ) → IsCutWord w w k 0 → number_from_digits 10 (word_digits w k) ≡ 0 → word_digits w k ≡ []
+none_of_zero w k c z = ⊎_elim
+    (λ some.
+    let long = word_length k w in
+    let reach = number_reaches (word_digits w k) (omega (arith, long, some)) (c.first some) in
+    let up = tens_apart 0 (length (word_digits w k) - 1) (omega arith) in
+    absurd (omega (arith, reach, up, z)))
+    (λ none. let same : k ≡ 0 = omega arith in ap (λ n. word_digits w n) same)
+    (cases_lt 0 k)
+
+-- sixteen digits behind others
+pub number_behind : (ds : List ℕ) (w low n : ℕ) → SpellsNumber w 16 low → number_from_digits 10 ds ≡ n / 10000000000000000 → low ≡ n % 10000000000000000 → number_from_digits 10 (ds ++ word_digits w 16) ≡ n
+number_behind ds w low n s e f =
+    let long : 10 ^ length (word_digits w 16) ≡ 10000000000000000 = ap (λ k. 10 ^ k) (word_length 16 w) in
+    number_joined ds (word_digits w 16)
+    ∙ ap (λ t. number_from_digits 10 ds * t + number_from_digits 10 (word_digits w 16)) long
+    ∙ omega (arith, s.value, e, f)
+
+pub tens_behind : (ds : List ℕ) (w low : ℕ) → SpellsNumber w 16 low → AllBelowBase 10 ds → AllBelowBase 10 (ds ++ word_digits w 16)
+tens_behind ds w low s t = below_joined ds (word_digits w 16) t s.tens
+
+pub first_behind : (ds es : List ℕ) → 0 < number_from_digits 10 ds → (0 < length ds → 0 < get_or ds 0 0) → 0 < get_or (ds ++ es) 0 0
+first_behind [] es p f = absurd (omega (arith, p))
+first_behind (d ∷ ds) es p f = f (omega arith)
