@@ -1,5 +1,5 @@
-//! Laws, beside the clauses of the calls: those of the tables, of plain text, of texts read back, of the patterns of compact text,
-//! of the values that it shows, and of compact text itself, with what abstract formatters write.
+//! Laws, beside the clauses of the calls: those of the tables, of plain text, of texts read back, of the patterns of
+//! compact text, of the values that it shows, and of compact text itself, with what abstract formatters write.
 
 pub use icu_decimal_compact::{laws as compact, table_laws as tables};
 pub use icu_decimal_compact_value::laws as shown;

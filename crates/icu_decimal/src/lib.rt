@@ -1,8 +1,8 @@
 //! Decimal numbers as a locale writes them, after the ICU4X crate of this name.
 //!
-//! A formatter borrows symbols and digits from a provider, and writes any decimal to any sink, with its parts: in English `-1,234.5`.
-//! The rules are in docs/plain-text.md and docs/formatters.md. This crate raises its inner crates under ICU4X's paths; itself it
-//! only hands the tables of a formatter to what reads texts.
+//! A formatter borrows symbols and digits from a provider, and writes any decimal to any sink, with its parts: in
+//! English `-1,234.5`. The rules are in docs/plain-text.md and docs/formatters.md. This crate raises its inner crates
+//! under ICU4X's paths; itself it only hands the tables of a formatter to what reads texts.
 //!
 //! ```rust
 //! use icu_decimal::DecimalFormatter;

@@ -13,9 +13,9 @@ use std::alloc::Global;
 
 /// Whether texts can be read back under the formatter's symbols: in English they can.
 ///
-/// They can where the ten digits differ and stand in no affix and no separator, the decimal separator is neither empty nor the
-/// grouping separator, and the affixes of a minus sign, of a plus sign and of no sign differ as pairs. Then no two decimals have
-/// one text. It does not allocate.
+/// They can where the ten digits differ and stand in no affix and no separator, the decimal separator is neither empty
+/// nor the grouping separator, and the affixes of a minus sign, of a plus sign and of no sign differ as pairs. Then no
+/// two decimals have one text. It does not allocate.
 pub fn is_readable(formatter: &DecimalFormatter<'_>) -> bool
     ensures value { result ≡ is_readable_by (tables_of formatter.now) }
     ensures tables { AreTables (tables_of formatter.now) }
@@ -25,9 +25,9 @@ pub fn is_readable(formatter: &DecimalFormatter<'_>) -> bool
 
 /// The decimal whose text under the formatter this is: in English `-1,234.50` is -1234.50, shown down to magnitude -2.
 ///
-/// Sign, digits and visible range are those of the one decimal that the formatter writes so. `Unreadable` where `is_readable` is
-/// false; `NotWritten` where the formatter writes no decimal so, as `98,7654` or `1234` in English; `Memory`: out of memory. It
-/// allocates where the text has more than eight digits.
+/// Sign, digits and visible range are those of the one decimal that the formatter writes so. `Unreadable` where
+/// `is_readable` is false; `NotWritten` where the formatter writes no decimal so, as `98,7654` or `1234` in English;
+/// `Memory`: out of memory. It allocates where the text has more than eight digits.
 pub fn read_plain(
     alloc: Global,
     formatter: &DecimalFormatter<'_>,
@@ -44,9 +44,9 @@ pub fn read_plain(
 
 /// As `read_plain`, of a formatter whose symbols are known to be readable: in English `-1,234.50` is -1234.50.
 ///
-/// The condition is `is_readable`, which looks through all symbols: a caller who reads many texts with one formatter makes the
-/// test once. `NotWritten` where the formatter writes no decimal so; `Memory`: out of memory. It allocates where the text has
-/// more than eight digits.
+/// The condition is `is_readable`, which looks through all symbols: a caller who reads many texts with one formatter
+/// makes the test once. `NotWritten` where the formatter writes no decimal so; `Memory`: out of memory. It allocates
+/// where the text has more than eight digits.
 pub fn read_readable(
     alloc: Global,
     formatter: &DecimalFormatter<'_>,

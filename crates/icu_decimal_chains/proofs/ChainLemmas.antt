@@ -1,7 +1,7 @@
 -- Chains under one step: `specs/Chains.antt`.
-use Rattle.std.proofs.Common.{◌≡◌, ℕ, zero, suc, ◌+◌, ◌≤◌, Bool, true, false, ◌||◌, List, [], ◌∷◌, length, Option, None, Some, if◌then◌else◌, refl, sym, ap, ◌∙◌, subst, true≢false, inl, inr, arith, Decides}
+use Rattle.std.proofs.Common.{◌≡◌, ℕ, zero, suc, ◌+◌, ◌≤◌, Bool, true, false, List, [], ◌∷◌, length, Option, None, Some, if◌then◌else◌, refl, sym, ap, ◌∙◌, subst, true≢false, inl, inr, arith, Decides}
 use Rattle.std.specs.List.{list_any}
-use Rattle.std.proofs.lemmas.Bool.{cases_Bool}
+use Rattle.std.proofs.lemmas.Bool.{cases_Bool, or_parts, or_right}
 use Rattle.icu_decimal_chains.specs.Chains.{Follows, walk, after}
 
 module _ {A : Type 0} (next : A → Option A) where
@@ -26,14 +26,6 @@ module _ {A : Type 0} (next : A → Option A) where
 
 -- ---- where a chain holds a value
 
-pub either_false : (a b : Bool) → (a || b) ≡ false → (a ≡ false) × (b ≡ false)
-either_false true b h = absurd (true≢false h)
-either_false false b h = (refl, h)
-
-pub or_behind : (a b : Bool) → b ≡ true → (a || b) ≡ true
-or_behind true b h = refl
-or_behind false b h = h
-
 -- how many pass the test
 abbrev pub counted : {A : Type 0} → (A → Bool) → List A → ℕ
 counted test [] = 0
@@ -42,7 +34,7 @@ counted test (x ∷ xs) = if test x then suc (counted test xs) else counted test
 pub none_counted : {A : Type 0} (test : A → Bool) (xs : List A) → list_any test xs ≡ false → counted test xs ≡ 0
 none_counted test [] h = refl
 none_counted test (x ∷ xs) h =
-    let parts = either_false (test x) (list_any test xs) h in
+    let parts = or_parts (test x) (list_any test xs) h in
     rw parts.0 (none_counted test xs parts.1)
 
 module _ {A : Type 0} (same : A → A → Bool) (exact : (a b : A) → Decides (same a b) (a ≡ b)) (next : A → Option A) where
@@ -53,7 +45,7 @@ module _ {A : Type 0} (same : A → A → Bool) (exact : (a b : A) → Decides (
       rw ((exact start k).1 is) refl
   after_within (suc n) start [] k f e = let no : None ≡ Some k = rw f at e in cc
   after_within (suc n) start (x ∷ xs) k f e =
-      or_behind (same start k) (list_any (λ y. same y k) (x ∷ xs)) (after_within n x xs k f.1 (rw f.0 at e))
+      or_right (same start k) (list_any (λ y. same y k) (x ∷ xs)) (after_within n x xs k f.1 (rw f.0 at e))
 
   -- behind a value that a chain holds stands the chain of the value, which is shorter
   pub rest_of : (start : A) (xs : List A) (k : A) → Follows next start xs → list_any (λ y. same y k) xs ≡ true

@@ -1,16 +1,16 @@
 -- Chains under two steps that differ only at one value: `specs/Chains.antt`.
 use Rattle.std.proofs.Common.{◌≡◌, ℕ, zero, suc, Bool, true, false, ◌||◌, List, [], ◌∷◌, Option, None, Some, refl, sym, ap, ◌∙◌, subst, true≢false, inl, inr, Decides}
 use Rattle.std.specs.List.{list_any}
-use Rattle.std.proofs.lemmas.Bool.{cases_Bool}
+use Rattle.std.proofs.lemmas.Bool.{cases_Bool, or_parts}
 use Rattle.icu_decimal_chains.specs.Chains.{Follows, after, ComesBack}
-use Rattle.icu_decimal_chains.proofs.ChainLemmas.{either_false, after_within}
+use Rattle.icu_decimal_chains.proofs.ChainLemmas.{after_within}
 
 module _ {A : Type 0} (same : A → A → Bool) (exact : (a b : A) → Decides (same a b) (a ≡ b)) (old new : A → Option A) (k p : A) (there : new k ≡ Some p) (elsewhere : (x : A) → same x k ≡ false → new x ≡ old x) where
   -- a chain without the value stays
   pub kept : (x : A) (xs : List A) → Follows old x xs → list_any (λ y. same y k) (x ∷ xs) ≡ false → Follows new x xs
-  kept x [] f h = elsewhere x (either_false (same x k) false h).0 ∙ f
+  kept x [] f h = elsewhere x (or_parts (same x k) false h).0 ∙ f
   kept x (y ∷ ys) f h =
-      let parts = either_false (same x k) (list_any (λ z. same z k) (y ∷ ys)) h in
+      let parts = or_parts (same x k) (list_any (λ z. same z k) (y ∷ ys)) h in
       (elsewhere x parts.0 ∙ f.0, kept y ys f.1 parts.1)
 
   -- one with it goes on as the chain of what is next there

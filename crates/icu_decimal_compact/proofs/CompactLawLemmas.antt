@@ -7,6 +7,7 @@ use Rattle.fixed_decimal.specs.CompactText.{IsCompact}
 use Rattle.fixed_decimal.specs.Number.{IsNumber, Number}
 use Rattle.fixed_decimal.specs.Rounding.{count_limit}
 use Rattle.fixed_decimal.specs.SignedValue.{SignedValue}
+use Rattle.fixed_decimal.proofs.TenLemmas.{tens_positive}
 use Rattle.icu_decimal_patterns.specs.SmallEntries.{AreSmall}
 use Rattle.icu_decimal_compact_value.specs.declared.entry.CompactEntry.{CompactEntry}
 use Rattle.icu_decimal_compact_value.specs.Choice.{CanShow, chosen, entry_at, exact_entry, exponent_of, is_carried, next_at, shown_under}
@@ -16,7 +17,7 @@ use Rattle.icu_decimal_compact_value.specs.ExactLaws.{UsesShownEntry}
 use Rattle.icu_decimal_compact_value.specs.ShownValue.{magnitude, top}
 use Rattle.icu_decimal_compact_value.specs.Significand.{plain_one}
 use Rattle.icu_decimal_compact_value.proofs.ExactLemmas.{choice_value, exact_answers, writes_same}
-use Rattle.icu_decimal_compact_value.proofs.MagnitudeLemmas.{magnitude_some, tens_positive}
+use Rattle.icu_decimal_compact_value.proofs.MagnitudeLemmas.{magnitude_some}
 use Rattle.icu_decimal_compact_value.proofs.ShowLemmas.{cancel_same, carried_exponent, carried_value, tens_sum}
 use Rattle.icu_decimal_compact_value.proofs.UnderTableLemmas.{exact_form_is_in_range, value_in_range}
 use Rattle.icu_decimal_compact.specs.CompactTables.{CompactTables}

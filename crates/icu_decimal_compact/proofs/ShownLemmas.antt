@@ -5,6 +5,7 @@ use Rattle.std.proofs.lemmas.Bool.{cases_lt}
 use Rattle.std.proofs.lemmas.Bool.Decides.{nat_tests}
 use Rattle.fixed_decimal.specs.Number.{Number}
 use Rattle.fixed_decimal.specs.Range.{IsHighest, IsLowest}
+use Rattle.fixed_decimal.proofs.TenLemmas.{tens_apart, tens_positive}
 use Rattle.icu_decimal_patterns.specs.Elements.{slot_of}
 use Rattle.icu_decimal_patterns.specs.KeptEntries.{CompactTable, Patterns}
 use Rattle.icu_decimal_plurals.specs.Operands.{Operands, operands_of}
@@ -13,7 +14,7 @@ use Rattle.icu_decimal_compact_value.specs.Choice.{chosen, entry_of, is_carried}
 use Rattle.icu_decimal_compact_value.specs.Entries.{Rises}
 use Rattle.icu_decimal_compact_value.specs.ShownValue.{top}
 use Rattle.icu_decimal_compact_value.specs.Significand.{IsPadded, ShownNumber, Shows, plain_one}
-use Rattle.icu_decimal_compact_value.proofs.MagnitudeLemmas.{tens_apart, tens_positive, top_is}
+use Rattle.icu_decimal_compact_value.proofs.MagnitudeLemmas.{top_is}
 use Rattle.icu_decimal_compact.specs.CompactTables.{CompactTables}
 use Rattle.icu_decimal_compact.specs.CompactText.{CompactNumber, compact_of, lowest_place, padded, pattern_of, patterns_of, patterns_of_type, significand_of}
 use Rattle.icu_decimal_compact.specs.PatternAt.{pattern_at}

@@ -33,9 +33,10 @@ mod private {
 
 /// A plain or a compact formatter, as formatters of currencies, percents, units and messages take either of them.
 ///
-/// A number is written without its sign, and then the affixes of the sign round all that is made of it: `format_unsigned` of 5 in
-/// English writes `5`, and `format_sign` of the text `5 %` and a minus sign writes `-5 %`. Around what `format_unsigned` returns
-/// they are the text of `format`. The trait is sealed: there is no other implementation. After ICU4X's `AbstractFormatter`.
+/// A number is written without its sign, and then the affixes of the sign round all that is made of it:
+/// `format_unsigned` of 5 in English writes `5`, and `format_sign` of the text `5 %` and a minus sign writes `-5 %`.
+/// Around what `format_unsigned` returns they are the text of `format`. The trait is sealed: there is no other
+/// implementation. After ICU4X's `AbstractFormatter`.
 pub trait AbstractFormatter: private::Sealed {
     // the number can be written
     ghost can_write: { Self → Number → Type 0 };
@@ -58,18 +59,19 @@ pub trait AbstractFormatter: private::Sealed {
     // the plural operands of what is shown for a number
     ghost plural_operands: { Self → Number → Operands };
 
-    /// Whether the number can be written: true by a plain formatter, and by a compact one where `can_show` is. In English both
-    /// write 1650, and the compact one does not write 32,768 nines.
+    /// Whether the number can be written: true by a plain formatter, and by a compact one where `can_show` is. In
+    /// English both write 1650, and the compact one does not write 32,768 nines.
     ///
     /// It is the condition of `format_unsigned`, `write_unsigned` and `plural_operands`. It does not allocate.
     fn can_write(&self, value: &UnsignedDecimal) -> bool
         ensures { IsTrue result ↔ can_write self.now value.now };
 
-    /// The number without a sign as the formatter writes it: 1650 as `1,650` in English, and as `1.6K` by a compact formatter.
+    /// The number without a sign as the formatter writes it: 1650 as `1,650` in English, and as `1.6K` by a compact
+    /// formatter.
     ///
-    /// The condition is `can_write`. A plain formatter borrows the number and does not allocate. A compact one allocates where
-    /// the number has more than eight digits, from the first to the last one that is not zero. `AllocError`: out of memory, only
-    /// there.
+    /// The condition is `can_write`. A plain formatter borrows the number and does not allocate. A compact one
+    /// allocates where the number has more than eight digits, from the first to the last one that is not zero.
+    /// `AllocError`: out of memory, only there.
     fn format_unsigned<'l>(
         &'l self,
         value: &'l UnsignedDecimal,
@@ -87,8 +89,9 @@ pub trait AbstractFormatter: private::Sealed {
 
     /// Writes the number without a sign: 1650 as `1,650` in English, and as `1.6K` by a compact formatter.
     ///
-    /// The condition is `can_write`, and that the sink has not refused yet. `Sink` exactly where the sink refused, which has then
-    /// taken a beginning. It allocates as `format_unsigned` does. `Memory`: out of memory, only there, and nothing was written.
+    /// The condition is `can_write`, and that the sink has not refused yet. `Sink` exactly where the sink refused,
+    /// which has then taken a beginning. It allocates as `format_unsigned` does. `Memory`: out of memory, only there,
+    /// and nothing was written.
     final fn write_unsigned<S: Sink>(
         &self,
         value: &UnsignedDecimal,
@@ -108,8 +111,8 @@ pub trait AbstractFormatter: private::Sealed {
 
     /// Writes the value between the affixes of the sign: `5 %` and a minus sign as `-5 %` in English.
     ///
-    /// Each affix is the part `MINUS_SIGN` or `PLUS_SIGN`, and `Sign::None` has none. The sink has not refused yet. [`Error`]
-    /// exactly where the sink refused, which has then taken a beginning. Only the sink may allocate.
+    /// Each affix is the part `MINUS_SIGN` or `PLUS_SIGN`, and `Sign::None` has none. The sink has not refused yet.
+    /// [`Error`] exactly where the sink refused, which has then taken a beginning. Only the sink may allocate.
     final fn write_sign<T: Writeable, S: Sink>(
         &self,
         value: &T,
@@ -124,8 +127,8 @@ pub trait AbstractFormatter: private::Sealed {
         self.format_sign(sign, Lent::new(value)).write_to(sink)
     }
 
-    /// The plural operands of what is shown for the number: of 999999 those of `999999`, and by a compact formatter in English those
-    /// of 1 with the exponent 6.
+    /// The plural operands of what is shown for the number: of 999999 those of `999999`, and by a compact formatter in
+    /// English those of 1 with the exponent 6.
     ///
     /// The condition is `can_write`. It allocates as `format_unsigned` does. `AllocError`: out of memory, only there.
     fn plural_operands(&self, value: &UnsignedDecimal) -> Result<PluralOperands, AllocError>

@@ -45,7 +45,8 @@ pub struct CompactDecimalFormatter<'b> {
     pub(crate) patterns: &'b CompactPatterns,
 }
 
-// The pattern of a number that is shown as this significand. Its plural is asked for only where there is more than one pattern.
+// The pattern of a number that is shown as this significand. Its plural is asked for only where there is more than one
+// pattern.
 fn pattern_for<'b>(
     patterns: &'b PluralElements<Pattern>,
     significand: &UnsignedDecimal,
@@ -63,9 +64,11 @@ fn pattern_for<'b>(
 }
 
 impl<'b> CompactDecimalFormatter<'b> {
-    /// The formatter of these preferences and options that writes in short form, `1.6K` in English, with tables of the provider.
+    /// The formatter of these preferences and options that writes in short form, `1.6K` in English, with tables of the
+    /// provider.
     ///
-    /// It loads symbols, digits, plural rules and patterns. Errors as `load_by_chain`, the first of them. It does not allocate.
+    /// It loads symbols, digits, plural rules and patterns. Errors as `load_by_chain`, the first of them. It does not
+    /// allocate.
     pub fn try_new_short_unstable<P>(
         provider: &'b P,
         preferences: CompactDecimalFormatterPreferences,
@@ -103,7 +106,8 @@ impl<'b> CompactDecimalFormatter<'b> {
 
     /// The formatter of tables that the caller has: a plain formatter, plural rules, and a table of patterns.
     ///
-    /// With the plain formatter and the rules of `en`, and with `K` at type 3, it writes 1650 as `1.6K`. It does not allocate.
+    /// With the plain formatter and the rules of `en`, and with `K` at type 3, it writes 1650 as `1.6K`. It does not
+    /// allocate.
     pub fn from_tables(
         plain: DecimalFormatter<'b>,
         rules: &'b PluralRules,
@@ -118,7 +122,8 @@ impl<'b> CompactDecimalFormatter<'b> {
         }
     }
 
-    /// The plain formatter that writes the digits shown: of that of `en` the one that writes 1650 as `1,650`. It does not allocate.
+    /// The plain formatter that writes the digits shown: of that of `en` the one that writes 1650 as `1,650`. It does
+    /// not allocate.
     pub fn plain(&self) -> &DecimalFormatter<'b>
         ensures { tables_of result.now ≡ (compact_tables_of self.now).plain }
     {
@@ -165,7 +170,8 @@ impl<'b> CompactDecimalFormatter<'b> {
         }
     }
 
-    /// Whether what the number is shown as is a decimal: false in English of 32,768 nines, as they are rounded to 10^32768.
+    /// Whether what the number is shown as is a decimal: false in English of 32,768 nines, as they are rounded to
+    /// 10^32768.
     ///
     /// A decimal with its sign is asked by `can_format`. It does not allocate.
     pub fn can_show(&self, value: &UnsignedDecimal) -> bool
@@ -174,8 +180,8 @@ impl<'b> CompactDecimalFormatter<'b> {
         can_show(value, self.patterns.entries())
     }
 
-    /// Whether the decimal can be formatted, whatever its sign: true in English of -1172700, false of 32,768 nines, as what they are
-    /// rounded to, 10^32768, is no decimal.
+    /// Whether the decimal can be formatted, whatever its sign: true in English of -1172700, false of 32,768 nines, as
+    /// what they are rounded to, 10^32768, is no decimal.
     ///
     /// It is the condition of `format` and `format_to_string`. It does not allocate.
     pub fn can_format(&self, value: &Decimal) -> bool
@@ -205,8 +211,8 @@ impl<'b> CompactDecimalFormatter<'b> {
 
     /// The decimal as this formatter writes it: -1172700 as `-1.2M` in English.
     ///
-    /// The condition is `can_format`. It allocates where the number has more than eight digits, from the first to the last one
-    /// that is not zero. `AllocError`: out of memory, only there.
+    /// The condition is `can_format`. It allocates where the number has more than eight digits, from the first to the
+    /// last one that is not zero. `AllocError`: out of memory, only there.
     pub fn format<'l>(
         &'l self,
         value: &Decimal,

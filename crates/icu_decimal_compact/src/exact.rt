@@ -37,7 +37,8 @@ impl<'b> CompactDecimalFormatter<'b> {
         signed(self, significand.sign, Interpolated::new(pattern, number))
     }
 
-    /// Whether the magnitude of a significand and an exponent together is at most 32767: true of 1.2 and 6, false of 10^32767 and 1.
+    /// Whether the magnitude of a significand and an exponent together is at most 32767: true of 1.2 and 6, false of
+    /// 10^32767 and 1.
     ///
     /// It is the condition of `format_with_exponent`. It does not allocate.
     pub fn exponent_in_range(&self, significand: &Decimal, exponent: u8) -> bool
@@ -46,11 +47,12 @@ impl<'b> CompactDecimalFormatter<'b> {
         exponent_in_range(&significand.absolute, exponent)
     }
 
-    /// A significand with an exponent that the caller chose: of -1.20 and 6 `-1.20M` in English, with the parts of the number.
+    /// A significand with an exponent that the caller chose: of -1.20 and 6 `-1.20M` in English, with the parts of the
+    /// number.
     ///
-    /// The digits are written as they are. `CompactExponentError` exactly where the exponent is not the one that the formatter
-    /// has for the magnitude of both together: 1.2 and 5, as it is 3 there. The condition is `exponent_in_range`. It does not
-    /// allocate.
+    /// The digits are written as they are. `CompactExponentError` exactly where the exponent is not the one that the
+    /// formatter has for the magnitude of both together: 1.2 and 5, as it is 3 there. The condition is
+    /// `exponent_in_range`. It does not allocate.
     #[tactic(auto, using(crate::proofs::ExactLemmas::refused_is))]
     pub fn format_with_exponent<'l>(
         &'l self,

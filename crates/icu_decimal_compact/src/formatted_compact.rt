@@ -14,8 +14,8 @@ use std::fmt;
 use std::marker::Model;
 use writeable::{Error, LengthHint, Sink, Writeable, display};
 
-/// A number without a sign, as a compact formatter writes it: `1.6K` of 1650 in English. It owns the number shown, and borrows the
-/// tables.
+/// A number without a sign, as a compact formatter writes it: `1.6K` of 1650 in English. It owns the number shown, and
+/// borrows the tables.
 ///
 /// It has no parts.
 #[derive(Debug, Drop)]

@@ -18,8 +18,8 @@ pub enum FormattedUnsigned<'l> {
 
 /// What the formatter writes for the number: `1,650` with the parts `integer` and `group`, or `1.6K`.
 ///
-/// `Error`, only where the sink refused: it took a beginning. Only the sink may allocate. The hint is that of the plain or the
-/// compact number.
+/// `Error`, only where the sink refused: it took a beginning. Only the sink may allocate. The hint is that of the plain
+/// or the compact number.
 impl<'l> Writeable for FormattedUnsigned<'l> {
     ghost use Rattle.std.specs.Prelude.{length};
     ghost use Rattle.writeable.specs.AnnotatedText.{text_of};

@@ -1,5 +1,5 @@
-//! Laws of compact text: what abstract formatters write, and what is shown for a number, sent back as an exact form. Where no
-//! formatter is passed, no call is made: each clause is the law.
+//! Laws of compact text: what abstract formatters write, and what is shown for a number, sent back as an exact form.
+//! Where no formatter is passed, no call is made: each clause is the law.
 ghost use Rattle.std.specs.Prelude.{◌≡◌, ◌<◌};
 ghost use Rattle.icu_decimal_patterns.specs.SmallEntries.{AreSmall, IsSmall};
 ghost use Rattle.icu_decimal_compact_value.specs.Entries.{Rises};
@@ -15,9 +15,9 @@ use crate::compact_formatter::CompactDecimalFormatter;
 use icu_decimal_compact_value::CompactEntry;
 use icu_decimal_formatter::DecimalFormatter;
 
-/// The affixes that `write_sign` writes, round what `write_unsigned` writes for a number without its sign, are what `format`
-/// writes for the number with it, and their text is that of `format_to_string`: of -999500 in English a compact formatter
-/// writes `-` before `1M`, which is `-1M`.
+/// The affixes that `write_sign` writes, round what `write_unsigned` writes for a number without its sign, are what
+/// `format` writes for the number with it, and their text is that of `format_to_string`: of -999500 in English a
+/// compact formatter writes `-` before `1M`, which is `-1M`.
 pub fn sign_round_unsigned()
     ensures plain { WritesTogether ⟦<DecimalFormatter<'static> as AbstractFormatter>⟧.unsigned_events ⟦<DecimalFormatter<'static> as AbstractFormatter>⟧.affixes (λ f d. decimal_events (formatted (tables_of f) d)) }
     ensures plain_text { WritesText ⟦<DecimalFormatter<'static> as AbstractFormatter>⟧.unsigned_events ⟦<DecimalFormatter<'static> as AbstractFormatter>⟧.affixes (λ f d. decimal_text (tables_of f) d) }
@@ -25,8 +25,9 @@ pub fn sign_round_unsigned()
     ensures compact_text { WritesText ⟦<CompactDecimalFormatter<'static> as AbstractFormatter>⟧.unsigned_events ⟦<CompactDecimalFormatter<'static> as AbstractFormatter>⟧.affixes (λ f d. compact_decimal_text (compact_tables_of f) d) }
 {}
 
-/// With a text before what `format_unsigned` returns and one behind it, `format_sign` writes the affixes of the sign round all
-/// three: of `€`, -1234.5 and no text behind in English a plain formatter writes `-€1,234.5`, and a compact one `-€1.2K`.
+/// With a text before what `format_unsigned` returns and one behind it, `format_sign` writes the affixes of the sign
+/// round all three: of `€`, -1234.5 and no text behind in English a plain formatter writes `-€1,234.5`, and a compact
+/// one `-€1.2K`.
 pub fn sign_round_unit()
     ensures plain { WritesUnit ⟦<DecimalFormatter<'static> as AbstractFormatter>⟧.unsigned_events ⟦<DecimalFormatter<'static> as AbstractFormatter>⟧.affixes (λ f number. unsigned_text (tables_of f) number) }
     ensures compact { WritesUnit ⟦<CompactDecimalFormatter<'static> as AbstractFormatter>⟧.unsigned_events ⟦<CompactDecimalFormatter<'static> as AbstractFormatter>⟧.affixes (λ f number. compact_text (compact_of (compact_tables_of f) number)) }
@@ -34,11 +35,11 @@ pub fn sign_round_unit()
 
 /// What is shown for a number, sent back as an exact form of the same tables: whether it is written, and as which text.
 ///
-/// Under rising types it is refused exactly where the entry of the shown value's magnitude has another exponent, and else it is
-/// written under that entry (`answer`). It has the same text, with its affixes, plural and grouping, where that entry is the one
-/// shown (`same`). It is in range where the number can be shown (`in_range`). Its significand times ten to its exponent is the
-/// shown value (`value`). In English 1650 is `1.6K`, and so is 1.6 with the exponent 3. With `K` of type 3 and `k` of type 5, both
-/// of exponent 3, 99999 is `100K`, and 100 with the exponent 3 is `100k`.
+/// Under rising types it is refused exactly where the entry of the shown value's magnitude has another exponent, and
+/// else it is written under that entry (`answer`). It has the same text, with its affixes, plural and grouping, where
+/// that entry is the one shown (`same`). It is in range where the number can be shown (`in_range`). Its significand
+/// times ten to its exponent is the shown value (`value`). In English 1650 is `1.6K`, and so is 1.6 with the exponent
+/// 3. With `K` of type 3 and `k` of type 5, both of exponent 3, 99999 is `100K`, and 100 with the exponent 3 is `100k`.
 pub fn shown_forms_are_answered()
     ensures answer { ShownFormAnswers }
     ensures same { ShownFormWritesSame }
@@ -46,8 +47,8 @@ pub fn shown_forms_are_answered()
     ensures value { ShownFormIsShownValue }
 {}
 
-/// What is shown for a number is a compact number, where the number can be shown and the entries fit into bytes: of 1650 it is 1.6
-/// with the exponent 3.
+/// What is shown for a number is a compact number, where the number can be shown and the entries fit into bytes: of
+/// 1650 it is 1.6 with the exponent 3.
 pub fn shown_values_are_compact()
     ensures significand { SignificandIsNumber }
     ensures compact { ShownIsCompact }
@@ -78,8 +79,8 @@ fn entries_are_small(entries: &[CompactEntry])
     }
 }
 
-/// The types of a formatter's table rise, and its numbers fit into bytes: in English those are the types 3 and 6 of the short
-/// form. It does not allocate.
+/// The types of a formatter's table rise, and its numbers fit into bytes: in English those are the types 3 and 6 of the
+/// short form. It does not allocate.
 pub fn held_entries_are_sound(formatter: &CompactDecimalFormatter<'_>)
     ensures rises { Rises 0 (compact_tables_of formatter.now).patterns.entries }
     ensures small { AreSmall (compact_tables_of formatter.now).patterns.entries }

@@ -1,7 +1,7 @@
 //! Compact text of numbers: formatters that write 1650 as `1.6K`, and exact forms as `1.20M`.
 //!
-//! What is shown, its entry, its pattern and its plural are those of docs/compact-text.md. A formatter borrows its tables from a
-//! provider.
+//! What is shown, its entry, its pattern and its plural are those of docs/compact-text.md. A formatter borrows its
+//! tables from a provider.
 //!
 //! ```rust
 //! use icu_decimal_compact::CompactDecimalFormatter;

@@ -50,8 +50,8 @@ pub fn load_rules<'p, P: DataProvider<PluralsCardinalV1> + ParentProvider>(
     load_by_chain::<PluralsCardinalV1, P>(provider, &locale, None)
 }
 
-// The formatter of these preferences and options with patterns that were loaded, or the first error: that of the plain tables, of the
-// rules, of the patterns.
+// The formatter of these preferences and options with patterns that were loaded, or the first error: that of the plain
+// tables, of the rules, of the patterns.
 pub fn load_with<'p, P>(
     provider: &'p P,
     preferences: &CompactDecimalFormatterPreferences,

@@ -24,11 +24,11 @@ fn show_absolute(value: &mut Decimal, entries: &[CompactEntry]) -> ShownUnder
 }
 
 impl<'b> CompactDecimalFormatter<'b> {
-    /// Writes the decimal as `format` does, makes it the number in the pattern, and returns the exponent that the pattern stands for: in
-    /// English it writes -1172700 as `-1.2M`, makes it -1.2, and returns 6.
+    /// Writes the decimal as `format` does, makes it the number in the pattern, and returns the exponent that the
+    /// pattern stands for: in English it writes -1172700 as `-1.2M`, makes it -1.2, and returns 6.
     ///
-    /// The condition is `can_format`, and that the sink has not refused yet. [`Error`] exactly where the sink refused, which has then
-    /// taken a beginning; the decimal is shown then too. Only the sink may allocate.
+    /// The condition is `can_format`, and that the sink has not refused yet. [`Error`] exactly where the sink refused,
+    /// which has then taken a beginning; the decimal is shown then too. Only the sink may allocate.
     pub fn write_shown<S: Sink>(&self, value: &mut Decimal, sink: &mut S) -> Result<u8, Error>
         requires fine { S.refused sink.old ≡ false }
         requires can { CanShow (compact_tables_of self.now).patterns.entries value.old.absolute.count }

@@ -4,11 +4,12 @@ use Rattle.std.specs.List.{position}
 use Rattle.std.proofs.lemmas.Bool.{cases_lt}
 use Rattle.std.proofs.lemmas.Bool.Decides.{nat_tests}
 use Rattle.std.proofs.lemmas.Option.{slice_get-get_or}
+use Rattle.fixed_decimal.proofs.TenLemmas.{tens_apart}
 use Rattle.icu_decimal_compact_value.specs.declared.entry.CompactEntry.{CompactEntry}
 use Rattle.icu_decimal_compact_value.specs.Choice.{entry_of, has_exponent_at, is_carried_to, next_at}
 use Rattle.icu_decimal_compact_value.specs.ShownValue.{magnitude}
 use Rattle.icu_decimal_compact_value.specs.Steps.{StaysNear}
-use Rattle.icu_decimal_compact_value.proofs.MagnitudeLemmas.{IsTop, magnitude_unique, tens_apart}
+use Rattle.icu_decimal_compact_value.proofs.MagnitudeLemmas.{IsTop, magnitude_unique}
 use Rattle.icu_decimal_compact_value.proofs.TableLemmas.{found_at}
 
 power_top : (v k : ℕ) → v ≡ 10 ^ k → IsTop v k

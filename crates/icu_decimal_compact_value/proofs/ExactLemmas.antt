@@ -5,12 +5,13 @@ use Rattle.std.proofs.Math.Nat.{eq-zero-or-pos, mul-div_cancel, mul-lt-mul_of_po
 use Rattle.std.proofs.lemmas.Bool.{cases_lt}
 use Rattle.std.proofs.lemmas.Bool.Decides.{nat_tests}
 use Rattle.fixed_decimal.specs.Rounding.{IsMultiple}
+use Rattle.fixed_decimal.proofs.TenLemmas.{tens_positive}
 use Rattle.icu_decimal_compact_value.specs.declared.entry.CompactEntry.{CompactEntry}
 use Rattle.icu_decimal_compact_value.specs.Choice.{chosen, entry_at, exact_entry, exponent_of, exponent_place, has_exponent_at, is_carried, next_at, shown_under}
 use Rattle.icu_decimal_compact_value.specs.Entries.{Rises}
 use Rattle.icu_decimal_compact_value.specs.ExactLaws.{IsFlat, UsesShownEntry, WritesSame}
 use Rattle.icu_decimal_compact_value.specs.ShownValue.{even_count, magnitude, unit_place}
-use Rattle.icu_decimal_compact_value.proofs.MagnitudeLemmas.{IsTop, magnitude_top, magnitude_unique, tens_positive}
+use Rattle.icu_decimal_compact_value.proofs.MagnitudeLemmas.{IsTop, magnitude_top, magnitude_unique}
 use Rattle.icu_decimal_compact_value.proofs.RoundingLemmas.{power_multiple}
 use Rattle.icu_decimal_compact_value.proofs.ShowLemmas.{carried_exponent, carried_value, tens_sum}
 use Rattle.icu_decimal_compact_value.proofs.ShowableLemmas.{shown_between}

@@ -1,17 +1,12 @@
 -- The place of the first digit, told by powers of ten.
 use Rattle.std.proofs.Common.{◌≡◌, ℕ, ℤ, pos, zero, suc, ◌*◌, ◌/◌, ◌%◌, ◌^◌, ◌<◌, ◌≤◌, ◌==◌, Bool, true, false, cond, nat_lt, refl, sym, ap, ◌∙◌, subst, arith, ⊎_elim}
-use Rattle.std.proofs.Math.Nat.{one-le-pow, pow-le-pow_right, div-eq_of_lt, zero-mul, zero-mod, mod-eq_of_lt, div-add-mod', mod-lt, mul-le-mul_right}
+use Rattle.std.proofs.Math.Nat.{div-eq_of_lt, zero-mul, zero-mod, mod-eq_of_lt, div-add-mod', mod-lt, mul-le-mul_right}
 use Rattle.std.proofs.lemmas.Bool.{cases_lt}
 use Rattle.std.proofs.lemmas.Bool.Decides.{nat_tests}
 use Rattle.fixed_decimal.specs.Number.{digit, place}
 use Rattle.fixed_decimal.specs.NonzeroPlaces.{IsFirstPlace}
+use Rattle.fixed_decimal.proofs.TenLemmas.{tens_apart, tens_positive}
 use Rattle.icu_decimal_compact_value.specs.ShownValue.{top_within, top, magnitude}
-
-pub tens_positive : (k : ℕ) → 0 < 10 ^ k
-tens_positive k = let h : 1 ≤ 10 ^ k = one-le-pow k 10 (omega arith) in omega arith
-
-pub tens_apart : (i j : ℕ) → i ≤ j → 10 ^ i ≤ 10 ^ j
-tens_apart i j h = pow-le-pow_right {n = 10} (omega arith) {i = i} {j = j} h
 
 pub record IsTop (n k : ℕ) : Type 0 where
   pub reaches : 10 ^ k ≤ n

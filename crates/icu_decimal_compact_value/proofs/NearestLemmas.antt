@@ -3,30 +3,17 @@ use Rattle.std.proofs.Common.{◌≡◌, ◌≢◌, ℕ, ◌+◌, ◌*◌, ◌/�
 use Rattle.std.proofs.Math.Nat.{div-add-mod', mod-lt}
 use Rattle.std.proofs.lemmas.Bool.{cases_lt}
 use Rattle.fixed_decimal.specs.Rounding.{IsMultiple, IsNearest, distance}
+use Rattle.fixed_decimal.proofs.RoundingLemmas.{even_count as even_multiple, near_lower, near_upper, sides, upper_count}
 use Rattle.icu_decimal_compact_value.specs.ShownValue.{even_count}
-use Rattle.icu_decimal_compact_value.proofs.RoundingLemmas.{CountedBy, under, over, tie, counted, sides, upper_count}
-
-near_lower : (u low r n w : ℕ) → n ≡ low + r → 2 * r ≤ u → (w ≤ low) ⊎ (low + u ≤ w) → distance n low ≤ distance n w
-near_lower u low r n w e h (inl a) = omega arith
-near_lower u low r n w e h (inr a) = omega arith
+use Rattle.icu_decimal_compact_value.proofs.RoundingLemmas.{CountedBy, under, over, tie, counted}
 
 tie_lower : (u low r n w : ℕ) → n ≡ low + r → 2 * r ≤ u → 0 < u → w ≢ low → distance n w ≡ distance n low → (w ≤ low) ⊎ (low + u ≤ w) → 2 * r ≡ u
 tie_lower u low r n w e h p ne d (inl a) = absurd (ne (omega arith))
 tie_lower u low r n w e h p ne d (inr a) = omega arith
 
-near_upper : (u low r n w : ℕ) → n ≡ low + r → r < u → u ≤ 2 * r → (w ≤ low) ⊎ (low + u ≤ w) → distance n (low + u) ≤ distance n w
-near_upper u low r n w e l h (inl a) = omega arith
-near_upper u low r n w e l h (inr a) = omega arith
-
 tie_upper : (u low r n w : ℕ) → n ≡ low + r → r < u → u ≤ 2 * r → w ≢ low + u → distance n w ≡ distance n (low + u) → (w ≤ low) ⊎ (low + u ≤ w) → 2 * r ≡ u
 tie_upper u low r n w e l h ne d (inl a) = omega arith
 tie_upper u low r n w e l h ne d (inr a) = absurd (ne (omega arith))
-
-doubled : (a u : ℕ) → a * 2 * u ≡ a * (2 * u)
-doubled a u = omega arith
-
-even_multiple : (q u : ℕ) → q % 2 ≡ 0 → IsMultiple (2 * u) (q * u)
-even_multiple q u e = let h : q ≡ q / 2 * 2 = omega arith in (q / 2, ap (λ x. x * u) h ∙ doubled (q / 2) u)
 
 module _ (u n : ℕ) (p : 0 < u) where
   whole : n ≡ n / u * u + n % u

@@ -3,9 +3,9 @@ use Rattle.std.proofs.Common.{◌≡◌, ℕ, zero, suc, ◌+◌, ◌-◌, ◌*�
 use Rattle.std.proofs.Math.Nat.{div-add-mod', mul-add-div_right, div-div-eq-div-mul, mod-lt, mul-le-mul_right}
 use Rattle.std.proofs.lemmas.Nat.{pow-add}
 use Rattle.fixed_decimal.specs.Number.{digit}
+use Rattle.fixed_decimal.proofs.TenLemmas.{tens_positive}
 use Rattle.icu_decimal_compact_value.specs.ShownValue.{even_count}
 use Rattle.icu_decimal_compact_value.specs.Steps.{IsNines}
-use Rattle.icu_decimal_compact_value.proofs.MagnitudeLemmas.{tens_positive}
 use Rattle.icu_decimal_compact_value.proofs.RoundingLemmas.{CountedBy, under, over, tie, counted}
 use Rattle.icu_decimal_compact_value.proofs.ShowLemmas.{cancel_less, cancel_same}
 

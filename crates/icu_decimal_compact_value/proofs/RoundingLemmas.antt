@@ -5,6 +5,7 @@ use Rattle.std.proofs.lemmas.Bool.{cases_lt}
 use Rattle.std.proofs.lemmas.Bool.Decides.{nat_tests}
 use Rattle.std.proofs.lemmas.Nat.{pow-add}
 use Rattle.fixed_decimal.specs.Rounding.{IsMultiple, IsNearest, distance}
+use Rattle.fixed_decimal.proofs.RoundingLemmas.{sides, upper_count}
 use Rattle.icu_decimal_compact_value.specs.ShownValue.{even_count}
 
 -- the three ways in which the rest stands to half a unit, with the count taken
@@ -24,13 +25,6 @@ counted_at u q r = go (nat_lt (2 * r) u) (nat_lt u (2 * r)) refl refl
 pub counted : (u n : ℕ) → CountedBy u (n / u) (n % u) (even_count u n)
 counted u n = counted_at u (n / u) (n % u)
 
-above_side : (q u w c : ℕ) → q < c → w ≡ c * u → q * u + u ≤ w
-above_side q u w c l e = let h : q + 1 ≤ c = omega arith in omega (arith, mul-le-mul_right {m = q + 1} {n = c} u h)
-
--- a multiple stands at or below the lower one of two neighbours, or at or above the upper one
-pub sides : (q u w : ℕ) → IsMultiple u w → (w ≤ q * u) ⊎ (q * u + u ≤ w)
-sides q u w m = ⊎_elim (λ l. inr (above_side q u w m.0 l m.1)) (λ l. inl (omega (arith, mul-le-mul_right {m = m.0} {n = q} u l, m.1))) (cases_lt q m.0)
-
 -- a value that is as near as the limits round a number stands between them
 pub between : (n v low high : ℕ) → low ≤ n → n ≤ high → distance n v ≤ distance n low → distance n v ≤ distance n high → (low ≤ v) × (v ≤ high)
 between n v low high a b c d = (omega arith, omega arith)
@@ -42,9 +36,6 @@ parity u q c p e = ⊎_elim (λ l. let m = mul-le-mul_right {m = suc q} {n = c *
 
 parity_of : (u q c v : ℕ) → 0 < u → v ≡ q * u → v ≡ c * (2 * u) → q % 2 ≡ 0
 parity_of u q c v p a b = parity u q c p (sym a ∙ b)
-
-pub upper_count : (q u : ℕ) → q * u + u ≡ (q + 1) * u
-upper_count q u = omega arith
 
 near_low : (n v u a r : ℕ) → n ≡ a + r → 2 * r < u → distance n v ≤ distance n a → (v ≤ a) ⊎ (a + u ≤ v) → v ≡ a
 near_low n v u a r e h d (inl s) = omega arith

@@ -7,12 +7,12 @@ use Rattle.std.proofs.lemmas.Nat.{pow-add}
 use Rattle.fixed_decimal.specs.Number.{Number}
 use Rattle.fixed_decimal.specs.Range.{IsHighest, IsLowest}
 use Rattle.fixed_decimal.specs.Shifts.{TrimsStart}
+use Rattle.fixed_decimal.proofs.TenLemmas.{tens_apart, tens_positive}
 use Rattle.icu_decimal_compact_value.specs.declared.entry.CompactEntry.{CompactEntry}
 use Rattle.icu_decimal_compact_value.specs.Choice.{Choice, chosen, entry_at, entry_of, exponent_of, exponent_place, has_exponent_at, is_carried, is_carried_to, next_at, shown_under, under}
 use Rattle.icu_decimal_compact_value.specs.ShownValue.{magnitude, unit_place}
 use Rattle.icu_decimal_compact_value.specs.Significand.{Shows}
 use Rattle.icu_decimal_compact_value.specs.Steps.{IsDivided, IsRoundedTo}
-use Rattle.icu_decimal_compact_value.proofs.MagnitudeLemmas.{tens_apart, tens_positive}
 use Rattle.icu_decimal_compact_value.proofs.UnitLemmas.{entry_from_ones}
 
 pub tens_sum : (i j : ℕ) → 10 ^ (i + j) ≡ 10 ^ i * 10 ^ j

@@ -3,11 +3,12 @@ use Rattle.std.proofs.Common.{◌≡◌, ℕ, suc, ◌+◌, ◌-◌, ◌*◌, �
 use Rattle.std.proofs.Math.Nat.{eq-zero-or-pos, zero-mul}
 use Rattle.std.proofs.lemmas.Bool.{cases_lt}
 use Rattle.fixed_decimal.specs.Rounding.{IsMultiple, count_limit}
+use Rattle.fixed_decimal.proofs.TenLemmas.{tens_apart, tens_positive}
 use Rattle.icu_decimal_compact_value.specs.declared.entry.CompactEntry.{CompactEntry}
 use Rattle.icu_decimal_compact_value.specs.Choice.{CanShow, exponent_place, shown_under}
 use Rattle.icu_decimal_compact_value.specs.ShownValue.{even_count, magnitude, shown_value, unit_place}
 use Rattle.icu_decimal_compact_value.specs.Steps.{IsNines}
-use Rattle.icu_decimal_compact_value.proofs.MagnitudeLemmas.{magnitude_top, tens_apart, tens_positive}
+use Rattle.icu_decimal_compact_value.proofs.MagnitudeLemmas.{magnitude_top}
 use Rattle.icu_decimal_compact_value.proofs.NearestLemmas.{even_nearest}
 use Rattle.icu_decimal_compact_value.proofs.NinesLemmas.{nines_of_power, power_of_nines}
 use Rattle.icu_decimal_compact_value.proofs.RoundingLemmas.{stays_between}

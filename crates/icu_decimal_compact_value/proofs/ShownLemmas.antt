@@ -3,8 +3,9 @@ use Rattle.std.proofs.Common.{◌≡◌, ◌≢◌, ℕ, suc, ◌+◌, ◌-◌, 
 use Rattle.std.proofs.Math.Nat.{div-add-mod', eq-zero-or-pos, mod-lt, zero-mul}
 use Rattle.std.proofs.lemmas.Bool.{cases_lt}
 use Rattle.fixed_decimal.specs.Rounding.{IsMultiple, IsNearest, distance}
+use Rattle.fixed_decimal.proofs.TenLemmas.{tens_apart, tens_positive}
 use Rattle.icu_decimal_compact_value.specs.ShownValue.{IsShowable, IsShown, magnitude, shown_value, unit, unit_place}
-use Rattle.icu_decimal_compact_value.proofs.MagnitudeLemmas.{IsTop, magnitude_top, magnitude_unique, tens_apart, tens_positive}
+use Rattle.icu_decimal_compact_value.proofs.MagnitudeLemmas.{IsTop, magnitude_top, magnitude_unique}
 use Rattle.icu_decimal_compact_value.proofs.NearestLemmas.{even_nearest}
 use Rattle.icu_decimal_compact_value.proofs.RoundingLemmas.{even_is, power_multiple}
 

@@ -3,13 +3,14 @@ use Rattle.std.proofs.Common.{◌≡◌, ℕ, ◌*◌, ◌^◌, ◌<◌, ◌≤�
 use Rattle.std.proofs.Math.Nat.{eq-zero-or-pos}
 use Rattle.std.proofs.lemmas.Bool.{cases_lt}
 use Rattle.fixed_decimal.specs.Rounding.{count_limit, distance}
+use Rattle.fixed_decimal.proofs.TenLemmas.{tens_apart}
 use Rattle.icu_decimal_compact_value.specs.declared.entry.CompactEntry.{CompactEntry}
 use Rattle.icu_decimal_compact_value.specs.Choice.{CanShow, chosen, exponent_place, shown_under}
 use Rattle.icu_decimal_compact_value.specs.Entries.{Rises}
 use Rattle.icu_decimal_compact_value.specs.ExactForms.{IsInRange}
 use Rattle.icu_decimal_compact_value.specs.ShownValue.{IsShowable, IsShown, magnitude}
 use Rattle.icu_decimal_compact_value.proofs.ExactLemmas.{exact_form_has_shown_magnitude}
-use Rattle.icu_decimal_compact_value.proofs.MagnitudeLemmas.{magnitude_top, tens_apart}
+use Rattle.icu_decimal_compact_value.proofs.MagnitudeLemmas.{magnitude_top}
 use Rattle.icu_decimal_compact_value.proofs.ShowableLemmas.{limit_is}
 use Rattle.icu_decimal_compact_value.proofs.ShownLemmas.{order_kept, rule_shows, shown_near, shows_itself, zero_for_zero}
 

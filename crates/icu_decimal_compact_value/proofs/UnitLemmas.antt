@@ -6,11 +6,12 @@ use Rattle.std.proofs.lemmas.Bool.Decides.{nat_tests}
 use Rattle.fixed_decimal.specs.Number.{Number}
 use Rattle.fixed_decimal.specs.Range.{IsHighest}
 use Rattle.fixed_decimal.specs.Rounding.{IsLimited, IsMultiple, IsNearest}
+use Rattle.fixed_decimal.proofs.TenLemmas.{tens_positive}
 use Rattle.icu_decimal_compact_value.specs.declared.entry.CompactEntry.{CompactEntry}
 use Rattle.icu_decimal_compact_value.specs.Choice.{CanShow, entry_at, exponent_place, shown_under}
 use Rattle.icu_decimal_compact_value.specs.ShownValue.{magnitude, unit_place}
 use Rattle.icu_decimal_compact_value.specs.Steps.{IsRoundedTo, StaysNear}
-use Rattle.icu_decimal_compact_value.proofs.MagnitudeLemmas.{magnitude_top, tens_positive}
+use Rattle.icu_decimal_compact_value.proofs.MagnitudeLemmas.{magnitude_top}
 use Rattle.icu_decimal_compact_value.proofs.RoundingLemmas.{even_is, stays_between}
 
 -- an entry is there only from the ones on

@@ -22,7 +22,7 @@ abbrev pub exponent_of : Option CompactEntry → ℕ
 exponent_of None = 0
 exponent_of (Some x) = x.exponent
 
--- where an exponent stands that numbers of magnitude place k are shown with
+-- the place of the exponent that numbers whose first digit stands at place k are shown with
 abbrev pub exponent_place : ℕ → List CompactEntry → ℕ → ℕ
 exponent_place ones entries k = ones + exponent_of (entry_at ones entries k)
 
@@ -39,7 +39,7 @@ has_exponent_at ones k (Some x) = ones + x.exponent == k
 abbrev pub is_carried_to : ℕ → List CompactEntry → ℕ → ℕ → Bool
 is_carried_to ones entries k value = (value == 10 ^ suc k) && has_exponent_at ones (suc k) (next_at ones entries k)
 
--- the shown value of a number is so
+-- a number is carried: its shown value is ten to the next magnitude, which is the next entry's exponent
 abbrev pub is_carried : ℕ → List CompactEntry → ℕ → Bool
 is_carried ones entries n = is_carried_to ones entries (magnitude ones n) (shown_under ones entries n)
 

@@ -3,7 +3,8 @@ ghost use Rattle.icu_decimal_compact_value.specs.ExactForms.{compact_exponent_er
 
 use thiserror::Error;
 
-/// An exact form was asked for with another exponent than the table has at its magnitude: `1.2c5` under `K` of exponent 3.
+/// An exact form was asked for with another exponent than the table has at its magnitude: `1.2c5` under `K` of exponent
+/// 3.
 ///
 /// It prints `Expected compact exponent 3 for 10^5, got 5`.
 #[derive(Clone, Copy, Debug, Drop, PartialEq, Eq, Error)]
@@ -11,7 +12,8 @@ use thiserror::Error;
 pub struct CompactExponentError {
     /// The exponent asked for: 5 of `1.2c5`.
     pub actual: u8,
-    /// The exponent of the entry for the magnitude, and 0 where there is none: 3 for the magnitude 5 under `K` of exponent 3.
+    /// The exponent of the entry for the magnitude, and 0 where there is none: 3 for the magnitude 5 under `K` of
+    /// exponent 3.
     pub expected: u8,
     /// The magnitude of the significand and the exponent together: 5 of `1.2c5`.
     pub magnitude: i16,

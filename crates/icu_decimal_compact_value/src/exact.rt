@@ -16,7 +16,8 @@ fn place_with(significand: &UnsignedDecimal, exponent: u8) -> u32
     magnitude_place(significand) as u32 + exponent as u32
 }
 
-/// Whether the magnitude of a significand and an exponent together is at most 32767: true of 1.2 and 6, false of 10^32767 and 1.
+/// Whether the magnitude of a significand and an exponent together is at most 32767: true of 1.2 and 6, false of
+/// 10^32767 and 1.
 ///
 /// It does not allocate.
 pub fn exponent_in_range(significand: &UnsignedDecimal, exponent: u8) -> bool
@@ -25,12 +26,12 @@ pub fn exponent_in_range(significand: &UnsignedDecimal, exponent: u8) -> bool
     place_with(significand, exponent) <= u16::MAX as u32
 }
 
-/// The index of the entry that an exact form is written under: of 1.2 and 3 under entries of the types 3 and 6 with the exponents
-/// 3 and 6 it is 0, and none of 1.2 and 0.
+/// The index of the entry that an exact form is written under: of 1.2 and 3 under entries of the types 3 and 6 with the
+/// exponents 3 and 6 it is 0, and none of 1.2 and 0.
 ///
-/// The magnitude of the significand and the exponent together says the entry, and its exponent is the expected one, 0 with no
-/// entry. `CompactExponentError` exactly where the exponent is another: 1.2 and 5 there. The condition is `exponent_in_range`. It
-/// does not allocate.
+/// The magnitude of the significand and the exponent together says the entry, and its exponent is the expected one, 0
+/// with no entry. `CompactExponentError` exactly where the exponent is another: 1.2 and 5 there. The condition is
+/// `exponent_in_range`. It does not allocate.
 pub fn exact_entry(
     significand: &UnsignedDecimal,
     exponent: u8,

@@ -17,15 +17,16 @@ use std::marker::Model;
 
 /// What a number is shown as: 1.6 and the exponent 3 under the first entry, of 1650.
 ///
-/// `significand` is the number before the patterns, `exponent` the power of ten that these stand for (0 with no entry), `entry`
-/// the index of the entry whose patterns are taken.
+/// `significand` is the number before the patterns, `exponent` the power of ten that these stand for (0 with no entry),
+/// `entry` the index of the entry whose patterns are taken.
 #[derive(Debug, Drop)]
 pub struct Shown {
     /// The number in the pattern: 1.6 of 1650 under `K`.
     pub significand: UnsignedDecimal,
     /// The power of ten that the pattern stands for: 3 of 1650 under `K`.
     pub exponent: u8,
-    /// The index of the entry, as `Some(0)` of 1650 under `K`, or `None` where the number is shown without a pattern, as 843.
+    /// The index of the entry, as `Some(0)` of 1650 under `K`, or `None` where the number is shown without a pattern,
+    /// as 843.
     pub entry: Option<usize>,
 }
 
@@ -39,13 +40,14 @@ impl Model for Shown {
 
 /// Under which exponent and entry a number is shown: the exponent 3 and the first entry, of 1650 under `K`.
 ///
-/// `exponent` is the power of ten that the patterns stand for (0 with no entry), `entry` the index of the entry whose patterns
-/// are taken.
+/// `exponent` is the power of ten that the patterns stand for (0 with no entry), `entry` the index of the entry whose
+/// patterns are taken.
 #[derive(Clone, Copy, Debug, PartialEq, Eq)]
 pub struct ShownUnder {
     /// The power of ten that the pattern stands for: 3 of 1650 under `K`.
     pub exponent: u8,
-    /// The index of the entry, as `Some(0)` of 1650 under `K`, or `None` where the number is shown without a pattern, as 843.
+    /// The index of the entry, as `Some(0)` of 1650 under `K`, or `None` where the number is shown without a pattern,
+    /// as 843.
     pub entry: Option<usize>,
 }
 
@@ -86,8 +88,8 @@ fn are_nines(number: &UnsignedDecimal, from: u16) -> bool
     true
 }
 
-/// Whether what a number is shown as is a decimal: false of 32,768 nines under an entry of the exponent 6, as they are rounded to
-/// 10^32768.
+/// Whether what a number is shown as is a decimal: false of 32,768 nines under an entry of the exponent 6, as they are
+/// rounded to 10^32768.
 ///
 /// It is true exactly where the number rounded to its unit stays below 10^32768. It does not allocate.
 pub fn can_show(number: &UnsignedDecimal, entries: &[CompactEntry]) -> bool
@@ -157,12 +159,13 @@ fn divide(rounded: &mut UnsignedDecimal, exponent: u8)
     rounded.trim_end();
 }
 
-/// Makes a number what it is shown as, and says under which exponent and entry: of 1650 under entries of the types 3 and 6 with
-/// the exponents 3 and 6 it makes 1.6, with the exponent 3 and the first entry; of 999500 it makes 1, with the exponent 6 and the
-/// second entry; 843 stays, with no entry.
+/// Makes a number what it is shown as, and says under which exponent and entry: of 1650 under entries of the types 3
+/// and 6 with the exponents 3 and 6 it makes 1.6, with the exponent 3 and the first entry; of 999500 it makes 1, with
+/// the exponent 6 and the second entry; 843 stays, with no entry.
 ///
-/// The number is rounded half to even, at the magnitude of the exponent where its first digit stands above it, else to two
-/// digits. Zeros that end the fraction go, and zeros before the number stay. The condition is `can_show`. It does not allocate.
+/// The number is rounded half to even, at the magnitude of the exponent where its first digit stands above it, else to
+/// two digits. Zeros that end the fraction go, and zeros before the number stay. The condition is `can_show`. It does
+/// not allocate.
 pub fn show_in_place(number: &mut UnsignedDecimal, entries: &[CompactEntry]) -> ShownUnder
     requires { CanShow entries.now number.old.count }
     ensures { Shows entries.now number.old (record { significand = number.new; exponent = result.exponent; entry = result.entry }) }
@@ -190,9 +193,9 @@ pub fn show_in_place(number: &mut UnsignedDecimal, entries: &[CompactEntry]) -> 
 
 /// What a number is shown as under the entries of a table: what `show_in_place` makes of it, in a value of its own.
 ///
-/// Of 1650 it is 1.6, the exponent 3 and the first entry, under entries of the types 3 and 6 with the exponents 3 and 6. The
-/// condition is `can_show`. It allocates where the number has more than eight digits, from the first to the last one that is not
-/// zero. `AllocError`: out of memory, only there.
+/// Of 1650 it is 1.6, the exponent 3 and the first entry, under entries of the types 3 and 6 with the exponents 3 and
+/// 6. The condition is `can_show`. It allocates where the number has more than eight digits, from the first to the last
+/// one that is not zero. `AllocError`: out of memory, only there.
 pub fn show(number: &UnsignedDecimal, entries: &[CompactEntry]) -> Result<Shown, AllocError>
     requires { CanShow entries.now number.now.count }
     ensures value { IfOk result (Shows entries.now number.now) }

@@ -42,8 +42,8 @@ pub fn exponent_at(entries: &[CompactEntry], index: Option<usize>) -> u8
     }
 }
 
-/// The exponent that numbers of a magnitude are shown with: 3 for 5 under entries of the types 3 and 6 with the exponents 3 and
-/// 6, and 0 for 2.
+/// The exponent that numbers of a magnitude are shown with: 3 for 5 under entries of the types 3 and 6 with the
+/// exponents 3 and 6, and 0 for 2.
 ///
 /// It is the exponent of the last entry whose type is at most the magnitude, and 0 with none. It does not allocate.
 pub fn exponent_for_magnitude(magnitude: i16, entries: &[CompactEntry]) -> u8

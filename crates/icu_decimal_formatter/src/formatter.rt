@@ -29,11 +29,11 @@ pub struct DecimalFormatter<'b> {
 }
 
 impl<'b> DecimalFormatter<'b> {
-    /// The formatter of these preferences and options, with tables of the provider: the symbols that the preferences ask for,
-    /// then the digits.
+    /// The formatter of these preferences and options, with tables of the provider: the symbols that the preferences
+    /// ask for, then the digits.
     ///
-    /// With the sample book, preferences of `en-u-nu-thai` and default options it writes 1000007 as `๑,๐๐๐,๐๐๗`. Errors as
-    /// `load_symbols` and `load_digits`. It does not allocate.
+    /// With the sample book, preferences of `en-u-nu-thai` and default options it writes 1000007 as `๑,๐๐๐,๐๐๗`. Errors
+    /// as `load_symbols` and `load_digits`. It does not allocate.
     pub fn try_new_unstable<P>(
         provider: &'b P,
         preferences: DecimalFormatterPreferences,
@@ -50,8 +50,8 @@ impl<'b> DecimalFormatter<'b> {
 
     /// The formatter of tables that the caller has: symbols, and ten digits from zero up.
     ///
-    /// With the symbols of `en`, the digits of `thai` and default options it writes 1000007 as `๑,๐๐๐,๐๐๗`. The numbering system
-    /// that the symbols name is not looked at. It does not allocate.
+    /// With the symbols of `en`, the digits of `thai` and default options it writes 1000007 as `๑,๐๐๐,๐๐๗`. The
+    /// numbering system that the symbols name is not looked at. It does not allocate.
     pub fn from_tables(
         symbols: &'b DecimalSymbols,
         digits: &'b [char; 10],
@@ -64,7 +64,8 @@ impl<'b> DecimalFormatter<'b> {
         }
     }
 
-    /// What it writes with, as one value: of the formatter of `en` what writes -1234.5 as `-1,234.5`. It does not allocate.
+    /// What it writes with, as one value: of the formatter of `en` what writes -1234.5 as `-1,234.5`. It does not
+    /// allocate.
     pub fn tables(&self) -> &DecimalTables<'b>
         ensures { borrowed_tables result.now ≡ tables_of self.now }
     {

@@ -1,10 +1,9 @@
 -- The JSON value of a table is read as its types.
-use Rattle.std.proofs.Common.{◌≡◌, ◌≤◌, ◌<◌, ℕ, suc, Bool, true, false, not, ◌&&◌, ◌||◌, cond, codes, List, [], ◌∷◌, nat_lt, nat_le, Option, Some, None, refl, sym, ap, ◌∙◌, arith}
+use Rattle.std.proofs.Common.{◌≡◌, ◌<◌, ℕ, suc, Bool, true, false, not, ◌&&◌, cond, codes, List, [], ◌∷◌, Option, Some, None, refl, sym, ap, ◌∙◌}
 use Rattle.std.specs.List.{list_all, list_any}
 use Rattle.std.specs.Option.{option_or}
 use Rattle.std.specs.Str.{bytes_eq}
-use Rattle.std.proofs.lemmas.Bool.{and_parts}
-use Rattle.std.proofs.lemmas.Bool.Decides.{nat_tests}
+use Rattle.std.proofs.lemmas.Bool.{and_parts, le-leb, lt-ltb, or_parts}
 use Rattle.icu_decimal_compact_value.specs.declared.entry.CompactEntry.{CompactEntry}
 use Rattle.icu_decimal_compact_value.specs.Entries.{Rises}
 use Rattle.icu_decimal_patterns.specs.KeptEntries.{CompactTable, IsOwnTable, Patterns, types_held}
@@ -34,10 +33,6 @@ all_slots ((name, Some p) ∷ slots) all =
 -- a slot of this name, filled or not
 abbrev has_name : List ℕ → List Slot → Bool
 has_name name slots = list_any (λ (s : Slot). bytes_eq s.0 name) slots
-
-or_parts : (a b : Bool) → (a || b) ≡ false → (a ≡ false) × (b ≡ false)
-or_parts true b h = cc
-or_parts false b h = (refl, h)
 
 none_named : (name : List ℕ) (slots : List Slot) → has_name name slots ≡ false → list_any (is_named name) (filled_slots slots) ≡ false
 none_named name [] none = refl
@@ -102,14 +97,8 @@ slots_read p = ap elements_in (listed_of (filled_slots (named_slots p))) ∙ slo
 
 -- ---- types
 
-lt_true : (a b : ℕ) → a < b → nat_lt a b ≡ true
-lt_true a b h = grind (arith, nat_tests, h)
-
-le_true : (a b : ℕ) → a ≤ b → nat_le a b ≡ true
-le_true a b h = grind (arith, nat_tests, h)
-
 type_read : (e : CompactEntry) (p : Patterns) → e.log10_type < 256 → e.exponent < 256 → type_in (type_json e p) ≡ Some (type_with e.log10_type e.exponent p)
-type_read e p small low = rw (lt_true e.log10_type 256 small, lt_true e.exponent 256 low, slots_read p) refl
+type_read e p small low = rw (lt-ltb e.log10_type 256 small, lt-ltb e.exponent 256 low, slots_read p) refl
 
 all_read : (es : List CompactEntry) (ps : List Patterns) → AreSmall es → all_types (types_json es ps) ≡ Some (types_held es ps)
 all_read [] ps small = refl
@@ -119,7 +108,7 @@ all_read (e ∷ es) (p ∷ ps) small = rw (type_read e p small.0.0 small.0.1, al
 held_rise : (least : ℕ) (es : List CompactEntry) (ps : List Patterns) → Rises least es → rise_from least (types_held es ps) ≡ true
 held_rise least [] ps rise = refl
 held_rise least (e ∷ es) [] rise = refl
-held_rise least (e ∷ es) (p ∷ ps) rise = rw (le_true least e.log10_type rise.0) (held_rise (suc e.log10_type) es ps rise.2)
+held_rise least (e ∷ es) (p ∷ ps) rise = rw (le-leb least e.log10_type rise.0) (held_rise (suc e.log10_type) es ps rise.2)
 
 -- the value of entries that rise is read as their types
 table_read : (t : CompactTable) → AreSmall t.entries → Rises 0 t.entries → types_of (table_json t) ≡ Some (types_held t.entries t.patterns)

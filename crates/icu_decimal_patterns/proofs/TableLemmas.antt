@@ -4,7 +4,7 @@ use Rattle.std.specs.BTreeMap.{insert_entry}
 use Rattle.std.specs.Option.{option_map_or}
 use Rattle.std.specs.Ordering.{nat_cmp}
 use Rattle.std.specs.declared.cmp.Ordering.TheVariants.{Greater}
-use Rattle.std.proofs.lemmas.Bool.{and_parts}
+use Rattle.std.proofs.lemmas.Bool.{and_parts, leb-true}
 use Rattle.std.proofs.lemmas.List.{map-append}
 use Rattle.std.proofs.lemmas.Bool.Decides.{nat_tests}
 use Rattle.serde_json.specs.Data.{Data}
@@ -64,15 +64,12 @@ some_known front here whole rest x split first none = not_empty front x rest (ap
 
 -- ---- a map of types that rise
 
-true_le : (a b : ℕ) → nat_le a b ≡ true → a ≤ b
-true_le a b h = grind (arith, nat_tests, h)
-
 -- those behind are greater
 least_behind : (least : ℕ) (before : List (ℕ × (ℕ × Patterns))) (x : TypePatterns) (rest : List TypePatterns) → rise_from least (map of_type before ++ x ∷ rest) ≡ true → least ≤ x.log10_type
-least_behind least [] x rest rise = true_le least x.log10_type (and_parts (nat_le least x.log10_type) (rise_from (suc x.log10_type) rest) rise).0
+least_behind least [] x rest rise = leb-true least x.log10_type (and_parts (nat_le least x.log10_type) (rise_from (suc x.log10_type) rest) rise).0
 least_behind least (e ∷ before) x rest rise =
     let parts = and_parts (nat_le least e.0) (rise_from (suc e.0) (map of_type before ++ x ∷ rest)) rise in
-    let here = true_le least e.0 parts.0 in
+    let here = leb-true least e.0 parts.0 in
     let behind = least_behind (suc e.0) before x rest parts.1 in
     omega (arith, here, behind)
 

@@ -89,13 +89,13 @@ fn kept(alloc: Global, given: GivenTypes, zero: Base<'_>) -> Result<CompactPatte
 impl CompactPatterns {
     /// The table of these types, each with its exponent and its patterns.
     ///
-    /// A type whose patterns are those of the type kept before it, without slot `1`, is left out, and so are the first types
-    /// whose patterns are `zero_magnitude`, those of smaller numbers. With `K` at type 3 and at type 4, both with exponent 3, it
-    /// is only type 3.
+    /// A type whose patterns are those of the type kept before it, without slot `1`, is left out, and so are the first
+    /// types whose patterns are `zero_magnitude`, those of smaller numbers. With `K` at type 3 and at type 4, both with
+    /// exponent 3, it is only type 3.
     ///
-    /// Refused, in this order: Decreasing, where an exponent is below the one before it; AboveType or TooManyZeros, where the
-    /// least type that is kept and has a fault has its exponent above it, or more than 15 below it; Memory: out of memory. It
-    /// does not allocate where no type is kept.
+    /// Refused, in this order: Decreasing, where an exponent is below the one before it; AboveType or TooManyZeros,
+    /// where the least type that is kept and has a fault has its exponent above it, or more than 15 below it; Memory:
+    /// out of memory. It does not allocate where no type is kept.
     pub fn new(
         alloc: Global,
         types: BTreeMap<u8, (u8, PluralElements<Pattern>)>,
@@ -121,8 +121,8 @@ impl CompactPatterns {
         }
     }
 
-    /// The entries, from the least type up, in English those of the types 3 and 6: types rise strictly, and each exponent is 0 to
-    /// 15 below its type. It does not allocate.
+    /// The entries, from the least type up, in English those of the types 3 and 6: types rise strictly, and each
+    /// exponent is 0 to 15 below its type. It does not allocate.
     pub fn entries(&self) -> &[CompactEntry]
         ensures value { result.now ≡ self.now.entries }
         ensures rising { Rises 0 result.now }

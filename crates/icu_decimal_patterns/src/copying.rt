@@ -72,7 +72,7 @@ fn all_copied(
     ensures succeeds { patterns.now ≡ [] → IsOk result }
     ensures value { IfOk result (λ copies. copies.items ≡ patterns.now) }
 {
-    let mut copies = Vec::new(alloc);
+    let mut copies = Vec::with_capacity(alloc, patterns.len())?;
     for each in patterns {
         let copy = each.try_clone()?;
         copies.push(copy)?;

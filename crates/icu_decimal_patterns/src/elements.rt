@@ -11,8 +11,8 @@ use std::marker::Model;
 
 /// A value for each plural: slots `0` and `1`, a slot for each category, and `other`, which is always there.
 ///
-/// In English `thousand` for slot `1` and `thousands` for `other` give `thousand` for `1`, and `thousands` for `2` and for `1.0`.
-/// After ICU4X's `PluralElements`.
+/// In English `thousand` for slot `1` and `thousands` for `other` give `thousand` for `1`, and `thousands` for `2` and
+/// for `1.0`. After ICU4X's `PluralElements`.
 #[derive(Debug, Drop)]
 pub struct PluralElements<T> {
     pub(crate) explicit_zero: Option<T>,
@@ -90,8 +90,8 @@ impl<T> PluralElements<T> {
         }
     }
 
-    /// The value of `other` where it is the only one, so that every number takes it: of `thousands` for `other` and no other slot
-    /// `thousands`, and `None` where slot `1` is there too. It does not allocate.
+    /// The value of `other` where it is the only one, so that every number takes it: of `thousands` for `other` and no
+    /// other slot `thousands`, and `None` where slot `1` is there too. It does not allocate.
     ///
     /// After ICU4X's `try_into_other`.
     #[tactic(auto, using(crate::proofs::ElementsLemmas::other_stands_alone, crate::proofs::ElementsLemmas::other_has_company))]
@@ -106,9 +106,9 @@ impl<T> PluralElements<T> {
         }
     }
 
-    /// The value for a number of these operands: that of slot `0` or `1` where the number is shown as just that digit, or with
-    /// zeros before it, else that of its category, else `other`. With `thousand` in slot `1` it is `thousand` for `1`, but not
-    /// for `1.0`. It does not allocate.
+    /// The value for a number of these operands: that of slot `0` or `1` where the number is shown as just that digit,
+    /// or with zeros before it, else that of its category, else `other`. With `thousand` in slot `1` it is `thousand`
+    /// for `1`, but not for `1.0`. It does not allocate.
     pub fn get(&self, operands: &PluralOperands, rules: &PluralRules) -> &T
         ensures { result.now ≡ slot_of self.now rules.now operands.now }
     {
@@ -120,8 +120,8 @@ impl<T> PluralElements<T> {
 }
 
 impl<T: Drop> PluralElements<T> {
-    /// The same with this value for the category `zero`, or with none: the number then takes `other`. With `nothing` for it, `0`
-    /// takes `nothing` in Arabic. It does not allocate.
+    /// The same with this value for the category `zero`, or with none: the number then takes `other`. With `nothing`
+    /// for it, `0` takes `nothing` in Arabic. It does not allocate.
     pub fn with_zero_value(mut self, zero: Option<T>) -> Self
         ensures { result ≡ with_zero self zero }
     {
@@ -129,8 +129,8 @@ impl<T: Drop> PluralElements<T> {
         self
     }
 
-    /// The same with this value for the category `one`, or with none. With `thousand` for it, `1` takes `thousand` in English. It
-    /// does not allocate.
+    /// The same with this value for the category `one`, or with none. With `thousand` for it, `1` takes `thousand` in
+    /// English. It does not allocate.
     pub fn with_one_value(mut self, one: Option<T>) -> Self
         ensures { result ≡ with_one self one }
     {
@@ -138,8 +138,8 @@ impl<T: Drop> PluralElements<T> {
         self
     }
 
-    /// The same with this value for the category `two`, or with none. With `pair` for it, `2` takes `pair` in Arabic. It does not
-    /// allocate.
+    /// The same with this value for the category `two`, or with none. With `pair` for it, `2` takes `pair` in Arabic.
+    /// It does not allocate.
     pub fn with_two_value(mut self, two: Option<T>) -> Self
         ensures { result ≡ with_two self two }
     {
@@ -147,8 +147,8 @@ impl<T: Drop> PluralElements<T> {
         self
     }
 
-    /// The same with this value for the category `few`, or with none. With `some` for it, `2` and `22` take `some` in Polish. It
-    /// does not allocate.
+    /// The same with this value for the category `few`, or with none. With `some` for it, `2` and `22` take `some` in
+    /// Polish. It does not allocate.
     pub fn with_few_value(mut self, few: Option<T>) -> Self
         ensures { result ≡ with_few self few }
     {
@@ -156,8 +156,8 @@ impl<T: Drop> PluralElements<T> {
         self
     }
 
-    /// The same with this value for the category `many`, or with none. With `lots` for it, `5` and `12` take `lots` in Polish. It
-    /// does not allocate.
+    /// The same with this value for the category `many`, or with none. With `lots` for it, `5` and `12` take `lots` in
+    /// Polish. It does not allocate.
     pub fn with_many_value(mut self, many: Option<T>) -> Self
         ensures { result ≡ with_many self many }
     {
@@ -165,8 +165,8 @@ impl<T: Drop> PluralElements<T> {
         self
     }
 
-    /// The same with this value for a number that is shown as `0` or `00`, or with none. With `nothing` for it, `0` takes
-    /// `nothing`, and `0.0` does not. It does not allocate.
+    /// The same with this value for a number that is shown as `0` or `00`, or with none. With `nothing` for it, `0`
+    /// takes `nothing`, and `0.0` does not. It does not allocate.
     pub fn with_explicit_zero_value(mut self, explicit_zero: Option<T>) -> Self
         ensures { result ≡ with_explicit_zero self explicit_zero }
     {
@@ -174,8 +174,8 @@ impl<T: Drop> PluralElements<T> {
         self
     }
 
-    /// The same with this value for a number that is shown as `1` or `01`, or with none. With `a thousand` for it, `1` takes
-    /// `a thousand`, and `1.0` does not. It does not allocate.
+    /// The same with this value for a number that is shown as `1` or `01`, or with none. With `a thousand` for it, `1`
+    /// takes `a thousand`, and `1.0` does not. It does not allocate.
     pub fn with_explicit_one_value(mut self, explicit_one: Option<T>) -> Self
         ensures { result ≡ with_explicit_one self explicit_one }
     {

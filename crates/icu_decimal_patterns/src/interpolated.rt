@@ -28,8 +28,8 @@ impl<'l, T> Model for Interpolated<'l, T> {
 }
 
 impl<'l, T> Interpolated<'l, T> {
-    /// A value in a pattern, which is borrowed; without one, the value by itself. `1.2` in `{0}K` is written `1.2K`, and without
-    /// a pattern `1.2`. It does not allocate.
+    /// A value in a pattern, which is borrowed; without one, the value by itself. `1.2` in `{0}K` is written `1.2K`,
+    /// and without a pattern `1.2`. It does not allocate.
     pub fn new(pattern: Option<&'l Pattern>, value: T) -> Self
         ensures { result ≡ record { pattern = option_map (λ p. p.now) pattern.entry; value = value } }
     {
@@ -54,8 +54,8 @@ impl<'l, T> Interpolated<'l, T> {
     }
 }
 
-/// The text before the placeholder, the value with its parts, the text behind it: `1.2K`. A pattern without a placeholder is
-/// written by itself, and so is a value without a pattern.
+/// The text before the placeholder, the value with its parts, the text behind it: `1.2K`. A pattern without a
+/// placeholder is written by itself, and so is a value without a pattern.
 impl<'l, T: Writeable> Writeable for Interpolated<'l, T> {
     ghost use Rattle.std.specs.Prelude.{length};
     ghost use Rattle.writeable.specs.AnnotatedText.{text_of};

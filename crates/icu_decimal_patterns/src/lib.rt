@@ -1,5 +1,5 @@
-//! The text around a compact number (`K`, ` thousand`), by plural: patterns with one placeholder, one for each plural, and the
-//! tables of compact writing.
+//! The text around a compact number (`K`, ` thousand`), by plural: patterns with one placeholder, one for each plural,
+//! and the tables of compact writing.
 //!
 //! The pattern of thousands in English writes `1.2` as `1.2K`. The rules are in docs/compact-text.md.
 //!

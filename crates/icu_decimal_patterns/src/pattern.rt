@@ -52,8 +52,8 @@ fn text_copied(text: &String) -> Result<String, AllocError>
 }
 
 impl Pattern {
-    /// The pattern with `before` before its placeholder and `after` behind it: the empty text and `K` make of `1.2` the text
-    /// `1.2K`. It does not allocate.
+    /// The pattern with `before` before its placeholder and `after` behind it: the empty text and `K` make of `1.2` the
+    /// text `1.2K`. It does not allocate.
     pub fn around(before: String, after: String) -> Self
         ensures { result ≡ around (string_bytes before) (string_bytes after) }
     {
@@ -62,7 +62,8 @@ impl Pattern {
         }
     }
 
-    /// The pattern of only this text, without a placeholder: `thousand` makes of `1` the text `thousand`. It does not allocate.
+    /// The pattern of only this text, without a placeholder: `thousand` makes of `1` the text `thousand`. It does not
+    /// allocate.
     pub fn literal(text: String) -> Self
         ensures { result ≡ literal (string_bytes text) }
     {
@@ -125,8 +126,8 @@ impl Eq for Pattern {
 }
 
 impl Pattern {
-    /// A value in the place of the placeholder: `1.2` in the pattern of thousands is `1.2K`. The pattern is borrowed. It does not
-    /// allocate.
+    /// A value in the place of the placeholder: `1.2` in the pattern of thousands is `1.2K`. The pattern is borrowed.
+    /// It does not allocate.
     pub fn interpolate<T>(&self, value: T) -> Interpolated<'_, T>
         ensures { result ≡ record { pattern = Some self.now; value = value } }
     {

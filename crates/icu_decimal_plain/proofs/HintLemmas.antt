@@ -1,14 +1,16 @@
 -- How long the text of a number is at least: a byte a digit.
-use Rattle.std.proofs.Common.{◌≡◌, ℕ, ◌+◌, ◌-◌, ◌<◌, ◌≤◌, Bool, true, false, cond, List, [], ◌∷◌, ◌++◌, length, length-append, map, zero, suc, refl, ap, ◌∙◌, arith}
+use Rattle.std.proofs.Common.{◌≡◌, ℕ, ◌+◌, ◌-◌, ◌<◌, ◌≤◌, Bool, true, false, cond, List, [], ◌∷◌, ◌++◌, length, length-append, map, ap, ◌∙◌, arith}
 use Rattle.std.proofs.lemmas.List.{append-nil}
 use Rattle.std.proofs.lemmas.Str.{length-le-encodes}
 use Rattle.writeable.specs.AnnotatedText.{Event, text_of}
-use Rattle.fixed_decimal.specs.Number.{digits_down, fraction_digits, whole_digits}
+use Rattle.writeable.specs.SinkLaws.{text_of_joined}
+use Rattle.fixed_decimal.specs.Number.{fraction_digits, whole_digits}
 use Rattle.icu_decimal_plain.specs.Affixes.{WithSign, events_with_sign, prefix_events, suffix_events}
 use Rattle.icu_decimal_plain.specs.Grouper.{ends_at, group_sizes, marked}
 use Rattle.icu_decimal_plain.specs.PlainText.{PlainNumber, Tables, chained, digit_text, fraction_text, unsigned_events, whole_text}
+use Rattle.icu_decimal_plain.proofs.DigitChunkLemmas.{length_down}
 use Rattle.icu_decimal_plain.proofs.GrouperLemmas.{joined_is_separated}
-use Rattle.icu_decimal_plain.proofs.TextLemmas.{text_joined, unsigned_is_text}
+use Rattle.icu_decimal_plain.proofs.TextLemmas.{unsigned_is_text}
 use Rattle.std.specs.Char.{encode_utf8}
 
 -- a character has a byte
@@ -19,10 +21,6 @@ some_bytes c =
     omega (arith, one, same)
 
 -- so many digits were asked for
-many_digits : (count base k : ℕ) → length (digits_down count base k) ≡ k
-many_digits count base zero = refl
-many_digits count base (suc k) = ap suc (many_digits count base k)
-
 long_cond : (b : Bool) (separator : List ℕ) (texts : List (List ℕ)) → length (chained texts) ≤ length (chained (cond b (separator ∷ []) [] ++ texts))
 long_cond true separator texts = let whole = length-append separator (chained texts) in omega (arith, whole)
 long_cond false separator texts = omega arith
@@ -74,8 +72,8 @@ unsigned_is_long p =
     let both : length (whole ++ fraction) ≡ length whole + length fraction = length-append whole fraction in
     let above : length (whole_digits p.number) ≤ length whole = long_whole p.tables (whole_digits p.number) in
     let below : length (fraction_digits p.number) ≤ length fraction = long_fraction p.tables (fraction_digits p.number) in
-    let high : length (whole_digits p.number) ≡ p.number.high - 32767 = many_digits p.number.count 32768 (p.number.high - 32767) in
-    let low : length (fraction_digits p.number) ≡ 32768 - p.number.low = many_digits p.number.count p.number.low (32768 - p.number.low) in
+    let high : length (whole_digits p.number) ≡ p.number.high - 32767 = length_down p.number.count 32768 (p.number.high - 32767) in
+    let low : length (fraction_digits p.number) ≡ 32768 - p.number.low = length_down p.number.count p.number.low (32768 - p.number.low) in
     omega (arith, text, both, above, below, high, low)
 
 -- affixes make no text shorter
@@ -84,6 +82,6 @@ value_is_shorter events s =
     let before : List Event = prefix_events s.affixes in
     let inner : List Event = events s.value in
     let after : List Event = suffix_events s.affixes in
-    let first : length (text_of (before ++ (inner ++ after))) ≡ length (text_of before) + length (text_of (inner ++ after)) = ap length (text_joined before (inner ++ after)) ∙ length-append (text_of before) (text_of (inner ++ after)) in
-    let second : length (text_of (inner ++ after)) ≡ length (text_of inner) + length (text_of after) = ap length (text_joined inner after) ∙ length-append (text_of inner) (text_of after) in
+    let first : length (text_of (before ++ (inner ++ after))) ≡ length (text_of before) + length (text_of (inner ++ after)) = ap length (text_of_joined before (inner ++ after)) ∙ length-append (text_of before) (text_of (inner ++ after)) in
+    let second : length (text_of (inner ++ after)) ≡ length (text_of inner) + length (text_of after) = ap length (text_of_joined inner after) ∙ length-append (text_of inner) (text_of after) in
     omega (arith, first, second)

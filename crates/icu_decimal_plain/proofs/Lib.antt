@@ -1,3 +1,4 @@
+pub mod ComparingLemmas
 pub mod DigitChunkLemmas
 pub mod EventPartLemmas
 pub mod GrouperLemmas

@@ -12,12 +12,12 @@ use Rattle.writeable.proofs.AnnotatedTextLemmas.{bytes_joined, no_bytes}
 use Rattle.std.proofs.lemmas.Str.{IsUtf8-append, IsUtf8-from_ascii, IsUtf8-nil, encode_ascii}
 use Rattle.std.specs.Int.Digits.{AllBelowBase}
 use Rattle.std.proofs.Math.Nat.{eq-or-lt_of_le}
+use Rattle.fixed_decimal.proofs.DigitsLemmas.{below_drop, below_take}
 use Rattle.icu_decimal_plain.specs.declared.text_pieces.Piece.{Piece}
 use Rattle.icu_decimal_plain.specs.Pieces.{Holds}
 use Rattle.icu_decimal_plain.specs.HeldSizes.{size_if, sizes_held}
 use Rattle.icu_decimal_plain.specs.LaterGroups.{groups_ahead}
 use Rattle.icu_decimal_plain.specs.PlainText.{chained, digit_text}
-use Rattle.icu_decimal_plain.proofs.PlainTextLemmas.{tens_dropped}
 
 -- elements set one behind the other, and so many of them taken
 sets_taken : (xs vs : List ℕ) (i n : ℕ) → i + length vs ≤ length xs → n ≤ length vs → take (i + n) (sets xs i vs) ≡ take i xs ++ take n vs
@@ -73,11 +73,6 @@ sum_next ns others n is = ap sum is ∙ sum_by-cons (λ x. x) n others
 
 pub count_next : (ns others : List ℕ) (n : ℕ) → ns ≡ n ∷ others → length ns ≡ 1 + length others
 count_next ns others n is = let more : suc (length others) ≡ 1 + length others = omega arith in ap length is ∙ more
-
-pub tens_taken : (n : ℕ) (ds : List ℕ) → AllBelowBase 10 ds → AllBelowBase 10 (take n ds)
-tens_taken zero ds tens = tt
-tens_taken (suc n) [] tens = tt
-tens_taken (suc n) (d ∷ ds) tens = (tens.0, tens_taken n ds tens.1)
 
 pub ten_at : (ds : List ℕ) (i : ℕ) → i < length ds → AllBelowBase 10 ds → slice_index ds i < 10
 ten_at [] i within tens = absurd (omega (arith, within))
@@ -192,8 +187,8 @@ pub utf8_groups : (separator table ns ds : List ℕ) → IsUtf8 separator → ((
 utf8_groups separator table [] ds fine each tens = IsUtf8-nil
 utf8_groups separator table (n ∷ ns) ds fine each tens =
     IsUtf8-append (separator ++ chained (map (digit_text table) (take n ds))) (groups_ahead separator (digit_text table) ns (drop n ds))
-    (IsUtf8-append separator (chained (map (digit_text table) (take n ds))) fine (utf8_digits table (take n ds) each (tens_taken n ds tens)))
-    (utf8_groups separator table ns (drop n ds) fine each (tens_dropped n ds tens))
+    (IsUtf8-append separator (chained (map (digit_text table) (take n ds))) fine (utf8_digits table (take n ds) each (below_take n ds tens)))
+    (utf8_groups separator table ns (drop n ds) fine each (below_drop n ds tens))
 
 -- Digits in blocks.
 

@@ -94,11 +94,6 @@ pub tens_down : (count base n : ℕ) → AllBelowBase 10 (digits_down count base
 tens_down count base zero = tt
 tens_down count base (suc k) = (mod_below (count / 10 ^ (base + k)) 10 (omega arith), tens_down count base k)
 
-pub tens_dropped : (n : ℕ) (ds : List ℕ) → AllBelowBase 10 ds → AllBelowBase 10 (drop n ds)
-tens_dropped zero ds tens = tens
-tens_dropped (suc n) [] tens = tt
-tens_dropped (suc n) (d ∷ ds) tens = tens_dropped n ds tens.1
-
 pub tens_rest : (ds rest : List ℕ) (d : ℕ) → ds ≡ d ∷ rest → AllBelowBase 10 ds → AllBelowBase 10 rest
 tens_rest ds rest d is tens = (subst (AllBelowBase 10) is tens).1
 

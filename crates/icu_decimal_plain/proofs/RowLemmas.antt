@@ -5,11 +5,11 @@ use Rattle.std.proofs.lemmas.List.{drop_all, drop_more, length-replicate}
 use Rattle.std.proofs.lemmas.List.Sums.{sum_by-cons}
 use Rattle.std.proofs.lemmas.Str.{encode_ascii}
 use Rattle.std.specs.Int.Digits.{AllBelowBase}
+use Rattle.fixed_decimal.proofs.DigitsLemmas.{below_drop, below_take}
 use Rattle.icu_decimal_plain.specs.LaterGroups.{groups_ahead}
 use Rattle.icu_decimal_plain.specs.PlainText.{chained, digit_text}
 use Rattle.icu_decimal_plain.specs.Rows.{IsRow, row_text}
-use Rattle.icu_decimal_plain.proofs.PieceLemmas.{four_set, tens_taken}
-use Rattle.icu_decimal_plain.proofs.PlainTextLemmas.{tens_dropped}
+use Rattle.icu_decimal_plain.proofs.PieceLemmas.{four_set}
 
 -- Tables.
 
@@ -32,8 +32,8 @@ row_ahead : (nought : ℕ) (separator table ns ds : List ℕ) → IsRow nought t
     → groups_ahead separator (row_text nought) ns ds ≡ groups_ahead separator (digit_text table) ns ds
 row_ahead nought separator table [] ds row tens = refl
 row_ahead nought separator table (n ∷ ns) ds row tens =
-    ap (λ group. (separator ++ group) ++ groups_ahead separator (row_text nought) ns (drop n ds)) (row_digits nought table (take n ds) row (tens_taken n ds tens))
-    ∙ ap (λ others. (separator ++ chained (map (digit_text table) (take n ds))) ++ others) (row_ahead nought separator table ns (drop n ds) row (tens_dropped n ds tens))
+    ap (λ group. (separator ++ group) ++ groups_ahead separator (row_text nought) ns (drop n ds)) (row_digits nought table (take n ds) row (below_take n ds tens))
+    ∙ ap (λ others. (separator ++ chained (map (digit_text table) (take n ds))) ++ others) (row_ahead nought separator table ns (drop n ds) row (below_drop n ds tens))
 
 -- the first byte of four
 one_taken : (bytes : List ℕ) (n : ℕ) → length bytes ≡ 4 → n ≡ 1 → get_or bytes 0 0 ∷ [] ≡ take n bytes

@@ -2,12 +2,11 @@
 use Rattle.std.proofs.Common.{◌≡◌, ℕ, zero, suc, ◌+◌, ◌-◌, ◌≤◌, List, [], ◌∷◌, ◌++◌, drop, get_or, length, map, min, refl, replicate, subst, sym, take, ap, ◌∙◌, append_assoc, arith}
 use Rattle.std.proofs.lemmas.List.{take_all}
 use Rattle.std.specs.Int.Digits.{AllBelowBase}
+use Rattle.fixed_decimal.proofs.DigitsLemmas.{below_drop, below_take}
 use Rattle.icu_decimal_plain.specs.LaterGroups.{groups_ahead}
 use Rattle.icu_decimal_plain.specs.PlainText.{chained, digit_text}
 use Rattle.icu_decimal_plain.specs.Rows.{IsRow, row_text}
 use Rattle.icu_decimal_plain.proofs.DigitChunkLemmas.{block_part}
-use Rattle.icu_decimal_plain.proofs.PieceLemmas.{tens_taken}
-use Rattle.icu_decimal_plain.proofs.PlainTextLemmas.{tens_dropped}
 use Rattle.icu_decimal_plain.proofs.RowLemmas.{row_digits, threes_ahead}
 
 -- Digits taken.
@@ -31,7 +30,7 @@ block_front ds block n few count taken =
 -- a block of them and of zeros
 pub block_tens : (ds block : List ℕ) (n : ℕ) → AllBelowBase 10 ds → take n block ≡ take n ds → drop n block ≡ drop n (replicate 16 0) → AllBelowBase 10 block
 block_tens ds block n tens taken same =
-    tens_joined n block (subst (AllBelowBase 10) (sym taken) (tens_taken n ds tens)) (subst (AllBelowBase 10) (sym same) (tens_dropped n (replicate 16 0) (zeros_below 16)))
+    tens_joined n block (subst (AllBelowBase 10) (sym taken) (below_take n ds tens)) (subst (AllBelowBase 10) (sym same) (below_drop n (replicate 16 0) (zeros_below 16)))
 
 -- so many digits, of a block that begins with them
 pub front_shown : (ds block : List ℕ) (count : ℕ) → length ds ≡ count → take (length ds) block ≡ ds → take count block ≡ take count ds
@@ -61,10 +60,10 @@ pub whole_row : (nought first groups count n : ℕ) (table bytes ds block others
 whole_row nought first groups count n table bytes ds block others front text row tens long one all part rest begun put =
     let ahead : List ℕ → List ℕ = groups_ahead (get_or bytes 0 0 ∷ []) (row_text nought) (replicate groups 3) in
     let group : front ≡ chained (map (digit_text table) (take first ds))
-    = begun ∙ ap (λ digits. chained (map (row_text nought) digits)) part ∙ row_digits nought table (take first ds) row (tens_taken first ds tens) in
+    = begun ∙ ap (λ digits. chained (map (row_text nought) digits)) part ∙ row_digits nought table (take first ds) row (below_take first ds tens) in
     put
     ∙ ap (λ digits. front ++ ahead digits) rest
-    ∙ ap (λ behind. front ++ behind) (threes_ahead nought groups n bytes table others (drop first ds) row (tens_dropped first ds tens) long one all)
+    ∙ ap (λ behind. front ++ behind) (threes_ahead nought groups n bytes table others (drop first ds) row (below_drop first ds tens) long one all)
     ∙ ap (λ begin. begin ++ groups_ahead (take n bytes) (digit_text table) others (drop first ds)) group
 
 -- the separator and the fraction digits behind what is there
@@ -76,4 +75,4 @@ fraction_row nought count table ds block separator before point text row tens sh
     ∙ ap (λ front. front ++ chained (map (row_text nought) (take count block))) pointed
     ∙ append_assoc before separator (chained (map (row_text nought) (take count block)))
     ∙ ap (λ digits. before ++ (separator ++ chained (map (row_text nought) digits))) shown
-    ∙ ap (λ digits. before ++ (separator ++ digits)) (row_digits nought table (take count ds) row (tens_taken count ds tens))
+    ∙ ap (λ digits. before ++ (separator ++ digits)) (row_digits nought table (take count ds) row (below_take count ds tens))

@@ -2,8 +2,9 @@
 use Rattle.std.proofs.Common.{◌≡◌, ℕ, Bool, true, false, cond, List, [], ◌∷◌, ◌++◌, length, map, refl, sym, ap, ◌∙◌, arith}
 use Rattle.std.proofs.lemmas.List.{append-nil, length-map}
 use Rattle.std.specs.Prelude.{Option, None, Some, codes}
-use Rattle.writeable.specs.AnnotatedText.{Event, byte, opened, closed, bytes, opening, closing, text_of, without_parts}
+use Rattle.writeable.specs.AnnotatedText.{Event, bytes, opening, closing, text_of, without_parts}
 use Rattle.writeable.specs.PartName.{PartName}
+use Rattle.writeable.specs.SinkLaws.{text_of_joined}
 use Rattle.writeable.proofs.AnnotatedTextLemmas.{bytes_joined, text_of_bytes, text_of_opening, text_of_closing}
 use Rattle.fixed_decimal.specs.Number.{Number, fraction_digits, whole_digits}
 use Rattle.fixed_decimal.specs.SignedValue.{SignedValue}
@@ -13,18 +14,12 @@ use Rattle.icu_decimal_plain.specs.PlainText.{PlainNumber, Tables, chained, deci
 use Rattle.icu_decimal_plain.proofs.GrouperLemmas.{has_groups, joined_is_separated}
 use Rattle.icu_decimal_plain.proofs.PlainTextLemmas.{group_part}
 
-pub text_joined : (a b : List Event) → text_of (a ++ b) ≡ text_of a ++ text_of b
-text_joined [] b = refl
-text_joined (byte x ∷ es) b = ap (λ text. x ∷ text) (text_joined es b)
-text_joined (opened part ∷ es) b = text_joined es b
-text_joined (closed ∷ es) b = text_joined es b
-
 -- opened and closed again
 text_between : (part : PartName) (es : List Event) → text_of (opening part ++ (es ++ closing)) ≡ text_of es
 text_between part es =
-    text_joined (opening part) (es ++ closing)
+    text_of_joined (opening part) (es ++ closing)
     ∙ ap (λ text. text ++ text_of (es ++ closing)) (text_of_opening part)
-    ∙ text_joined es closing
+    ∙ text_of_joined es closing
     ∙ ap (λ text. text_of es ++ text) text_of_closing
     ∙ append-nil (text_of es)
 
@@ -34,7 +29,7 @@ text_of_part part text = text_between part (bytes text) ∙ text_of_bytes text
 -- Digits in groups.
 
 text_cond : (b : Bool) (group : List Event) (lists : List (List Event)) (texts : List (List ℕ)) → text_of (chained lists) ≡ chained texts → text_of (chained (cond b (group ∷ []) [] ++ lists)) ≡ chained (cond b (text_of group ∷ []) [] ++ texts)
-text_cond true group lists texts same = text_joined group (chained lists) ∙ ap (λ text. text_of group ++ text) same
+text_cond true group lists texts same = text_of_joined group (chained lists) ∙ ap (λ text. text_of group ++ text) same
 text_cond false group lists texts same = same
 
 text_marked : (ends : ℕ → Bool) (group : List Event) (f : ℕ → List Event) (g : ℕ → List ℕ) (ds : List ℕ) → ((d : ℕ) → text_of (f d) ≡ g d) → text_of (chained (marked ends (group ∷ []) (map f ds))) ≡ chained (marked ends (text_of group ∷ []) (map g ds))
@@ -43,7 +38,7 @@ text_marked ends group f g (d ∷ ds) same =
     let rest = marked ends (group ∷ []) (map f ds) in
     let texts = marked ends (text_of group ∷ []) (map g ds) in
     let size : length (map f ds) ≡ length (map g ds) = length-map ds f ∙ sym (length-map ds g) in
-    text_joined (f d) (chained (cond (ends (length (map f ds))) (group ∷ []) [] ++ rest))
+    text_of_joined (f d) (chained (cond (ends (length (map f ds))) (group ∷ []) [] ++ rest))
     ∙ ap (λ text. text ++ text_of (chained (cond (ends (length (map f ds))) (group ∷ []) [] ++ rest))) (same d)
     ∙ ap (λ text. g d ++ text) (text_cond (ends (length (map f ds))) group rest texts (text_marked ends group f g ds same))
     ∙ ap (λ n. g d ++ chained (cond (ends n) (text_of group ∷ []) [] ++ texts)) size
@@ -51,7 +46,7 @@ text_marked ends group f g (d ∷ ds) same =
 text_chained : (f : ℕ → List Event) (g : ℕ → List ℕ) (ds : List ℕ) → ((d : ℕ) → text_of (f d) ≡ g d) → text_of (chained (map f ds)) ≡ chained (map g ds)
 text_chained f g [] same = refl
 text_chained f g (d ∷ ds) same =
-    text_joined (f d) (chained (map f ds))
+    text_of_joined (f d) (chained (map f ds))
     ∙ ap (λ text. text ++ text_of (chained (map f ds))) (same d)
     ∙ ap (λ text. g d ++ text) (text_chained f g ds same)
 
@@ -95,7 +90,7 @@ text_fraction t (d ∷ ds) =
     let digits = chained (map (digit_events t.digits) (d ∷ ds)) in
     let point = as_part (decimal_part (codes "decimal")) t.symbols.strings.decimal_separator in
     let part = opening (decimal_part (codes "fraction")) ++ (digits ++ closing) in
-    text_joined point part
+    text_of_joined point part
     ∙ ap (λ text. text ++ text_of part) (text_of_part (decimal_part (codes "decimal")) t.symbols.strings.decimal_separator)
     ∙ ap (λ text. t.symbols.strings.decimal_separator ++ text) (text_between (decimal_part (codes "fraction")) digits ∙ text_chained (digit_events t.digits) (digit_text t.digits) (d ∷ ds) (text_digit t.digits))
 
@@ -103,7 +98,7 @@ pub unsigned_is_text : (p : PlainNumber) → text_of (unsigned_events p) ≡ uns
 unsigned_is_text p =
     let whole = integer_events p.tables (whole_digits p.number) in
     let fraction = fraction_events p.tables (fraction_digits p.number) in
-    text_joined whole fraction
+    text_of_joined whole fraction
     ∙ ap (λ text. text ++ text_of fraction) (text_whole p.tables (whole_digits p.number))
     ∙ ap (λ text. whole_text p.tables (whole_digits p.number) ++ text) (text_fraction p.tables (fraction_digits p.number))
 
@@ -119,9 +114,9 @@ text_suffix (Some affixes) = text_of_part affixes.part affixes.suffix
 pub text_with_sign : (affixes : Option AffixTexts) (es : List Event) (text : List ℕ) → text_of es ≡ text → text_of (prefix_events affixes ++ (es ++ suffix_events affixes)) ≡ prefix_text affixes ++ (text ++ suffix_text affixes)
 text_with_sign affixes es text same =
     let inner = es ++ suffix_events affixes in
-    text_joined (prefix_events affixes) inner
+    text_of_joined (prefix_events affixes) inner
     ∙ ap (λ written. written ++ text_of inner) (text_prefix affixes)
-    ∙ ap (λ written. prefix_text affixes ++ written) (text_joined es (suffix_events affixes)
+    ∙ ap (λ written. prefix_text affixes ++ written) (text_of_joined es (suffix_events affixes)
     ∙ ap (λ written. written ++ text_of (suffix_events affixes)) same
     ∙ ap (λ written. text ++ written) (text_suffix affixes))
 
@@ -134,9 +129,9 @@ decimal_is_text t d =
 pub text_in_unit : (before behind : List ℕ) (es : List Event) (text : List ℕ) → text_of es ≡ text → text_of (bytes before ++ (es ++ bytes behind)) ≡ before ++ (text ++ behind)
 text_in_unit before behind es text same =
     let inner = es ++ bytes behind in
-    text_joined (bytes before) inner
+    text_of_joined (bytes before) inner
     ∙ ap (λ written. written ++ text_of inner) (text_of_bytes before)
-    ∙ ap (λ written. before ++ written) (text_joined es (bytes behind)
+    ∙ ap (λ written. before ++ written) (text_of_joined es (bytes behind)
     ∙ ap (λ written. written ++ text_of (bytes behind)) same
     ∙ ap (λ written. text ++ written) (text_of_bytes behind))
 
@@ -150,8 +145,8 @@ without_sign es = ap without_parts (append-nil es)
 pub with_sign : (part : PartName) (prefix suffix : List ℕ) (es : List Event) → without_parts (as_part part prefix ++ (es ++ as_part part suffix)) ≡ bytes prefix ++ (without_parts es ++ bytes suffix)
 with_sign part prefix suffix es =
     let inner = es ++ as_part part suffix in
-    ap bytes (text_joined (as_part part prefix) inner
+    ap bytes (text_of_joined (as_part part prefix) inner
     ∙ ap (λ text. text ++ text_of inner) (text_of_part part prefix)
-    ∙ ap (λ text. prefix ++ text) (text_joined es (as_part part suffix) ∙ ap (λ text. text_of es ++ text) (text_of_part part suffix)))
+    ∙ ap (λ text. prefix ++ text) (text_of_joined es (as_part part suffix) ∙ ap (λ text. text_of es ++ text) (text_of_part part suffix)))
     ∙ bytes_joined prefix (text_of es ++ suffix)
     ∙ ap (λ bs. bytes prefix ++ bs) (bytes_joined (text_of es) suffix)

@@ -14,6 +14,7 @@
 //! ```
 #![tactic(auto)]
 
+mod comparing;
 mod digit_chunks;
 mod formatted_sign;
 mod formatted_unsigned_decimal;

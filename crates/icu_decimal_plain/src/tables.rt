@@ -1,9 +1,11 @@
 //! What decimals are written with.
 
 ghost use Rattle.std.specs.Prelude.{◌≡◌};
+ghost use Rattle.std.specs.Str.{bytes_eq};
 ghost use Rattle.icu_decimal_plain.specs.BorrowedTables.{borrowed_tables};
-ghost use Rattle.icu_decimal_plain.specs.PlainText.{formatted};
+ghost use Rattle.icu_decimal_plain.specs.PlainText.{decimal_text, formatted};
 
+use crate::comparing::is_text;
 use crate::formatted_sign::FormattedSign;
 use crate::formatted_unsigned_decimal::FormattedUnsignedDecimal;
 use crate::piece_tables::{DigitTable, SymbolTable};
@@ -73,5 +75,15 @@ impl<'b> DecimalTables<'b> {
     {
         let number = self.format_unsigned(&value.absolute);
         FormattedSign::new(value.sign, self.symbols.symbols, number)
+    }
+
+    /// Whether the decimal is written so with these tables: -1234.5 as `-1,234.5` in English, and not as `-1234.5`. It
+    /// does not allocate.
+    ///
+    /// Source: UTS 35, part 3 (numbers), number symbols and patterns.
+    pub fn is_written_as(&self, value: &Decimal, text: &str) -> bool
+        ensures { result ≡ bytes_eq (decimal_text (borrowed_tables self.now) value.now) text.now }
+    {
+        is_text(self, value, text)
     }
 }

@@ -1,17 +1,12 @@
 -- Digits as numbers: one digit more, a shift by a power of ten, and zeros at the end.
 use Rattle.std.proofs.Common.{refl, ◌≡◌, ℕ, zero, suc, ◌+◌, ◌-◌, ◌*◌, ◌/◌, ◌%◌, ◌^◌, ◌<◌, ◌≤◌, ◌==◌, true, false, cond, min, sym, ap, ◌∙◌, arith}
 use Rattle.std.proofs.Math.Arith.{mod-mul}
-use Rattle.std.proofs.Math.Nat.{div-div-eq-div-mul, mod-lt, mul-div_cancel, one-le-pow, pow-le-pow_right, pow-suc}
+use Rattle.std.proofs.Math.Nat.{div-div-eq-div-mul, mod-lt, mul-div_cancel, pow-le-pow_right}
 use Rattle.std.proofs.lemmas.Bool.Decides.{nat_tests}
 use Rattle.std.proofs.lemmas.Nat.{pow-add}
 use Rattle.fixed_decimal.specs.Number.{digit}
+use Rattle.fixed_decimal.proofs.TenLemmas.{tens_next, tens_positive}
 use Rattle.icu_decimal_plurals.specs.Operands.{Operands, operands_with, part_of, trimmed}
-
-tens_positive : (k : ℕ) → 0 < 10 ^ k
-tens_positive k = let h : 1 ≤ 10 ^ k = one-le-pow k 10 (omega arith) in omega arith
-
-tens_next : (k : ℕ) → 10 ^ (k + 1) ≡ 10 ^ k * 10
-tens_next k = let e : k + 1 ≡ suc k = omega arith in ap (λ n. 10 ^ n) e ∙ pow-suc 10 k
 
 -- one digit more behind
 part_more : (n a j : ℕ) → part_of n a (j + 1) ≡ part_of n (a + 1) j * 10 + digit n a

@@ -24,7 +24,7 @@ fn relation_copied(alloc: Global, relation: &Relation) -> Result<Relation, Alloc
 fn relations_copied(alloc: Global, relations: &[Relation]) -> Result<Vec<Relation>, AllocError>
     ensures { IfOk result (λ copies. copies.items ≡ relations.now) }
 {
-    let mut copies = Vec::new(alloc);
+    let mut copies = Vec::with_capacity(alloc, relations.len())?;
     for each in relations {
         let copy = relation_copied(alloc, each)?;
         copies.push(copy)?;
@@ -39,7 +39,7 @@ fn alternatives_copied(
 ) -> Result<Vec<AndCondition>, AllocError>
     ensures { IfOk result (λ copies. copies.items ≡ alternatives.now) }
 {
-    let mut copies = Vec::new(alloc);
+    let mut copies = Vec::with_capacity(alloc, alternatives.len())?;
     for each in alternatives {
         let relations = relations_copied(alloc, each.relations.as_slice())?;
         copies.push(AndCondition { relations })?;
@@ -64,8 +64,8 @@ fn copied(alloc: Global, condition: &Option<Condition>) -> Result<Option<Conditi
 impl PluralRules {
     /// Equal rules: of those of English, `i = 1 and v = 0` for `one`, these once more.
     ///
-    /// It allocates for each condition, so not for rules without any, as those of Japanese. `AllocError`: out of memory, only
-    /// where there is one.
+    /// It allocates for each condition, so not for rules without any, as those of Japanese. `AllocError`: out of
+    /// memory, only where there is one.
     pub fn try_clone(&self, alloc: Global) -> Result<Self, AllocError>
         ensures succeeds { self.now ≡ no_rules → IsOk result }
         ensures value { IfOk result (λ copy. copy ≡ self.now) }

@@ -1,7 +1,7 @@
 //! Plural rules: the category of a number, by conditions on the digits that are shown.
 //!
-//! English has the rule `one: i = 1 and v = 0`, so `1` is of the category `one`, and `2` and `1.0` are of `other`. The rules of this
-//! crate are in docs/plurals.md, after UTS 35, part 3, section 5 (plural rules).
+//! English has the rule `one: i = 1 and v = 0`, so `1` is of the category `one`, and `2` and `1.0` are of `other`. The
+//! rules of this crate are in docs/plurals.md, after UTS 35, part 3, section 5 (plural rules).
 #![tactic(auto)]
 
 mod category;

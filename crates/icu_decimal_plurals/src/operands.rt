@@ -94,11 +94,11 @@ impl PluralOperands {
     ghost use Rattle.icu_decimal_plurals.specs.Conditions.{value_of};
     ghost use Rattle.icu_decimal_plurals.specs.ExactNumbers.{is_exactly};
 
-    /// The operands of a number that is shown with an exponent of ten beside it: of `1.50` and 0 the integer digits 1 and the fraction
-    /// digits 50, of `1.2` and 3, which is 1200, the integer digits 1200 and no fraction digit.
+    /// The operands of a number that is shown with an exponent of ten beside it: of `1.50` and 0 the integer digits 1
+    /// and the fraction digits 50, of `1.2` and 3, which is 1200, the integer digits 1200 and no fraction digit.
     ///
-    /// Of the number written out at most the last 18 integer digits and the first 18 fraction digits are kept. It does not
-    /// allocate. The name is ICU4X's; the source is UTS 35, part 3, section 5.1.1.
+    /// Of the number written out at most the last 18 integer digits and the first 18 fraction digits are kept. It does
+    /// not allocate. The name is ICU4X's; the source is UTS 35, part 3, section 5.1.1.
     pub fn from_significand_and_exponent(significand: &UnsignedDecimal, exponent: u8) -> Self
         ensures { result ≡ operands_of significand.now exponent }
     {
@@ -133,8 +133,9 @@ impl PluralOperands {
         }
     }
 
-    /// Whether this is the whole number given, shown without fraction digits and without an exponent: 1 is it of `1` and of `01`,
-    /// but neither of `1.0` nor of `1` with the exponent 3. Only the last 18 integer digits count. It does not allocate.
+    /// Whether this is the whole number given, shown without fraction digits and without an exponent: 1 is it of `1`
+    /// and of `01`, but neither of `1.0` nor of `1` with the exponent 3. Only the last 18 integer digits count. It does
+    /// not allocate.
     pub fn is_exactly(&self, number: u64) -> bool
         ensures { result ≡ is_exactly number self.now }
     {

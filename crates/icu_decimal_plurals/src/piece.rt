@@ -30,7 +30,8 @@ fn piece_len(text: &[u8]) -> usize
     last + 1
 }
 
-/// The first piece of a text, and the text behind it: `i` and ` = 1` of `i = 1`. The condition is that the text is not empty.
+/// The first piece of a text, and the text behind it: `i` and ` = 1` of `i = 1`. The condition is that the text is not
+/// empty.
 #[tactic(auto, using(crate::proofs::PieceLemmas::first_of))]
 pub fn first_piece(text: &[u8]) -> (&[u8], &[u8])
     requires { 0 < length text.now }

@@ -46,12 +46,12 @@ impl PluralRules {
     ghost use Rattle.icu_decimal_plurals.specs.Reading.{MayBeRules, NamesOther, pairs_of, rules_of};
     ghost use Rattle.icu_decimal_plurals.specs.Rules.{category_of};
 
-    /// The rules of these categories and conditions, as CLDR writes them: of `one` and `i = 1 and v = 0 @integer 1` those of
-    /// English. The text from the first `@` on is ignored. For `other` only spaces may come before it.
+    /// The rules of these categories and conditions, as CLDR writes them: of `one` and `i = 1 and v = 0 @integer 1`
+    /// those of English. The text from the first `@` on is ignored. For `other` only spaces may come before it.
     ///
-    /// `Custom`: a text is no condition, one for `other` has a condition, or a category is given twice. `Memory`: out of memory.
-    /// It does not allocate where no category but `other` is given, where one is given twice, or where `other` has a condition.
-    /// The source is UTS 35, part 3, section 5.1.
+    /// `Custom`: a text is no condition, one for `other` has a condition, or a category is given twice. `Memory`: out
+    /// of memory. It does not allocate where no category but `other` is given, where one is given twice, or where
+    /// `other` has a condition. The source is UTS 35, part 3, section 5.1.
     pub fn new(alloc: Global, given: &[(PluralCategory, &str)]) -> Result<PluralRules, DataError>
         ensures ok { IfOk result (λ rules. rules_of (pairs_of given.now) ≡ Some rules) }
         ensures custom { IsErrOf result DataError.Custom → rules_of (pairs_of given.now) ≡ None }
@@ -66,8 +66,8 @@ impl PluralRules {
         }
     }
 
-    /// The category of a number of these operands: the first of `zero`, `one`, `two`, `few`, `many` whose condition holds, or
-    /// else `other`. By the rules of English `1` is of `one`, `1.0` of `other`. It does not allocate.
+    /// The category of a number of these operands: the first of `zero`, `one`, `two`, `few`, `many` whose condition
+    /// holds, or else `other`. By the rules of English `1` is of `one`, `1.0` of `other`. It does not allocate.
     ///
     /// After ICU4X's `PluralRules::category_for`; UTS 35, part 3, section 5.
     pub fn category_for(&self, operands: &PluralOperands) -> PluralCategory

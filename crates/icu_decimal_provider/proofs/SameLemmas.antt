@@ -1,48 +1,12 @@
--- `==`, part by part, holds exactly of equal values.
-use Rattle.std.proofs.Common.{◌≡◌, Bool, ◌&&◌, Option, None, Some, refl, ap, Decides}
+-- `==`, part by part, holds exactly of equal identifiers and of equal preferences.
+use Rattle.std.proofs.Common.{◌≡◌, Bool, ◌&&◌, ap, Decides}
 use Rattle.std.specs.Option.{option_eq}
 use Rattle.std.specs.Cmp.Lexicographic.{bytes_decides}
 use Rattle.std.proofs.lemmas.Bool.Decides.{Decides-and, Decides-like}
-use Rattle.icu_locale_core.specs.Subtags.{Text, same_text}
-use Rattle.icu_locale_core.specs.TagPreferences.{Subdivision, LocalePreferencesMeaning, DataLocaleMeaning, Preferences}
+use Rattle.icu_locale_core.specs.Subtags.{same_text}
+use Rattle.icu_locale_core.specs.TagPreferences.{Preferences}
+use Rattle.icu_locale_core.proofs.SameLemmas.{same_data, same_data_locales, same_locale, same_locale_preferences, texts_decide}
 use Rattle.icu_decimal_provider.specs.Identifiers.{Identifier}
-
-options : {A : Type 0} (same : A → A → Bool) → ((a b : A) → Decides (same a b) (a ≡ b)) → (s t : Option A) → Decides (option_eq same s t) (s ≡ t)
-options same each None None = (λ _. refl, λ _. refl)
-options same each None (Some t) = (λ e. cc, λ e. cc)
-options same each (Some s) None = (λ e. cc, λ e. cc)
-options same each (Some s) (Some t) = (λ e. ap Some ((each s t).0 e), λ e. (each s t).1 (cc))
-
-texts : (s t : Option Text) → Decides (option_eq same_text s t) (s ≡ t)
-texts = options same_text bytes_decides
-
-abbrev same_subdivision : Subdivision → Subdivision → Bool
-same_subdivision a b = same_text a.region b.region && same_text a.suffix b.suffix
-
-subdivisions_decide : (a b : Subdivision) → Decides (same_subdivision a b) (a ≡ b)
-subdivisions_decide a b = Decides-like (same_subdivision a b)
-    (λ h i. record { region = h.0 i; suffix = h.1 i })
-    (λ e. (ap (λ s. s.region) e, ap (λ s. s.suffix) e))
-    (Decides-and _ _ (bytes_decides a.region b.region) (bytes_decides a.suffix b.suffix))
-
-subdivisions : (s t : Option Subdivision) → Decides (option_eq same_subdivision s t) (s ≡ t)
-subdivisions = options same_subdivision subdivisions_decide
-
--- ---- identifiers
-
-abbrev same_data : DataLocaleMeaning → DataLocaleMeaning → Bool
-same_data a b =
-    same_text a.language b.language
-    && (option_eq same_text a.script b.script && (option_eq same_text a.region b.region && (option_eq same_text a.variant b.variant && option_eq same_subdivision a.subdivision b.subdivision)))
-
-data_decide : (a b : DataLocaleMeaning) → Decides (same_data a b) (a ≡ b)
-data_decide a b = Decides-like (same_data a b)
-    (λ h i. record { language = h.0 i; script = h.1.0 i; region = h.1.1.0 i; variant = h.1.1.1.0 i; subdivision = h.1.1.1.1 i })
-    (λ e. (ap (λ d. d.language) e, (ap (λ d. d.script) e, (ap (λ d. d.region) e, (ap (λ d. d.variant) e, ap (λ d. d.subdivision) e)))))
-    (Decides-and _ _ (bytes_decides a.language b.language)
-    (Decides-and _ _ (texts a.script b.script)
-    (Decides-and _ _ (texts a.region b.region)
-    (Decides-and _ _ (texts a.variant b.variant) (subdivisions a.subdivision b.subdivision)))))
 
 abbrev same_identifier : Identifier → Identifier → Bool
 same_identifier a b = same_data a.locale b.locale && same_text a.attributes b.attributes
@@ -51,24 +15,7 @@ pub identifiers_decide : (a b : Identifier) → Decides (same_identifier a b) (a
 identifiers_decide a b = Decides-like (same_identifier a b)
     (λ h i. record { locale = h.0 i; attributes = h.1 i })
     (λ e. (ap (λ d. d.locale) e, ap (λ d. d.attributes) e))
-    (Decides-and _ _ (data_decide a.locale b.locale) (bytes_decides a.attributes b.attributes))
-
--- ---- preferences
-
-abbrev same_locale : LocalePreferencesMeaning → LocalePreferencesMeaning → Bool
-same_locale a b =
-    same_text a.language b.language
-    && (option_eq same_text a.script b.script && (option_eq same_text a.region b.region && (option_eq same_text a.variant b.variant && (option_eq same_subdivision a.subdivision b.subdivision && option_eq same_subdivision a.region_override b.region_override))))
-
-locales_decide : (a b : LocalePreferencesMeaning) → Decides (same_locale a b) (a ≡ b)
-locales_decide a b = Decides-like (same_locale a b)
-    (λ h i. record { language = h.0 i; script = h.1.0 i; region = h.1.1.0 i; variant = h.1.1.1.0 i; subdivision = h.1.1.1.1.0 i; region_override = h.1.1.1.1.1 i })
-    (λ e. (ap (λ p. p.language) e, (ap (λ p. p.script) e, (ap (λ p. p.region) e, (ap (λ p. p.variant) e, (ap (λ p. p.subdivision) e, ap (λ p. p.region_override) e))))))
-    (Decides-and _ _ (bytes_decides a.language b.language)
-    (Decides-and _ _ (texts a.script b.script)
-    (Decides-and _ _ (texts a.region b.region)
-    (Decides-and _ _ (texts a.variant b.variant)
-    (Decides-and _ _ (subdivisions a.subdivision b.subdivision) (subdivisions a.region_override b.region_override))))))
+    (Decides-and _ _ (same_data_locales a.locale b.locale) (bytes_decides a.attributes b.attributes))
 
 abbrev same_preferences : Preferences → Preferences → Bool
 same_preferences a b = same_locale a.locale b.locale && option_eq same_text a.numbering_system b.numbering_system
@@ -77,4 +24,4 @@ pub preferences_decide : (a b : Preferences) → Decides (same_preferences a b) 
 preferences_decide a b = Decides-like (same_preferences a b)
     (λ h i. record { locale = h.0 i; numbering_system = h.1 i })
     (λ e. (ap (λ p. p.locale) e, ap (λ p. p.numbering_system) e))
-    (Decides-and _ _ (locales_decide a.locale b.locale) (texts a.numbering_system b.numbering_system))
+    (Decides-and _ _ (same_locale_preferences a.locale b.locale) (texts_decide a.numbering_system b.numbering_system))

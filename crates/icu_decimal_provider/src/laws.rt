@@ -12,22 +12,23 @@ use icu_decimal_symbols::DataMarker;
 pub use icu_decimal_symbols::laws::{same_builders, same_symbols};
 use std::hash::Hash;
 
-/// Where a provider says of each identifier that its table is there or not found, and nothing else, the first that is there is
-/// taken, and not found is returned where none is. Asked for `en` with `wxyz` and then for only `en`, the sample book gives the
-/// symbols of `en`.
+/// Where a provider says of each identifier that its table is there or not found, and nothing else, the first that is
+/// there is taken, and not found is returned where none is. Asked for `en` with `wxyz` and then for only `en`, the
+/// sample book gives the symbols of `en`.
 pub fn first_is_found<M: DataMarker>()
     ensures { FirstIsFound M.DataStruct }
 {}
 
-/// Two identifiers are `==` exactly where they are one value: true of `en` and `en`, false of `en` and of `en` with `thai`.
+/// Two identifiers are `==` exactly where they are one value: true of `en` and `en`, false of `en` and of `en` with
+/// `thai`.
 pub fn same_identifiers(one: &DataIdentifier, other: &DataIdentifier) -> bool
     ensures { IsTrue result ↔ (one.now ≡ other.now) }
 {
     one == other
 }
 
-/// Two preferences are `==` exactly where they are one value; then they ask for the same tables and are hashed alike. True of
-/// those of `EN-u-NU-thai` and `en-u-nu-thai`, false of those of `en-u-nu-thai` and `en`.
+/// Two preferences are `==` exactly where they are one value; then they ask for the same tables and are hashed alike.
+/// True of those of `EN-u-NU-thai` and `en-u-nu-thai`, false of those of `en-u-nu-thai` and `en`.
 pub fn same_preferences(
     one: &DecimalFormatterPreferences,
     other: &DecimalFormatterPreferences,

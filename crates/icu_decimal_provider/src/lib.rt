@@ -1,7 +1,7 @@
 //! Where the tables of a formatter come from: preferences, the identifiers that they ask for, providers, and loading.
 //!
-//! The preferences of `ar-EG-u-nu-thai` ask a provider for the symbols of `ar-EG` and the digits of `thai`. The rules are in
-//! docs/formatters.md; the names are those of ICU4X's `icu_decimal`.
+//! The preferences of `ar-EG-u-nu-thai` ask a provider for the symbols of `ar-EG` and the digits of `thai`. The rules
+//! are in docs/formatters.md; the names are those of ICU4X's `icu_decimal`.
 //!
 //! ```rust
 //! use icu_decimal_provider::preferences::DecimalFormatterPreferences;

@@ -1,6 +1,6 @@
 -- Digits gathered: how many they are, how large their number is, and what number they are before and behind a point.
-use Rattle.std.proofs.Common.{◌≡◌, ℕ, suc, ◌+◌, ◌-◌, ◌*◌, ◌^◌, ◌<◌, ◌≤◌, ◌⊎◌, true, false, List, [], ◌∷◌, ◌++◌, length, inl, inr, refl, sym, ap, subst, ◌∙◌, arith}
-use Rattle.std.proofs.Math.Nat.{mod-one, pow-le-pow_right, pow-suc}
+use Rattle.std.proofs.Common.{◌≡◌, ℕ, ◌+◌, ◌-◌, ◌*◌, ◌^◌, ◌<◌, ◌≤◌, ◌⊎◌, true, false, List, [], ◌∷◌, ◌++◌, length, inl, inr, refl, sym, ap, subst, ◌∙◌, arith}
+use Rattle.std.proofs.Math.Nat.{mod-one, pow-le-pow_right}
 use Rattle.std.proofs.lemmas.Bool.{cases_lt, false_from_ne_true}
 use Rattle.std.specs.Char.{digit_value}
 use Rattle.std.specs.List.{filter_map}
@@ -12,15 +12,13 @@ use Rattle.fixed_decimal.specs.Range.{IsLong}
 use Rattle.fixed_decimal.specs.SignedValue.{SignedValue}
 use Rattle.fixed_decimal.specs.declared.Sign.TheVariants.{None as NoSign}
 use Rattle.fixed_decimal.proofs.SignedReadOnceLemmas.{same_signed}
+use Rattle.fixed_decimal.proofs.TenLemmas.{tens_next}
 use Rattle.icu_decimal_reading.specs.GatheredDigits.{IsGathered, with_characters}
 use Rattle.icu_decimal_reading.specs.PlainReading.{digits_of_text, fraction_in, is_within, number_with, whole_in, with_sign}
 use Rattle.icu_decimal_reading.specs.Readable.{digit_of}
 use Rattle.icu_decimal_reading.proofs.NumberLemmas.{digits_counted, ends_from, number_by, short_from, within_from}
 
 -- ---- one digit more
-
-tens_next : (k : ℕ) → 10 ^ (k + 1) ≡ 10 ^ k * 10
-tens_next k = let e : k + 1 ≡ suc k = omega arith in ap (λ n. 10 ^ n) e ∙ pow-suc 10 k
 
 below_next : (m k d : ℕ) → m < 10 ^ k → d < 10 → m * 10 + d < 10 ^ (k + 1)
 below_next m k d less ten = omega (arith, less, ten, tens_next k)

@@ -1,19 +1,20 @@
 -- The number that digits before and behind a point are, and the text of `0` to `9` that spells it.
-use Rattle.std.proofs.Common.{◌≡◌, ℕ, ◌+◌, ◌-◌, ◌*◌, ◌^◌, ◌<◌, ◌≤◌, ◌==◌, ◌||◌, nat_le, nat_lt, min, max, Bool, true, false, cond, ◌&&◌, List, [], ◌∷◌, ◌++◌, length, map, Option, None, Some, refl, sym, ap, ◌∙◌, subst, inl, arith, length-append}
+use Rattle.std.proofs.Common.{◌≡◌, ℕ, ◌+◌, ◌-◌, ◌*◌, ◌^◌, ◌<◌, ◌≤◌, ◌==◌, ◌||◌, nat_le, nat_lt, min, max, Bool, true, false, cond, ◌&&◌, List, [], ◌∷◌, ◌++◌, length, map, Option, None, Some, refl, sym, ap, ◌∙◌, subst, inl, arith}
 use Rattle.std.specs.List.{cons_option, filter_map}
 use Rattle.std.specs.Char.{digit_value}
 use Rattle.std.proofs.lemmas.Bool.{false≢true, and_parts, and_from, ltb-true, leb-true, lt-ltb, le-leb, true_from_ne_false}
 use Rattle.std.proofs.lemmas.Bool.Decides.{nat_tests}
-use Rattle.std.proofs.lemmas.Int.Digits.{digits_value-lt}
 use Rattle.std.proofs.lemmas.List.{append-nil, length-map}
 use Rattle.std.proofs.lemmas.Nat.{pow-add}
-use Rattle.std.proofs.Math.Nat.{mul-mod_left, mul-le-mul_right, one-le-pow}
+use Rattle.std.proofs.Math.Nat.{mul-lt-mul_of_pos_right, mul-mod_left}
 use Rattle.fixed_decimal.specs.Number.{Number, IsNumber, fraction_digits, whole_digits}
 use Rattle.fixed_decimal.specs.NumberText.{AreDigits, AreEndsIn, Parts, Spells, behind_point, character, down_of, mantissa_of, number_at, small_mark, spelled, up_of}
 use Rattle.fixed_decimal.specs.SignedText.{IsBeyondSigned, ReadsSigned}
 use Rattle.fixed_decimal.specs.SignedValue.{SignedValue}
 use Rattle.fixed_decimal.specs.declared.Sign.TheVariants.{None as NoSign}
 use Rattle.fixed_decimal.proofs.SignedReadOnceLemmas.{signed_not_beyond, signed_printed, signed_reads_once}
+use Rattle.fixed_decimal.proofs.SpelledLemmas.{spelled_below}
+use Rattle.fixed_decimal.proofs.TenLemmas.{tens_positive}
 use Rattle.icu_decimal_reading.specs.PlainReading.{begins_fraction, digits_of_text, fraction_in, fraction_then, is_within, number_with, whole_in, whole_then, with_sign}
 use Rattle.icu_decimal_reading.specs.Readable.{digit_of}
 use Rattle.icu_decimal_reading.proofs.ScanLemmas.{digit_below}
@@ -176,28 +177,11 @@ number_read whole fraction v are more some reads =
 
 -- ---- what the number is
 
-tens_positive : (k : ℕ) → 0 < 10 ^ k
-tens_positive k = let h : 1 ≤ 10 ^ k = one-le-pow k 10 (omega arith) in omega arith
-
-below_product : (m t p : ℕ) → m < t → 0 < p → m * p < t * p
-below_product m t p less some =
-    let least : (m + 1) * p ≤ t * p = mul-le-mul_right p (omega (arith, less)) in
-    let more : (m + 1) * p ≡ m * p + p = omega arith in
-    omega (arith, least, more, some)
-
 -- a count of n digits whose last stands at a place
 count_below : (m n k j : ℕ) → m < 10 ^ n → n + k ≡ j → m * 10 ^ k < 10 ^ j
 count_below m n k j less same =
     let split : 10 ^ j ≡ 10 ^ n * 10 ^ k = ap (λ x. 10 ^ x) (sym same) ∙ pow-add 10 n k in
-    subst (λ x. m * 10 ^ k < x) (sym split) (below_product m (10 ^ n) (10 ^ k) less (tens_positive k))
-
-joined_digits : (a b : List ℕ) → AreDigits a → AreDigits b → AreDigits (a ++ b)
-joined_digits [] b are more = more
-joined_digits (c ∷ cs) b are more = (are.0, joined_digits cs b are.1 more)
-
-spelled_below : (whole fraction : List ℕ) → AreDigits whole → AreDigits fraction → spelled (whole ++ fraction) < 10 ^ (length whole + length fraction)
-spelled_below whole fraction are more =
-    subst (λ n. spelled (whole ++ fraction) < 10 ^ n) (length-append whole fraction) (digits_value-lt 10 (whole ++ fraction) (joined_digits whole fraction are more))
+    subst (λ x. m * 10 ^ k < x) (sym split) (mul-lt-mul_of_pos_right less (tens_positive k))
 
 pub is_number : (whole fraction : List ℕ) → AreDigits whole → AreDigits fraction → is_within whole fraction ≡ true → IsNumber (number_with whole fraction)
 is_number whole fraction are more within =

@@ -1,12 +1,7 @@
 -- The sign under which a number has a text.
-use Rattle.std.proofs.Common.{◌≡◌, ℕ, true, false, cond, List, arith, refl, sym, ap, ◌∙◌}
+use Rattle.std.proofs.Common.{◌≡◌, ℕ, true, false, cond, List, sym, ap, ◌∙◌}
 use Rattle.std.proofs.lemmas.Bool.{and_parts}
-use Rattle.std.proofs.lemmas.Bool.Decides.{nat_tests}
-use Rattle.std.proofs.lemmas.Cmp.{same_from_slice_cmp}
-use Rattle.std.specs.Ordering.{is_eq, nat_cmp}
-use Rattle.std.specs.Str.{bytes_eq, chars}
-use Rattle.std.specs.declared.cmp.Ordering.{Ordering}
-use Rattle.writeable.specs.Order.{byte_order}
+use Rattle.std.specs.Str.{chars}
 use Rattle.fixed_decimal.specs.Number.{Number}
 use Rattle.fixed_decimal.specs.declared.Sign.TheVariants.{None as NoSign, Negative, Positive}
 use Rattle.icu_decimal_plain.specs.PlainText.{Tables}
@@ -61,11 +56,6 @@ module _ (t : Tables) (text : List ℕ) where
   pub reading_signed : is_readable_by t ≡ true → is_within whole_of fraction_of ≡ true → plain_reading t text ≡ signed_reading t text (number_with whole_of fraction_of)
   reading_signed holds within =
       ap (λ b. cond b (written_reading t text) unreadable) holds ∙ ap (λ b. cond b (signed_reading t text (number_with whole_of fraction_of)) not_written) within
-
--- the order of two texts is equal exactly where they are one
-pub same_by_order : (order : Ordering) (a b c : List ℕ) → order ≡ byte_order a b → a ≡ c → is_eq order ≡ bytes_eq c b
-same_by_order order a b c is same =
-    same_from_slice_cmp nat_cmp is_eq bytes_eq refl (λ _ _. refl) (λ _ _. refl) (λ x y xs ys o h. grind (arith, nat_tests)) a b order is ∙ ap (λ x. bytes_eq x b) same
 
 -- no digit stands twice in readable tables
 pub digits_differ : (t : Tables) → is_readable_by t ≡ true → all_differ t.digits ≡ true

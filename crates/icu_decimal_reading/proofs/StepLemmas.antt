@@ -3,9 +3,9 @@ use Rattle.std.proofs.Common.{◌≡◌, ℕ, suc, ◌+◌, ◌≤◌, ◌<◌, 
 use Rattle.std.specs.Char.{digit_value}
 use Rattle.std.specs.List.{list_all, cons_option, filter_map}
 use Rattle.std.proofs.lemmas.Bool.{false≢true, eq-eqb, ne_eqb, and_left}
-use Rattle.std.proofs.lemmas.Bool.Decides.{nat_tests}
 use Rattle.fixed_decimal.specs.GivenDigits.{DigitsGiven, with_digit}
 use Rattle.fixed_decimal.specs.NumberText.{character}
+use Rattle.fixed_decimal.proofs.PrintedLemmas.{character_value}
 use Rattle.icu_decimal_reading.specs.GatheredDigits.{with_characters}
 use Rattle.icu_decimal_reading.specs.PlainReading.{begins_fraction, digits_of_text, fraction_in, fraction_then, whole_in, whole_then}
 use Rattle.icu_decimal_reading.specs.Readable.{digit_of}
@@ -73,12 +73,9 @@ begins_end ds wanted cs whole is are before = sym (ap (λ t. begins_fraction ds 
 
 -- ---- digits gathered
 
-digit_again : (d : ℕ) → d < 10 → digit_value (character d) ≡ d
-digit_again d ten = grind (arith, nat_tests)
-
 -- a digit that was given is the character's
 given_again : (given after : DigitsGiven) (d : ℕ) → d < 10 → after ≡ with_digit given d → after ≡ with_digit given (digit_value (character d))
-given_again given after d ten e = e ∙ ap (with_digit given) (sym (digit_again d ten))
+given_again given after d ten e = e ∙ ap (with_digit given) (sym (character_value d ten))
 
 -- counts of the same digits
 same_count : (given first : DigitsGiven) (cs ds : List ℕ) → with_characters given cs ≡ with_characters first ds → given.count + length cs ≡ first.count + length ds

@@ -10,7 +10,8 @@ use thiserror::Error;
 /// Why a text is not read as a decimal: `NotWritten` of `98,7654` in English.
 #[derive(Clone, Copy, Debug, Drop, PartialEq, Eq, Error)]
 pub enum ReadError {
-    /// The symbols do not tell numbers apart, as with `-` for a minus sign and for a plus sign: no text is read with them.
+    /// The symbols do not tell numbers apart, as with `-` for a minus sign and for a plus sign: no text is read with
+    /// them.
     #[error("unreadable symbols")]
     Unreadable,
     /// The formatter writes no decimal so: `98,7654` in English.

@@ -1,7 +1,7 @@
 //! Plain texts read back: the decimal that is written so.
 //!
-//! In English `-1,234.50` is read as -1234.50, shown down to magnitude -2, and `98,7654` as nothing, since no decimal is written
-//! so. The rules are in docs/reading.md.
+//! In English `-1,234.50` is read as -1234.50, shown down to magnitude -2, and `98,7654` as nothing, since no decimal
+//! is written so. The rules are in docs/reading.md.
 //!
 //! ```rust
 //! use icu_decimal_reading::{is_readable, read_plain};
@@ -17,6 +17,8 @@ mod error;
 mod gathered;
 pub mod laws;
 mod likely;
+mod likely_bytes;
+mod likely_characters;
 mod reading;
 mod scanning;
 mod symbols;

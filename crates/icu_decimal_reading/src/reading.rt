@@ -10,30 +10,34 @@ ghost use Rattle.icu_decimal_reading.specs.Readable.{is_readable_by};
 ghost use Rattle.icu_decimal_reading.specs.ReadingLaws.{AreTables};
 
 use crate::error::ReadError;
-use crate::likely::likely_number;
+use crate::likely::assign_likely;
 use crate::scanning::number_in;
 use crate::symbols::{are_tables, is_readable};
 use fixed_decimal::{Decimal, Sign};
 use icu_decimal_plain::DecimalTables;
 use std::alloc::Global;
-use writeable::strict_cmp;
 
 // Whether the number is written so.
-#[tactic(auto, using(icu_decimal_plain::proofs::TextLemmas::decimal_is_text, crate::proofs::ReadingLemmas::same_by_order))]
 fn is_written_so(tables: &DecimalTables<'_>, number: &Decimal, text: &str) -> bool
     ensures { result ≡ is_text_of (borrowed_tables tables.now) text.now number.now }
 {
-    strict_cmp(&tables.format(number), text.as_bytes()).is_eq()
+    tables.is_written_as(number, text)
 }
 
-// The number that a text likely is, where it is written so.
+// The number that a text likely is, where it is written so. One that shows more digits than the text has bytes is not.
 fn read_likely(alloc: Global, tables: &DecimalTables<'_>, text: &str) -> Option<Decimal>
     requires readable { is_readable_by (borrowed_tables tables.now) ≡ true }
     requires tables { AreTables (borrowed_tables tables.now) }
     ensures { IfSome result (λ v. plain_reading (borrowed_tables tables.now) text.now ≡ decimal v) }
 {
-    let number = likely_number(alloc, tables, text)?;
-    let _range = number.magnitude_range();
+    let mut number = Decimal::zero(alloc);
+    if !assign_likely(alloc, &mut number, tables, text) {
+        return None;
+    }
+    let range = number.magnitude_range();
+    if range.end().abs_diff(*range.start()) as usize >= text.len() {
+        return None;
+    }
     if is_written_so(tables, &number, text) {
         Some(number)
     } else {
@@ -88,8 +92,9 @@ fn read_as_defined(
 
 /// As `read_plain`, of tables whose symbols are known to be readable: in English `-1,234.50` is -1234.50.
 ///
-/// The condition is `is_readable`, which looks through all symbols: a caller who reads many texts with the same tables tests it
-/// once. `NotWritten`: no decimal is written so. `Memory`: out of memory. Allocates where the text has more than eight digits.
+/// The condition is `is_readable`, which looks through all symbols: a caller who reads many texts with the same tables
+/// tests it once. `NotWritten`: no decimal is written so. `Memory`: out of memory. Allocates where the text has more
+/// than eight digits.
 #[tactic(auto, using(crate::proofs::LawLemmas::answered_value))]
 pub fn read_readable(
     alloc: Global,
@@ -112,9 +117,9 @@ pub fn read_readable(
 
 /// The decimal whose text with these tables this is: in English `-1,234.50` is -1234.50, shown down to magnitude -2.
 ///
-/// Sign, digits and visible range are those of the one decimal that is written so. `Unreadable`: `is_readable` is false.
-/// `NotWritten`: no decimal is written so, as `98,7654` or `1234` in English. `Memory`: out of memory. Allocates where the text
-/// has more than eight digits.
+/// Sign, digits and visible range are those of the one decimal that is written so. `Unreadable`: `is_readable` is
+/// false. `NotWritten`: no decimal is written so, as `98,7654` or `1234` in English. `Memory`: out of memory. Allocates
+/// where the text has more than eight digits.
 #[tactic(auto, using(crate::proofs::ReadingLemmas::reading_unreadable))]
 pub fn read_plain(
     alloc: Global,

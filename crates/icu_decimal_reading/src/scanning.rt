@@ -45,7 +45,8 @@ fn gather_all(table: &[char; 10], text: &str, gathered: &mut Gathered) -> Result
     Ok(())
 }
 
-// Gathers the digits up to the first one that a fraction follows, and answers what follows: nothing where no fraction does.
+// Gathers the digits up to the first one that a fraction follows, and answers what follows: nothing where no fraction
+// does.
 #[tactic(auto, using(crate::proofs::StepLemmas::whole_last, crate::proofs::StepLemmas::whole_digit, crate::proofs::StepLemmas::whole_other, crate::proofs::StepLemmas::whole_end, crate::proofs::StepLemmas::fraction_here, crate::proofs::StepLemmas::fraction_digit, crate::proofs::StepLemmas::fraction_other, crate::proofs::StepLemmas::fraction_end))]
 fn gather_whole<'t>(
     table: &[char; 10],

@@ -81,9 +81,9 @@ pub(crate) fn are_tables(tables: &DecimalTables<'_>)
 
 /// Whether texts can be read back under the symbols of these tables: in English they can.
 ///
-/// They can where the ten digits differ and stand in no affix and no separator, the decimal separator is neither empty nor the
-/// grouping separator, and the affixes of a minus sign, of a plus sign and of no sign differ as pairs. Then no two decimals have
-/// one text. Does not allocate.
+/// They can where the ten digits differ and stand in no affix and no separator, the decimal separator is neither empty
+/// nor the grouping separator, and the affixes of a minus sign, of a plus sign and of no sign differ as pairs. Then no
+/// two decimals have one text. Does not allocate.
 pub fn is_readable(tables: &DecimalTables<'_>) -> bool
     ensures value { result ≡ is_readable_by (borrowed_tables tables.now) }
     ensures tables { AreTables (borrowed_tables tables.now) }

@@ -85,7 +85,8 @@ fn answer_by_marks<'r>(name: &'r str, fields: &'r [&'r str], out: &mut String) -
     formatters::answer(call, out)
 }
 
-// The answer of a call of a formatter with separators, sizes and digits of its row, which stand before its name, and with `-` and `+`.
+// The answer of a call of a formatter with separators, sizes and digits of its row, which stand before its name, and
+// with `-` and `+`.
 fn answer_under_marks(fields: &[&str], out: &mut String) -> Result<(), Stop> {
     let [
         decimal,

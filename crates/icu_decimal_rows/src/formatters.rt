@@ -1,5 +1,5 @@
-//! Answers of the calls of formatters. What a formatter borrows is made by functions that each own one of its tables and lend it to the
-//! next.
+//! Answers of the calls of formatters. What a formatter borrows is made by functions that each own one of its tables
+//! and lend it to the next.
 
 use crate::marks::Marks;
 use crate::plurals::rules_of;
@@ -17,8 +17,9 @@ use icu_decimal::{CompactDecimalFormatter, DecimalFormatter};
 use rows::{Stop, put_last};
 use std::alloc::Global;
 
-/// A call of a formatter: its name; what the formatter is made of, which is its form, when separators are written, its plural rules,
-/// its table, and its symbols and digits where they are not those of English; and what the call is passed.
+/// A call of a formatter: its name; what the formatter is made of, which is its form, when separators are written, its
+/// plural rules, its table, and its symbols and digits where they are not those of English; and what the call is
+/// passed.
 #[derive(Clone, Copy)]
 pub struct FormatterCall<'r> {
     pub name: &'r str,

@@ -35,7 +35,8 @@ fn given_of<'t>(alloc: Global, text: &'t str) -> Result<Vec<(PluralCategory, &'t
     filled(given, put)
 }
 
-/// The rules of a text: parts with semicolons between, each a category, a colon and a condition. The words of a refusal are the answer.
+/// The rules of a text: parts with semicolons between, each a category, a colon and a condition. The words of a refusal
+/// are the answer.
 pub fn rules_of(text: &str, out: &mut String) -> Result<PluralRules, Stop> {
     let alloc = *out.allocator();
     let given = given_of(alloc, text)?;

@@ -181,8 +181,8 @@ pub fn answer(passed: &[&str], out: &mut String) -> Result<(), Stop> {
     }
 }
 
-// Writes what options for plain numbers say, those for compact ones, those for compact numbers made of the first, those for plain
-// numbers made of the second; and the strategy that the first name.
+// Writes what options for plain numbers say, those for compact ones, those for compact numbers made of the first, those
+// for plain numbers made of the second; and the strategy that the first name.
 fn put_options(
     out: &mut String,
     plain: DecimalFormatterOptions,

@@ -160,8 +160,8 @@ fn types_of(text: &str, out: &mut String) -> Result<Types, Stop> {
     filled(types, put)
 }
 
-/// The table of a text: parts with semicolons between, each a type, an exponent and slots in JSON, with colons between; `zero` are the
-/// patterns of smaller numbers. The words of a refusal are the answer.
+/// The table of a text: parts with semicolons between, each a type, an exponent and slots in JSON, with colons between;
+/// `zero` are the patterns of smaller numbers. The words of a refusal are the answer.
 pub fn table_of(
     text: &str,
     zero: Option<&PluralElements<Pattern>>,

@@ -2,8 +2,8 @@
 
 /// Where grouping separators stand in the integer digits of a number, counted from the right.
 ///
-/// The sizes 3, 3, 1 give `1,000,000`; the sizes 3, 2, 1 give `10,00,000`; the sizes 3, 3, 2 leave `1000` as it is and give
-/// `10,000`. Source: UTS 35, part 3 (numbers), grouping of number patterns.
+/// The sizes 3, 3, 1 give `1,000,000`; the sizes 3, 2, 1 give `10,00,000`; the sizes 3, 3, 2 leave `1000` as it is and
+/// give `10,000`. Source: UTS 35, part 3 (numbers), grouping of number patterns.
 #[derive(Clone, Copy, Debug, PartialEq, Eq)]
 pub struct GroupingSizes {
     /// The count of digits in the last group: 3 in `10,00,000`. At 0 no separator stands anywhere.

@@ -1,8 +1,8 @@
-//! What a number is written with: a locale's symbols, the parts of a formatted number, and a formatter's options; and why there is
-//! no table.
+//! What a number is written with: a locale's symbols, the parts of a formatted number, and a formatter's options; and
+//! why there is no table.
 //!
-//! The symbols of English are `-`, `+`, `.`, `,` and the sizes 3, 3, 1. The rules are in docs/formatters.md; the names are those of
-//! ICU4X's `icu_decimal`.
+//! The symbols of English are `-`, `+`, `.`, `,` and the sizes 3, 3, 1. The rules are in docs/formatters.md; the names
+//! are those of ICU4X's `icu_decimal`.
 //!
 //! ```rust
 //! use icu_decimal_symbols::DecimalSymbols;

@@ -3,8 +3,8 @@
 ghost use Rattle.std.specs.Prelude.{◌≡◌, Some};
 ghost use Rattle.icu_decimal_symbols.specs.Options.{strategy_in};
 
-/// When grouping separators are written: with `Never`, 1000 is `1000`. The names are ICU4X's; source: UTS 35, part 3 (numbers),
-/// grouping of number patterns.
+/// When grouping separators are written: with `Never`, 1000 is `1000`. The names are ICU4X's; source: UTS 35, part 3
+/// (numbers), grouping of number patterns.
 #[derive(Clone, Copy, Debug, Default, PartialEq, Eq, Hash)]
 pub enum GroupingStrategy {
     /// Where the sizes of the locale place them: `1,234,567`.
@@ -66,8 +66,8 @@ impl From<GroupingStrategy> for CompactDecimalFormatterOptions {
     }
 }
 
-/// The same strategy, or none: `Some(Never)` gives `Some(Never)`, and `None` gives `None`. So the default options for plain numbers
-/// do not become the default ones for compact numbers. It does not allocate.
+/// The same strategy, or none: `Some(Never)` gives `Some(Never)`, and `None` gives `None`. So the default options for
+/// plain numbers do not become the default ones for compact numbers. It does not allocate.
 impl From<DecimalFormatterOptions> for CompactDecimalFormatterOptions {
     ghost from_gives = { λ plain compact. compact ≡ record { grouping_strategy = plain.grouping_strategy } };
 

@@ -1,7 +1,8 @@
 //! The parts of a formatted number: which interval of its text is what.
 //!
 //! Of `-987,654.321` they are `MINUS_SIGN` at 0 to 1, `INTEGER` at 1 to 8, `GROUP` at 4 to 5, `DECIMAL` at 8 to 9 and
-//! `FRACTION` at 9 to 12. The names are those of ICU4X's `parts`; what they name is in UTS 35, part 3 (numbers), number symbols.
+//! `FRACTION` at 9 to 12. The names are those of ICU4X's `parts`; what they name is in UTS 35, part 3 (numbers), number
+//! symbols.
 
 use writeable::Part;
 

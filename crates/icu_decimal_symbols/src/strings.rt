@@ -12,8 +12,8 @@ use tinystr::TinyAsciiStr;
 
 /// The texts of a locale's symbols while they are put together. Any text may be empty.
 ///
-/// For English the minus sign's prefix is `-`, its suffix empty, the decimal separator `.`, the grouping separator `,` and the
-/// numbering system `latn`. Source: UTS 35, part 3 (numbers), number symbols; the type is ICU4X's.
+/// For English the minus sign's prefix is `-`, its suffix empty, the decimal separator `.`, the grouping separator `,`
+/// and the numbering system `latn`. Source: UTS 35, part 3 (numbers), number symbols; the type is ICU4X's.
 #[derive(Debug, Drop)]
 pub struct DecimalSymbolStrsBuilder {
     /// What stands before a number with a minus sign: `-` in English.
@@ -50,15 +50,16 @@ impl Model for DecimalSymbolStrsBuilder {
 }
 
 impl DecimalSymbolStrsBuilder {
-    /// The texts as a formatter reads them: with the decimal separator `.` in the builder, their `decimal_separator` is `.`. It
-    /// does not allocate.
+    /// The texts as a formatter reads them: with the decimal separator `.` in the builder, their `decimal_separator` is
+    /// `.`. It does not allocate.
     pub fn build(self) -> DecimalSymbolsStrs
         ensures { result ≡ self }
     {
         DecimalSymbolsStrs { texts: self }
     }
 
-    /// A builder with these texts: of those of English one with `-`, `+`, `.`, `,` and `latn`. `build` gives equal texts.
+    /// A builder with these texts: of those of English one with `-`, `+`, `.`, `,` and `latn`. `build` gives equal
+    /// texts.
     ///
     /// `AllocError`: out of memory. It does not allocate where the six texts are empty.
     pub fn from_strs(alloc: Global, strs: &DecimalSymbolsStrs) -> Result<Self, AllocError>
@@ -68,8 +69,8 @@ impl DecimalSymbolStrsBuilder {
         copied(alloc, &strs.texts)
     }
 
-    /// A copy of the builder: of one with `-`, `+`, `.`, `,` and `latn` another with these. `AllocError`: out of memory. It does
-    /// not allocate where the six texts are empty.
+    /// A copy of the builder: of one with `-`, `+`, `.`, `,` and `latn` another with these. `AllocError`: out of
+    /// memory. It does not allocate where the six texts are empty.
     pub fn try_clone(&self) -> Result<Self, AllocError>
         ensures succeeds { HasNoText self.now → IsOk result }
         ensures value { IfOk result (λ builder. builder ≡ self.now) }
@@ -147,7 +148,8 @@ fn have_same_marks(a: &DecimalSymbolStrsBuilder, b: &DecimalSymbolStrsBuilder) -
         && a.numsys == b.numsys
 }
 
-/// The texts of a locale's symbols, as a formatter reads them: in English `-`, `+`, `.`, `,`, two empty suffixes and `latn`.
+/// The texts of a locale's symbols, as a formatter reads them: in English `-`, `+`, `.`, `,`, two empty suffixes and
+/// `latn`.
 #[derive(Debug, Drop)]
 pub struct DecimalSymbolsStrs {
     texts: DecimalSymbolStrsBuilder,
@@ -226,8 +228,8 @@ impl DecimalSymbolsStrs {
         texts.numsys
     }
 
-    /// A copy of the texts: of those of English `-`, `+`, `.`, `,` and `latn`. `AllocError`: out of memory. It does not allocate
-    /// where the six texts are empty.
+    /// A copy of the texts: of those of English `-`, `+`, `.`, `,` and `latn`. `AllocError`: out of memory. It does not
+    /// allocate where the six texts are empty.
     pub fn try_clone(&self) -> Result<Self, AllocError>
         ensures succeeds { HasNoText self.now → IsOk result }
         ensures value { IfOk result (λ texts. texts ≡ self.now) }

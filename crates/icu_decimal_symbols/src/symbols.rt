@@ -13,8 +13,8 @@ use std::marker::Model;
 use std::ops::Deref;
 use tinystr::TinyAsciiStr;
 
-/// What a locale writes numbers with: the texts round and between the digits, and where groups end. In English they are `-`, `+`,
-/// `.`, `,`, `latn` and the sizes 3, 3, 1.
+/// What a locale writes numbers with: the texts round and between the digits, and where groups end. In English they are
+/// `-`, `+`, `.`, `,`, `latn` and the sizes 3, 3, 1.
 #[derive(Debug, Drop)]
 pub struct DecimalSymbols {
     /// The affixes, the separators and the numbering system: in English `-`, `+`, `.`, `,` and `latn`.
@@ -103,8 +103,8 @@ impl DecimalSymbols {
         })
     }
 
-    /// A copy of the symbols: of those of English `-`, `+`, `.`, `,`, `latn` and 3, 3, 1. `AllocError`: out of memory. It does not
-    /// allocate where the six texts are empty.
+    /// A copy of the symbols: of those of English `-`, `+`, `.`, `,`, `latn` and 3, 3, 1. `AllocError`: out of memory.
+    /// It does not allocate where the six texts are empty.
     pub fn try_clone(&self) -> Result<Self, AllocError>
         ensures succeeds { HasNoText self.now.strings → IsOk result }
         ensures value { IfOk result (λ symbols. symbols ≡ self.now) }

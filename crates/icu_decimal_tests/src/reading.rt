@@ -37,8 +37,8 @@ fn digits_of(digits: Digits) -> [char; 10] {
     }
 }
 
-// What stands before and after a number with a minus sign, before and after one with a plus sign, the decimal separator and the
-// grouping separator, with `|` between.
+// What stands before and after a number with a minus sign, before and after one with a plus sign, the decimal separator
+// and the grouping separator, with `|` between.
 const ENGLISH: &str = "-||+||.|,";
 
 const BRACKETS: &str = "(|)|+||.|,";
@@ -129,7 +129,7 @@ fn symbols_with(alloc: Global, texts: &str) -> Result<DecimalSymbols, AllocError
     }
 }
 
-// The decimal that a text was read as, which is written as that text again.
+// The decimal that a text was read as, which is written as that text again, and is not written as no text.
 fn read_twice(
     alloc: Global,
     formatter: &DecimalFormatter<'_>,
@@ -137,7 +137,9 @@ fn read_twice(
     text: &str,
 ) -> Result<String, Fail> {
     let again = formatter.format_to_string(alloc, number)?;
-    if again.as_str() == text {
+    let tables = formatter.tables();
+    let is_written = tables.is_written_as(number, text) && !tables.is_written_as(number, "");
+    if is_written && again.as_str() == text {
         Ok(number.to_string(alloc)?)
     } else {
         Err(Fail::from("written again it is another text"))

@@ -45,7 +45,8 @@ fn listing(alloc: Global, sink: &PartsSink) -> Result<String, Fail> {
     Ok(text)
 }
 
-// The text of a decimal by this formatter, and the parts that a sink holds of it. The text in the sink must be the same.
+// The text of a decimal by this formatter, and the parts that a sink holds of it. The text in the sink must be the
+// same.
 fn listing_of(
     alloc: Global,
     formatter: &DecimalFormatter<'_>,

@@ -203,12 +203,12 @@ pub(crate) fn slots_of(value: &Value) -> Option<PluralElements<BorrowedPattern<'
 }
 
 impl PluralElements<Pattern> {
-    /// The patterns that a JSON value says: an array of a slot's name and its pattern each, which is an array of one text, or of the
-    /// two texts round a placeholder. `[["one",["","K"]],["other",["","Ks"]]]` is the pattern `{0}K` for the category `one`, and
-    /// `{0}Ks` for others.
+    /// The patterns that a JSON value says: an array of a slot's name and its pattern each, which is an array of one
+    /// text, or of the two texts round a placeholder. `[["one",["","K"]],["other",["","Ks"]]]` is the pattern `{0}K`
+    /// for the category `one`, and `{0}Ks` for others.
     ///
-    /// The names are `0`, `1`, `zero`, `one`, `two`, `few`, `many` and `other`, which must be there. `Custom`: any other value,
-    /// also one where a name occurs twice. `Memory`: out of memory.
+    /// The names are `0`, `1`, `zero`, `one`, `two`, `few`, `many` and `other`, which must be there. `Custom`: any
+    /// other value, also one where a name occurs twice. `Memory`: out of memory.
     pub fn from_json(alloc: Global, value: &Value) -> Result<Self, DataError>
         ensures custom { IsErrOf result DataError.Custom ↔ (slots_of (view value.now) ≡ None) }
         ensures only { IfErr result IsCustomOrMemory }

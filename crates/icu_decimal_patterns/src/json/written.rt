@@ -126,8 +126,9 @@ fn types_json(
 impl CompactPatterns {
     /// The table as a JSON value: an array of an array of the type, the exponent and the slots for each entry.
     ///
-    /// The short table of English is `[[3,3,[["other",["","K"]]]],[6,6,[["other",["","M"]]]]]`. It allocates. `AllocError`: out
-    /// of memory, and never for a table without entries. `from_json` reads the value as an equal table.
+    /// The short table of English is `[[3,3,[["other",["","K"]]]],[6,6,[["other",["","M"]]]]]`. It allocates.
+    /// `AllocError`: out of memory, and never for a table without entries. `from_json` reads the value as an equal
+    /// table.
     pub fn to_json(&self, alloc: Global) -> Result<Value, AllocError>
         ensures value { IfOk result (λ value. view value ≡ table_json self.now) }
         ensures reads_back { IfOk result (λ value. SaysTable (view value) self.now) }

@@ -14,14 +14,16 @@ use icu_locale_core::preferences::extensions::unicode::keywords::NumberingSystem
 use icu_locale_core::{DataLocale, LanguageIdentifier, Locale};
 use std::marker::Model;
 
-/// What a locale prefers for plain numbers: `ar-EG-u-nu-thai` prefers the locale `ar-EG` and the numbering system `thai`.
+/// What a locale prefers for plain numbers: `ar-EG-u-nu-thai` prefers the locale `ar-EG` and the numbering system
+/// `thai`.
 ///
 /// Preferences that are equal are one value, so they ask for the same tables. Source: UTS 35, section 3.6, key `nu`.
 #[derive(Clone, Copy, Debug, PartialEq, Eq, Hash)]
 pub struct DecimalFormatterPreferences {
     /// What the locale prefers whatever is written: `ar-EG` of `ar-EG-u-nu-thai`.
     pub locale_preferences: LocalePreferences,
-    /// The numbering system, where one is preferred: `thai` of `ar-EG-u-nu-thai`. Whether a provider has it is not asked.
+    /// The numbering system, where one is preferred: `thai` of `ar-EG-u-nu-thai`. Whether a provider has it is not
+    /// asked.
     pub numbering_system: Option<NumberingSystem>,
 }
 
@@ -35,8 +37,8 @@ impl Model for DecimalFormatterPreferences {
     ghost inverse = { λ v. record { locale_preferences = v.locale; numbering_system = v.numbering_system } };
 }
 
-/// What a locale prefers for compact numbers, the same as for plain ones: `ar-EG-u-nu-thai` prefers the locale `ar-EG` and the
-/// numbering system `thai`.
+/// What a locale prefers for compact numbers, the same as for plain ones: `ar-EG-u-nu-thai` prefers the locale `ar-EG`
+/// and the numbering system `thai`.
 ///
 /// Source: UTS 35, section 3.6, key `nu`.
 pub type CompactDecimalFormatterPreferences = DecimalFormatterPreferences;
@@ -55,7 +57,8 @@ impl Default for DecimalFormatterPreferences {
 
 /// What the locale prefers: of `ar-EG-u-nu-thai` the locale `ar-EG` and the system `thai`.
 ///
-/// A keyword whose value does not read counts as not there: `en-u-nu-latn-thai` prefers no system. It does not allocate.
+/// A keyword whose value does not read counts as not there: `en-u-nu-latn-thai` prefers no system. It does not
+/// allocate.
 impl From<&Locale> for DecimalFormatterPreferences {
     ghost from_gives = { λ locale p. p ≡ preferences_of locale.now };
 
@@ -97,7 +100,8 @@ impl From<LanguageIdentifier> for DecimalFormatterPreferences {
     }
 }
 
-/// The same preferences: of `en-u-nu-thai` for compact numbers those of `en-u-nu-thai` for plain ones. It does not allocate.
+/// The same preferences: of `en-u-nu-thai` for compact numbers those of `en-u-nu-thai` for plain ones. It does not
+/// allocate.
 impl From<&CompactDecimalFormatterPreferences> for DecimalFormatterPreferences {
     ghost from_gives = { λ compact p. p ≡ compact.now };
 
@@ -122,8 +126,8 @@ impl DecimalFormatterPreferences {
         }
     }
 
-    /// Puts each part of the other that is there in place of this one's: `en-US-u-nu-thai` extended by `und-GB` prefers `en-GB`
-    /// and `thai`. It does not allocate.
+    /// Puts each part of the other that is there in place of this one's: `en-US-u-nu-thai` extended by `und-GB` prefers
+    /// `en-GB` and `thai`. It does not allocate.
     pub fn extend(&mut self, other: DecimalFormatterPreferences)
         ensures { self.new ≡ joined self.old other }
     {
@@ -131,8 +135,8 @@ impl DecimalFormatterPreferences {
         self.numbering_system = other.numbering_system.or(self.numbering_system);
     }
 
-    /// The identifier of the system that is preferred, under this locale: of `thai` and `en` it is `en` and `thai`, and `None`
-    /// without a system. It does not allocate.
+    /// The identifier of the system that is preferred, under this locale: of `thai` and `en` it is `en` and `thai`, and
+    /// `None` without a system. It does not allocate.
     pub fn nu_id(&self, locale: &DataLocale) -> Option<DataIdentifier>
         ensures { result ≡ of_asked locale.now self.now.numbering_system }
     {

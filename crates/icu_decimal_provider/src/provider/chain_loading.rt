@@ -39,13 +39,13 @@ fn load_pass<'p, M: DataMarker, P: DataProvider<M> + ParentProvider>(
     provider.load(&id)
 }
 
-/// The first table along the chain of the locale: each locale of it with the numbering system, where one is given, then each
-/// without.
+/// The first table along the chain of the locale: each locale of it with the numbering system, where one is given, then
+/// each without.
 ///
-/// Under the parents `en-AU`, `en-001`, `en` and with `thai` it asks for `en-AU` with `thai`, `en-001` with `thai`, `en` with
-/// `thai`, then for `en-AU`, `en-001`, `en`. It takes as many steps as the provider's `chain_limit` says, at most, each time.
-/// Another error than `IdentifierNotFound` is returned at once; `IdentifierNotFound`: none of them has a table. It does not
-/// allocate.
+/// Under the parents `en-AU`, `en-001`, `en` and with `thai` it asks for `en-AU` with `thai`, `en-001` with `thai`,
+/// `en` with `thai`, then for `en-AU`, `en-001`, `en`. It takes as many steps as the provider's `chain_limit` says, at
+/// most, each time. Another error than `IdentifierNotFound` is returned at once; `IdentifierNotFound`: none of them has
+/// a table. It does not allocate.
 pub fn load_by_chain<'p, M: DataMarker, P: DataProvider<M> + ParentProvider>(
     provider: &'p P,
     locale: &DataLocale,

@@ -5,8 +5,8 @@ ghost use Rattle.std.specs.Prelude.{◌≡◌};
 use crate::provider::identifier::DataIdentifier;
 use icu_decimal_symbols::{DataError, DataMarker};
 
-/// A provider of the tables of one kind. What it returns is a function of the identifier: under `en` the sample book always lends
-/// the symbols of English.
+/// A provider of the tables of one kind. What it returns is a function of the identifier: under `en` the sample book
+/// always lends the symbols of English.
 ///
 /// After ICU4X's `DataProvider`.
 pub trait DataProvider<M: DataMarker> {
@@ -18,9 +18,11 @@ pub trait DataProvider<M: DataMarker> {
     // what stands under each identifier
     ghost table: { Self → Identifier → Result M.DataStruct DataError };
 
-    /// The table under the identifier, borrowed from the provider: of the sample book under `thai` the digits `๐` to `๙`.
+    /// The table under the identifier, borrowed from the provider: of the sample book under `thai` the digits `๐` to
+    /// `๙`.
     ///
-    /// `IdentifierNotFound`: there is no table, as under `wxyz`. Any other error is the provider's own. It does not allocate.
+    /// `IdentifierNotFound`: there is no table, as under `wxyz`. Any other error is the provider's own. It does not
+    /// allocate.
     fn load(&self, id: &DataIdentifier) -> Result<&M::DataStruct, DataError>
         ensures { result_map_both (λ found. found.now) (λ error. error) result ≡ table self.now id.now };
 }

@@ -10,9 +10,9 @@ use icu_decimal_symbols::{DataError, DataMarker};
 
 /// The table under the first identifier that the provider has.
 ///
-/// Of `en` with `wxyz` and then only `en` it is that of `en`, where the provider has no other. `InvalidRequest`: no identifier is
-/// given. Another error than `IdentifierNotFound` is returned at once, and no later identifier is asked for; at the end the last
-/// one's error is returned. It does not allocate.
+/// Of `en` with `wxyz` and then only `en` it is that of `en`, where the provider has no other. `InvalidRequest`: no
+/// identifier is given. Another error than `IdentifierNotFound` is returned at once, and no later identifier is asked
+/// for; at the end the last one's error is returned. It does not allocate.
 pub fn load_with_fallback<'p, M: DataMarker, P: DataProvider<M>>(
     provider: &'p P,
     ids: &[DataIdentifier],

@@ -7,7 +7,8 @@ use icu_locale_core::DataLocale;
 use std::marker::Model;
 use tinystr::TinyAsciiStr;
 
-/// The name of a table: a locale, and attributes. The attributes of symbols and of digits are a numbering system, or empty.
+/// The name of a table: a locale, and attributes. The attributes of symbols and of digits are a numbering system, or
+/// empty.
 ///
 /// The symbols of `en` for Thai digits are under `en` and `thai`, the digits under `und` and `thai`. After ICU4X's
 /// `DataIdentifierBorrowed`.

@@ -29,11 +29,11 @@ fn load_one_or<'p, M: DataMarker, P: DataProvider<M>>(
     }
 }
 
-/// The first table that the preferences ask for, of a kind that stands where symbols do: along the chain of their locale, each with
-/// their numbering system, where they have one, then each without.
+/// The first table that the preferences ask for, of a kind that stands where symbols do: along the chain of their
+/// locale, each with their numbering system, where they have one, then each without.
 ///
-/// With the sample book `en-u-nu-wxyz` gets the symbols of `en`. The locale is the form with the language first. Errors as
-/// `load_by_chain`. It does not allocate.
+/// With the sample book `en-u-nu-wxyz` gets the symbols of `en`. The locale is the form with the language first. Errors
+/// as `load_by_chain`. It does not allocate.
 pub fn load_by_locale<'p, M: DataMarker, P: DataProvider<M> + ParentProvider>(
     provider: &'p P,
     preferences: &DecimalFormatterPreferences,
@@ -46,7 +46,8 @@ pub fn load_by_locale<'p, M: DataMarker, P: DataProvider<M> + ParentProvider>(
     load_by_chain::<M, P>(provider, &locale, preferences.numbering_system)
 }
 
-/// The symbols that the preferences ask for, by `load_by_locale`: with the sample book `en-u-nu-wxyz` gets those of `en`.
+/// The symbols that the preferences ask for, by `load_by_locale`: with the sample book `en-u-nu-wxyz` gets those of
+/// `en`.
 ///
 /// Errors as `load_by_chain`. It does not allocate.
 pub fn load_symbols<'p, P: DataProvider<DecimalSymbolsV1> + ParentProvider>(
@@ -58,11 +59,11 @@ pub fn load_symbols<'p, P: DataProvider<DecimalSymbolsV1> + ParentProvider>(
     load_by_locale::<DecimalSymbolsV1, P>(provider, preferences)
 }
 
-/// The ten digits that the preferences ask for: those of their numbering system, where they have one, then those of the system
-/// that the symbols name.
+/// The ten digits that the preferences ask for: those of their numbering system, where they have one, then those of the
+/// system that the symbols name.
 ///
-/// With the sample book `en-u-nu-thai` gets `๐` to `๙`, and `en-u-nu-wxyz` those of `latn`. Errors as `load_with_fallback`. It
-/// does not allocate.
+/// With the sample book `en-u-nu-thai` gets `๐` to `๙`, and `en-u-nu-wxyz` those of `latn`. Errors as
+/// `load_with_fallback`. It does not allocate.
 pub fn load_digits<'p, P: DataProvider<DecimalDigitsV1>>(
     provider: &'p P,
     preferences: &DecimalFormatterPreferences,

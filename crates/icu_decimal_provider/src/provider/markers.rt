@@ -2,8 +2,8 @@
 
 use icu_decimal_symbols::{DataMarker, DecimalSymbols};
 
-/// The symbols of a locale: the texts around and between the digits, and where groups end. Of `en` they are `-`, `+`, `.`, `,`
-/// and the sizes 3, 3, 1.
+/// The symbols of a locale: the texts around and between the digits, and where groups end. Of `en` they are `-`, `+`,
+/// `.`, `,` and the sizes 3, 3, 1.
 #[derive(Clone, Copy, Debug)]
 pub struct DecimalSymbolsV1;
 

@@ -1,7 +1,7 @@
 //! Providers: who has the tables that a formatter borrows, and the identifier of each.
 //!
-//! A provider returns a table or an error for an identifier. Symbols are under a locale and a numbering system or none, digits
-//! only under a numbering system.
+//! A provider returns a table or an error for an identifier. Symbols are under a locale and a numbering system or none,
+//! digits only under a numbering system.
 
 mod chain_loading;
 mod data_provider;

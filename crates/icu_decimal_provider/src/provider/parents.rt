@@ -4,7 +4,8 @@ ghost use Rattle.std.specs.Prelude.{◌≡◌};
 
 use icu_locale_core::DataLocale;
 
-/// A provider that names the next locale to ask for where one has no table: `en-001` after `en-AU`, where its parents say so.
+/// A provider that names the next locale to ask for where one has no table: `en-001` after `en-AU`, where its parents
+/// say so.
 ///
 /// What it returns is a function of the locale. One without parents returns `None` and 0.
 pub trait ParentProvider {
@@ -17,7 +18,8 @@ pub trait ParentProvider {
     // how many steps are taken at most
     ghost limit: { Self → ℕ } = { λ provider. 0 };
 
-    /// The locale that is asked for after this one: `en-001` after `en-AU`. `None` ends the chain. It does not allocate.
+    /// The locale that is asked for after this one: `en-001` after `en-AU`. `None` ends the chain. It does not
+    /// allocate.
     fn parent(&self, locale: &DataLocale) -> Option<DataLocale>
         ensures { result ≡ next self.now locale.now };
 

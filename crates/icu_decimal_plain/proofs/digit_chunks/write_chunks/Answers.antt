@@ -5,10 +5,10 @@ use Rattle.std.specs.Int.Digits.{AllBelowBase}
 use Rattle.writeable.specs.AnnotatedText.{bytes}
 use Rattle.writeable.specs.Taking.{on_err}
 use Rattle.writeable.proofs.WritingLemmas.{writing_goes_on, writing_stops}
+use Rattle.fixed_decimal.proofs.DigitsLemmas.{below_drop, below_take}
 use Rattle.icu_decimal_plain.specs.LaterGroups.{groups_ahead}
 use Rattle.icu_decimal_plain.specs.PlainText.{digit_text}
-use Rattle.icu_decimal_plain.proofs.PieceLemmas.{chunk_bytes, chunk_past, tens_taken, utf8_groups}
-use Rattle.icu_decimal_plain.proofs.PlainTextLemmas.{tens_dropped}
+use Rattle.icu_decimal_plain.proofs.PieceLemmas.{chunk_bytes, chunk_past, utf8_groups}
 use Rattle.icu_decimal_plain.proofs.digit_chunks.write_chunks.Goals as goal
 
 pub put_groups-len-requires : goal.put_groups-len-requires
@@ -19,14 +19,14 @@ put_groups-len-requires g c =
     let size = ap length c.next_digits-chunk.ensures.chunk ∙ length-take-le 48 was (omega (arith, enough, len)) in
     let few = c.in-Some.ensures.few in
     let room : 0 + 4 * (length c.next_digits-chunk.result + length c.in-Some.groups) ≤ 384 = omega (arith, size, few) in
-    let tens = subst (AllBelowBase 10) (sym c.next_digits-chunk.ensures.chunk) (tens_taken 48 was c.loop-digits.invariant.tens) in
+    let tens = subst (AllBelowBase 10) (sym c.next_digits-chunk.ensures.chunk) (below_take 48 was c.loop-digits.invariant.tens) in
     (omega arith, (room, (c.in-Some.ensures.whole ∙ sym size, (c.new-piece.ensures.long, (c.new-piece.ensures.short, tens)))))
 
 pub write_waiting-requires-clause-utf8 : goal.write_waiting-requires-clause-utf8
 write_waiting-requires-clause-utf8 g c =
     let piece = c.new-piece.result in
     let taken = c.in-Some.groups in
-    let tens = subst (AllBelowBase 10) (sym c.next_digits-chunk.ensures.chunk) (tens_taken 48 c.loop-digits.digits c.loop-digits.invariant.tens) in
+    let tens = subst (AllBelowBase 10) (sym c.next_digits-chunk.ensures.chunk) (below_take 48 c.loop-digits.digits c.loop-digits.invariant.tens) in
     subst IsUtf8 (sym c.put_groups-len.ensures.text)
     (utf8_groups (take piece.len piece.bytes) c.args.table.now.chars.now taken c.next_digits-chunk.result
     (subst IsUtf8 (sym c.new-piece.ensures.is) (IsUtf8-had _ c.new-piece.ensures.utf8)) (λ d below. IsUtf8-had _ (c.args.table.now.held d below).utf8) tens)
@@ -50,7 +50,7 @@ loop-digits-preserved g c =
     let put = c.put_groups-len.ensures.text ∙ ap (λ sep. groups_ahead sep (digit_text table) taken chunk) c.new-piece.ensures.is in
     let parts = chunk_bytes separator table c.loop-digits.sizes taken c.next_chunk.new.self was after chunk text c.in-Some.ensures.taken c.in-Some.ensures.whole c.next_digits-chunk.ensures.chunk c.next_digits-chunk.ensures.digits put in
     record {
-      tens = subst (AllBelowBase 10) (sym c.next_digits-chunk.ensures.digits) (tens_dropped 48 was c.loop-digits.invariant.tens);
+      tens = subst (AllBelowBase 10) (sym c.next_digits-chunk.ensures.digits) (below_drop 48 was c.loop-digits.invariant.tens);
       digits = chunk_past c.loop-digits.sizes taken c.next_chunk.new.self was after c.in-Some.ensures.taken c.in-Some.ensures.whole c.next_digits-chunk.ensures.digits ∙ c.loop-digits.invariant.digits;
       writing = writing_goes_on g.S.Sink.takes g.S.Sink.refused g.met.S.Sink.joins _ _ _ _ (bytes text) (bytes (groups_ahead separator (digit_text table) c.next_chunk.new.self after))
           (rw parts at c.loop-digits.invariant.writing) c.in_ok-write_waiting.ensures.ok c.in_ok-write_waiting.ensures.refused;

@@ -1,9 +1,10 @@
 use Rattle.std.proofs.Common.{◌-◌, ◌++◌, ◌∙◌, IsUtf8, ap, arith, length, subst, sym, take}
 use Rattle.std.proofs.lemmas.Str.{IsUtf8-append, IsUtf8-had}
 use Rattle.std.specs.Int.Digits.{AllBelowBase}
+use Rattle.fixed_decimal.proofs.DigitsLemmas.{below_take}
 use Rattle.icu_decimal_plain.specs.BorrowedTables.{borrowed_tables}
 use Rattle.icu_decimal_plain.proofs.DigitChunkLemmas.{length_down}
-use Rattle.icu_decimal_plain.proofs.PieceLemmas.{tens_taken, utf8_digits}
+use Rattle.icu_decimal_plain.proofs.PieceLemmas.{utf8_digits}
 use Rattle.icu_decimal_plain.proofs.PlainTextLemmas.{fraction_shown, tens_down}
 use Rattle.icu_decimal_plain.proofs.ShortRowLemmas.{fraction_row, front_shown}
 use Rattle.icu_decimal_plain.proofs.short_rows.put_fraction.Goals as goal
@@ -52,4 +53,4 @@ returns-clause-utf8 c =
     c.requires.row tens shown c.put_piece-from.ensures.text c.put_front.ensures.text in
     let fine = subst IsUtf8 (sym c.requires.separator.is) (IsUtf8-had _ c.requires.separator.utf8) in
     ∣ rw text (IsUtf8-append _ _ (IsUtf8-had _ c.requires.utf8)
-    (IsUtf8-append _ _ fine (utf8_digits t.digits (take count ds) (λ d below. IsUtf8-had _ (table.held d below).utf8) (tens_taken count ds tens)))) ∣₁
+    (IsUtf8-append _ _ fine (utf8_digits t.digits (take count ds) (λ d below. IsUtf8-had _ (table.held d below).utf8) (below_take count ds tens)))) ∣₁

@@ -1,11 +1,12 @@
 use Rattle.std.proofs.Common.{◌≡◌, ◌+◌, ◌-◌, ◌*◌, ◌≤◌, ◌∙◌, IsUtf8, ap, arith, drop, length, length-drop, refl, subst, sym, take}
 use Rattle.std.proofs.lemmas.Str.{IsUtf8-append, IsUtf8-had}
 use Rattle.std.specs.Int.Digits.{AllBelowBase}
+use Rattle.fixed_decimal.proofs.DigitsLemmas.{below_drop, below_take}
 use Rattle.icu_decimal_plain.specs.BorrowedTables.{borrowed_tables}
 use Rattle.icu_decimal_plain.specs.Grouper.{group_sizes}
 use Rattle.icu_decimal_plain.proofs.DigitChunkLemmas.{length_down, part_shown, rest_shown, sizes_split}
-use Rattle.icu_decimal_plain.proofs.PieceLemmas.{tens_taken, utf8_digits, utf8_groups}
-use Rattle.icu_decimal_plain.proofs.PlainTextLemmas.{grouped_text, tens_down, tens_dropped}
+use Rattle.icu_decimal_plain.proofs.PieceLemmas.{utf8_digits, utf8_groups}
+use Rattle.icu_decimal_plain.proofs.PlainTextLemmas.{grouped_text, tens_down}
 use Rattle.icu_decimal_plain.proofs.RowLemmas.{threes_whole}
 use Rattle.icu_decimal_plain.proofs.ShortRowLemmas.{front_shown, whole_row}
 use Rattle.icu_decimal_plain.proofs.short_rows.put_whole.Goals as goal
@@ -43,7 +44,7 @@ put_threes-requires c =
     let tens = subst (AllBelowBase 10) (sym c.whole_digits-digits.ensures) (tens_down v.count 32768 (v.high - 32767)) in
     let room : first + 4 * groups ≤ 64 = omega (arith, split, whole, value, few) in
     let enough : 3 * groups ≤ length (take (count - first) (drop first block)) = omega (arith, size, split, whole, long, value) in
-    (omega arith, (room, (enough, (c.requires.row.small, subst (AllBelowBase 10) (sym rest) (tens_dropped first ds tens)))))
+    (omega arith, (room, (enough, (c.requires.row.small, subst (AllBelowBase 10) (sym rest) (below_drop first ds tens)))))
 
 pub returns-clause-text : goal.returns-clause-text
 returns-clause-text c =
@@ -93,8 +94,8 @@ returns-clause-utf8 c =
     let text = whole_row c.args.nought first c.in_ok-groups.groups count c.args.separator.len t.digits c.args.separator.bytes ds block others (take first c.put_front.new.text) (take c.put_threes.result c.put_threes.new.waiting)
     c.requires.row tens c.requires.separator.long c.requires.one c.in_ok-groups.ensures part rest (ap (λ n. take n c.put_front.new.text) (sym size) ∙ c.put_front.ensures.text) c.put_threes.ensures.text in
     let fine = subst IsUtf8 (sym c.requires.separator.is) (IsUtf8-had _ c.requires.separator.utf8) in
-    ∣ rw text (IsUtf8-append _ _ (utf8_digits t.digits (take first ds) (λ d below. IsUtf8-had _ (table.held d below).utf8) (tens_taken first ds tens))
-    (utf8_groups separator t.digits others (drop first ds) fine (λ d below. IsUtf8-had _ (table.held d below).utf8) (tens_dropped first ds tens))) ∣₁
+    ∣ rw text (IsUtf8-append _ _ (utf8_digits t.digits (take first ds) (λ d below. IsUtf8-had _ (table.held d below).utf8) (below_take first ds tens))
+    (utf8_groups separator t.digits others (drop first ds) fine (λ d below. IsUtf8-had _ (table.held d below).utf8) (below_drop first ds tens))) ∣₁
 
 pub returns-clause-room : goal.returns-clause-room
 returns-clause-room c =

@@ -2,8 +2,9 @@ use Rattle.std.proofs.Common.{◌≡◌, ◌+◌, ◌-◌, ◌∙◌, arith, map
 use Rattle.std.specs.Int.Digits.{AllBelowBase}
 use Rattle.writeable.specs.Taking.{on_err}
 use Rattle.writeable.proofs.WritingLemmas.{writing_goes_on, writing_stops, writing_ends}
+use Rattle.fixed_decimal.proofs.DigitsLemmas.{below_drop}
 use Rattle.icu_decimal_plain.specs.PlainText.{chained, digit_events}
-use Rattle.icu_decimal_plain.proofs.PlainTextLemmas.{next_piece, no_piece, none_dropped, piece_dropped, tens_dropped}
+use Rattle.icu_decimal_plain.proofs.PlainTextLemmas.{next_piece, no_piece, none_dropped, piece_dropped}
 use Rattle.icu_decimal_plain.proofs.writing.write_digits.Goals as goal
 
 pub loop-left-preserved : goal.loop-left-preserved
@@ -17,7 +18,7 @@ loop-left-preserved g c =
     let is = c.in_ok-write_piece.ensures.digits in
     record {
       left = let before = c.loop-left.invariant.left in omega (arith, before);
-      tens = subst (AllBelowBase 10) (sym is) (tens_dropped size was c.loop-left.invariant.tens);
+      tens = subst (AllBelowBase 10) (sym is) (below_drop size was c.loop-left.invariant.tens);
       digits = piece_dropped was after left size (left - size) whole is ∙ c.loop-left.invariant.digits;
       writing = writing_goes_on g.S.Sink.takes g.S.Sink.refused g.met.S.Sink.joins _ _ _ _ (chained (map (digit_events table) (take size was))) (chained (map (digit_events table) (take (left - size) after)))
           (rw (next_piece table was after left size (left - size) whole is) at c.loop-left.invariant.writing) c.in_ok-write_piece.ensures.ok c.in_ok-write_piece.ensures.refused;

@@ -2,9 +2,10 @@ use Rattle.std.proofs.Common.{◌≡◌, ◌+◌, ◌-◌, ◌∙◌, ap, arith,
 use Rattle.std.specs.Int.Digits.{AllBelowBase}
 use Rattle.std.proofs.lemmas.Result.{on_ok_weaker}
 use Rattle.writeable.specs.Taking.{begun_first, on_err}
+use Rattle.fixed_decimal.proofs.DigitsLemmas.{below_drop}
 use Rattle.icu_decimal_plain.specs.Grouper.{group_sizes}
 use Rattle.icu_decimal_plain.specs.BorrowedTables.{borrowed_tables}
-use Rattle.icu_decimal_plain.proofs.PlainTextLemmas.{tens_down, tens_dropped, whole_groups}
+use Rattle.icu_decimal_plain.proofs.PlainTextLemmas.{tens_down, whole_groups}
 use Rattle.icu_decimal_plain.proofs.writing.write_whole.Goals as goal
 
 pub returns-in_err-write_digits-clause-begun : goal.returns-in_err-write_digits-clause-begun
@@ -29,7 +30,7 @@ write_groups-requires-clause-tens g c =
     let v = c.args.number.now in
     let shown = tens_down v.count 32768 (v.high - 32767) in
     subst (AllBelowBase 10) (sym c.in_ok-write_digits.ensures.digits)
-    (tens_dropped c.unwrap_or-first.result c.whole_digits-digits.result (subst (AllBelowBase 10) (sym c.whole_digits-digits.ensures) shown))
+    (below_drop c.unwrap_or-first.result c.whole_digits-digits.result (subst (AllBelowBase 10) (sym c.whole_digits-digits.ensures) shown))
 
 pub returns-clause-ok : goal.returns-clause-ok
 returns-clause-ok g c =

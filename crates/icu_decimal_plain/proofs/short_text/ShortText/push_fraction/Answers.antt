@@ -1,9 +1,10 @@
 use Rattle.std.proofs.Common.{◌≡◌, ◌-◌, ◌++◌, ◌∙◌, ap, append_assoc, arith, length, map, subst, sym, take}
 use Rattle.std.specs.Int.Digits.{AllBelowBase}
+use Rattle.fixed_decimal.proofs.DigitsLemmas.{below_take}
 use Rattle.icu_decimal_plain.specs.BorrowedTables.{borrowed_tables}
 use Rattle.icu_decimal_plain.specs.PlainText.{chained, digit_text}
 use Rattle.icu_decimal_plain.proofs.DigitChunkLemmas.{length_down}
-use Rattle.icu_decimal_plain.proofs.PieceLemmas.{held_itself, tens_taken}
+use Rattle.icu_decimal_plain.proofs.PieceLemmas.{held_itself}
 use Rattle.icu_decimal_plain.proofs.PlainTextLemmas.{fraction_shown, tens_down}
 use Rattle.icu_decimal_plain.proofs.short_text.ShortText.push_fraction.Goals as goal
 
@@ -20,7 +21,7 @@ pub push_front-requires : goal.push_front-requires
 push_front-requires c =
     let v = c.args.number.now in
     let shown = subst (AllBelowBase 10) (sym c.fraction_digits-digits.ensures) (tens_down v.count v.low (32768 - v.low)) in
-    subst (AllBelowBase 10) (sym c.few_digits-chunk.ensures.chunk) (tens_taken c.fraction_len-count.result c.fraction_digits-digits.result shown)
+    subst (AllBelowBase 10) (sym c.few_digits-chunk.ensures.chunk) (below_take c.fraction_len-count.result c.fraction_digits-digits.result shown)
 
 pub returns : goal.returns
 returns c =

@@ -1,12 +1,13 @@
 use Rattle.std.proofs.Common.{◌≡◌, ◌+◌, ◌-◌, ◌++◌, ◌∙◌, ap, append_assoc, arith, drop, length, length-drop, map, refl, subst, sym, take}
 use Rattle.std.specs.Int.Digits.{AllBelowBase}
+use Rattle.fixed_decimal.proofs.DigitsLemmas.{below_drop, below_take}
 use Rattle.icu_decimal_plain.specs.Grouper.{group_sizes}
 use Rattle.icu_decimal_plain.specs.BorrowedTables.{borrowed_tables}
 use Rattle.icu_decimal_plain.specs.LaterGroups.{groups_ahead}
 use Rattle.icu_decimal_plain.specs.PlainText.{chained, digit_text}
 use Rattle.icu_decimal_plain.proofs.DigitChunkLemmas.{length_down, part_shown, rest_shown, sizes_split}
-use Rattle.icu_decimal_plain.proofs.PieceLemmas.{held_itself, tens_taken}
-use Rattle.icu_decimal_plain.proofs.PlainTextLemmas.{grouped_text, tens_down, tens_dropped}
+use Rattle.icu_decimal_plain.proofs.PieceLemmas.{held_itself}
+use Rattle.icu_decimal_plain.proofs.PlainTextLemmas.{grouped_text, tens_down}
 use Rattle.icu_decimal_plain.proofs.short_text.ShortText.push_whole.Goals as goal
 
 pub few_digits-chunk-requires-clause-enough : goal.few_digits-chunk-requires-clause-enough
@@ -26,7 +27,7 @@ push_front-requires c =
     let split = sizes_split t.strategy t.symbols.grouping_sizes count first c.of-sizes.result c.next.new.self c.next.result (omega arith) cut c.next.ensures.steps c.unwrap_or-first.ensures in
     let part = part_shown ds c.few_digits-chunk.result first count (omega (arith, split)) c.few_digits-chunk.ensures.chunk in
     let shown = subst (AllBelowBase 10) (sym c.whole_digits-digits.ensures) (tens_down v.count 32768 (v.high - 32767)) in
-    subst (AllBelowBase 10) (sym part) (tens_taken first ds shown)
+    subst (AllBelowBase 10) (sym part) (below_take first ds shown)
 
 pub push_groups-requires : goal.push_groups-requires
 push_groups-requires c =
@@ -47,7 +48,7 @@ push_groups-requires c =
       separator = held_itself c.args.separator _ c.requires.separator;
       few = let few = c.requires.few in omega (arith, size, long, few);
       whole = omega (arith, size, split, long, value);
-      tens = subst (AllBelowBase 10) (sym rest) (tens_dropped first ds shown);
+      tens = subst (AllBelowBase 10) (sym rest) (below_drop first ds shown);
     }
 
 pub returns : goal.returns
