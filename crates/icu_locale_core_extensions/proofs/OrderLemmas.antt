@@ -9,7 +9,7 @@ use Rattle.std.specs.declared.cmp.Ordering.TheVariants.{Less, Equal, Greater}
 use Rattle.icu_locale_core_grammar.specs.Collections.{Entry}
 use Rattle.icu_locale_core_grammar.specs.TagOrder.{entry_cmp, entries_cmp, texts_cmp, unicode_cmp, transform_cmp}
 use Rattle.icu_locale_core_grammar.specs.OrderLaws.{IsOrder}
-use Rattle.icu_locale_core_grammar.proofs.OrderLemmas.{texts_order, entries_order, unicode_order, transform_order}
+use Rattle.icu_locale_core_grammar.proofs.OrderLemmas.{tie_first, tie_second, texts_order, entries_order, unicode_order, transform_order}
 use Rattle.icu_locale_core_extensions.specs.ExtensionsOrder.{extensions_cmp}
 use Rattle.icu_locale_core_extensions.specs.ExtensionsValue.{ExtensionsValue}
 
@@ -61,16 +61,6 @@ module _ (os ps : List Entry) where
   comparing_ends xs ys (inr e) so_far = ends_second xs (subst (λ l. IsComparing xs l) e so_far)
 
 -- ---- the law
-
-tie_first : (a b : Ordering) → ordering_then a b ≡ Equal → a ≡ Equal
-tie_first Less b e = e
-tie_first Equal b e = refl
-tie_first Greater b e = e
-
-tie_second : (a b : Ordering) → ordering_then a b ≡ Equal → b ≡ Equal
-tie_second Less b e = cc
-tie_second Equal b e = e
-tie_second Greater b e = cc
 
 extensions_total : IsTotalOrder extensions_cmp
 extensions_total =

@@ -8,7 +8,6 @@ ghost use Rattle.icu_locale_core_extensions.specs.BodyView.{body_view, body_key,
 ghost use Rattle.icu_locale_core_extensions.specs.Allocation.{body_grows_at, body_keeps};
 
 use crate::head::{AttributesHead, LanguageHead, settled_language};
-use crate::opening::is_letter;
 use crate::other::{Other, other_after};
 use crate::singleton::OtherSingleton;
 use crate::transform::Transform;
@@ -16,7 +15,7 @@ use crate::unicode::Unicode;
 use icu_locale_core_keywords_fields::{HeadedStage, headed_after, headed_finish};
 use icu_locale_core_langid::LanguageStage;
 use icu_locale_core_subtag_lists::GrowingSet;
-use icu_locale_core_subtags::{Step, transform, unicode};
+use icu_locale_core_subtags::{Step, is_letter, transform, unicode};
 use std::alloc::{AllocError, Global};
 
 /// How far the pieces behind a singleton are read.

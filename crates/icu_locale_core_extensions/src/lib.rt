@@ -33,8 +33,6 @@ pub use crate::body::{BodyStage, Part, body_after, body_finish, opened_body};
 pub use crate::extension_type::ExtensionType;
 pub use crate::extensions::{Extensions, put_part};
 pub use crate::extensions_writing::write_extensions;
-pub use crate::opening::is_letter;
 pub use crate::other::Other;
-pub use crate::singleton::is_one_character;
 pub use crate::transform::Transform;
 pub use crate::unicode::Unicode;

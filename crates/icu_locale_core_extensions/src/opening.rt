@@ -1,24 +1,11 @@
 //! The singleton of an extension, and the pieces behind it.
 
 ghost use Rattle.std.specs.Prelude.{◌≡◌, ◌∷◌, [], ℕ, List, MatchOption};
-ghost use Rattle.std.specs.Char.{to_ascii_lowercase};
 ghost use Rattle.icu_locale_core_grammar.specs.Pieces.{pieces};
-ghost use Rattle.icu_locale_core_grammar.specs.Subtags.{spells};
 ghost use Rattle.icu_locale_core_extensions.specs.Opening.{Opens, OpensOther};
 
 use crate::singleton::OtherSingleton;
-use icu_locale_core_subtags::SubtagIterator;
-
-/// Whether the piece is this one letter, in either case; the letter is given in lower case: true of `U` and `u`, false
-/// of `t` and `u`. It does not allocate.
-pub fn is_letter(piece: &[u8], letter: u8) -> bool
-    ensures { result ≡ spells (letter ∷ []) piece.now }
-{
-    match piece {
-        [only] => only.to_ascii_lowercase() == letter,
-        _ => false,
-    }
-}
+use icu_locale_core_subtags::{SubtagIterator, is_letter};
 
 // The pieces behind the singleton, where the text begins with it and has any.
 pub(crate) fn body_behind<'a>(code_units: &'a [u8], letter: u8) -> Option<SubtagIterator<'a>>

@@ -2,12 +2,11 @@
 
 ghost use Rattle.std.specs.Prelude.{◌≡◌};
 ghost use Rattle.icu_locale_core_grammar.specs.declared.error.ParseError.{ParseError};
-ghost use Rattle.icu_locale_core_grammar.specs.Subtags.{is_singleton, is_other, lower};
+ghost use Rattle.icu_locale_core_grammar.specs.Subtags.{is_other, lower};
 ghost use Rattle.icu_locale_core_extensions.specs.OtherSingleton.{other_rule};
 
-use crate::opening::is_letter;
 use icu_locale_core_grammar::ParseError;
-use icu_locale_core_subtags::{SubtagOf, SubtagRule};
+use icu_locale_core_subtags::{SubtagOf, SubtagRule, is_letter, is_one_character};
 use tinystr::TinyAsciiStr;
 
 /// One letter or digit that is not `t`, `u` or `x`, in lower case.
@@ -15,16 +14,6 @@ pub struct OtherRule;
 
 /// The singleton of an extension that has no rule of its own: `a`.
 pub(crate) type OtherSingleton = SubtagOf<OtherRule, 1>;
-
-/// Whether the bytes are one letter or digit: true of `a` and `1`, false of `ab`. It does not allocate.
-pub fn is_one_character(text: &[u8]) -> bool
-    ensures { result ≡ is_singleton text.now }
-{
-    match text {
-        [only] => only.is_ascii_alphanumeric(),
-        _ => false,
-    }
-}
 
 impl SubtagRule<1> for OtherRule {
     ghost accepts = { is_other };

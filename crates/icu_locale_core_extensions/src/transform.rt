@@ -113,11 +113,12 @@ impl Transform {
         Ok(Transform { lang, fields })
     }
 
-    /// The extension in this text, with its singleton: `t-DE-m0-true` has the language part `de` and the field `m0` without a value.
+    /// The extension in this text, with its singleton: `t-DE-m0-true` has the language part `de` and the field `m0`
+    /// without a value.
     ///
-    /// `InvalidExtension`: the text is no such extension, as `t`, `t-h0` and `u-foo`. `Memory`: out of memory. It does not
-    /// allocate where no variant, value or end of a field comes before the first piece at fault, as in `t-de-latn` and
-    /// `t-h0`. Source: UTS 35, sections 3.2 and 3.7.
+    /// `InvalidExtension`: the text is no such extension, as `t`, `t-h0` and `u-foo`. `Memory`: out of memory. It does
+    /// not allocate where no variant, value or end of a field comes before the first piece at fault, as in `t-de-latn`
+    /// and `t-h0`. Source: UTS 35, sections 3.2 and 3.7.
     pub fn try_from_str(alloc: Global, s: &str) -> Result<Self, ParseError>
         ensures value { IfOk result (ReadsTransform s.now) }
         ensures fault { IfErr result (IsRefused (ReadsTransform s.now)) }

@@ -131,8 +131,8 @@ impl Unicode {
 
     /// The extension in this text, with its singleton: `u-FOO-nu-thai` has the attribute `foo` and `nu` with `thai`.
     ///
-    /// `InvalidExtension`: the text is no such extension, as `u`, `u-nu-` and `t-de`. `Memory`: out of memory. It does not
-    /// allocate where no attribute, value or end of a keyword comes before the first piece at fault, as in
+    /// `InvalidExtension`: the text is no such extension, as `u`, `u-nu-` and `t-de`. `Memory`: out of memory. It does
+    /// not allocate where no attribute, value or end of a keyword comes before the first piece at fault, as in
     /// `u-nu-toolongpiece`. Source: UTS 35, sections 3.2 and 3.6.
     pub fn try_from_str(alloc: Global, s: &str) -> Result<Self, ParseError>
         ensures value { IfOk result (ReadsUnicode s.now) }

@@ -1,5 +1,5 @@
 -- A change of case leaves the class of a subtag, and cases that are changed twice.
-use Rattle.std.proofs.Common.{◌≡◌, ℕ, Bool, not, ◌&&◌, ◌||◌, [], ◌∷◌, length, map, eqb, sym, refl, ap, ◌∙◌, arith}
+use Rattle.std.proofs.Common.{◌≡◌, ℕ, Bool, not, ◌&&◌, ◌||◌, List, [], ◌∷◌, length, map, eqb, sym, refl, ap, ◌∙◌, arith}
 use Rattle.std.specs.List.{list_all}
 use Rattle.std.specs.Char.{is_ascii_alphabetic, is_ascii_alphanumeric, is_ascii_digit, to_ascii_lowercase, to_ascii_uppercase}
 use Rattle.std.specs.Int.{is_in_range}
@@ -99,6 +99,10 @@ mapped_twice f g h same (c ∷ cs) = λ i. same c i ∷ mapped_twice f g h same 
 
 pub lower-lower : (p : Text) → lower (lower p) ≡ lower p
 lower-lower p = mapped_twice to_ascii_lowercase to_ascii_lowercase to_ascii_lowercase lowercase-lowercase p
+
+pub lowered_twice : (ps : List Text) → map lower (map lower ps) ≡ map lower ps
+lowered_twice [] = refl
+lowered_twice (p ∷ ps) = λ i. lower-lower p i ∷ lowered_twice ps i
 
 pub upper-upper : (p : Text) → upper (upper p) ≡ upper p
 upper-upper p = mapped_twice to_ascii_uppercase to_ascii_uppercase to_ascii_uppercase uppercase-uppercase p

@@ -6,9 +6,9 @@ use Rattle.icu_locale_core_grammar.specs.Subtags.{Text, is_private, is_private_p
 use Rattle.icu_locale_core_grammar.specs.Collections.{Entry, contains_text, insert_text, put_first}
 use Rattle.icu_locale_core_grammar.specs.LanguagePart.{LanguageId, MeansLanguage}
 use Rattle.icu_locale_core_grammar.specs.Meaning.{TagMeaning, MeansTag, ExtensionMeanings, Part, put_part, no_extensions}
-use Rattle.icu_locale_core_grammar.specs.Stepping.{run, IsReader, HeadedStage, InHead, InEntry, with_value, after_head, headed_after, InFront, AtBlock, InBlock, InPrivate, opened, next_part, after_front, at_block, after_block, whole_after}
-use Rattle.icu_locale_core_grammar.specs.TagStages.{has_none, with_piece, language_after, language_ends, inner_ends, attributes_after, attributes_end, other_after, BodyStage, InUnicode, InTransform, InOther, body_after, body_ends, opens, TagStage, tag_start, tag_after}
-use Rattle.icu_locale_core_grammar.proofs.CaseLemmas.{lower_keeps, characters_changed, language_changed, script_changed, region_changed, variant_changed, key_changed, field_key_changed, lower-lower, title-lower, upper-lower, spells_lower, other_lower}
+use Rattle.icu_locale_core_grammar.specs.Stepping.{run, IsReader, HeadedStage, InHead, InEntry, with_value, after_head, headed_after, InFront, AtBlock, InBlock, InPrivate, after_front, at_block, after_block, whole_after}
+use Rattle.icu_locale_core_grammar.specs.TagStages.{has_none, with_piece, language_after, language_ends, inner_ends, attributes_after, attributes_end, other_after, BodyStage, InUnicode, InTransform, InOther, body_after, body_ends, opens, TagStage, tag_start, opened_at, stage_behind, tag_after}
+use Rattle.icu_locale_core_grammar.proofs.CaseLemmas.{lower_keeps, characters_changed, language_changed, script_changed, region_changed, variant_changed, key_changed, field_key_changed, lower-lower, lowered_twice, title-lower, upper-lower, spells_lower, other_lower}
 use Rattle.icu_locale_core_grammar.proofs.LanguageReader.{language_reader}
 use Rattle.icu_locale_core_grammar.proofs.TagReader.{tag_reader}
 
@@ -41,11 +41,7 @@ language_ignores (Some id) p = ap (option_map Some) (piece_ignores id p)
 
 -- the language part in lower case
 pub language_lower : (ps : List Text) (id : LanguageId) → MeansLanguage ps id → MeansLanguage (map lower ps) id
-language_lower ps id a = alike_means language_after language_ignores None language_ends MeansLanguage language_reader ps (map lower ps) id (sym (twice ps)) a
-  where
-    twice : (ps : List Text) → map lower (map lower ps) ≡ map lower ps
-    twice [] = refl
-    twice (p ∷ ps) = λ i. lower-lower p i ∷ twice ps i
+language_lower ps id a = alike_means language_after language_ignores None language_ends MeansLanguage language_reader ps (map lower ps) id (sym (lowered_twice ps)) a
 
 -- ---- extensions
 
@@ -86,16 +82,10 @@ opens_ignores p = λ i.
     else (if spells_lower transform_text p i then Some (InTransform (InHead None))
     else (if other_lower p i then Some (InOther []) else None))
 
-abbrev next_of : LanguageId → List Text → ExtensionMeanings → Text → Option TagStage
-next_of = next_part language_after language_ends body_after body_ends opens put_part no_extensions is_private is_private_piece
-
-abbrev opened_of : LanguageId → List Text → ExtensionMeanings → Text → Option BodyStage → Option TagStage
-opened_of = opened language_after language_ends body_after body_ends opens put_part no_extensions is_private is_private_piece
-
-next_ignores : (id : LanguageId) (seen : List Text) (e : ExtensionMeanings) (p : Text) → next_of id seen e (lower p) ≡ next_of id seen e p
+next_ignores : (id : LanguageId) (seen : List Text) (e : ExtensionMeanings) (p : Text) → stage_behind id seen e (lower p) ≡ stage_behind id seen e p
 next_ignores id seen e p = λ i.
     if spells_lower private_text p i then Some (InPrivate id e [])
-    else (if contains_text (lower-lower p i) seen then None else opened_of id seen e (lower-lower p i) (opens_ignores p i))
+    else (if contains_text (lower-lower p i) seen then None else opened_at id seen e (lower-lower p i) (opens_ignores p i))
 
 front_ignores : (o : Option (Option LanguageId)) (id : Option LanguageId) (p : Text)
     → after_front language_after language_ends body_after body_ends opens put_part no_extensions is_private is_private_piece o id (lower p) ≡ after_front language_after language_ends body_after body_ends opens put_part no_extensions is_private is_private_piece o id p

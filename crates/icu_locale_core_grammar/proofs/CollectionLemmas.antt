@@ -1,6 +1,6 @@
 -- Facts on texts that differ, on sets and on maps.
 use Rattle.std.proofs.Common.{◌≡◌, Bool, true, false, ◌||◌, List, [], ◌∷◌, ◌++◌, refl, ap, ◌∙◌}
-use Rattle.std.specs.List.{IsDistinct}
+use Rattle.std.specs.List.{AllByRecursion, IsDistinct}
 use Rattle.std.specs.Cmp.Lexicographic.{nat_list_eq_equiv, bytes_decides}
 use Rattle.std.proofs.lemmas.Bool.{or_from}
 use Rattle.std.proofs.lemmas.Map.Keys.{IsDistinct-push}
@@ -23,6 +23,11 @@ same_text_refl a = (bytes_decides a a).1 refl
 
 pub AreApart-push : (ts : List Text) (t : Text) → AreApart ts → contains_text t ts ≡ false → AreApart (ts ++ t ∷ [])
 AreApart-push ts t apart new = IsDistinct-push nat_list_eq_equiv ts t apart new
+
+-- a text that is none of a list is not in it
+pub none_same : (t : Text) (us : List Text) → AllByRecursion (λ u. same_text t u ≡ false) us → contains_text t us ≡ false
+none_same t [] each = refl
+none_same t (u ∷ us) each = or_from (same_text t u) (contains_text t us) each.0 (none_same t us each.1)
 
 -- a text with others behind it is none of those before it
 pub apart_new : (before : List Text) (t : Text) (behind : List Text) → AreApart (before ++ t ∷ behind) → contains_text t before ≡ false

@@ -5,6 +5,7 @@ pub mod ListLemmas
 pub mod Runs
 pub mod FaultyPieceLemmas
 pub mod SetLemmas
+pub mod SameLemmas
 pub mod LanguageReader
 pub mod HeadedFound
 pub mod HeadedReader

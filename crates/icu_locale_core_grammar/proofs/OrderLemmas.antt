@@ -15,12 +15,12 @@ use Rattle.icu_locale_core_grammar.specs.OrderLaws.{IsOrder}
 -- ---- putting orders together
 
 -- both tie where one after the other does
-tie_first : (a b : Ordering) → ordering_then a b ≡ Equal → a ≡ Equal
+pub tie_first : (a b : Ordering) → ordering_then a b ≡ Equal → a ≡ Equal
 tie_first Less b e = e
 tie_first Equal b e = refl
 tie_first Greater b e = e
 
-tie_second : (a b : Ordering) → ordering_then a b ≡ Equal → b ≡ Equal
+pub tie_second : (a b : Ordering) → ordering_then a b ≡ Equal → b ≡ Equal
 tie_second Less b e = cc
 tie_second Equal b e = e
 tie_second Greater b e = cc

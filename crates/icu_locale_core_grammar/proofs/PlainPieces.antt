@@ -12,8 +12,8 @@ use Rattle.icu_locale_core_grammar.specs.Pieces.{hyphen, is_hyphen, pieces, join
 use Rattle.icu_locale_core_grammar.specs.Collections.{Entry, Each, put_first, contains_text, insert_text}
 use Rattle.icu_locale_core_grammar.specs.LanguagePart.{LanguageId}
 use Rattle.icu_locale_core_grammar.specs.Meaning.{TagMeaning, MeansTag, ExtensionMeanings, Part, put_part, no_extensions}
-use Rattle.icu_locale_core_grammar.specs.Stepping.{run, IsReader, HeadedStage, InHead, InEntry, with_value, after_head, headed_after, InFront, AtBlock, InBlock, InPrivate, opened, after_front, at_block, after_block, whole_after}
-use Rattle.icu_locale_core_grammar.specs.TagStages.{only_language, has_none, fits_script, fits_region, fits_variant, with_script, with_region, with_variant, with_piece, language_after, language_ends, inner_ends, attributes_after, attributes_end, unicode_after, transform_after, other_after, BodyStage, InUnicode, InTransform, InOther, body_after, body_ends, opens, TagStage, tag_after}
+use Rattle.icu_locale_core_grammar.specs.Stepping.{run, IsReader, HeadedStage, InHead, InEntry, with_value, after_head, headed_after, InFront, AtBlock, InBlock, InPrivate, after_front, at_block, after_block, whole_after}
+use Rattle.icu_locale_core_grammar.specs.TagStages.{only_language, has_none, fits_script, fits_region, fits_variant, with_script, with_region, with_variant, with_piece, language_after, language_ends, inner_ends, attributes_after, attributes_end, unicode_after, transform_after, other_after, BodyStage, InUnicode, InTransform, InOther, body_after, body_ends, opens, TagStage, opened_at, tag_after}
 use Rattle.icu_locale_core_grammar.proofs.ListLemmas.{mapped_some}
 use Rattle.icu_locale_core_grammar.proofs.PlainSubtags.{characters_plain, language_plain, script_plain, region_plain, variant_plain, key_plain, field_key_plain, private_plain, opens_plain}
 use Rattle.icu_locale_core_grammar.proofs.Runs.{first_step}
@@ -69,11 +69,8 @@ body_takes (InOther own) p t e =
     let f = mapped_some InOther (other_after own p) t e in
     characters_plain 2 8 p (passed (is_other_piece p) (own ++ lower p ∷ []) f.0 f.1)
 
-abbrev opened_of : LanguageId → List Text → ExtensionMeanings → Text → Option BodyStage → Option TagStage
-opened_of = opened language_after language_ends body_after body_ends opens put_part no_extensions is_private is_private_piece
-
 next_takes : (id : LanguageId) (seen : List Text) (e : ExtensionMeanings) (p : Text) (t : TagStage) (x r : Bool) (o : Option BodyStage) → is_private p ≡ x → opens p ≡ o
-    → (if x then Some (InPrivate id e []) else (if r then None else opened_of id seen e (lower p) o)) ≡ Some t → is_plain p ≡ true
+    → (if x then Some (InPrivate id e []) else (if r then None else opened_at id seen e (lower p) o)) ≡ Some t → is_plain p ≡ true
 next_takes id seen e p t true r o f g q = private_plain p f
 next_takes id seen e p t false true o f g q = cc
 next_takes id seen e p t false false None f g q = cc

@@ -1,16 +1,17 @@
 -- Preferences written as a tag read back, a tag and its normal text have the same, and joining goes by parts.
 use Rattle.std.proofs.Common.{◌≡◌, Bool, true, false, ◌++◌, Option, None, Some, refl, sym, ap, ◌∙◌}
-use Rattle.std.specs.Prelude.{IfSome, option_to_list, if◌then◌else◌}
+use Rattle.std.specs.Prelude.{IfSome, if◌then◌else◌}
 use Rattle.std.specs.Char.{to_ascii_lowercase}
 use Rattle.icu_locale_core_grammar.specs.Subtags.{Text, lower}
 use Rattle.icu_locale_core_grammar.specs.Collections.{first_there}
-use Rattle.icu_locale_core_grammar.specs.TagPreferences.{Subdivision, subdivision_text, subdivision_key, override_key, keyword_subdivision, subdivision_entries, least_of, preferences_of}
+use Rattle.icu_locale_core_grammar.specs.TagPreferences.{Subdivision, subdivision_text, subdivision_key, override_key, keyword_subdivision, subdivision_entries, preferences_of}
 use Rattle.icu_locale_core_grammar.specs.PreferenceChanges.{is_unknown, joined_language, keyword_of}
 use Rattle.icu_locale_core_grammar.specs.PreferenceLaws.{IsNormalSubdivision, SubdivisionReadsBack, PreferencesReadBack, DataLocaleIsItself, AlikeTagsPreferAlike, NothingAddsNothing, JoinedThrice}
 use Rattle.icu_locale_core_grammar.proofs.CaseLemmas.{region_changed, lower_keeps, upper-lower}
 use Rattle.icu_locale_core_grammar.proofs.PreferenceLemmas.{spelled_subdivision}
 use Rattle.icu_locale_core_grammar.proofs.NormalTags.{read_again}
 use Rattle.icu_locale_core_grammar.proofs.TagReader.{tag_reader}
+use Rattle.icu_locale_core_grammar.proofs.SingleReader.{first_again}
 use Rattle.icu_locale_core_grammar.proofs.Runs as Runs
 
 pub subdivision_reads_back : SubdivisionReadsBack
@@ -40,16 +41,12 @@ alone_kept : (s : Option Subdivision) → IfSome s IsNormalSubdivision → keywo
 alone_kept None n = refl
 alone_kept (Some s) n = subdivision_reads_back s n
 
-least_kept : (v : Option Text) → least_of (option_to_list v) ≡ v
-least_kept None = refl
-least_kept (Some t) = refl
-
 pub preferences_read_back : PreferencesReadBack
 preferences_read_back p sd rg = λ i. record {
   language = p.language;
   script = p.script;
   region = p.region;
-  variant = least_kept p.variant i;
+  variant = first_again p.variant i;
   subdivision = subdivision_kept p.region_override p.subdivision sd i;
   region_override = override_kept p.region_override p.subdivision rg i;
 }
@@ -59,7 +56,7 @@ data_locale_is_itself d n = λ i. record {
   language = d.language;
   script = d.script;
   region = d.region;
-  variant = least_kept d.variant i;
+  variant = first_again d.variant i;
   subdivision = alone_kept d.subdivision n i;
 }
 

@@ -5,7 +5,6 @@ use Rattle.std.specs.List.{list_all}
 use Rattle.std.specs.Char.{is_ascii_alphabetic, is_ascii_digit}
 use Rattle.std.proofs.lemmas.List.{take_at, drop_at}
 use Rattle.std.proofs.lemmas.Bool.{and_parts, and_from, or_cases, eqb-true}
-use Rattle.std.proofs.lemmas.Bool.Decides.{nat_tests}
 use Rattle.icu_locale_core_grammar.specs.Subtags.{Text, is_region, lower, upper}
 use Rattle.icu_locale_core_grammar.specs.Pieces.{pieces}
 use Rattle.icu_locale_core_grammar.specs.Meaning.{MeansTag}
@@ -16,6 +15,7 @@ use Rattle.icu_locale_core_grammar.specs.DataTags.{MeansDataLocale}
 use Rattle.icu_locale_core_grammar.proofs.Runs as Runs
 use Rattle.icu_locale_core_grammar.proofs.TagReader.{tag_reader}
 use Rattle.icu_locale_core_grammar.proofs.NormalTags.{read_again}
+use Rattle.icu_locale_core_grammar.proofs.SubtagLemmas.{digit_no_letter}
 
 -- ---- subdivisions
 
@@ -52,9 +52,6 @@ at_cut n region suffix long first second =
     ap (λ l. if is_region l && is_suffix (drop n (region ++ suffix)) then Some (sub_of l (drop n (region ++ suffix))) else None) (take_at region suffix n long)
     ∙ ap (λ l. if is_region region && is_suffix l then Some (sub_of region l) else None) (drop_at region suffix n long)
     ∙ ap (λ b. if b then Some (sub_of region suffix) else None) (and_from (is_region region) (is_suffix suffix) first second)
-
-digit_no_letter : (c : ℕ) → is_ascii_digit c ≡ true → is_ascii_alphabetic c ≡ false
-digit_no_letter c e = grind (arith, nat_tests)
 
 -- a region of three digits has no region of two characters in front
 digits_no_letters : (region suffix : Text) → length region ≡ 3 → list_all is_ascii_digit region ≡ true → is_region (take 2 (region ++ suffix)) ≡ false

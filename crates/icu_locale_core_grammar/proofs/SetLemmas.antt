@@ -6,10 +6,11 @@ use Rattle.std.specs.Ordering.{match_ordering, ordering_reverse, is_eq}
 use Rattle.std.specs.declared.cmp.Ordering.{Ordering}
 use Rattle.std.specs.declared.cmp.Ordering.TheVariants.{Less, Equal, Greater}
 use Rattle.std.specs.Cmp.Lexicographic.{nat_list_cmp_total, texts_ties}
+use Rattle.std.proofs.lemmas.Bool.{or_from, false≢true}
 use Rattle.icu_locale_core_grammar.specs.Subtags.{Text, same_text}
 use Rattle.icu_locale_core_grammar.specs.Collections.{text_cmp, contains_text, Rises, insert_text, set_of}
 use Rattle.icu_locale_core_grammar.proofs.ListLemmas.{each_weaker}
-use Rattle.icu_locale_core_grammar.proofs.CollectionLemmas.{same_text_equal}
+use Rattle.icu_locale_core_grammar.proofs.CollectionLemmas.{same_text_equal, same_text_refl}
 
 -- ---- the order of texts
 
@@ -69,6 +70,14 @@ or_false false = refl
 pub contains-set_of : (q : Text) (ts : List Text) → contains_text q (set_of ts) ≡ contains_text q ts
 contains-set_of q ts = contains-fold q [] ts ∙ or_false (contains_text q ts)
 
+pub contains_first : (t : Text) (ts : List Text) → contains_text t (t ∷ ts) ≡ true
+contains_first t ts = ap (λ b. b || contains_text t ts) (same_text_refl t)
+
+-- a text below each is not there
+pub absent : (t : Text) (us : List Text) → AllByRecursion (λ u. text_cmp t u ≡ Less) us → contains_text t us ≡ false
+absent t [] each = refl
+absent t (u ∷ us) each = or_from (same_text t u) (contains_text t us) (texts_ties t u ∙ ap is_eq each.0) (absent t us each.1)
+
 -- ---- an order
 
 -- u is below each text of the set that t goes into, and below t
@@ -126,3 +135,37 @@ fold_rising set (t ∷ ts) rises =
 
 pub set_of_rising : (ts : List Text) → Rises ts → set_of ts ≡ ts
 set_of_rising ts rises = fold_rising [] ts rises
+
+-- ---- rising lists that contain the same
+
+not_below : (x y : Text) (xs ys : List Text) → AllByRecursion (λ v. text_cmp y v ≡ Less) ys → ((q : Text) → contains_text q (x ∷ xs) ≡ contains_text q (y ∷ ys)) → text_cmp x y ≡ Less → ⊥
+not_below x y xs ys above same less =
+    let none = absent x (y ∷ ys) (less, each_weaker (λ v. text_cmp y v ≡ Less) (λ v. text_cmp x v ≡ Less) (λ v f. cmp_through x y v less f) ys above) in
+    false≢true (sym none ∙ sym (same x) ∙ contains_first x xs)
+
+one_head : (x y : Text) (xs ys : List Text) (o : Ordering) → text_cmp x y ≡ o → AllByRecursion (λ v. text_cmp x v ≡ Less) xs → AllByRecursion (λ v. text_cmp y v ≡ Less) ys
+    → ((q : Text) → contains_text q (x ∷ xs) ≡ contains_text q (y ∷ ys)) → x ≡ y
+one_head x y xs ys Less e a b same = absurd (not_below x y xs ys b same e)
+one_head x y xs ys Equal e a b same = cmp_equal x y e
+one_head x y xs ys Greater e a b same = absurd (not_below y x ys xs a (λ q. sym (same q)) (cmp_below x y e))
+
+same_behind : (x : Text) (xs ys : List Text) → AllByRecursion (λ v. text_cmp x v ≡ Less) xs → AllByRecursion (λ v. text_cmp x v ≡ Less) ys
+    → ((q : Text) → contains_text q (x ∷ xs) ≡ contains_text q (x ∷ ys)) → (q : Text) → contains_text q xs ≡ contains_text q ys
+same_behind x xs ys a b same q = by (same_text q x) refl (same q)
+  where
+    by : (c : Bool) → same_text q x ≡ c → (c || contains_text q xs) ≡ (c || contains_text q ys) → contains_text q xs ≡ contains_text q ys
+    by true is e =
+        let one : x ≡ q = sym (same_text_equal q x is) in
+        subst (λ t. contains_text t xs ≡ contains_text t ys) one (absent x xs a ∙ sym (absent x ys b))
+    by false is e = e
+
+-- two lists that rise and contain the same are one
+pub rising_same : (xs ys : List Text) → Rises xs → Rises ys → ((q : Text) → contains_text q xs ≡ contains_text q ys) → xs ≡ ys
+unfolding IsStrictlySortedBy
+rising_same [] [] a b same = refl
+rising_same [] (y ∷ ys) a b same = absurd (false≢true (same y ∙ contains_first y ys))
+rising_same (x ∷ xs) [] a b same = absurd (false≢true (sym (same x) ∙ contains_first x xs))
+rising_same (x ∷ xs) (y ∷ ys) a b same =
+    let head : x ≡ y = one_head x y xs ys (text_cmp x y) refl a.0 b.0 same in
+    let behind = same_behind x xs ys a.0 (subst (λ t. AllByRecursion (λ v. text_cmp t v ≡ Less) ys) (sym head) b.0) (λ q. same q ∙ ap (λ t. contains_text q (t ∷ ys)) (sym head)) in
+    λ i. head i ∷ rising_same xs ys a.1 b.1 behind i

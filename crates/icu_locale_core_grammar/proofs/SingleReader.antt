@@ -29,16 +29,16 @@ abbrev IsShort : Option LanguageId → Type 0
 IsShort None = Unit {0}
 IsShort (Some id) = has_short id.variants ≡ true
 
-short_same : (vs : List Text) → has_short vs ≡ true → option_to_list (least_of vs) ≡ vs
+pub short_same : (vs : List Text) → has_short vs ≡ true → option_to_list (least_of vs) ≡ vs
 short_same [] e = refl
 short_same (v ∷ []) e = refl
 short_same (v ∷ w ∷ ws) e = cc
 
-always_short : (v : Option Text) → has_short (option_to_list v) ≡ true
+pub always_short : (v : Option Text) → has_short (option_to_list v) ≡ true
 always_short None = refl
 always_short (Some v) = refl
 
-first_again : (v : Option Text) → least_of (option_to_list v) ≡ v
+pub first_again : (v : Option Text) → least_of (option_to_list v) ≡ v
 first_again None = refl
 first_again (Some v) = refl
 

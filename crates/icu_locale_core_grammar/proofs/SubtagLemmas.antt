@@ -82,7 +82,7 @@ field_key_no_variant p e = ap (λ n. (is_in_range 5 8 n && list_all is_ascii_alp
 pub field_key_no_script : (p : Text) → is_field_key p ≡ true → is_script p ≡ false
 field_key_no_script p e = ap (λ n. eqb n 4 && list_all is_ascii_alphabetic p) (field_key_length p e)
 
-digit_no_letter : (b : ℕ) → is_ascii_digit b ≡ true → is_ascii_alphabetic b ≡ false
+pub digit_no_letter : (b : ℕ) → is_ascii_digit b ≡ true → is_ascii_alphabetic b ≡ false
 digit_no_letter b e = grind (arith, nat_tests)
 
 -- two characters of which the second is a digit are no word of letters

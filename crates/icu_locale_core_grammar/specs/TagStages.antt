@@ -8,7 +8,7 @@ use Rattle.icu_locale_core_grammar.specs.Subtags.{Text, is_language, is_script, 
 use Rattle.icu_locale_core_grammar.specs.Collections.{contains_text, insert_text}
 use Rattle.icu_locale_core_grammar.specs.LanguagePart.{LanguageId}
 use Rattle.icu_locale_core_grammar.specs.Meaning.{Part, ExtensionMeanings, TagMeaning, UnicodeMeaning, TransformMeaning, put_part, no_extensions}
-use Rattle.icu_locale_core_grammar.specs.Stepping.{HeadedStage, InHead, headed_after, headed_ends, WholeStage, InFront, whole_after, whole_ends, stage_fault}
+use Rattle.icu_locale_core_grammar.specs.Stepping.{HeadedStage, InHead, headed_after, headed_ends, WholeStage, InFront, opened, next_part, whole_after, whole_ends, stage_fault}
 
 -- ---- the language part
 
@@ -123,6 +123,13 @@ TagStage = WholeStage (Option LanguageId) LanguageId ExtensionMeanings BodyStage
 
 abbrev pub tag_start : TagStage
 tag_start = InFront None
+
+-- what comes behind a part that may end: `x`, or a singleton that has not come yet
+abbrev pub opened_at : LanguageId → List Text → ExtensionMeanings → Text → Option BodyStage → Option TagStage
+opened_at = opened language_after language_ends body_after body_ends opens put_part no_extensions is_private is_private_piece
+
+abbrev pub stage_behind : LanguageId → List Text → ExtensionMeanings → Text → Option TagStage
+stage_behind = next_part language_after language_ends body_after body_ends opens put_part no_extensions is_private is_private_piece
 
 abbrev pub tag_after : TagStage → Text → Option TagStage
 tag_after s p = whole_after language_after language_ends body_after body_ends opens put_part no_extensions is_private is_private_piece s p

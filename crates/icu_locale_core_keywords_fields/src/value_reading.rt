@@ -1,9 +1,9 @@
 //! Reading a value piece by piece.
 
-ghost use Rattle.std.specs.Prelude.{◌≡◌, true, false, [], Some, None, IfOk, IfErr, IsOk, OnErr, MatchOption, MatchBool};
+ghost use Rattle.std.specs.Prelude.{◌≡◌, false, [], Some, None, IfOk, IfErr, IsOk, OnErr, MatchBool};
 ghost use Rattle.std.specs.Result.{IsErrOf};
 ghost use Rattle.icu_locale_core_grammar.specs.declared.error.ParseError.{ParseError};
-ghost use Rattle.icu_locale_core_grammar.specs.Subtags.{is_value, lower};
+ghost use Rattle.icu_locale_core_grammar.specs.Subtags.{is_value};
 ghost use Rattle.icu_locale_core_grammar.specs.Pieces.{pieces};
 ghost use Rattle.icu_locale_core_grammar.specs.PartReaders.{value_after, ReadsValue};
 ghost use Rattle.icu_locale_core_keywords_fields.specs.Allocation.{value_grows};
@@ -12,18 +12,8 @@ ghost use Rattle.icu_locale_core_subtag_lists.specs.Reading.{IsRefused, begins};
 use crate::kind::EntryKind;
 use crate::value::ValueOf;
 use icu_locale_core_grammar::ParseError;
-use icu_locale_core_subtags::{Subtag, SubtagIterator};
+use icu_locale_core_subtags::{SubtagIterator, value_subtag};
 use std::alloc::{AllocError, Global};
-
-/// The piece of a value in a piece of a text, in lower case: 3 to 8 letters and digits.
-fn value_piece(piece: &[u8]) -> Option<Subtag>
-    ensures { MatchOption result (is_value piece.now ≡ false) (λ subtag. (is_value piece.now ≡ true) × (subtag ≡ lower piece.now)) }
-{
-    if piece.len() < 3 {
-        return None;
-    }
-    Subtag::try_from_utf8(piece).ok()
-}
 
 impl<K: EntryKind> ValueOf<K> {
     /// Takes a piece of a text, if it is a piece of a value, and returns whether it is.
@@ -34,7 +24,7 @@ impl<K: EntryKind> ValueOf<K> {
         ensures err { OnErr result (self.new ≡ self.old) }
         ensures room { value_grows piece.now ≡ false → IsOk result }
     {
-        let Some(subtag) = value_piece(piece) else {
+        let Some(subtag) = value_subtag(piece) else {
             return Ok(false);
         };
         self.push_subtag(subtag)?;

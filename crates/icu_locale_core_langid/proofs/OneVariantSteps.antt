@@ -1,5 +1,5 @@
 -- The step of a language part with at most one variant, by what its three tests answered.
-use Rattle.std.proofs.Common.{◌≡◌, Bool, true, false, not, ◌&&◌, ◌||◌, [], ◌∷◌, Option, None, Some, option_map, option_to_list, refl, sym, ap, ◌∙◌}
+use Rattle.std.proofs.Common.{◌≡◌, Bool, true, false, not, ◌&&◌, ◌||◌, [], ◌∷◌, Option, None, Some, option_map, refl, sym, ap, ◌∙◌}
 use Rattle.std.specs.Prelude.{is_none, if◌then◌else◌}
 use Rattle.std.specs.Ordering.{match_ordering, is_eq}
 use Rattle.std.specs.Cmp.Lexicographic.{texts_ties}
@@ -11,12 +11,9 @@ use Rattle.icu_locale_core_grammar.specs.Collections.{text_cmp, contains_text}
 use Rattle.icu_locale_core_grammar.specs.LanguagePart.{LanguageId}
 use Rattle.icu_locale_core_grammar.specs.SingleVariant.{has_short}
 use Rattle.icu_locale_core_grammar.specs.TagStages.{fits_script, fits_region, fits_variant, with_script, with_region, with_variant, with_piece}
+use Rattle.icu_locale_core_grammar.proofs.SingleReader.{always_short}
 use Rattle.icu_locale_core_langid.specs.OneVariant.{one_variant, kept_one, one_variant_after}
 use Rattle.icu_locale_core_langid.proofs.SteppingLemmas.{failed, passed, found, by_tests}
-
-short_one : (v : Option Text) → has_short (option_to_list v) ≡ true
-short_one None = refl
-short_one (Some v) = refl
 
 -- ---- a step with the test for a second variant
 
@@ -36,7 +33,7 @@ pub one_script : (l : Text) (s r v : Option Text) (p q : Text) → Some q ≡ (i
 one_script l s r v p q e =
     let id = one_variant l s r v in
     let step : with_piece id p ≡ Some (with_script id p) = by_tests id p true (fits_region id p) (fits_variant id p) (passed (fits_script id p) (title p) q e) refl refl in
-    ap (λ t. Some (Some (one_variant l (Some t) r v))) (found (fits_script id p) (title p) q e) ∙ step_kept id (with_script id p) p step (short_one v)
+    ap (λ t. Some (Some (one_variant l (Some t) r v))) (found (fits_script id p) (title p) q e) ∙ step_kept id (with_script id p) p step (always_short v)
 
 pub one_region : (l : Text) (s r v : Option Text) (p q : Text) → None ≡ (if fits_script (one_variant l s r v) p then Some (title p) else None)
     → Some q ≡ (if fits_region (one_variant l s r v) p then Some (upper p) else None)
@@ -44,7 +41,7 @@ pub one_region : (l : Text) (s r v : Option Text) (p q : Text) → None ≡ (if 
 one_region l s r v p q e f =
     let id = one_variant l s r v in
     let step : with_piece id p ≡ Some (with_region id p) = by_tests id p false true (fits_variant id p) (failed (fits_script id p) (title p) e) (passed (fits_region id p) (upper p) q f) refl in
-    ap (λ t. Some (Some (one_variant l s (Some t) v))) (found (fits_region id p) (upper p) q f) ∙ step_kept id (with_region id p) p step (short_one v)
+    ap (λ t. Some (Some (one_variant l s (Some t) v))) (found (fits_region id p) (upper p) q f) ∙ step_kept id (with_region id p) p step (always_short v)
 
 pub one_new_variant : (l : Text) (s r v : Option Text) (p q : Text) → None ≡ (if fits_script (one_variant l s r v) p then Some (title p) else None)
     → None ≡ (if fits_region (one_variant l s r v) p then Some (upper p) else None) → Some q ≡ (if is_none v && is_variant p then Some (lower p) else None)

@@ -1,5 +1,5 @@
 -- In each mode a list of pieces has a meaning or a fault, one of them, and never both.
-use Rattle.std.proofs.Common.{◌≡◌, true, false, Bool, List, [], ◌∷◌, ◌++◌, Option, None, Some, option_to_list, ◌⊎◌, inl, inr, sym, refl, ap, ◌∙◌, subst, append_assoc, append-nil}
+use Rattle.std.proofs.Common.{◌≡◌, true, false, Bool, List, [], ◌∷◌, ◌++◌, Option, None, Some, ◌⊎◌, inl, inr, sym, refl, ap, ◌∙◌, subst, append_assoc, append-nil}
 use Rattle.icu_locale_core_grammar.specs.declared.error.ParseError.{ParseError}
 use Rattle.icu_locale_core_grammar.specs.declared.error.ParseError.TheVariants.{InvalidLanguage, InvalidSubtag}
 use Rattle.icu_locale_core_grammar.specs.Subtags.{Text}
@@ -9,11 +9,10 @@ use Rattle.icu_locale_core_grammar.specs.PartialReading.{ReadsFront}
 use Rattle.icu_locale_core_grammar.specs.Stepping.{run}
 use Rattle.icu_locale_core_grammar.specs.TagStages.{has_none}
 use Rattle.icu_locale_core_grammar.specs.SingleVariant.{SingleMeaning, MeansKeyword, HasSingleFault, single_name, has_short, single_of}
-use Rattle.icu_locale_core_grammar.specs.TagPreferences.{least_of}
 use Rattle.icu_locale_core_grammar.proofs.Runs as runs
 use Rattle.icu_locale_core_grammar.proofs.FaultyPieceLemmas as faults
 use Rattle.icu_locale_core_grammar.proofs.PartialReadingLemmas.{one_front_meaning}
-use Rattle.icu_locale_core_grammar.proofs.SingleReader.{single_reader, single_answered}
+use Rattle.icu_locale_core_grammar.proofs.SingleReader.{short_same, always_short, first_again, single_reader, single_answered}
 use Rattle.icu_locale_core_grammar.proofs.CallerLemmas.{run_more}
 use Rattle.icu_locale_core_langid.specs.declared.modes.ParserMode.{ParserMode}
 use Rattle.icu_locale_core_langid.specs.declared.modes.ParserMode.TheVariants.{LanguageIdentifier, Locale, Partial}
@@ -24,15 +23,6 @@ use Rattle.icu_locale_core_langid.specs.SingleLaws.{HasMeaningOrFault, HasOneMea
 use Rattle.icu_locale_core_langid.proofs.SingleFrontLemmas.{StopsWith, front_left, no_language, whole_front, rest_refused}
 
 -- ---- a language part of one variant, and a meaning without a keyword
-
-short_same : (vs : List Text) → has_short vs ≡ true → option_to_list (least_of vs) ≡ vs
-short_same [] e = refl
-short_same (v ∷ []) e = refl
-short_same (v ∷ w ∷ ws) e = cc
-
-first_again : (v : Option Text) → least_of (option_to_list v) ≡ v
-first_again None = refl
-first_again (Some v) = refl
 
 abbrev bare : LanguageId → SingleMeaning
 bare id = single_of id None
@@ -141,10 +131,6 @@ pub modes_same : ModesAgree
 modes_same LanguageIdentifier ps m a = a
 modes_same Locale ps m a = record { front = ps; last = []; parts = append-nil ps; language = a.0.means; keyword = a.1 }
 modes_same Partial ps m a = (([], record { taken = ps; parts = sym (append-nil ps); meant = a.0; longest = tt }), a.1)
-
-always_short : (v : Option Text) → has_short (option_to_list v) ≡ true
-always_short None = refl
-always_short (Some v) = refl
 
 none_behind : (last : List Text) (keyword : Option (Text × Option Text)) → MeansKeyword last keyword → keyword ≡ None → last ≡ []
 none_behind [] keyword a none = refl

@@ -10,7 +10,7 @@ use Rattle.icu_locale_core_grammar.specs.Collections.{Each, AreApart, contains_t
 use Rattle.icu_locale_core_grammar.specs.LanguagePart.{LanguageId, MeansLanguage}
 use Rattle.icu_locale_core_grammar.specs.WellFormed.{IsNormalPiece, IsNormalLanguage}
 use Rattle.icu_locale_core_grammar.specs.TagStages.{language_after, language_ends}
-use Rattle.icu_locale_core_grammar.proofs.CaseLemmas.{lower_keeps, variant_changed, lower-lower, lower-title, lower-upper}
+use Rattle.icu_locale_core_grammar.proofs.CaseLemmas.{lower_keeps, variant_changed, lower-lower, lowered_twice, lower-title, lower-upper}
 use Rattle.icu_locale_core_grammar.proofs.CaseSteps.{language_ignores, alike_means}
 use Rattle.icu_locale_core_grammar.proofs.LanguageReader.{language_reader}
 use Rattle.icu_locale_core_langid.specs.Spelling.{IsBehind, Takes, SpellsSet, is_among}
@@ -74,10 +74,6 @@ means_spells ps id a =
 
 -- ---- and what spells its parts means it
 
-lowered : (ps : List Text) → map lower (map lower ps) ≡ map lower ps
-lowered [] = refl
-lowered (p ∷ ps) = λ i. lower-lower p i ∷ lowered ps i
-
 among_are : (set ps : List Text) → AllByRecursion (λ p. is_among set p ≡ true) ps → Each is_variant (map lower ps)
 among_are set [] each = tt
 among_are set (p ∷ ps) each =
@@ -102,9 +98,9 @@ reordered id ps normal spells =
     let among = each_of (is_among id.variants) ps (pieces_among ps id.variants normal.variants spells) in
     record {
       written = record { language = id.language; script = id.script; region = id.region; variants = map lower ps };
-      sound = record { language = normal.language.is; script = option_is is_script title id.script normal.script; region = option_is is_region upper id.region normal.region; variants = among_are id.variants ps among; apart = subst AreApart (sym (lowered ps)) spells.apart };
+      sound = record { language = normal.language.is; script = option_is is_script title id.script normal.script; region = option_is is_region upper id.region normal.region; variants = among_are id.variants ps among; apart = subst AreApart (sym (lowered_twice ps)) spells.apart };
       parts = refl;
-      meant = λ i. record { language = normal.language.same i; script = option_stays is_script title id.script normal.script i; region = option_stays is_region upper id.region normal.region i; variants = (ap set_of (lowered ps) ∙ spells.same) i };
+      meant = λ i. record { language = normal.language.same i; script = option_stays is_script title id.script normal.script i; region = option_stays is_region upper id.region normal.region i; variants = (ap set_of (lowered_twice ps) ∙ spells.same) i };
     }
 
 pub spells_means : (ps : List Text) (id : LanguageId) → IsNormalLanguage id → SpellsParts ps id → MeansLanguage ps id
@@ -117,7 +113,7 @@ spells_means ps id normal s =
     ∙ ap (λ l. map lower s.language.front ++ l) (map-append lower s.script.front (s.region.front ++ s.last) ∙ ap (λ l. map lower s.script.front ++ l) (map-append lower s.region.front s.last)) in
     let parts : map lower (option_to_list id.script ++ (option_to_list id.region ++ map lower s.last)) ≡ map lower (option_to_list id.script) ++ (map lower (option_to_list id.region) ++ map lower s.last) =
     map-append lower (option_to_list id.script) (option_to_list id.region ++ map lower s.last)
-    ∙ ap (λ l. map lower (option_to_list id.script) ++ l) (map-append lower (option_to_list id.region) (map lower s.last) ∙ ap (λ l. map lower (option_to_list id.region) ++ l) (lowered s.last)) in
+    ∙ ap (λ l. map lower (option_to_list id.script) ++ l) (map-append lower (option_to_list id.region) (map lower s.last) ∙ ap (λ l. map lower (option_to_list id.region) ++ l) (lowered_twice s.last)) in
     let same : map lower (id.language ∷ (option_to_list id.script ++ (option_to_list id.region ++ map lower s.last))) ≡ map lower ps =
     ap (λ l. lower id.language ∷ l) parts
     ∙ (λ i. sym s.language.same i ++ (sym s.script.same i ++ (sym s.region.same i ++ map lower s.last)))

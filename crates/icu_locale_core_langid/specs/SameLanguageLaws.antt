@@ -1,13 +1,14 @@
 -- The laws of `==` and of `hash` of language identifiers.
 -- Defined in docs/tags.md, "Orders".
 -- Cited by `PartialEq`, `Eq` and `Hash` of `LanguageIdentifier`, whose laws it proves; `laws` cites the statements.
-use Rattle.std.proofs.Common.{◌≡◌, true, ◌&&◌, Option, None, Some, refl, ap, subst, Decides}
+use Rattle.std.proofs.Common.{◌≡◌, true, ◌&&◌, ap, subst, Decides}
 use Rattle.std.specs.Cmp.{IsEquivalence, on_equiv, and_equiv}
 use Rattle.std.specs.Cmp.Lexicographic.{pointwise, bytes_decides, pointwise_decides, nat_list_eq_equiv, lists_equiv, options_equiv}
 use Rattle.std.specs.Option.{option_eq}
 use Rattle.std.proofs.lemmas.Bool.{and_parts}
-use Rattle.icu_locale_core_grammar.specs.Subtags.{Text, same_text}
+use Rattle.icu_locale_core_grammar.specs.Subtags.{same_text}
 use Rattle.icu_locale_core_grammar.specs.LanguagePart.{LanguageId}
+use Rattle.icu_locale_core_grammar.proofs.SameLemmas.{texts_decide}
 use Rattle.icu_locale_core_langid.specs.SameLanguage.{language_fed, same_language}
 
 pub same_equiv : IsEquivalence same_language
@@ -15,12 +16,6 @@ same_equiv =
     and_equiv (on_equiv (λ a. a.language) nat_list_eq_equiv)
     (and_equiv (on_equiv (λ a. a.script) (options_equiv nat_list_eq_equiv))
     (and_equiv (on_equiv (λ a. a.region) (options_equiv nat_list_eq_equiv)) (on_equiv (λ a. a.variants) (lists_equiv nat_list_eq_equiv))))
-
-option_decides : (s t : Option Text) → Decides (option_eq same_text s t) (s ≡ t)
-option_decides None None = (λ _. refl, λ _. refl)
-option_decides None (Some t) = (λ e. cc, λ e. cc)
-option_decides (Some s) None = (λ e. cc, λ e. cc)
-option_decides (Some s) (Some t) = (λ e. ap Some ((bytes_decides s t).0 e), λ e. (bytes_decides s t).1 (cc))
 
 -- equal exactly where each part is the same
 pub same_decides : (a b : LanguageId) → Decides (same_language a b) (a ≡ b)
@@ -32,8 +27,8 @@ same_decides a b = (equal, λ e. subst (λ c. same_language a c ≡ true) e (sam
         let second = and_parts (option_eq same_text a.script b.script) (option_eq same_text a.region b.region && pointwise same_text a.variants b.variants) first.1 in
         let third = and_parts (option_eq same_text a.region b.region) (pointwise same_text a.variants b.variants) second.1 in
         let language = (bytes_decides a.language b.language).0 first.0 in
-        let script = (option_decides a.script b.script).0 second.0 in
-        let region = (option_decides a.region b.region).0 third.0 in
+        let script = (texts_decide a.script b.script).0 second.0 in
+        let region = (texts_decide a.region b.region).0 third.0 in
         let variants = (pointwise_decides bytes_decides a.variants b.variants).0 third.1 in
         λ i. record { language = language i; script = script i; region = region i; variants = variants i }
 

@@ -17,8 +17,8 @@ use std::alloc::Global;
 impl LanguageIdentifier {
     /// The language identifier that the text is, in either case.
     ///
-    /// `en-latn-us-fonipa-1996` reads as `en-Latn-US-1996-fonipa`. `InvalidLanguage`: the first piece is no language, as
-    /// in the empty text and in `abcd`. `InvalidSubtag`: a later piece does not fit, as in `en-`, `de-1996-1996` and
+    /// `en-latn-us-fonipa-1996` reads as `en-Latn-US-1996-fonipa`. `InvalidLanguage`: the first piece is no language,
+    /// as in the empty text and in `abcd`. `InvalidSubtag`: a later piece does not fit, as in `en-`, `de-1996-1996` and
     /// `en-u`. `Memory`: out of memory; it allocates only for variants, and not for `de-toolongpiece-1996`. Source: UTS
     /// 35, section 3.1.
     pub fn try_from_str(alloc: Global, s: &str) -> Result<Self, ParseError>

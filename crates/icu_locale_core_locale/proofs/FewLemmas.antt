@@ -14,11 +14,11 @@ use Rattle.icu_locale_core_grammar.specs.Collections.{Each, AreApart, contains_t
 use Rattle.icu_locale_core_grammar.specs.LanguagePart.{LanguageId}
 use Rattle.icu_locale_core_grammar.specs.Meaning.{Part, ExtensionMeanings, no_extensions, put_part}
 use Rattle.icu_locale_core_grammar.specs.Stepping.{InFront, AtBlock, InBlock, InPrivate, run, whole_after, after_front, at_block, after_block}
-use Rattle.icu_locale_core_grammar.specs.TagStages.{BodyStage, TagStage, language_after, language_ends, body_after, body_ends, opens, tag_after, tag_start}
+use Rattle.icu_locale_core_grammar.specs.TagStages.{BodyStage, TagStage, language_after, language_ends, body_after, body_ends, opens, opened_at, stage_behind, tag_after, tag_start}
 use Rattle.icu_locale_core_grammar.proofs.CollectionLemmas.{AreApart-push, same_text_equal}
 use Rattle.icu_locale_core_grammar.proofs.ListLemmas.{each-append}
 use Rattle.icu_locale_core_grammar.proofs.SingletonLemmas.{Opening, by_unicode, by_transform, by_other, opening, other_is_none, spelled_lower}
-use Rattle.icu_locale_core_locale.specs.StageView.{HasFewBefore, singletons, stage_behind, opened_at}
+use Rattle.icu_locale_core_locale.specs.StageView.{HasFewBefore, singletons}
 use Rattle.icu_locale_core_locale.proofs.SingletonLemmas.{byte_contained}
 
 -- ---- the digits and the letters in lower case

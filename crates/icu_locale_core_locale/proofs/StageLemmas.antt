@@ -6,12 +6,12 @@ use Rattle.icu_locale_core_grammar.specs.Subtags.{Text, is_private, is_private_p
 use Rattle.icu_locale_core_grammar.specs.LanguagePart.{LanguageId}
 use Rattle.icu_locale_core_grammar.specs.Meaning.{Part, ExtensionMeanings, put_part, no_extensions}
 use Rattle.icu_locale_core_grammar.specs.Stepping.{InFront, InBlock, whole_after, after_front, after_block}
-use Rattle.icu_locale_core_grammar.specs.TagStages.{BodyStage, TagStage, language_after, language_ends, body_after, body_ends, opens, tag_after}
+use Rattle.icu_locale_core_grammar.specs.TagStages.{BodyStage, TagStage, language_after, language_ends, body_after, body_ends, opens, stage_behind, tag_after}
 use Rattle.icu_locale_core_extensions.specs.BodyView.{body_view}
 use Rattle.icu_locale_core_extensions.specs.Allocation.{body_grows_at, body_keeps}
 use Rattle.icu_locale_core_extensions.specs.declared.body.BodyStage as code
 use Rattle.icu_locale_core_locale.specs.Allocation.{tag_grows_at, tag_keeps}
-use Rattle.icu_locale_core_locale.specs.StageView.{HasFewBefore, stage_behind, block_view}
+use Rattle.icu_locale_core_locale.specs.StageView.{HasFewBefore, block_view}
 
 pub language_goes_on : (id : LanguageId) (p : Text) (o : Option TagStage) → language_after (Some id) p ≡ None → stage_behind id [] no_extensions p ≡ o → tag_after (InFront (Some id)) p ≡ o
 unfolding whole_after

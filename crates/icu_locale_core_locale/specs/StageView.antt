@@ -1,14 +1,12 @@
 -- What the definitions see of the stage of a tag that is being read.
 -- Defined in docs/tags.md, "Stages".
 -- Cited by the functions that read whole tags.
-use Rattle.std.specs.Prelude.{⊤, ◌≡◌, ◌<◌, ℕ, Bool, true, false, List, [], ◌∷◌, map, length, Option, None, Some, if◌then◌else◌}
-use Rattle.icu_locale_core_grammar.specs.Subtags.{Text, is_private, lower}
-use Rattle.icu_locale_core_grammar.specs.Collections.{contains_text}
+use Rattle.std.specs.Prelude.{⊤, ◌≡◌, ◌<◌, ℕ, Bool, true, false, List, [], ◌∷◌, map, length, None, Some}
+use Rattle.icu_locale_core_grammar.specs.Subtags.{Text}
 use Rattle.icu_locale_core_grammar.specs.LanguagePart.{LanguageId}
 use Rattle.icu_locale_core_grammar.specs.Meaning.{ExtensionMeanings, TagMeaning}
 use Rattle.icu_locale_core_grammar.specs.Stepping.{InFront, AtBlock, InBlock, InPrivate}
-use Rattle.icu_locale_core_grammar.specs.TagStages as stages
-use Rattle.icu_locale_core_grammar.specs.TagStages.{TagStage, tag_after, tag_ends, tag_fault, opens}
+use Rattle.icu_locale_core_grammar.specs.TagStages.{TagStage, tag_after, tag_ends, tag_fault}
 use Rattle.icu_locale_core_extensions.specs.BodyView.{body_key, body_view}
 use Rattle.icu_locale_core_extensions.specs.declared.body.BodyStage.{BodyStage}
 use Rattle.icu_locale_core_locale.specs.declared.parser.stage.LocaleStage.{LocaleStage}
@@ -35,16 +33,6 @@ HasFewBefore (InFront l) = ⊤
 HasFewBefore (AtBlock id seen e k b) = length seen < 36
 HasFewBefore (InBlock id seen e k b) = length seen < 36
 HasFewBefore (InPrivate id e own) = ⊤
-
--- what comes behind a part that may end: `x`, or a singleton that has not come yet
-abbrev pub opened_at : LanguageId → List Text → ExtensionMeanings → Text → Option stages.BodyStage → Option TagStage
-opened_at id seen e key None = None
-opened_at id seen e key (Some b) = Some (AtBlock id seen e key b)
-
-abbrev pub stage_behind : LanguageId → List Text → ExtensionMeanings → Text → Option TagStage
-stage_behind id seen e p =
-    if is_private p then Some (InPrivate id e [])
-    else (if contains_text (lower p) seen then None else opened_at id seen e (lower p) (opens p))
 
 -- the stage after the piece p, or the fault of the stage at that piece
 abbrev pub GoesOn : TagStage → Text → Attempt LocaleStage → Type 0

@@ -104,9 +104,9 @@ impl Locale {
 
     /// The locale that the tag means, in any case: `EN-u-NU-Thai` is `en-u-nu-thai`.
     ///
-    /// `InvalidLanguage`, `InvalidSubtag`, `InvalidExtension` and `DuplicatedExtension` name the place of the first piece that
-    /// no tag has there, or of the end. `Memory`: out of memory; it allocates only for variants and extensions.
-    /// Source: UTS 35, section 3.2.
+    /// `InvalidLanguage`, `InvalidSubtag`, `InvalidExtension` and `DuplicatedExtension` name the place of the first
+    /// piece that no tag has there, or of the end. `Memory`: out of memory; it allocates only for variants and
+    /// extensions. Source: UTS 35, section 3.2.
     pub fn try_from_str(alloc: Global, s: &str) -> Result<Self, ParseError>
         ensures value { IfOk result (MeansTag (pieces s.now)) }
         ensures fault { IfErr result (λ e. (e ≡ ParseError.Memory) ⊎ HasFault MeansTag (pieces s.now) e) }

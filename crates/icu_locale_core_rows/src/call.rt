@@ -19,8 +19,8 @@ pub struct Call<'r> {
 }
 
 impl<'r> Call<'r> {
-    /// The row `Locale`, `total_cmp`, `en-x-a`, `en-US`, with tabs between, taken apart; one that names no call, or has more
-    /// arguments, is not understood.
+    /// The row `Locale`, `total_cmp`, `en-x-a`, `en-US`, with tabs between, taken apart; one that names no call, or has
+    /// more arguments, is not understood.
     pub fn of(alloc: Global, row: &'r str, bytes: &'r [u8]) -> Result<Call<'r>, Stop> {
         let mut fields = row.split('\t');
         let call = Call {

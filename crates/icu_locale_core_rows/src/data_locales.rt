@@ -12,7 +12,8 @@ use icu_locale_core::subtags::Region;
 use icu_locale_core::{DataLocale, LanguageIdentifier, Locale};
 use rows::{Stop, put, put_debug, put_last_written, put_text, put_written};
 
-/// Writes the text of the data locale that has this subdivision alone, and of its locale, and whether that one's data locale is unknown.
+/// Writes the text of the data locale that has this subdivision alone, and of its locale, and whether that one's data
+/// locale is unknown.
 pub fn with_subdivision(call: Call<'_>, out: &mut String) -> Result<(), Stop> {
     let mut data_locale = DataLocale::default();
     data_locale.subdivision = Some(read(SubdivisionId::try_from_str(call.first), out)?);

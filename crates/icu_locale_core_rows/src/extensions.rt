@@ -164,7 +164,8 @@ fn retain(extensions: &mut Extensions, what: &str) -> Result<(), Stop> {
     Ok(())
 }
 
-/// Pushes the other extensions that the second argument has between spaces, of which a singleton alone is an emptied one.
+/// Pushes the other extensions that the second argument has between spaces, of which a singleton alone is an emptied
+/// one.
 pub fn push_others(others: &mut Vec<Other>, call: Call<'_>, out: &mut String) -> Result<(), Stop> {
     for text in call.second.split_whitespace() {
         push(others, other_of(call.alloc, text, out)?)?;

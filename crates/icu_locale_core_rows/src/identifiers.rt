@@ -36,8 +36,8 @@ pub fn identifier(call: Call<'_>, out: &mut String) -> Result<(), Stop> {
     }
 }
 
-// Writes what a mode reads of the pieces of a text, of none where the call is `parse_behind_the_end`; the first piece that it leaves, or
-// `-`; and of a refused text that piece alone, by `peek_behind_refusal`.
+// Writes what a mode reads of the pieces of a text, of none where the call is `parse_behind_the_end`; the first piece
+// that it leaves, or `-`; and of a refused text that piece alone, by `peek_behind_refusal`.
 fn of_iterator(call: Call<'_>, out: &mut String) -> Result<(), Stop> {
     let mode = mode_of(call.first)?;
     let mut iter = SubtagIterator::new(call.second.as_bytes());

@@ -99,7 +99,8 @@ impl<R: Kind> Part for SubtagSet<R> {
     }
 }
 
-// The answer of a call of a set and a subtag: whether it is there, or changed the set; how many there then are, and the set.
+// The answer of a call of a set and a subtag: whether it is there, or changed the set; how many there then are, and the
+// set.
 fn at_subtag<R: Kind>(
     set: &mut SubtagSet<R>,
     call: Call<'_>,

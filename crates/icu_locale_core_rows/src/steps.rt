@@ -38,7 +38,8 @@ fn put_stage(out: &mut String, stage: Option<LanguageStage>, behind: &str) -> Re
     put_text(out, behind)
 }
 
-/// The entries of the pieces between spaces, without those that are refused; where the last entry may not end, `-` is the answer.
+/// The entries of the pieces between spaces, without those that are refused; where the last entry may not end, `-` is
+/// the answer.
 pub fn headed<K: EntryKind>(call: Call<'_>, out: &mut String) -> Result<EntriesOf<K>, Stop> {
     let stage = stage_of::<K>(call.alloc, call.first)?;
     match headed_finish(call.alloc, stage)? {

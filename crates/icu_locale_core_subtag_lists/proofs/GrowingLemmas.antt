@@ -1,7 +1,7 @@
 -- A set that grows: what a search of its texts tells, one text more, and its texts in order.
 use Rattle.std.proofs.Common.{◌≡◌, ℕ, ◌+◌, ◌<◌, ◌≤◌, Bool, true, false, ◌||◌, ◌==◌, List, [], ◌∷◌, ◌++◌, length, take, drop, get_or, sym, refl, ap, ◌∙◌, subst, arith, length-append}
 use Rattle.std.specs.List.{AllByRecursion, IsDistinct, list_any}
-use Rattle.std.specs.List.Sorted.{IsStrictlySortedBy, IsPermutation, IsSorted}
+use Rattle.std.specs.List.Sorted.{IsPermutation, IsSorted}
 use Rattle.std.specs.Ordering.{match_ordering, ordering_reverse, is_eq, is_lt}
 use Rattle.std.specs.BTreeMap.{is_at}
 use Rattle.std.specs.BTreeSet.{insert_key}
@@ -15,13 +15,12 @@ use Rattle.std.proofs.lemmas.Map.Keys.{IsDistinct-IsPermutation, apart_from_dist
 use Rattle.icu_locale_core_grammar.specs.Subtags.{Text, same_text}
 use Rattle.icu_locale_core_grammar.specs.Collections.{text_cmp, contains_text, AreApart, Rises, insert_text, set_of}
 use Rattle.icu_locale_core_grammar.specs.WellFormed.{IsNormalPiece}
-use Rattle.icu_locale_core_grammar.proofs.CollectionLemmas.{same_text_swapped, same_text_equal, same_text_refl, AreApart-push, contains-append}
-use Rattle.icu_locale_core_grammar.proofs.ListLemmas.{fold-append, each-append, each_weaker}
-use Rattle.icu_locale_core_grammar.proofs.SetLemmas.{put_text, cmp_equal, cmp_swapped, cmp_below, cmp_through, contains-set_of, Rises-set_of}
+use Rattle.icu_locale_core_grammar.proofs.CollectionLemmas.{same_text_swapped, same_text_refl, AreApart-push, contains-append}
+use Rattle.icu_locale_core_grammar.proofs.ListLemmas.{fold-append, each-append}
+use Rattle.icu_locale_core_grammar.proofs.SetLemmas.{put_text, cmp_swapped, contains-set_of, Rises-set_of, rising_same}
 use Rattle.icu_locale_core_grammar.proofs.MapLemmas.{each_in_set}
 use Rattle.icu_locale_core_subtag_lists.specs.SubtagSets.{IsSubtagSet}
 use Rattle.icu_locale_core_subtag_lists.specs.Growing.{few, IsGrowing}
-use Rattle.icu_locale_core_subtag_lists.proofs.PlaceLemmas.{absent}
 
 -- ---- searches
 
@@ -122,39 +121,6 @@ sorted_rises : (ts : List Text) → AreApart ts → IsSorted text_cmp ts → Ris
 sorted_rises ts apart sorted =
     sorted_from_all_adjacent nat_list_cmp_total ts []
     (λ k within. below_next (get_or ts k []) (get_or ts (k + 1) []) (sorted k [] (omega arith) within) (apart_from_distinct same_text ts k (k + 1) [] apart (omega arith) within))
-
--- two lists that rise and have the same texts are one
-rising_same : (ts us : List Text) → Rises ts → Rises us → ((q : Text) → contains_text q ts ≡ contains_text q us) → ts ≡ us
-unfolding IsStrictlySortedBy
-rising_same [] [] up down same = refl
-rising_same [] (u ∷ us) up down same = let wrong : false ≡ true = same u ∙ ap (λ b. b || contains_text u us) (same_text_refl u) in cc
-rising_same (t ∷ ts) [] up down same = let wrong : true ≡ false = sym (ap (λ b. b || contains_text t ts) (same_text_refl t)) ∙ same t in cc
-rising_same (t ∷ ts) (u ∷ us) up down same = by_order (text_cmp t u) refl (rising_same ts us up.1 down.1)
-  where
-    has_first : (v : Text) (vs : List Text) → contains_text v (v ∷ vs) ≡ true
-    has_first v vs = ap (λ b. b || contains_text v vs) (same_text_refl v)
-
-    below_all : (v w : Text) (ws : List Text) → text_cmp v w ≡ Less → AllByRecursion (λ x. text_cmp w x ≡ Less) ws → contains_text v (w ∷ ws) ≡ false
-    below_all v w ws below each = absent v (w ∷ ws) (below, each_weaker (λ x. text_cmp w x ≡ Less) (λ x. text_cmp v x ≡ Less) (λ x e. cmp_through v w x below e) ws each)
-
-    -- without a first text that both have
-    rest_same : t ≡ u → (q : Text) → contains_text q ts ≡ contains_text q us
-    rest_same first q = by (same_text q t) refl (same q)
-      where
-        by : (b : Bool) → same_text q t ≡ b → (same_text q t || contains_text q ts) ≡ (same_text q u || contains_text q us) → contains_text q ts ≡ contains_text q us
-        by true e all =
-            let is : q ≡ t = same_text_equal q t e in
-            let none : contains_text t ts ≡ false = absent t ts up.0 in
-            let none_too : contains_text u us ≡ false = absent u us down.0 in
-            ap (λ r. contains_text r ts) is ∙ none ∙ sym none_too ∙ ap (λ r. contains_text r us) (sym (is ∙ first))
-        by false e all =
-            let apart : same_text q u ≡ false = ap (same_text q) (sym first) ∙ e in
-            ap (λ b. b || contains_text q ts) (sym e) ∙ all ∙ ap (λ b. b || contains_text q us) apart
-
-    by_order : (o : Ordering) → text_cmp t u ≡ o → (((q : Text) → contains_text q ts ≡ contains_text q us) → ts ≡ us) → t ∷ ts ≡ u ∷ us
-    by_order Less e more = let wrong : true ≡ false = sym (has_first t ts) ∙ same t ∙ below_all t u us e down.0 in cc
-    by_order Equal e more = let first : t ≡ u = cmp_equal t u e in λ i. first i ∷ more (rest_same first) i
-    by_order Greater e more = let wrong : true ≡ false = sym (has_first u us) ∙ sym (same u) ∙ below_all u t ts (cmp_below t u e) up.0 in cc
 
 pub sorted_is_set : (items ts : List Text) → AreApart items → IsPermutation items ts → IsSorted text_cmp ts → ts ≡ set_of items
 sorted_is_set items ts apart moved sorted =

@@ -6,7 +6,7 @@ use Rattle.std.specs.Ordering.{match_ordering, ordering_reverse, ordering_index,
 use Rattle.std.specs.declared.cmp.Ordering.{Ordering}
 use Rattle.std.specs.declared.cmp.Ordering.TheVariants.{Less, Equal, Greater}
 use Rattle.std.specs.Cmp.Lexicographic.{texts_ties, nat_list_cmp_total}
-use Rattle.std.proofs.lemmas.Bool.{or_from}
+use Rattle.std.proofs.lemmas.Bool.{or_from, or_right}
 use Rattle.std.proofs.lemmas.List.{take-append-drop}
 use Rattle.std.proofs.lemmas.List.Sorted.{searchable_from_sorted}
 use Rattle.std.proofs.lemmas.Map.Keys.{Less-from_sorted}
@@ -14,9 +14,9 @@ use Rattle.std.proofs.Math.Seq.{drop-cons}
 use Rattle.icu_locale_core_grammar.specs.Subtags.{Text, same_text}
 use Rattle.icu_locale_core_grammar.specs.Collections.{text_cmp, contains_text, AreApart, Rises, insert_text}
 use Rattle.icu_locale_core_grammar.specs.WellFormed.{IsNormalPiece}
-use Rattle.icu_locale_core_grammar.proofs.CollectionLemmas.{same_text_swapped, same_text_refl, apart_new, contains-append}
+use Rattle.icu_locale_core_grammar.proofs.CollectionLemmas.{same_text_swapped, same_text_refl, none_same, apart_new, contains-append}
 use Rattle.icu_locale_core_grammar.proofs.ListLemmas.{each_weaker}
-use Rattle.icu_locale_core_grammar.proofs.SetLemmas.{cmp_equal, cmp_swapped, cmp_through, Rises-insert}
+use Rattle.icu_locale_core_grammar.proofs.SetLemmas.{cmp_equal, cmp_swapped, cmp_through, absent, contains_first, Rises-insert}
 use Rattle.icu_locale_core_grammar.proofs.NormalBodies.{apart_from_rising}
 use Rattle.icu_locale_core_grammar.proofs.MapLemmas.{rises_none, each_inserted}
 use Rattle.icu_locale_core_subtag_lists.specs.SubtagSets.{remove_text, IsSubtagSet}
@@ -93,20 +93,11 @@ found t us i within at =
     ∙ ap (λ u. take i us ++ u ∷ drop (suc i) us) (cmp_equal (get_or us i t) t (at t))
 
 contains_amid : (t : Text) (front back : List Text) → contains_text t (front ++ t ∷ back) ≡ true
-contains_amid t [] back = ap (λ b. b || contains_text t back) (same_text_refl t)
-contains_amid t (u ∷ us) back = ap (λ b. same_text t u || b) (contains_amid t us back) ∙ or_true (same_text t u)
-  where
-    or_true : (b : Bool) → (b || true) ≡ true
-    or_true true = refl
-    or_true false = refl
+contains_amid t [] back = contains_first t back
+contains_amid t (u ∷ us) back = or_right (same_text t u) (contains_text t (us ++ t ∷ back)) (contains_amid t us back)
 
 pub contains_at : (t : Text) (us : List Text) (i : ℕ) → i < length us → HoldsAt (λ u. text_cmp u t ≡ Equal) us i → contains_text t us ≡ true
 contains_at t us i within at = ap (contains_text t) (found t us i within at) ∙ contains_amid t (take i us) (drop (suc i) us)
-
--- a text below each is not there
-pub absent : (t : Text) (us : List Text) → AllByRecursion (λ u. text_cmp t u ≡ Less) us → contains_text t us ≡ false
-absent t [] each = refl
-absent t (u ∷ us) each = or_from (same_text t u) (contains_text t us) (texts_ties t u ∙ ap is_eq each.0) (absent t us each.1)
 
 -- a text that a set has changes nothing
 pub insert_contained : (t : Text) (us : List Text) → Rises us → contains_text t us ≡ true → insert_text t us ≡ us
@@ -144,13 +135,9 @@ remove-append t (u ∷ us) vs = by (not (same_text t u)) (remove-append t us vs)
     by true more = ap (λ l. u ∷ l) more
     by false more = more
 
-none_behind : (t : Text) (us : List Text) → AllByRecursion (λ u. same_text t u ≡ false) us → contains_text t us ≡ false
-none_behind t [] each = refl
-none_behind t (u ∷ us) each = or_from (same_text t u) (contains_text t us) each.0 (none_behind t us each.1)
-
 apart_behind : (t : Text) (front back : List Text) → AreApart (front ++ t ∷ back) → contains_text t back ≡ false
 unfolding IsDistinct
-apart_behind t [] back apart = none_behind t back apart.0
+apart_behind t [] back apart = none_same t back apart.0
 apart_behind t (u ∷ us) back apart = apart_behind t us back apart.1
 
 remove_amid : (t : Text) (front back : List Text) → AreApart (front ++ t ∷ back) → remove_text t (front ++ t ∷ back) ≡ front ++ back

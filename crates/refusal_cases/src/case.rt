@@ -12,7 +12,8 @@ pub struct Case<'a> {
 }
 
 impl Case<'_> {
-    /// Reads once more, so that a library before the C library knows that the call comes now; what is read does not matter.
+    /// Reads once more, so that a library before the C library knows that the call comes now; what is read does not
+    /// matter.
     pub fn begin(&self) {
         let mut byte = [0u8; 1];
         let _count = self.rt.stdin().read(&mut byte);

@@ -1,8 +1,8 @@
-//! Answers rows that each name a call, a receiver and an argument: what the receiver is behind the call, or that memory was refused
-//! and what it is then.
+//! Answers rows that each name a call, a receiver and an argument: what the receiver is behind the call, or that memory
+//! was refused and what it is then.
 //!
-//! Before the call a row reads standard input once more. What `tools/try_refusals` refuses from that read on is asked only by the
-//! call: all that comes before it is made, and there is room for the answer.
+//! Before the call a row reads standard input once more. What `tools/try_refusals` refuses from that read on is asked
+//! only by the call: all that comes before it is made, and there is room for the answer.
 
 #![tactic(auto)]
 

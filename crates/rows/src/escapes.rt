@@ -1,5 +1,5 @@
-//! Bytes and UTF-16 units as they stand in a field of a row. A backslash begins an escape: `\t`, `\n`, `\r`, `\0`, `\\`, `\xFF` for
-//! a byte, `\u30AB` for a unit. Each other byte is itself.
+//! Bytes and UTF-16 units as they stand in a field of a row. A backslash begins an escape: `\t`, `\n`, `\r`, `\0`,
+//! `\\`, `\xFF` for a byte, `\u30AB` for a unit. Each other byte is itself.
 
 use crate::answers::filled;
 use crate::stop::Stop;

@@ -1,5 +1,5 @@
-//! What the programs of rows share: a table that is repeated with its answers, the escapes in its fields, numbers, answers that are
-//! written and let go, and a sink with little room.
+//! What the programs of rows share: a table that is repeated with its answers, the escapes in its fields, numbers,
+//! answers that are written and let go, and a sink with little room.
 
 #![tactic(auto)]
 

@@ -1,4 +1,5 @@
-//! Small texts beside loops over their single bytes: the empty text, every length, every place, each byte beside and at the ends of a class.
+//! Small texts beside loops over their single bytes: the empty text, every length, every place, each byte beside and at
+//! the ends of a class.
 
 ghost use Rattle.std.specs.Prelude.{◌≤◌, ◌<◌};
 
@@ -12,7 +13,8 @@ const EDGES: [u8; 14] = [1, 47, 48, 57, 58, 64, 65, 90, 91, 96, 97, 122, 123, 12
 /// What stands in the other places: a letter in each case, and a digit.
 const FILLERS: [u8; 3] = [b'm', b'M', b'5'];
 
-/// How many texts at N answer as the loops do; the first that does not ends the count. The condition is that N is at most 16.
+/// How many texts at N answer as the loops do; the first that does not ends the count. The condition is that N is at
+/// most 16.
 pub fn answer<const N: usize>(out: &mut String) -> Result<(), Stop>
     requires { N ≤ 16 }
 {

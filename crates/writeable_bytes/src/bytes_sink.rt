@@ -5,11 +5,11 @@ ghost use Rattle.std.specs.Prelude.{◌≡◌, false};
 use crate::laying::lay;
 use writeable::{Error, Part, Sink};
 
-/// A sink that lays the text over borrowed bytes, from the first on, and leaves out the parts: `a,b` over `....` gives `a,b.`, and
-/// over `..` gives `a,`.
+/// A sink that lays the text over borrowed bytes, from the first on, and leaves out the parts: `a,b` over `....` gives
+/// `a,b.`, and over `..` gives `a,`.
 ///
-/// Behind the end of the bytes it only counts. A call is refused exactly where the length of the text would pass the greatest
-/// `usize`. It does not allocate.
+/// Behind the end of the bytes it only counts. A call is refused exactly where the length of the text would pass the
+/// greatest `usize`. It does not allocate.
 #[derive(Drop)]
 pub struct BytesSink<'b> {
     /// The bytes that the text is laid over: `a,b.` after `a,b` over `....`.

@@ -1,7 +1,7 @@
 //! The stages of a tag of at most one variant and one keyword.
 
-ghost use Rattle.std.specs.Prelude.{◌≡◌, true, false, Some, None, MatchOption, MatchResult, option_map};
-ghost use Rattle.icu_locale_core_grammar.specs.Subtags.{is_singleton, is_unicode, is_true, is_value, lower};
+ghost use Rattle.std.specs.Prelude.{◌≡◌, Some, None, MatchResult, option_map};
+ghost use Rattle.icu_locale_core_grammar.specs.Subtags.{is_true};
 ghost use Rattle.icu_locale_core_grammar.specs.SingleVariant.{InLanguage, BehindUnicode, BehindKey, single_ends, single_fault};
 ghost use Rattle.icu_locale_core_langid.specs.OneVariant.{parts_id, one_variant_after};
 ghost use Rattle.icu_locale_core_langid.specs.SingleModes.{single};
@@ -10,8 +10,8 @@ ghost use Rattle.icu_locale_core_langid.specs.SingleStageView.{stage_view, GoesO
 use crate::one_variant::{OneVariantParts, one_variant_step};
 use crate::single::parts::{SingleParts, joined_parts};
 use icu_locale_core_grammar::ParseError;
-use icu_locale_core_subtags::Subtag;
 use icu_locale_core_subtags::unicode::Key;
+use icu_locale_core_subtags::{Subtag, is_letter, is_one_character, value_subtag};
 
 // How far such a tag is read.
 #[derive(Clone, Copy)]
@@ -26,26 +26,6 @@ pub(crate) enum Stage {
     BehindValue(OneVariantParts, Key, Option<Subtag>),
 }
 
-// Whether the piece is one letter or digit.
-fn stands_alone(piece: &[u8]) -> bool
-    ensures { result ≡ is_singleton piece.now }
-{
-    match piece {
-        [only] => only.is_ascii_alphanumeric(),
-        _ => false,
-    }
-}
-
-// Whether the piece is `u`, in either case.
-fn opens_unicode(piece: &[u8]) -> bool
-    ensures { result ≡ is_unicode piece.now }
-{
-    match piece {
-        [only] => only.to_ascii_lowercase() == b'u',
-        _ => false,
-    }
-}
-
 // Whether the piece is `true`, in any case.
 fn says_true(piece: &[u8]) -> bool
     ensures { result ≡ is_true piece.now }
@@ -53,24 +33,14 @@ fn says_true(piece: &[u8]) -> bool
     piece.eq_ignore_ascii_case(b"true")
 }
 
-// The subtag of a piece of 3 to 8 letters and digits.
-fn value_subtag(piece: &[u8]) -> Option<Subtag>
-    ensures { MatchOption result (is_value piece.now ≡ false) (λ subtag. (is_value piece.now ≡ true) × (subtag ≡ lower piece.now)) }
-{
-    if piece.len() < 3 {
-        return None;
-    }
-    Subtag::try_from_utf8(piece).ok()
-}
-
 // Behind a language part that does not go on with the piece: `u`.
 #[tactic(auto, using(crate::proofs::SingleStageLemmas::unicode_opened, crate::proofs::SingleStageLemmas::nothing_opened))]
 fn behind_language(parts: OneVariantParts, piece: &[u8]) -> Result<Stage, ParseError>
     ensures { one_variant_after (Some (parts_id parts)) piece.now ≡ None → GoesOn (InLanguage (Some (parts_id parts))) piece.now result }
 {
-    if opens_unicode(piece) {
+    if is_letter(piece, b'u') {
         Ok(Stage::BehindUnicode(parts))
-    } else if stands_alone(piece) {
+    } else if is_one_character(piece) {
         Err(ParseError::InvalidExtension)
     } else {
         Err(ParseError::InvalidSubtag)

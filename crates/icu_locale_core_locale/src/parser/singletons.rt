@@ -6,7 +6,8 @@ ghost use Rattle.icu_locale_core_grammar.specs.Collections.{contains_text};
 ghost use Rattle.icu_locale_core_extensions.specs.BodyView.{body_key};
 ghost use Rattle.icu_locale_core_locale.specs.StageView.{singletons};
 
-use icu_locale_core_extensions::{BodyStage, is_letter};
+use icu_locale_core_extensions::BodyStage;
+use icu_locale_core_subtags::is_letter;
 use smallvec::SmallVec;
 use std::alloc::{AllocError, Global};
 use std::marker::Model;

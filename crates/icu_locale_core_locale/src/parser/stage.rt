@@ -3,25 +3,25 @@
 ghost use Rattle.std.specs.Prelude.{◌≡◌, ◌<◌, ℕ, List, [], false, None, Some, length, IfOk, IsOk, MatchOption};
 ghost use Rattle.icu_locale_core_grammar.specs.Subtags.{is_private_piece};
 ghost use Rattle.icu_locale_core_grammar.specs.Stepping.{InFront, InBlock};
-ghost use Rattle.icu_locale_core_grammar.specs.TagStages.{body_after as body_stage_after, language_after as language_stage_after};
+ghost use Rattle.icu_locale_core_grammar.specs.TagStages.{body_after as body_stage_after, language_after as language_stage_after, stage_behind};
 ghost use Rattle.icu_locale_core_grammar.specs.Meaning.{put_part as put_meaning};
 ghost use Rattle.icu_locale_core_extensions.specs.BodyView.{body_key, body_view, is_other_part, part_view, HasKey};
 ghost use Rattle.icu_locale_core_extensions.specs.Allocation.{body_keeps};
 ghost use Rattle.icu_locale_core_langid.specs.Allocation.{grows_at};
 ghost use Rattle.icu_locale_core_locale.specs.Allocation.{tag_grows_at, tag_keeps};
-ghost use Rattle.icu_locale_core_locale.specs.StageView.{singletons, stage_view, block_view, stage_behind, GoesOn, Ends, HasFewBefore};
+ghost use Rattle.icu_locale_core_locale.specs.StageView.{singletons, stage_view, block_view, GoesOn, Ends, HasFewBefore};
 
 use crate::locale::Locale;
 use crate::parser::attempt::Attempt;
 use crate::parser::singletons::{Singletons, has_come, key_of, opens_private};
 use icu_locale_core_extensions::{
-    BodyStage, Extensions, Part, body_after, body_finish, is_one_character, opened_body, put_part,
+    BodyStage, Extensions, Part, body_after, body_finish, opened_body, put_part,
 };
 use icu_locale_core_grammar::ParseError;
 use icu_locale_core_langid::{LanguageIdentifier, LanguageStage, language_after};
 use icu_locale_core_subtag_lists::Private;
-use icu_locale_core_subtags::Step;
 use icu_locale_core_subtags::private::Subtag;
+use icu_locale_core_subtags::{Step, is_one_character};
 use std::alloc::{AllocError, Global};
 
 /// An extension that is being read.

@@ -16,9 +16,9 @@ mod comparing;
 mod printing;
 
 use icu_locale_core_grammar::ParseError;
-use icu_locale_core_subtags::SubtagIterator;
 use icu_locale_core_subtags::laws::subtags_are_words;
 use icu_locale_core_subtags::private::Subtag;
+use icu_locale_core_subtags::{SubtagIterator, is_letter};
 use std::alloc::{AllocError, Global};
 use std::marker::Model;
 use std::slice;
@@ -39,13 +39,6 @@ impl Model for Private {
     ghost view = { λ s. s.items.items };
 
     ghost invariant = { λ s. AreLower is_private_piece s.items.items };
-}
-
-/// Whether the piece is `x`, in either case.
-fn is_singleton(piece: &[u8]) -> bool
-    ensures { result ≡ is_private piece.now }
-{
-    piece.len() == 1 && piece[0].to_ascii_lowercase() == b'x'
 }
 
 impl Private {
@@ -92,7 +85,7 @@ impl Private {
         let Some(singleton) = first else {
             return Err(ParseError::InvalidExtension);
         };
-        if !is_singleton(singleton) {
+        if !is_letter(singleton, b'x') {
             return Err(ParseError::InvalidExtension);
         }
         let private = Private::try_from_iter(alloc, rest)?;

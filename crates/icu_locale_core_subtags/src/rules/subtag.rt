@@ -1,8 +1,8 @@
 //! A subtag of any kind: a piece of an extension that has no rule of its own.
 
-ghost use Rattle.std.specs.Prelude.{◌≡◌, ◌↔◌, ◌≤◌, IsTrue, true, false, length, MatchResult};
+ghost use Rattle.std.specs.Prelude.{◌≡◌, ◌↔◌, ◌≤◌, IsTrue, true, false, length, MatchOption, MatchResult};
 ghost use Rattle.icu_locale_core_grammar.specs.declared.error.ParseError.{ParseError};
-ghost use Rattle.icu_locale_core_grammar.specs.Subtags.{is_other_piece, lower};
+ghost use Rattle.icu_locale_core_grammar.specs.Subtags.{is_other_piece, is_value, lower};
 ghost use Rattle.icu_locale_core_subtags.specs.RuleLaws.{other_piece_rule};
 
 use super::script::Script;
@@ -70,6 +70,17 @@ impl Subtag {
     {
         self.as_str() == other
     }
+}
+
+/// The subtag of a piece of the value of a keyword or a field, 3 to 8 letters and digits: `Foo` gives `foo`, and of
+/// `fo` there is none. It does not allocate.
+pub fn value_subtag(piece: &[u8]) -> Option<Subtag>
+    ensures { MatchOption result (is_value piece.now ≡ false) (λ subtag. (is_value piece.now ≡ true) × (subtag ≡ lower piece.now)) }
+{
+    if piece.len() < 3 {
+        return None;
+    }
+    Subtag::try_from_utf8(piece).ok()
 }
 
 /// The subtag of this text, as `try_from_str`: `Foo` gives `foo`, and `a` is `InvalidSubtag`.

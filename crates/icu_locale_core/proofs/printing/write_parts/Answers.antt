@@ -1,7 +1,7 @@
 use Rattle.std.proofs.Common.{OnOk, OnErr, subst}
+use Rattle.std.proofs.lemmas.Result.{on_ok_weaker}
 use Rattle.writeable.specs.Taking.{HasBegun, begun_first, begun_then, on_err}
 use Rattle.icu_locale_core.proofs.DataTextLemmas.{events_told}
-use Rattle.icu_locale_core.proofs.WritingLemmas.{on_ok_by}
 use Rattle.icu_locale_core.proofs.printing.write_parts.Goals as goal
 
 pub returns-in_err-write_str-clause-begun : goal.returns-in_err-write_str-clause-begun
@@ -43,7 +43,7 @@ returns-clause-ok g c =
     let region = c.in_ok-write_optional-2.ensures in
     let variant = c.in_ok-write_optional-3.ensures in
     subst (λ es. OnOk c.write_subdivision.result (g.S.Sink.takes c.args.sink.now es c.write_subdivision.new.sink)) (events_told _ _ _ c.data_locale.view_is c.as_str.ensures)
-    (on_ok_by c.write_subdivision.result (λ last.
+    (on_ok_weaker c.write_subdivision.result (λ last.
     g.met.S.Sink.joins _ _ _ _ _ language.ok language.refused
     (g.met.S.Sink.joins _ _ _ _ _ script.ok script.refused (g.met.S.Sink.joins _ _ _ _ _ region.ok region.refused (g.met.S.Sink.joins _ _ _ _ _ variant.ok variant.refused last))))
     c.write_subdivision.ensures.ok)

@@ -2,9 +2,10 @@ use Rattle.std.proofs.Common.{◌≡◌, ◌++◌, ◌∷◌, [], sym, ap, ◌�
 use Rattle.std.specs.Option.{option_map}
 use Rattle.std.proofs.lemmas.List.{map-append}
 use Rattle.icu_locale_core_grammar.specs.Meaning.{put_part}
+use Rattle.icu_locale_core_grammar.specs.TagStages.{stage_behind}
 use Rattle.icu_locale_core_extensions.specs.BodyView.{body_key, body_view, part_view}
 use Rattle.icu_locale_core_extensions.specs.ExtensionsValue.{ExtensionsValue}
-use Rattle.icu_locale_core_locale.specs.StageView.{singletons, stage_behind}
+use Rattle.icu_locale_core_locale.specs.StageView.{singletons}
 use Rattle.icu_locale_core_locale.proofs.StageLemmas.{block_goes_on}
 use Rattle.icu_locale_core_locale.proofs.parser.stage.after_ended.Goals as goal
 

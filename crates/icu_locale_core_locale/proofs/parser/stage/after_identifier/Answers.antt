@@ -1,7 +1,8 @@
 use Rattle.std.proofs.Common.{sym, ap, ◌∙◌}
 use Rattle.icu_locale_core_grammar.specs.Meaning.{no_extensions}
+use Rattle.icu_locale_core_grammar.specs.TagStages.{stage_behind}
 use Rattle.icu_locale_core_extensions.specs.ExtensionsValue.{ExtensionsValue}
-use Rattle.icu_locale_core_locale.specs.StageView.{singletons, stage_behind}
+use Rattle.icu_locale_core_locale.specs.StageView.{singletons}
 use Rattle.icu_locale_core_locale.proofs.StageLemmas.{language_goes_on}
 use Rattle.icu_locale_core_locale.proofs.parser.stage.after_identifier.Goals as goal
 
