@@ -22,14 +22,14 @@ use Rattle.locale_numbers_book.specs.Book.{BookTables}
 use Rattle.locale_numbers_book.specs.Tables.{chain_in, symbols_under, digits_under, rules_under}
 use Rattle.locale_numbers.specs.NumberReading.{reading_of}
 use Rattle.locale_numbers.specs.ReadAnswer.{read_with}
-use Rattle.locale_numbers.specs.Request.{Asked, tab, fields, form_named, grouping_named, sign_named, takes, request_by, request_in, request_of}
-use Rattle.locale_numbers.specs.Cutting.{is_separator}
-use Rattle.locale_numbers.specs.RoundingField.{rounding_named}
-use Rattle.locale_numbers.specs.declared.sign_field.SignAsked.{SignAsked}
-use Rattle.locale_numbers.specs.declared.rounding_field.RoundingAsked.{RoundingAsked}
-use Rattle.locale_numbers.specs.declared.request.Form.{Form}
-use Rattle.locale_numbers.specs.declared.request.Form.TheVariants.{Plain, Compact, Exact, Read}
-use Rattle.locale_numbers.specs.declared.request.PatternLength.{PatternLength}
+use Rattle.locale_numbers_requests.specs.Request.{Asked, tab, fields, form_named, grouping_named, sign_named, takes, request_by, request_in, request_of}
+use Rattle.locale_numbers_requests.specs.Cutting.{is_separator}
+use Rattle.locale_numbers_requests.specs.RoundingField.{rounding_named}
+use Rattle.locale_numbers_requests.specs.declared.SignAsked.{SignAsked}
+use Rattle.locale_numbers_requests.specs.declared.RoundingAsked.{RoundingAsked}
+use Rattle.locale_numbers_requests.specs.declared.Form.{Form}
+use Rattle.locale_numbers_requests.specs.declared.Form.TheVariants.{Plain, Compact, Exact, Read}
+use Rattle.locale_numbers_requests.specs.declared.PatternLength.{PatternLength}
 use Rattle.locale_numbers.specs.CompactAnswer.{compact_with, found_compact, patterns_under}
 use Rattle.locale_numbers.specs.CompactReading.{compact_reading_of}
 use Rattle.locale_numbers_book.specs.Wanted.{wanted_of}

@@ -1,17 +1,14 @@
 -- A call that refuses before it has written leaves what was there; a text that is written behind `ok` is the answer.
 use Rattle.std.proofs.Common.{◌≡◌, ◌≤◌, ◌+◌, List, [], ◌∷◌, ◌++◌, ℕ, codes, length, sym, ap, ◌∙◌, subst, arith, Option, Some, Result, Ok, Err, OnOk, OnErr, IsOk}
 use Rattle.std.proofs.lemmas.List.{append-nil, append_assoc, length-append}
+pub use Rattle.std.proofs.lemmas.Result.{on_ok_weaker as on_ok_by}
 use Rattle.locale_numbers_lines.specs.Growth.{Grows}
 use Rattle.locale_numbers.specs.AnswerLine.{written}
-use Rattle.locale_numbers.specs.Request.{tab}
+use Rattle.locale_numbers_requests.specs.Request.{tab}
 
 pub grows_by_none : {T E : Type 0} (r : Result T E) (held : List ℕ) → OnErr r (Grows held held)
 grows_by_none (Ok t) held = tt
 grows_by_none (Err e) held = record { more = []; grew = sym (append-nil held) }
-
-pub on_ok_by : {T E P Q : Type 0} (r : Result T E) → (P → Q) → OnOk r P → OnOk r Q
-on_ok_by (Ok t) f h = f h
-on_ok_by (Err e) f h = tt
 
 -- of two that the latest is, one is the other
 pub one_of : {K : Type 0} (one other : K) (latest : Option K) → latest ≡ Some one → latest ≡ Some other → one ≡ other

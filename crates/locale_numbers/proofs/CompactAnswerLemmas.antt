@@ -1,74 +1,33 @@
 -- The text of what a compact formatter writes.
 use Rattle.std.proofs.Common.{◌≡◌, Bool, false, cond, List, ◌++◌, ℕ, Option, None, Some, is_none, option_map, true, refl, sym, ap, ◌∙◌}
-use Rattle.std.proofs.lemmas.List.{append-nil}
-use Rattle.writeable.specs.AnnotatedText.{Event, bytes, closing, opening, text_of}
-use Rattle.writeable.specs.PartName.{PartName}
-use Rattle.writeable.proofs.AnnotatedTextLemmas.{text_of_bytes, text_of_closing, text_of_opening}
+use Rattle.writeable.specs.AnnotatedText.{text_of}
+use Rattle.writeable.proofs.AnnotatedTextLemmas.{text_of_bytes}
 use Rattle.fixed_decimal.specs.CompactText.{CompactValue}
 use Rattle.fixed_decimal.specs.Number.{Number}
 use Rattle.fixed_decimal.specs.Rounding.{count_limit}
 use Rattle.fixed_decimal.specs.SignedValue.{SignedValue}
-use Rattle.icu_decimal.specs.Affixes.{AffixTexts, WithSign, affixes_of, as_part, events_with_sign, prefix_events, suffix_events}
+use Rattle.icu_decimal.specs.Affixes.{WithSign, affixes_of}
 use Rattle.icu_decimal.specs.CompactTables.{CompactTables}
-use Rattle.icu_decimal.specs.CompactText.{compact_decimal_events, compact_decimal_text, compact_events, compact_formatted, compact_of, compact_text, pattern_of, text_in}
+use Rattle.icu_decimal.specs.CompactText.{pattern_of, text_in}
 use Rattle.icu_decimal.specs.ExactForms.{IsInRange, exact_place}
 use Rattle.icu_decimal.specs.ExactText.{exact_events, exact_formatted, exact_text, written_text, written_under}
 use Rattle.icu_decimal.specs.Operands.{operands_of}
 use Rattle.icu_decimal.specs.Pattern.{InPattern, PatternText, around, interpolated_events, literal, optional_events}
 use Rattle.icu_decimal.specs.PlainText.{PlainNumber, prefix_text, suffix_text, unsigned_events, unsigned_text}
 use Rattle.icu_decimal.specs.ShownChoice.{CanShow, exact_entry, shown_under}
-use Rattle.icu_decimal.proofs.TextLemmas.{text_joined, unsigned_is_text}
+pub use Rattle.icu_decimal.proofs.CompactTextLemmas.{compact_is_text as compact_is}
+use Rattle.icu_decimal.proofs.TextLemmas.{text_in_unit, text_with_sign, unsigned_is_text}
 use Rattle.locale_numbers.specs.AnswerLine.{refused, written}
 use Rattle.locale_numbers.specs.CompactAnswer.{can_be_shown, exact_answer, exact_written, is_in_range}
-use Rattle.locale_numbers.specs.declared.refusal.Refusal.TheVariants as refusal
+use Rattle.locale_numbers_requests.specs.declared.Refusal.TheVariants as refusal
 use Rattle.locale_numbers.proofs.CompactReadingLemmas.{below_test}
-
--- ---- affixes
-
-part_is : (part : PartName) (text : List ℕ) → text_of (as_part part text) ≡ text
-part_is part text =
-    text_joined (opening part) (bytes text ++ closing)
-    ∙ ap (λ x. x ++ text_of (bytes text ++ closing)) (text_of_opening part)
-    ∙ text_joined (bytes text) closing
-    ∙ ap (λ x. text_of (bytes text) ++ x) text_of_closing
-    ∙ append-nil (text_of (bytes text))
-    ∙ text_of_bytes text
-
-prefix_is : (affixes : Option AffixTexts) → text_of (prefix_events affixes) ≡ prefix_text affixes
-prefix_is None = refl
-prefix_is (Some affixes) = part_is affixes.part affixes.prefix
-
-suffix_is : (affixes : Option AffixTexts) → text_of (suffix_events affixes) ≡ suffix_text affixes
-suffix_is None = refl
-suffix_is (Some affixes) = part_is affixes.part affixes.suffix
-
--- a value between them
-affixed_is : {T : Type 0} (events : T → List Event) (s : WithSign T) (text : List ℕ) → text_of (events s.value) ≡ text
-    → text_of (events_with_sign events s) ≡ prefix_text s.affixes ++ (text ++ suffix_text s.affixes)
-affixed_is events s text is =
-    let inner : List Event = events s.value ++ suffix_events s.affixes in
-    text_joined (prefix_events s.affixes) inner
-    ∙ ap (λ x. x ++ text_of inner) (prefix_is s.affixes)
-    ∙ ap (λ x. prefix_text s.affixes ++ x) (text_joined (events s.value) (suffix_events s.affixes)
-    ∙ ap (λ x. x ++ text_of (suffix_events s.affixes)) is
-    ∙ ap (λ x. text ++ x) (suffix_is s.affixes))
-
--- ---- what a number is shown as
-
-pub compact_is : (t : CompactTables) (d : SignedValue Number) → text_of (compact_decimal_events (compact_formatted t d)) ≡ compact_decimal_text t d
-compact_is t d = affixed_is compact_events (compact_formatted t d) (compact_text (compact_of t d.absolute)) (text_of_bytes (compact_text (compact_of t d.absolute)))
 
 -- ---- exact forms
 
 in_pattern : (p : Option PatternText) (n : PlainNumber) → text_of (optional_events p (unsigned_events n)) ≡ text_in p (unsigned_text n.tables n.number)
 in_pattern None n = unsigned_is_text n
 in_pattern (Some (literal text)) n = text_of_bytes text
-in_pattern (Some (around before after)) n =
-    text_joined (bytes before) (unsigned_events n ++ bytes after)
-    ∙ ap (λ x. x ++ text_of (unsigned_events n ++ bytes after)) (text_of_bytes before)
-    ∙ ap (λ x. before ++ x) (text_joined (unsigned_events n) (bytes after)
-    ∙ ap (λ x. x ++ text_of (bytes after)) (unsigned_is_text n)
-    ∙ ap (λ x. unsigned_text n.tables n.number ++ x) (text_of_bytes after))
+in_pattern (Some (around before after)) n = text_in_unit before after (unsigned_events n) (unsigned_text n.tables n.number) (unsigned_is_text n)
 
 -- a significand in a pattern, or in none, between the affixes of its sign
 written_is : (t : CompactTables) (d : SignedValue Number) (p : Option PatternText)
@@ -76,7 +35,7 @@ written_is : (t : CompactTables) (d : SignedValue Number) (p : Option PatternTex
     ≡ prefix_text (affixes_of t.plain.symbols.strings d.sign) ++ (text_in p (unsigned_text t.plain d.absolute) ++ suffix_text (affixes_of t.plain.symbols.strings d.sign))
 written_is t d p =
     let shown : WithSign (InPattern PlainNumber) = record { value = record { pattern = p; value = record { number = d.absolute; tables = t.plain } }; affixes = affixes_of t.plain.symbols.strings d.sign } in
-    affixed_is (interpolated_events unsigned_events) shown (text_in p (unsigned_text t.plain d.absolute)) (in_pattern p shown.value.value)
+    text_with_sign shown.affixes (interpolated_events unsigned_events shown.value) (text_in p (unsigned_text t.plain d.absolute)) (in_pattern p shown.value.value)
 
 module _ {A B C : Type 0} (f : A → B) (g : A → C) where
   some_as : (h : B → C) → ((a : A) → h (f a) ≡ g a) → (found : Option A) (b : B) → option_map f found ≡ Some b → option_map g found ≡ Some (h b)

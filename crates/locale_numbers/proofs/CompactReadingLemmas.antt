@@ -11,7 +11,7 @@ use Rattle.fixed_decimal.proofs.CompactTextLemmas.{found_compact}
 use Rattle.locale_numbers.specs.CompactReading.{CompactReading, before_mark, compact_beyond, compact_nothing, compact_number, compact_reading_by, compact_reading_of, exponent_in, from_mark, marks_exponent, with_exponent}
 use Rattle.locale_numbers.specs.Laws.{HasOneCompactReading, IsCompactReading, IsReading}
 use Rattle.locale_numbers.specs.NumberReading.{Reading, beyond, is_digit, nothing, number, reading_of}
-use Rattle.locale_numbers.specs.RoundingField.{is_size}
+use Rattle.locale_numbers_requests.specs.RoundingField.{is_size}
 use Rattle.locale_numbers.proofs.LawsLemmas.{reading_is}
 use Rattle.locale_numbers.proofs.NumberReadingLemmas.{signed_beyond, signed_nothing, signed_number}
 use Rattle.locale_numbers.proofs.PartsLemmas.{all_digits, digits_all}

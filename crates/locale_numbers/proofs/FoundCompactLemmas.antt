@@ -17,7 +17,7 @@ use Rattle.icu_decimal.specs.Symbols.{Symbols}
 use Rattle.locale_numbers_book.specs.Book.{BookTables}
 use Rattle.locale_numbers_book.specs.Tables.{chain_in, digits_under, rules_under, symbols_under}
 use Rattle.locale_numbers.specs.CompactAnswer.{found_compact, patterns_under}
-use Rattle.locale_numbers.specs.declared.request.PatternLength.{PatternLength}
+use Rattle.locale_numbers_requests.specs.declared.PatternLength.{PatternLength}
 use Rattle.locale_numbers.proofs.FoundLemmas.{found_alike}
 
 module _ (chain : DataLocaleMeaning → List DataLocaleMeaning) (symbols : Identifier → Result Symbols DataError) (digits : Identifier → Result (List ℕ) DataError) (rules : Identifier → Result Rules DataError) (patterns : Identifier → Result CompactTable DataError) where

@@ -12,8 +12,8 @@ use Rattle.locale_numbers_book.specs.Laws.{AreSoundTables, BookTablesAreSound, I
 use Rattle.locale_numbers_book.specs.Tables.{chain_in}
 use Rattle.locale_numbers.specs.CompactAnswer.{patterns_under}
 use Rattle.locale_numbers.specs.PrintedLaws.{FoundTablesAreSound}
-use Rattle.locale_numbers.specs.declared.request.PatternLength.{PatternLength}
-use Rattle.locale_numbers.specs.declared.request.PatternLength.TheVariants.{Short, Long}
+use Rattle.locale_numbers_requests.specs.declared.PatternLength.{PatternLength}
+use Rattle.locale_numbers_requests.specs.declared.PatternLength.TheVariants.{Short, Long}
 use Rattle.locale_numbers.proofs.FoundCompactLemmas.{patterns_of_found}
 
 sound_at : (pairs : List (Identifier × CompactTable)) (id : Identifier) (table : CompactTable) → AreSoundTables pairs → table_at same_key id pairs ≡ Some table → IsSoundTable table

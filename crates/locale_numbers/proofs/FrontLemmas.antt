@@ -5,27 +5,28 @@ use Rattle.std.specs.List.{slice_split, onto_first}
 use Rattle.std.specs.Str.{IsUtf8, is_utf8, IsCharBoundary}
 use Rattle.std.proofs.Math.Seq.{drop-append_seam, take-append_seam}
 use Rattle.std.proofs.lemmas.Bool.{false≢true}
+use Rattle.std.proofs.lemmas.Bool.Decides.{same_from_decides}
 use Rattle.std.proofs.lemmas.Grind.{common_steps}
 use Rattle.std.proofs.lemmas.List.{append_assoc, length-append}
 use Rattle.std.proofs.lemmas.List.Splits.{length-slice_split, slice_split-cons_no, slice_split-cons_yes, slice_split_none}
 use Rattle.std.proofs.lemmas.Str.{IsUtf8-from_is_utf8, is_utf8-from_IsUtf8, IsUtf8-append, IsUtf8-take, IsUtf8-drop, IsCharBoundary-after_ascii}
 use Rattle.icu_decimal.specs.declared.options.GroupingStrategy.{GroupingStrategy}
-use Rattle.locale_numbers.specs.Cutting.{IsLastCut, IsNot, is_separator}
+use Rattle.locale_numbers_requests.specs.Cutting.{IsLastCut, IsNot, is_separator}
 use Rattle.icu_locale_core.specs.TagPreferences.{Preferences}
 use Rattle.locale_numbers_book.specs.Book.{BookTables}
 use Rattle.locale_numbers_cache.specs.LastRead.{Remembered}
 use Rattle.locale_numbers.specs.Answer.{answer_asked, answer_in, answer_of, answer_tagged, refused}
 use Rattle.locale_numbers.specs.FormatterKeys.{key_asked, key_of, key_tagged, key_with, kind_of}
-use Rattle.locale_numbers.specs.Front.{FitsForm, HasKeyThat, answer_behind, answer_front, answer_keyed, asked_behind, asked_text, front_asked, front_of, key_behind, key_front, key_keyed, with_text}
-use Rattle.locale_numbers.specs.Request.{Asked, fields, request_by, request_in, request_of, tab, takes}
+use Rattle.locale_numbers.specs.Front.{FitsForm, HasKeyThat, answer_behind, answer_front, answer_keyed, asked_behind, asked_text, front_asked, front_of, key_behind, key_front, key_keyed}
+use Rattle.locale_numbers_requests.specs.Request.{Asked, fields, request_by, request_in, request_of, tab, takes, with_text}
 use Rattle.locale_numbers_book.specs.Wanted.{wanted_of}
 use Rattle.locale_numbers.specs.declared.formatter_key.FormatterKey.{FormatterKey}
 use Rattle.locale_numbers.specs.declared.front.Front.{Front}
-use Rattle.locale_numbers.specs.declared.refusal.Refusal.TheVariants as refusal
-use Rattle.locale_numbers.specs.declared.sign_field.SignAsked.{SignAsked}
-use Rattle.locale_numbers.specs.declared.rounding_field.RoundingAsked.{RoundingAsked}
-use Rattle.locale_numbers.specs.declared.request.Form.{Form}
-use Rattle.locale_numbers.specs.declared.request.Form.TheVariants.{Plain, Compact, Exact, Read}
+use Rattle.locale_numbers_requests.specs.declared.Refusal.TheVariants as refusal
+use Rattle.locale_numbers_requests.specs.declared.SignAsked.{SignAsked}
+use Rattle.locale_numbers_requests.specs.declared.RoundingAsked.{RoundingAsked}
+use Rattle.locale_numbers_requests.specs.declared.Form.{Form}
+use Rattle.locale_numbers_requests.specs.declared.Form.TheVariants.{Plain, Compact, Exact, Read}
 
 -- ---- the fields
 
@@ -101,17 +102,13 @@ sides_utf8 before text utf8 =
       subst IsUtf8 (drop-append_seam front text) (IsUtf8-drop (front ++ text) (length front) utf8 behind),
     )
 
-same_tests : (a b : Bool) → (a ≡ true → b ≡ true) → (b ≡ true → a ≡ true) → a ≡ b
-same_tests true b there back = sym (there refl)
-same_tests false true there back = back refl
-same_tests false false there back = refl
-
 -- before a text that is UTF-8, the line is where its front is
 front_utf8 : (before text : List ℕ) → IsUtf8 text → is_utf8 ((before ++ tab ∷ []) ++ text) ≡ is_utf8 (before ++ tab ∷ [])
 front_utf8 before text utf8 =
-    same_tests _ _
-    (λ whole. is_utf8-from_IsUtf8 (before ++ tab ∷ []) (sides_utf8 before text (IsUtf8-from_is_utf8 ((before ++ tab ∷ []) ++ text) whole)).0)
-    (λ front. is_utf8-from_IsUtf8 ((before ++ tab ∷ []) ++ text) (IsUtf8-append (before ++ tab ∷ []) text (IsUtf8-from_is_utf8 (before ++ tab ∷ []) front) utf8))
+    let front : List ℕ = before ++ tab ∷ [] in
+    same_from_decides {P = IsUtf8 front} (is_utf8 (front ++ text)) (is_utf8 front)
+    (λ whole. (sides_utf8 before text (IsUtf8-from_is_utf8 (front ++ text) whole)).0, λ fine. is_utf8-from_IsUtf8 (front ++ text) (IsUtf8-append front text fine utf8))
+    (IsUtf8-from_is_utf8 front, is_utf8-from_IsUtf8 front)
 
 -- ---- a line
 

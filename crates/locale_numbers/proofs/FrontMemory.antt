@@ -14,14 +14,14 @@ use Rattle.locale_numbers.specs.CompactReading.{compact_reading_of}
 use Rattle.locale_numbers.specs.FormatterKeys.{answer_of_kind, kind_of}
 use Rattle.locale_numbers.specs.Front.{FitsForm, MayTakeBehind, MayTakeIn, MayTakeKeyed, answer_behind, answer_keyed, asked_behind, if_text}
 use Rattle.locale_numbers.specs.NumberReading.{reading_of}
-use Rattle.locale_numbers.specs.Request.{Asked}
+use Rattle.locale_numbers_requests.specs.Request.{Asked}
 use Rattle.locale_numbers.specs.declared.formatter_key.FormatterKey.{FormatterKey}
 use Rattle.locale_numbers.specs.declared.front.Front.{Front}
-use Rattle.locale_numbers.specs.declared.refusal.Refusal.TheVariants as refusal
-use Rattle.locale_numbers.specs.declared.request.Form.{Form}
-use Rattle.locale_numbers.specs.declared.request.Form.TheVariants.{Plain, Compact, Exact}
-use Rattle.locale_numbers.specs.declared.request.PatternLength.{PatternLength}
-use Rattle.locale_numbers.specs.declared.rounding_field.RoundingAsked.{RoundingAsked}
+use Rattle.locale_numbers_requests.specs.declared.Refusal.TheVariants as refusal
+use Rattle.locale_numbers_requests.specs.declared.Form.{Form}
+use Rattle.locale_numbers_requests.specs.declared.Form.TheVariants.{Plain, Compact, Exact}
+use Rattle.locale_numbers_requests.specs.declared.PatternLength.{PatternLength}
+use Rattle.locale_numbers_requests.specs.declared.RoundingAsked.{RoundingAsked}
 
 -- a form that writes a number: in plain form, or in compact form
 abbrev WritesNumber : Form → Type 0

@@ -25,9 +25,9 @@ use Rattle.locale_numbers.specs.declared.formatter_key.Kind.TheVariants.{Plain, 
 use Rattle.locale_numbers.specs.declared.kept_formatter.KeptFormatter.{KeptFormatter}
 use Rattle.locale_numbers.specs.declared.kept_formatter.KeptFormatter.TheVariants as kept
 use Rattle.locale_numbers.specs.declared.kept_formatter.PlainFormatter.{PlainFormatter}
-use Rattle.locale_numbers.specs.declared.request.PatternLength.{PatternLength}
+use Rattle.locale_numbers_requests.specs.declared.PatternLength.{PatternLength}
 use Rattle.icu_decimal.specs.declared.CompactDecimalFormatter.{CompactDecimalFormatter}
-use Rattle.locale_numbers.specs.declared.refusal.Refusal.TheVariants as refusal
+use Rattle.locale_numbers_requests.specs.declared.Refusal.TheVariants as refusal
 
 -- tables that answer as a book does are found as in the book
 pub found_by : (chain : DataLocaleMeaning → List DataLocaleMeaning) (symbols : Identifier → Result Symbols DataError) (digits : Identifier → Result (List ℕ) DataError) (book : BookTables) (p : Preferences) (grouping : GroupingStrategy) (options : DecimalFormatterOptions) (found : Result Tables DataError)

@@ -3,8 +3,8 @@ use Rattle.std.proofs.Common.{◌≡◌, ℕ, List, [], ◌∷◌, ◌++◌, cod
 use Rattle.fixed_decimal.specs.Number.{Number}
 use Rattle.fixed_decimal.specs.Rounding.{count_limit}
 use Rattle.fixed_decimal.specs.SignedValue.{SignedValue}
-use Rattle.fixed_decimal.specs.declared.sign.Sign.TheVariants.{None as NoSign, Negative}
-use Rattle.fixed_decimal.specs.declared.sign.SignDisplay.TheVariants as display
+use Rattle.fixed_decimal.specs.declared.Sign.TheVariants.{None as NoSign, Negative}
+use Rattle.fixed_decimal.specs.declared.SignDisplay.TheVariants as display
 use Rattle.icu_decimal.specs.CompactTables.{CompactTables}
 use Rattle.icu_decimal.specs.CompactText.{lowest_place}
 use Rattle.icu_decimal.specs.Elements.{only_other}
@@ -16,11 +16,11 @@ use Rattle.icu_decimal.specs.declared.options.GroupingStrategy.TheVariants.{Auto
 use Rattle.locale_numbers.specs.Answer.{exact_to}
 use Rattle.locale_numbers.specs.CompactAnswer.{compact_answer, compact_with, exact_answer, exact_with}
 use Rattle.locale_numbers.specs.CompactReading.{compact_beyond, compact_nothing, compact_number, compact_reading_of}
-use Rattle.locale_numbers.specs.Request.{request_in, tab}
-use Rattle.locale_numbers.specs.declared.request.Form.TheVariants.{Compact, Exact}
-use Rattle.locale_numbers.specs.declared.request.PatternLength.TheVariants.{Short, Long}
-use Rattle.locale_numbers.specs.declared.rounding_field.RoundingAsked.TheVariants.{Unrounded}
-use Rattle.locale_numbers.specs.declared.sign_field.SignAsked.TheVariants.{Keep, Show}
+use Rattle.locale_numbers_requests.specs.Request.{request_in, tab}
+use Rattle.locale_numbers_requests.specs.declared.Form.TheVariants.{Compact, Exact}
+use Rattle.locale_numbers_requests.specs.declared.PatternLength.TheVariants.{Short, Long}
+use Rattle.locale_numbers_requests.specs.declared.RoundingAsked.TheVariants.{Unrounded}
+use Rattle.locale_numbers_requests.specs.declared.SignAsked.TheVariants.{Keep, Show}
 
 -- ---- request lines
 

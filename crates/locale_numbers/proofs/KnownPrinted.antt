@@ -11,11 +11,11 @@ use Rattle.locale_numbers_book.specs.Book.{BookTables}
 use Rattle.locale_numbers_book.specs.TagReading as reading
 use Rattle.locale_numbers.specs.Answer.{answer_asked, written}
 use Rattle.locale_numbers.specs.Printed.{FindsCompact, KeepsEntry, Prints, PrintsSize, exact_request}
-use Rattle.locale_numbers.specs.Request.{Asked}
-use Rattle.locale_numbers.specs.declared.request.Form.TheVariants.{Compact}
-use Rattle.locale_numbers.specs.declared.request.PatternLength.TheVariants.{Short}
-use Rattle.locale_numbers.specs.declared.rounding_field.RoundingAsked.TheVariants.{Unrounded}
-use Rattle.locale_numbers.specs.declared.sign_field.SignAsked.TheVariants.{Keep}
+use Rattle.locale_numbers_requests.specs.Request.{Asked}
+use Rattle.locale_numbers_requests.specs.declared.Form.TheVariants.{Compact}
+use Rattle.locale_numbers_requests.specs.declared.PatternLength.TheVariants.{Short}
+use Rattle.locale_numbers_requests.specs.declared.RoundingAsked.TheVariants.{Unrounded}
+use Rattle.locale_numbers_requests.specs.declared.SignAsked.TheVariants.{Keep}
 use Rattle.locale_numbers.proofs.KnownCompactAnswers.{english, zero_of}
 
 abbrev en : DataLocaleMeaning

@@ -1,27 +1,24 @@
--- Known values of the definitions: lines taken apart, roundings, what tags ask for, texts of numbers, lines of the program.
-use Rattle.std.proofs.Common.{◌≡◌, [], ◌∷◌, ◌++◌, codes, ◌*◌, ◌^◌, pos, negsuc, true, false, Option, option_map, Some, None, Err, refl}
+-- Known values of the definitions: roundings, what tags ask for, texts of numbers, lines of the program.
+use Rattle.std.proofs.Common.{◌≡◌, [], ◌∷◌, ◌++◌, codes, ◌*◌, ◌^◌, pos, true, false, Option, option_map, Some, None, Err, refl}
 use Rattle.icu_decimal.specs.declared.error.DataError.{DataError}
-use Rattle.icu_decimal.specs.declared.options.GroupingStrategy.TheVariants.{Min2}
 use Rattle.icu_decimal.specs.PlainReading.{decimal, not_written, unreadable}
 use Rattle.locale_numbers_lines.specs.declared.RunError.TheVariants as run
 use Rattle.locale_numbers_book.specs.declared.BookError.TheVariants as book
-use Rattle.locale_numbers.specs.declared.request.Form.TheVariants.{Plain, Read}
-use Rattle.locale_numbers.specs.declared.sign_field.SignAsked.TheVariants.{Keep, Show}
-use Rattle.locale_numbers.specs.declared.rounding_field.RoundingAsked.TheVariants.{Unrounded, At}
+use Rattle.locale_numbers_requests.specs.declared.SignAsked.TheVariants.{Keep, Show}
+use Rattle.locale_numbers_requests.specs.declared.RoundingAsked.TheVariants.{At}
 use Rattle.locale_numbers.specs.declared.fault.ProgramFault.TheVariants.{Usage, Book, Run}
 use Rattle.locale_numbers.specs.Fault.{status_of, line_of}
 use Rattle.fixed_decimal.specs.Rounding.{count_limit}
-use Rattle.fixed_decimal.specs.declared.sign.Sign.TheVariants.{None as NoSign, Negative}
-use Rattle.fixed_decimal.specs.declared.sign.SignDisplay.TheVariants as display
-use Rattle.fixed_decimal.specs.declared.modes.SignedRoundingMode.TheVariants.{Unsigned}
-use Rattle.fixed_decimal.specs.declared.UnsignedRoundingMode.TheVariants.{Expand, Trunc, HalfTrunc, HalfEven}
-use Rattle.fixed_decimal.specs.declared.RoundingIncrement.TheVariants.{MultiplesOf1, MultiplesOf2, MultiplesOf25}
+use Rattle.fixed_decimal.specs.declared.Sign.TheVariants.{None as NoSign, Negative}
+use Rattle.fixed_decimal.specs.declared.SignDisplay.TheVariants as display
+use Rattle.fixed_decimal.specs.declared.SignedRoundingMode.TheVariants.{Unsigned}
+use Rattle.fixed_decimal.specs.declared.UnsignedRoundingMode.TheVariants.{Expand, Trunc, HalfEven}
+use Rattle.fixed_decimal.specs.declared.RoundingIncrement.TheVariants.{MultiplesOf1, MultiplesOf2}
 use Rattle.locale_numbers.specs.Changing.{changed}
 use Rattle.locale_numbers.specs.Rounded.{multiple_of, highest_of}
-use Rattle.locale_numbers.specs.RoundingField.{position_named, rounding_named}
 use Rattle.locale_numbers.specs.ReadAnswer.{read_answer, read_with}
 use Rattle.locale_numbers.specs.NumberReading.{reading_of, parts_of, nothing, beyond}
-use Rattle.locale_numbers.specs.Request.{tab, fields, request_in, grouping_named, sign_named}
+use Rattle.locale_numbers_requests.specs.Request.{tab}
 use Rattle.icu_locale_core.specs.Stepping.{headed_after, whole_after}
 use Rattle.icu_locale_core.specs.TagStages.{with_piece, body_after}
 use Rattle.icu_locale_core.specs.Subtags.{Text}
@@ -30,78 +27,7 @@ use Rattle.locale_numbers_book.specs.TagReading.{tag_of}
 use Rattle.locale_numbers_book.specs.Wanted.{wanted_of}
 use Rattle.locale_numbers.specs.Words.{words_said, capacity_named}
 
--- ---- request lines
-
--- two tabs in a row hold an empty field
-empty_field : fields (codes "a" ++ tab ∷ tab ∷ codes "b") ≡ codes "a" ∷ [] ∷ codes "b" ∷ []
-empty_field = refl
-
-plain_line : request_in (codes "en" ∷ codes "plain" ∷ codes "min2" ∷ codes "keep" ∷ codes "-" ∷ codes "1000" ∷ [])
-    ≡ Some (record { tag = codes "en"; form = Plain; grouping = Min2; sign = Keep; rounding = Unrounded; text = codes "1000" })
-plain_line = refl
-
--- what is read back has the sign and the digits of the text
-read_line : request_in (codes "en" ∷ codes "read" ∷ codes "min2" ∷ codes "keep" ∷ codes "-" ∷ codes "1,000" ∷ [])
-    ≡ Some (record { tag = codes "en"; form = Read; grouping = Min2; sign = Keep; rounding = Unrounded; text = codes "1,000" })
-read_line = refl
-
-read_with_a_sign : request_in (codes "en" ∷ codes "read" ∷ codes "auto" ∷ codes "auto" ∷ codes "-" ∷ codes "5" ∷ []) ≡ None
-read_with_a_sign = refl
-
-read_with_a_rounding : request_in (codes "en" ∷ codes "read" ∷ codes "auto" ∷ codes "keep" ∷ codes "0,trunc,1" ∷ codes "5" ∷ []) ≡ None
-read_with_a_rounding = refl
-
-five_fields : request_in (codes "en" ∷ codes "plain" ∷ codes "auto" ∷ codes "keep" ∷ codes "-" ∷ []) ≡ None
-five_fields = refl
-
-seven_fields : request_in (codes "en" ∷ codes "plain" ∷ codes "auto" ∷ codes "keep" ∷ codes "-" ∷ codes "1" ∷ [] ∷ []) ≡ None
-seven_fields = refl
-
--- words are told apart by case, and a part of one is none
-capital_word : grouping_named (codes "Auto") ≡ None
-capital_word = refl
-
-short_word : grouping_named (codes "min") ≡ None
-short_word = refl
-
 -- ---- roundings
-
--- -7.235, rounded at the hundredths to a multiple of 25 of them
-quarters : rounding_named (codes "-2,half-trunc,25") ≡ Some (At (negsuc 1) (Unsigned HalfTrunc) MultiplesOf25)
-quarters = refl
-
-least_position : position_named (codes "-32768") ≡ Some (negsuc 32767)
-least_position = refl
-
-greatest_position : position_named (codes "32767") ≡ Some (pos 32767)
-greatest_position = refl
-
-position_too_low : position_named (codes "-32769") ≡ None
-position_too_low = refl
-
-position_too_high : position_named (codes "32768") ≡ None
-position_too_high = refl
-
-position_with_plus : position_named (codes "+1") ≡ None
-position_with_plus = refl
-
-minus_zero : position_named (codes "-0") ≡ None
-minus_zero = refl
-
-zero_in_front : position_named (codes "01") ≡ None
-zero_in_front = refl
-
-no_position : position_named [] ≡ None
-no_position = refl
-
-half_of_a_mode : rounding_named (codes "0,half,1") ≡ None
-half_of_a_mode = refl
-
-third_increment : rounding_named (codes "0,trunc,3") ≡ None
-third_increment = refl
-
-one_comma : rounding_named (codes "0,trunc") ≡ None
-one_comma = refl
 
 -- 9.75 at the tenths to five of them is 10.0
 to_fives : multiple_of HalfEven (5 * 10 ^ 32767) (975 * 10 ^ 32766) ≡ 100 * 10 ^ 32767
@@ -129,9 +55,6 @@ none_at_zero : changed (At (pos 0) (Unsigned Trunc) MultiplesOf1) (Show display.
     ≡ record { sign = NoSign; absolute = record { count = 0; low = 32768; high = 32768 } }
 unfolding count_limit
 none_at_zero = refl
-
-no_such_sign : sign_named (codes "plus") ≡ None
-no_such_sign = refl
 
 -- ---- what tags ask for
 

@@ -5,10 +5,10 @@ use Rattle.fixed_decimal.specs.CompactText.{CompactValue, behind_compact_mark, c
 use Rattle.fixed_decimal.specs.Number.{fraction_digits, whole_digits}
 use Rattle.fixed_decimal.specs.NumberText.{behind_point, character}
 use Rattle.fixed_decimal.specs.SignedText.{sign_text}
-use Rattle.fixed_decimal.specs.declared.sign.Sign.{Sign}
-use Rattle.fixed_decimal.specs.declared.sign.Sign.TheVariants.{None as Unsigned, Positive, Negative}
+use Rattle.fixed_decimal.specs.declared.Sign.{Sign}
+use Rattle.fixed_decimal.specs.declared.Sign.TheVariants.{None as Unsigned, Positive, Negative}
 use Rattle.locale_numbers.specs.Printed.{HasNoTab}
-use Rattle.locale_numbers.specs.Request.{tab}
+use Rattle.locale_numbers_requests.specs.Request.{tab}
 
 no_tab_in : (c d : List ℕ) → HasNoTab (c ++ tab ∷ d) → ⊥
 no_tab_in [] d h = h.0 refl

@@ -1,8 +1,8 @@
 -- Each text has one reading, and the function answers it.
 use Rattle.std.proofs.Common.{◌≡◌, ◌==◌, Bool, true, false, cond, List, [], ◌∷◌, ◌++◌, ℕ, Option, Some, None, refl, sym, ap, subst}
 use Rattle.std.proofs.lemmas.Bool.{eqb-true, eqb-false}
-use Rattle.fixed_decimal.specs.declared.sign.Sign.{Sign}
-use Rattle.fixed_decimal.specs.declared.sign.Sign.TheVariants.{None as Unsigned, Positive, Negative}
+use Rattle.fixed_decimal.specs.declared.Sign.{Sign}
+use Rattle.fixed_decimal.specs.declared.Sign.TheVariants.{None as Unsigned, Positive, Negative}
 use Rattle.fixed_decimal.specs.SignedText.{plus, sign_text, StartsNoSign}
 use Rattle.fixed_decimal.specs.NumberText.{minus, Parts}
 use Rattle.fixed_decimal.proofs.SignedTextLemmas.{no_signed_text}

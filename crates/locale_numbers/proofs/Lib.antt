@@ -2,8 +2,6 @@ pub mod AlikeTags
 pub mod AnsweringLemmas
 pub mod CompactAnswerLemmas
 pub mod CompactReadingLemmas
-pub mod CuttingLemmas
-pub mod DigitsLemmas
 pub mod ExponentLemmas
 pub mod FoundCompactLemmas
 pub mod FoundLemmas
@@ -23,7 +21,6 @@ pub mod PrintedLemmas
 pub mod PrintedSizes
 pub mod ReadingLemmas
 pub mod ReadingTrips
-pub mod RequestLemmas
 pub mod RoundedLemmas
 pub mod ValueLemmas
 pub mod TextLemmas

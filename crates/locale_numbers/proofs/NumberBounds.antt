@@ -1,56 +1,40 @@
 -- What a text spells and what a rounding leaves is a number; what was rounded is left by the same rounding as it is.
-use Rattle.std.proofs.Common.{◌≡◌, ℕ, ℤ, ◌+◌, ◌-◌, ◌*◌, ◌%◌, ◌^◌, ◌<◌, ◌≤◌, Bool, true, false, cond, nat_lt, List, [], ◌∷◌, ◌++◌, length, max, min, refl, sym, ap, ◌∙◌, subst, inl, arith, length-append}
-use Rattle.std.proofs.Math.Nat.{mul-le-mul_right, mul-mod_left, mul_assoc, one-le-pow, pow-le-pow_right}
+use Rattle.std.proofs.Common.{◌≡◌, ℕ, ℤ, ◌+◌, ◌-◌, ◌*◌, ◌%◌, ◌^◌, ◌<◌, ◌≤◌, Bool, true, false, cond, nat_lt, List, length, max, min, refl, sym, ap, ◌∙◌, subst, inl, arith}
+use Rattle.std.proofs.Math.Nat.{mul-lt-mul_of_pos_right, mul_assoc, pow-le-pow_right}
 use Rattle.std.proofs.lemmas.Bool.{ltb-true}
-use Rattle.std.proofs.lemmas.Int.Digits.{digits_value-lt}
 use Rattle.std.proofs.lemmas.Nat.{pow-add}
 use Rattle.fixed_decimal.specs.Number.{IsNumber, Number, place}
-use Rattle.fixed_decimal.specs.NumberText.{AreDigits, AreEndsIn, IsWithin, Parts, Spells, down_of, mantissa_of, number_at, number_of, spelled, up_of}
+use Rattle.fixed_decimal.specs.NumberText.{AreEndsIn, IsWithin, Parts, Spells, down_of, mantissa_of, number_at, number_of, up_of}
 use Rattle.fixed_decimal.specs.Range.{Rounds}
-use Rattle.fixed_decimal.specs.Rounding.{IsMultiple, IsRounded, count_limit, increment_number}
+use Rattle.fixed_decimal.specs.Rounding.{IsMultiple, count_limit, increment_number}
 use Rattle.fixed_decimal.specs.SignedRounding.{size_mode}
 use Rattle.fixed_decimal.specs.SignedValue.{SignedValue}
 use Rattle.fixed_decimal.specs.TextLaws.{IsDecimal}
 use Rattle.fixed_decimal.specs.declared.UnsignedRoundingMode.{UnsignedRoundingMode}
-use Rattle.fixed_decimal.specs.declared.UnsignedRoundingMode.TheVariants.{Expand, Trunc, HalfExpand, HalfTrunc, HalfEven}
 use Rattle.fixed_decimal.specs.declared.RoundingIncrement.{RoundingIncrement}
-use Rattle.fixed_decimal.specs.declared.modes.SignedRoundingMode.{SignedRoundingMode}
-use Rattle.fixed_decimal.specs.declared.sign.Sign.{Sign}
+use Rattle.fixed_decimal.specs.declared.SignedRoundingMode.{SignedRoundingMode}
+use Rattle.fixed_decimal.specs.declared.Sign.{Sign}
+use Rattle.fixed_decimal.proofs.RoundingLemmas.{exact, rounded_multiple}
+use Rattle.fixed_decimal.proofs.SpelledLemmas.{spelled_below}
+use Rattle.fixed_decimal.proofs.TenLemmas.{mod_below_power, tens_positive}
 use Rattle.locale_numbers.specs.Changing.{changed}
 use Rattle.locale_numbers.specs.Laws.{IsAtMagnitude}
 use Rattle.locale_numbers.specs.NumberReading.{number, reading_of}
 use Rattle.locale_numbers.specs.Rounded.{limited, multiple_of, rounded, rounded_size}
-use Rattle.locale_numbers.specs.declared.rounding_field.RoundingAsked.{RoundingAsked}
-use Rattle.locale_numbers.specs.declared.rounding_field.RoundingAsked.TheVariants.{Unrounded, At}
-use Rattle.locale_numbers.specs.declared.sign_field.SignAsked.{SignAsked}
-use Rattle.locale_numbers.specs.declared.sign_field.SignAsked.TheVariants.{Keep, Show}
+use Rattle.locale_numbers_requests.specs.declared.RoundingAsked.{RoundingAsked}
+use Rattle.locale_numbers_requests.specs.declared.RoundingAsked.TheVariants.{Unrounded, At}
+use Rattle.locale_numbers_requests.specs.declared.SignAsked.{SignAsked}
+use Rattle.locale_numbers_requests.specs.declared.SignAsked.TheVariants.{Keep, Show}
 use Rattle.locale_numbers.proofs.LawsLemmas.{one_reading}
-use Rattle.locale_numbers.proofs.RoundedLemmas.{exact, multiple_right, rounds_as, size_right, unit_positive}
+use Rattle.locale_numbers.proofs.RoundedLemmas.{multiple_right, rounds_as, size_right, unit_positive}
 
 -- ---- counts at a place
-
--- a count of a place has no digit below a lower one
-whole_at : (c e l : ℕ) → l ≤ e → c * 10 ^ e % 10 ^ l ≡ 0
-whole_at c e l under =
-    let up : e - l + l ≡ e = omega (arith, under) in
-    let split : 10 ^ e ≡ 10 ^ (e - l) * 10 ^ l = ap (λ x. 10 ^ x) (sym up) ∙ pow-add 10 (e - l) l in
-    let same : c * 10 ^ e ≡ c * 10 ^ (e - l) * 10 ^ l = ap (λ x. c * x) split ∙ sym (mul_assoc c (10 ^ (e - l)) (10 ^ l)) in
-    ap (λ x. x % 10 ^ l) same ∙ mul-mod_left (c * 10 ^ (e - l)) (10 ^ l)
-
-tens_positive : (k : ℕ) → 0 < 10 ^ k
-tens_positive k = let h : 1 ≤ 10 ^ k = one-le-pow k 10 (omega arith) in omega arith
-
-below_product : (m t p : ℕ) → m < t → 0 < p → m * p < t * p
-below_product m t p less some =
-    let least : (m + 1) * p ≤ t * p = mul-le-mul_right p (omega (arith, less)) in
-    let more : (m + 1) * p ≡ m * p + p = omega arith in
-    omega (arith, least, more, some)
 
 -- a count of n digits whose last stands at a place
 count_below : (m n k j : ℕ) → m < 10 ^ n → n + k ≤ j → m * 10 ^ k < 10 ^ j
 count_below m n k j less within =
     let split : 10 ^ (n + k) ≡ 10 ^ n * 10 ^ k = pow-add 10 n k in
-    let low : m * 10 ^ k < 10 ^ (n + k) = subst (λ x. m * 10 ^ k < x) (sym split) (below_product m (10 ^ n) (10 ^ k) less (tens_positive k)) in
+    let low : m * 10 ^ k < 10 ^ (n + k) = subst (λ x. m * 10 ^ k < x) (sym split) (mul-lt-mul_of_pos_right less (tens_positive k)) in
     let up : 10 ^ (n + k) ≤ 10 ^ j = pow-le-pow_right {n = 10} (omega arith) {i = n + k} {j = j} within in
     omega (arith, low, up)
 
@@ -64,17 +48,9 @@ number_at_is m a b u d ends less some =
       low = omega arith;
       ones = omega arith;
       high = omega (arith, first);
-      whole = whole_at m (32768 + u - (b + d)) (min 32768 (32768 + u - (b + d))) (omega arith);
+      whole = mod_below_power m (32768 + u - (b + d)) (min 32768 (32768 + u - (b + d))) (omega arith);
       below = count_below m (a + b) (32768 + u - (b + d)) (max 32768 (32768 + u + a - (d + 1)) + 1) less (omega (arith, first, last, some));
     }
-
-joined_digits : (a b : List ℕ) → AreDigits a → AreDigits b → AreDigits (a ++ b)
-joined_digits [] b are more = more
-joined_digits (c ∷ cs) b are more = (are.0, joined_digits cs b are.1 more)
-
-spelled_below : (whole fraction : List ℕ) → AreDigits whole → AreDigits fraction → spelled (whole ++ fraction) < 10 ^ (length whole + length fraction)
-spelled_below whole fraction are more =
-    subst (λ n. spelled (whole ++ fraction) < 10 ^ n) (length-append whole fraction) (digits_value-lt 10 (whole ++ fraction) (joined_digits whole fraction are more))
 
 number_of_is : (text : List ℕ) (parts : Parts) → Spells text parts → IsWithin parts → IsNumber (number_of parts)
 number_of_is text parts spells within =
@@ -110,13 +86,6 @@ limited_multiple unit n m = at (nat_lt n count_limit)
     at true = m
     at false = (0, omega arith)
 
-is_multiple : (mode : UnsignedRoundingMode) (unit n m : ℕ) → IsRounded mode unit n m → IsMultiple unit m
-is_multiple Expand unit n m r = r.multiple
-is_multiple Trunc unit n m r = r.multiple
-is_multiple HalfExpand unit n m r = r.multiple
-is_multiple HalfTrunc unit n m r = r.multiple
-is_multiple HalfEven unit n m r = r.multiple
-
 -- the count that a rounding leaves
 abbrev left : UnsignedRoundingMode → RoundingIncrement → ℕ → Number → ℕ
 left mode increment at old = limited (multiple_of mode (increment_number increment * 10 ^ at) old.count)
@@ -125,11 +94,11 @@ left_multiple : (mode : UnsignedRoundingMode) (increment : RoundingIncrement) (a
     → IsMultiple (increment_number increment * 10 ^ at) (left mode increment at old)
 left_multiple mode increment at old =
     let unit : ℕ = increment_number increment * 10 ^ at in
-    limited_multiple unit (multiple_of mode unit old.count) (is_multiple mode unit old.count (multiple_of mode unit old.count) (multiple_right mode unit old.count (unit_positive increment at)))
+    limited_multiple unit (multiple_of mode unit old.count) (rounded_multiple mode unit old.count (multiple_of mode unit old.count) (multiple_right mode unit old.count (unit_positive increment at)))
 
 multiple_whole : (k at low n : ℕ) → low ≤ at → IsMultiple (k * 10 ^ at) n → n % 10 ^ low ≡ 0
 multiple_whole k at low n under m =
-    ap (λ x. x % 10 ^ low) (m.1 ∙ sym (mul_assoc m.0 k (10 ^ at))) ∙ whole_at (m.0 * k) at low under
+    ap (λ x. x % 10 ^ low) (m.1 ∙ sym (mul_assoc m.0 k (10 ^ at))) ∙ mod_below_power (m.0 * k) at low under
 
 size_is_number : (mode : UnsignedRoundingMode) (increment : RoundingIncrement) (at : ℕ) (old : Number) → IsNumber old → at < 65536
     → IsNumber (rounded_size mode increment at old)

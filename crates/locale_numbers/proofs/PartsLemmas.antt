@@ -1,11 +1,12 @@
 -- The parts that a function finds of a text are those that spell it.
-use Rattle.std.proofs.Common.{◌≡◌, ◌==◌, ◌||◌, ◌&&◌, ℕ, ◌+◌, ◌<◌, ◌⊎◌, Bool, true, false, cond, List, [], ◌∷◌, ◌++◌, length, Option, Some, None, refl, sym, ap, ◌∙◌, subst, arith, inl, inr}
+use Rattle.std.proofs.Common.{◌≡◌, ◌==◌, ◌||◌, ℕ, ◌+◌, ◌<◌, ◌⊎◌, Bool, true, false, cond, List, [], ◌∷◌, ◌++◌, length, Option, Some, None, refl, sym, ap, ◌∙◌, subst, arith, inl, inr}
 use Rattle.std.specs.List.{list_all}
 use Rattle.std.proofs.lemmas.List.{append-nil}
 use Rattle.std.proofs.lemmas.Bool.Decides.{nat_tests}
 use Rattle.fixed_decimal.specs.NumberText.{AreDigits, behind_point, minus_if, minus, point, small_mark, capital_mark, Parts, SpellsExponent, Spells, IsNoText}
 use Rattle.fixed_decimal.specs.TextParts.{StartsNoDigit, StartsNoPoint, StartsNoMinus, IsNoExponent}
 use Rattle.fixed_decimal.proofs.TextPartsLemmas.{no_fraction, no_power, no_digits, found_exponent, no_exponent, cons_head, cons_tail}
+pub use Rattle.locale_numbers_requests.proofs.DigitsLemmas.{all_digits}
 use Rattle.locale_numbers.specs.NumberReading.{is_digit, digits_front, behind_digits, is_mark, digits_alone, behind_mark_of, power_of, parts_with, behind_point_of, parts_behind, parts_of}
 
 -- the digits in front, and what stands behind them
@@ -67,14 +68,6 @@ parts_with_right text integer fraction last whole integers fractions no_digit no
 pub digits_all : (text : List ℕ) → AreDigits text → list_all is_digit text ≡ true
 digits_all [] digits = refl
 digits_all (c ∷ cs) digits = let first : is_digit c ≡ true = grind (arith, nat_tests, digits.0) in rw (first, digits_all cs digits.1)
-
-pub all_digits : (text : List ℕ) → list_all is_digit text ≡ true → AreDigits text
-all_digits [] all = tt
-all_digits (c ∷ cs) all = at (is_digit c) refl all (all_digits cs)
-  where
-    at : (b : Bool) → is_digit c ≡ b → (b && list_all is_digit cs) ≡ true → (list_all is_digit cs ≡ true → AreDigits cs) → AreDigits (c ∷ cs)
-    at true first rest digits = (grind (arith, nat_tests), digits rest)
-    at false first rest digits = absurd (cc)
 
 -- behind a mark and a sign stand digits alone, or there is no exponent
 alone_right : (text tail behind : List ℕ) (mark : ℕ) (sign : Bool) → text ≡ mark ∷ tail → tail ≡ minus_if sign ++ behind → (sign ≡ false → StartsNoMinus behind) → (mark ≡ small_mark) ⊎ (mark ≡ capital_mark)

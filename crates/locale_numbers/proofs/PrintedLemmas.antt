@@ -21,10 +21,10 @@ use Rattle.locale_numbers.specs.CompactReading.{compact_number, compact_reading_
 use Rattle.locale_numbers.specs.NumberReading.{reading_of}
 use Rattle.locale_numbers.specs.Printed.{FindsCompact, HasNoTab, Prints, PrintsSize, exact_request, number_shown, size_of}
 use Rattle.locale_numbers.specs.PrintedLaws.{PrintedIsAnswered, PrintedIsWrittenAgain}
-use Rattle.locale_numbers.specs.Request.{Asked, tab}
-use Rattle.locale_numbers.specs.declared.refusal.Refusal.TheVariants as refusal
-use Rattle.locale_numbers.specs.declared.request.PatternLength.{PatternLength}
-use Rattle.locale_numbers.specs.declared.sign_field.SignAsked.TheVariants.{Keep}
+use Rattle.locale_numbers_requests.specs.Request.{Asked, tab}
+use Rattle.locale_numbers_requests.specs.declared.Refusal.TheVariants as refusal
+use Rattle.locale_numbers_requests.specs.declared.PatternLength.{PatternLength}
+use Rattle.locale_numbers_requests.specs.declared.SignAsked.TheVariants.{Keep}
 use Rattle.locale_numbers.proofs.CompactReadingLemmas.{below_shown, below_test, reads_compact}
 use Rattle.locale_numbers.proofs.LastTabLemmas.{printed_has_no_tab, split_last}
 use Rattle.locale_numbers.proofs.NumberBounds.{changed_is_decimal, reading_is_decimal}

@@ -14,13 +14,13 @@ use Rattle.locale_numbers_book.specs.Book.{BookTables}
 use Rattle.locale_numbers.specs.Changing.{changed}
 use Rattle.locale_numbers.specs.Printed.{FindsCompact, PrintsSize, number_shown}
 use Rattle.locale_numbers.specs.PrintedLaws.{PrintedIsNear, PrintedKeepsOrder, PrintedPrintsItself, ZeroIsPrintedForZero}
-use Rattle.locale_numbers.specs.Request.{Asked}
+use Rattle.locale_numbers_requests.specs.Request.{Asked}
 use Rattle.locale_numbers_book.specs.Wanted.{wanted_of}
-use Rattle.locale_numbers.specs.declared.request.PatternLength.{PatternLength}
-use Rattle.locale_numbers.specs.declared.rounding_field.RoundingAsked.{RoundingAsked}
-use Rattle.locale_numbers.specs.declared.rounding_field.RoundingAsked.TheVariants.{Unrounded}
-use Rattle.locale_numbers.specs.declared.sign_field.SignAsked.{SignAsked}
-use Rattle.locale_numbers.specs.declared.sign_field.SignAsked.TheVariants.{Keep, Show}
+use Rattle.locale_numbers_requests.specs.declared.PatternLength.{PatternLength}
+use Rattle.locale_numbers_requests.specs.declared.RoundingAsked.{RoundingAsked}
+use Rattle.locale_numbers_requests.specs.declared.RoundingAsked.TheVariants.{Unrounded}
+use Rattle.locale_numbers_requests.specs.declared.SignAsked.{SignAsked}
+use Rattle.locale_numbers_requests.specs.declared.SignAsked.TheVariants.{Keep, Show}
 use Rattle.locale_numbers.proofs.FoundCompactLemmas.{found_patterns, patterns_of_found}
 use Rattle.locale_numbers.proofs.PrintedLemmas.{size_is}
 

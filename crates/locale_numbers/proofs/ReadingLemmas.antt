@@ -1,7 +1,7 @@
 -- A text spells one number: whichever parts spell it, they name the same.
 use Rattle.std.proofs.Common.{◌≡◌, ◌==◌, ◌||◌, ◌&&◌, ℕ, ◌+◌, ◌<◌, nat_le, Bool, true, false, cond, List, [], ◌∷◌, ◌++◌, length, refl, sym, ap, ◌∙◌, subst, arith}
 use Rattle.std.specs.Char.{digit_value}
-use Rattle.std.proofs.lemmas.Bool.{le-leb, leb-true}
+use Rattle.std.proofs.lemmas.Bool.{and_from, and_parts, le-leb, leb-true}
 use Rattle.fixed_decimal.specs.NumberText.{minus_if, minus, Parts, SpellsExponent, Spells, IsWithin, up_of, down_of, number_of, mantissa_of, number_at, spelled, AreEndsIn}
 use Rattle.fixed_decimal.proofs.TextPartsLemmas.{found_parts, cons_head, cons_tail, exponent_no_digit, exponent_no_point}
 use Rattle.locale_numbers.specs.NumberReading.{is_within}
@@ -89,21 +89,14 @@ within_agree one two same within =
     ends_agree (length one.integer) (length two.integer) (length one.fraction) (length two.fraction) (up_of one) (up_of two) (down_of one) (down_of two)
     (ap length same.integer) (ap length same.fraction) same.up same.down within
 
-both : (a b : Bool) → (a && b) ≡ true → (a ≡ true) × (b ≡ true)
-both true b all = (refl, all)
-both false b all = absurd (cc)
-
-both_true : (a b : Bool) → a ≡ true → b ≡ true → (a && b) ≡ true
-both_true a b first second = rw (first, second)
-
 ends_shown : (above below up down : ℕ) → (nat_le up 32767 && nat_le down 32768 && nat_le (above + up) (32768 + down) && nat_le (below + down) (32768 + up)) ≡ true → AreEndsIn above below up down
 ends_shown above below up down inside =
-    let last = both _ _ inside in let first = both _ _ last.0 in let ends = both _ _ first.0 in
+    let last = and_parts _ _ inside in let first = and_parts _ _ last.0 in let ends = and_parts _ _ first.0 in
     record { exponent_high = leb-true _ _ ends.0; exponent_low = leb-true _ _ ends.1; first = leb-true _ _ first.1; last = leb-true _ _ last.1 }
 
 ends_tested : (above below up down : ℕ) → AreEndsIn above below up down → (nat_le up 32767 && nat_le down 32768 && nat_le (above + up) (32768 + down) && nat_le (below + down) (32768 + up)) ≡ true
 ends_tested above below up down ends =
-    both_true _ _ (both_true _ _ (both_true _ _ (le-leb _ _ ends.exponent_high) (le-leb _ _ ends.exponent_low)) (le-leb _ _ ends.first)) (le-leb _ _ ends.last)
+    and_from _ _ (and_from _ _ (and_from _ _ (le-leb _ _ ends.exponent_high) (le-leb _ _ ends.exponent_low)) (le-leb _ _ ends.first)) (le-leb _ _ ends.last)
 
 -- the test of the ends is the fact
 pub within_shown : (parts : Parts) → is_within parts ≡ true → IsWithin parts

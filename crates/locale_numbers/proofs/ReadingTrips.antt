@@ -30,17 +30,17 @@ use Rattle.locale_numbers.specs.CompactReading.{CompactReading, compact_beyond, 
 use Rattle.locale_numbers.specs.Laws.{AutoIsAnsweredAsAlways, FindsTables, ReadIsWrittenAgain, RoundedIsWrittenAgain, WrittenReadsBack, grouped_by, plain_request, reading_request}
 use Rattle.locale_numbers.specs.NumberReading.{Reading, beyond, nothing, number, reading_of}
 use Rattle.locale_numbers.specs.ReadAnswer.{read_answer, read_with}
-use Rattle.locale_numbers.specs.Request.{Asked}
+use Rattle.locale_numbers_requests.specs.Request.{Asked}
 use Rattle.locale_numbers_book.specs.Wanted.{wanted_of}
-use Rattle.locale_numbers.specs.declared.refusal.Refusal.{Refusal}
-use Rattle.locale_numbers.specs.declared.refusal.Refusal.TheVariants as refusal
-use Rattle.locale_numbers.specs.declared.request.Form.{Form}
-use Rattle.locale_numbers.specs.declared.request.Form.TheVariants.{Plain, Compact, Exact, Read}
-use Rattle.locale_numbers.specs.declared.request.PatternLength.{PatternLength}
-use Rattle.locale_numbers.specs.declared.rounding_field.RoundingAsked.{RoundingAsked}
-use Rattle.locale_numbers.specs.declared.rounding_field.RoundingAsked.TheVariants.{Unrounded}
-use Rattle.locale_numbers.specs.declared.sign_field.SignAsked.{SignAsked}
-use Rattle.locale_numbers.specs.declared.sign_field.SignAsked.TheVariants.{Keep}
+use Rattle.locale_numbers_requests.specs.declared.Refusal.{Refusal}
+use Rattle.locale_numbers_requests.specs.declared.Refusal.TheVariants as refusal
+use Rattle.locale_numbers_requests.specs.declared.Form.{Form}
+use Rattle.locale_numbers_requests.specs.declared.Form.TheVariants.{Plain, Compact, Exact, Read}
+use Rattle.locale_numbers_requests.specs.declared.PatternLength.{PatternLength}
+use Rattle.locale_numbers_requests.specs.declared.RoundingAsked.{RoundingAsked}
+use Rattle.locale_numbers_requests.specs.declared.RoundingAsked.TheVariants.{Unrounded}
+use Rattle.locale_numbers_requests.specs.declared.SignAsked.{SignAsked}
+use Rattle.locale_numbers_requests.specs.declared.SignAsked.TheVariants.{Keep}
 use Rattle.locale_numbers.proofs.NumberBounds.{changed_again, changed_is_decimal, reading_is_decimal}
 use Rattle.locale_numbers.proofs.NumberReadingLemmas.{signed_number}
 

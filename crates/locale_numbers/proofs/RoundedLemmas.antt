@@ -1,108 +1,34 @@
 -- The number that the function answers is the one that the relations of `fixed_decimal` name: `specs/Rounded.antt`.
-use Rattle.std.proofs.Common.{◌≡◌, ◌≢◌, ◌==◌, ℕ, zero, suc, ◌+◌, ◌-◌, ◌*◌, ◌/◌, ◌%◌, ◌^◌, ◌<◌, ◌≤◌, ◌⊎◌, Bool, true, false, cond, nat_lt, ℤ, refl, sym, ap, ◌∙◌, subst, arith, inl, inr, ⊎_elim, max, Result, Ok, Err, OnOk}
-use Rattle.std.proofs.Math.Nat.{mul-le-mul_right, mod-lt, div-add-mod', one-le-pow, pow-le-pow_right, pow-suc}
+use Rattle.std.proofs.Common.{◌≡◌, ◌≢◌, ◌==◌, ℕ, zero, suc, ◌+◌, ◌-◌, ◌*◌, ◌/◌, ◌%◌, ◌^◌, ◌<◌, ◌≤◌, ◌⊎◌, Bool, true, false, cond, nat_lt, ℤ, refl, sym, subst, arith, inl, inr, ⊎_elim, max}
+use Rattle.std.proofs.Math.Nat.{mod-lt, div-add-mod', one-le-pow, pow-suc}
 use Rattle.std.proofs.lemmas.Bool.{cases_lt}
 use Rattle.std.proofs.lemmas.Bool.Decides.{nat_tests}
 use Rattle.fixed_decimal.specs.Number.{Number, place}
 use Rattle.fixed_decimal.specs.Range.{IsHighest, Rounds}
-use Rattle.fixed_decimal.specs.Rounding.{IsMultiple, IsNearest, IsRounded, distance, increment_number, count_limit}
+use Rattle.fixed_decimal.specs.Rounding.{IsMultiple, IsRounded, increment_number, count_limit}
 use Rattle.fixed_decimal.specs.SignedRounding.{size_mode, RoundsSigned}
 use Rattle.fixed_decimal.specs.SignedValue.{SignedValue}
 use Rattle.fixed_decimal.specs.declared.UnsignedRoundingMode.{UnsignedRoundingMode}
 use Rattle.fixed_decimal.specs.declared.UnsignedRoundingMode.TheVariants.{Expand, Trunc, HalfExpand, HalfTrunc, HalfEven}
 use Rattle.fixed_decimal.specs.declared.RoundingIncrement.{RoundingIncrement}
 use Rattle.fixed_decimal.specs.declared.RoundingIncrement.TheVariants.{MultiplesOf1, MultiplesOf2, MultiplesOf5, MultiplesOf25}
-use Rattle.fixed_decimal.specs.declared.modes.SignedRoundingMode.{SignedRoundingMode}
+use Rattle.fixed_decimal.specs.declared.SignedRoundingMode.{SignedRoundingMode}
 use Rattle.fixed_decimal.specs.declared.call.Call.TheVariants.{Round}
+use Rattle.fixed_decimal.proofs.RoundingLemmas.{even_count, exact, expanded, lower_nearest, odd_count, truncated, upper_nearest}
 use Rattle.fixed_decimal.proofs.RunOnceLemmas.{makes_once}
+use Rattle.fixed_decimal.proofs.TenLemmas.{tens_apart}
 use Rattle.locale_numbers.specs.Laws.{HasOneRounding}
 use Rattle.locale_numbers.specs.Rounded.{takes_upper, multiple_of, limited, holding_from, highest_of, rounded_size, rounded}
 
 -- ---- the multiple of a mode
 
-upper_count : (q unit : ℕ) → q * unit + unit ≡ (q + 1) * unit
-upper_count q unit = omega arith
-
-above_side : (q unit other c : ℕ) → q < c → other ≡ c * unit → q * unit + unit ≤ other
-above_side q unit other c l e = let h : q + 1 ≤ c = omega arith in omega (arith, mul-le-mul_right {m = q + 1} {n = c} unit h)
-
--- a multiple stands at or below the lower one, or at or above the upper one
-sides : (q unit other : ℕ) → IsMultiple unit other → (other ≤ q * unit) ⊎ (q * unit + unit ≤ other)
-sides q unit other m = ⊎_elim (λ l. inr (above_side q unit other m.0 l m.1)) (λ l. inl (omega (arith, mul-le-mul_right {m = m.0} {n = q} unit l, m.1))) (cases_lt q m.0)
-
-near_lower : (unit low r n other : ℕ) → n ≡ low + r → 2 * r ≤ unit → (other ≤ low) ⊎ (low + unit ≤ other) → distance n low ≤ distance n other
-near_lower unit low r n other e h (inl a) = omega arith
-near_lower unit low r n other e h (inr a) = omega arith
-
-tie_lower : (unit low r n other : ℕ) → n ≡ low + r → 2 * r ≤ unit → 0 < r → other ≢ low → distance n other ≡ distance n low → (other ≤ low) ⊎ (low + unit ≤ other) → (2 * r ≡ unit) × (other ≡ low + unit)
-tie_lower unit low r n other e h p ne d (inl a) = absurd (ne (omega arith))
-tie_lower unit low r n other e h p ne d (inr a) = (omega arith, omega arith)
-
-near_upper : (unit low r n other : ℕ) → n ≡ low + r → r < unit → unit ≤ 2 * r → (other ≤ low) ⊎ (low + unit ≤ other) → distance n (low + unit) ≤ distance n other
-near_upper unit low r n other e l h (inl a) = omega arith
-near_upper unit low r n other e l h (inr a) = omega arith
-
-tie_upper : (unit low r n other : ℕ) → n ≡ low + r → r < unit → unit ≤ 2 * r → other ≢ low + unit → distance n other ≡ distance n (low + unit) → (other ≤ low) ⊎ (low + unit ≤ other) → (2 * r ≡ unit) × (other ≡ low)
-tie_upper unit low r n other e l h ne d (inl a) = (omega arith, omega arith)
-tie_upper unit low r n other e l h ne d (inr a) = absurd (ne (omega arith))
-
-lower_nearest : (unit q r n : ℕ) (takes : ℕ → Type 0) → n ≡ q * unit + r → 0 < r → 2 * r ≤ unit → (2 * r ≡ unit → takes (q * unit + unit)) → IsNearest unit n (q * unit) takes
-lower_nearest unit q r n takes e p h t = record {
-  multiple = (q, refl);
-  nearest = λ other m. near_lower unit (q * unit) r n other e h (sides q unit other m);
-  tied = λ other m ne d. let s = tie_lower unit (q * unit) r n other e h p ne d (sides q unit other m) in subst takes (sym s.1) (t s.0);
-}
-
-upper_nearest : (unit q r n : ℕ) (takes : ℕ → Type 0) → n ≡ q * unit + r → r < unit → unit ≤ 2 * r → (2 * r ≡ unit → takes (q * unit)) → IsNearest unit n (q * unit + unit) takes
-upper_nearest unit q r n takes e l h t = record {
-  multiple = (q + 1, upper_count q unit);
-  nearest = λ other m. near_upper unit (q * unit) r n other e l h (sides q unit other m);
-  tied = λ other m ne d. let s = tie_upper unit (q * unit) r n other e l h ne d (sides q unit other m) in subst takes (sym s.1) (t s.0);
-}
-
-doubled : (a unit : ℕ) → a * 2 * unit ≡ a * (2 * unit)
-doubled a unit = omega arith
-
-even_count : (q unit : ℕ) → q % 2 ≡ 0 → IsMultiple (2 * unit) (q * unit)
-even_count q unit e =
-    let h : q ≡ q / 2 * 2 = omega arith in
-    (q / 2, ap (λ x. x * unit) h ∙ doubled (q / 2) unit)
-
-odd_count : (q unit : ℕ) → q % 2 ≡ 1 → IsMultiple (2 * unit) (q * unit + unit)
-odd_count q unit e =
-    let h : q + 1 ≡ (q / 2 + 1) * 2 = omega arith in
-    (q / 2 + 1, upper_count q unit ∙ ap (λ x. x * unit) h ∙ doubled (q / 2 + 1) unit)
-
-exact_nearest : (unit n : ℕ) (takes : ℕ → Type 0) → IsMultiple unit n → IsNearest unit n n takes
-exact_nearest unit n takes m = record {
-  multiple = m;
-  nearest = λ other k. omega arith;
-  tied = λ other k ne d. absurd (ne (omega arith));
-}
-
--- a multiple is itself what every mode names
-pub exact : (mode : UnsignedRoundingMode) (unit n : ℕ) → IsMultiple unit n → IsRounded mode unit n n
-exact Expand unit n m = record { multiple = m; over = omega arith; least = λ other k h. h }
-exact Trunc unit n m = record { multiple = m; under = omega arith; greatest = λ other k h. h }
-exact HalfExpand unit n m = exact_nearest unit n (λ other. other ≤ n) m
-exact HalfTrunc unit n m = exact_nearest unit n (λ other. n ≤ other) m
-exact HalfEven unit n m = exact_nearest unit n (λ _. IsMultiple (2 * unit) n) m
-
 -- between two multiples the function takes the one that the mode names
 picks : (mode : UnsignedRoundingMode) (unit q r n : ℕ) → n ≡ q * unit + r → 0 < r → r < unit
     → (b : Bool) → takes_upper mode unit r q ≡ b → IsRounded mode unit n (cond b (q * unit + unit) (q * unit))
-picks Expand unit q r n e p l true h = record {
-  multiple = (q + 1, upper_count q unit);
-  over = omega arith;
-  least = λ other m under. ⊎_elim (λ a. absurd (omega arith)) (λ a. a) (sides q unit other m);
-}
+picks Expand unit q r n e p l true h = expanded unit q r n e p l
 picks Expand unit q r n e p l false h = absurd (cc)
 picks Trunc unit q r n e p l true h = absurd (cc)
-picks Trunc unit q r n e p l false h = record {
-  multiple = (q, refl);
-  under = omega arith;
-  greatest = λ other m under. ⊎_elim (λ a. a) (λ a. absurd (omega arith)) (sides q unit other m);
-}
+picks Trunc unit q r n e p l false h = truncated unit q r n e l
 picks HalfExpand unit q r n e p l true h = let half : unit ≤ 2 * r = grind (arith, nat_tests) in upper_nearest unit q r n (λ other. other ≤ q * unit + unit) e l half (λ t. omega arith)
 picks HalfExpand unit q r n e p l false h = let half : 2 * r < unit = grind (arith, nat_tests) in lower_nearest unit q r n (λ other. other ≤ q * unit) e p (omega arith) (λ t. absurd (omega arith))
 picks HalfTrunc unit q r n e p l true h = let half : unit < 2 * r = grind (arith, nat_tests) in upper_nearest unit q r n (λ other. q * unit + unit ≤ other) e l (omega arith) (λ t. absurd (omega arith))
@@ -150,9 +76,6 @@ below_power : (n : ℕ) → n < 10 ^ n
 below_power zero = omega arith
 below_power (suc n) = omega (arith, below_power n, pow-suc 10 n)
 
-more_places : (i j : ℕ) → i ≤ j → 10 ^ i ≤ 10 ^ j
-more_places i j h = pow-le-pow_right {n = 10} (omega arith) {i = i} {j = j} h
-
 holding_keeps : (more from count : ℕ) → from ≤ holding_from more from count
 holding_keeps zero from count = omega arith
 holding_keeps (suc more) from count = at (nat_lt count (10 ^ (from + 1))) (holding_keeps more (suc from) count)
@@ -192,7 +115,7 @@ highest_right old at count =
     record {
       keeps = omega (arith, keeps);
       position = omega (arith, keeps);
-      holds = holding_holds count (max old (at - 1)) count (let bound = below_power count in let apart = more_places count (max old (at - 1) + count + 1) (omega arith) in omega (arith, bound, apart));
+      holds = holding_holds count (max old (at - 1)) count (let bound = below_power count in let apart = tens_apart count (max old (at - 1) + count + 1) (omega arith) in omega (arith, bound, apart));
       lowest = λ h least place under. holding_lowest count (max old (at - 1)) count h (omega (arith, least, place)) under;
     }
 
@@ -223,11 +146,6 @@ rounded_right mode increment at value = record { sign = refl; size = size_right 
 pub rounds_as : (mode : SignedRoundingMode) (increment : RoundingIncrement) (position : ℤ) (old new : SignedValue Number)
     → RoundsSigned mode increment (place position) old new → new ≡ rounded mode increment (place position) old
 rounds_as mode increment position old new rounds = makes_once (Round position mode increment) old new (rounded mode increment (place position) old) rounds (rounded_right mode increment (place position) old)
-
--- what follows where a call succeeded
-pub on_ok : {T E : Type 0} {P Q : Type 0} (r : Result T E) → (P → Q) → OnOk r P → OnOk r Q
-on_ok (Ok t) follows held = follows held
-on_ok (Err e) follows held = held
 
 pub one_rounding : HasOneRounding
 one_rounding mode increment position old new =

@@ -14,8 +14,8 @@ use Rattle.icu_decimal.specs.ShownChoice.{CanShow}
 use Rattle.locale_numbers_lines.specs.Growth.{Grows}
 use Rattle.locale_numbers.specs.AnswerLine.{refused, written}
 use Rattle.locale_numbers.specs.CompactAnswer.{can_be_shown, compact_answer, text_and_value}
-use Rattle.locale_numbers.specs.Request.{tab}
-use Rattle.locale_numbers.specs.declared.refusal.Refusal.TheVariants as refusal
+use Rattle.locale_numbers_requests.specs.Request.{tab}
+use Rattle.locale_numbers_requests.specs.declared.Refusal.TheVariants as refusal
 use Rattle.locale_numbers.proofs.AnsweringLemmas.{fits_behind, front_fits, two_texts}
 use Rattle.locale_numbers.proofs.CompactAnswerLemmas.{by_test, can_test}
 

@@ -2,9 +2,9 @@
 -- Defined in docs/requests.md, "Answer line".
 -- Cited by `answer` and `run`, through Answer.antt and ReadAnswer.antt.
 use Rattle.std.specs.Prelude.{ℕ, List, ◌∷◌, ◌++◌, codes}
-use Rattle.locale_numbers.specs.Request.{tab}
-use Rattle.locale_numbers.specs.Refusal.{word_of}
-use Rattle.locale_numbers.specs.declared.refusal.Refusal.{Refusal}
+use Rattle.locale_numbers_requests.specs.Request.{tab}
+use Rattle.locale_numbers_requests.specs.Refusal.{word_of}
+use Rattle.locale_numbers_requests.specs.declared.Refusal.{Refusal}
 
 -- the answer that refuses a line
 abbrev pub refused : Refusal → List ℕ

@@ -10,10 +10,10 @@ use Rattle.fixed_decimal.specs.SignedValue.{SignedValue}
 use Rattle.fixed_decimal.specs.declared.call.Call.TheVariants.{Round}
 use Rattle.locale_numbers.specs.NumberReading.{Reading, number, beyond, nothing}
 use Rattle.locale_numbers.specs.Rounded.{rounded}
-use Rattle.locale_numbers.specs.declared.sign_field.SignAsked.{SignAsked}
-use Rattle.locale_numbers.specs.declared.sign_field.SignAsked.TheVariants.{Keep, Show}
-use Rattle.locale_numbers.specs.declared.rounding_field.RoundingAsked.{RoundingAsked}
-use Rattle.locale_numbers.specs.declared.rounding_field.RoundingAsked.TheVariants.{Unrounded, At}
+use Rattle.locale_numbers_requests.specs.declared.SignAsked.{SignAsked}
+use Rattle.locale_numbers_requests.specs.declared.SignAsked.TheVariants.{Keep, Show}
+use Rattle.locale_numbers_requests.specs.declared.RoundingAsked.{RoundingAsked}
+use Rattle.locale_numbers_requests.specs.declared.RoundingAsked.TheVariants.{Unrounded, At}
 
 -- a number rounded as it is asked
 abbrev pub rounded_as : RoundingAsked → SignedValue Number → SignedValue Number

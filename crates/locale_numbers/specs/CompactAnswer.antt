@@ -1,6 +1,6 @@
 -- The answers of the compact forms: what a number is shown as, with the value shown; and the text of an exact form.
 -- Defined in docs/requests.md, "Answer line", and docs/compact-text.md, "The text" and "Exact forms".
--- Cited by `answer` and `run`, through Answer.antt, and by the private `push_compact` and `push_exact`.
+-- Cited by `answer` and `run`, through Answer.antt, and by the private `write_compact_answer` and `write_exact_answer`.
 use Rattle.std.specs.Prelude.{ℕ, nat_lt, Bool, if◌then◌else◌, List, ◌∷◌, ◌++◌, Option, Some, None, Result, Ok, Err}
 use Rattle.fixed_decimal.specs.CompactText.{CompactValue, compact_text_of}
 use Rattle.fixed_decimal.specs.Number.{Number}
@@ -20,10 +20,10 @@ use Rattle.locale_numbers_book.specs.Book.{BookTables}
 use Rattle.locale_numbers_book.specs.TagFormatters.{found_beside}
 use Rattle.locale_numbers_book.specs.Tables.{short_under, long_under}
 use Rattle.locale_numbers.specs.AnswerLine.{refused, written}
-use Rattle.locale_numbers.specs.Request.{tab}
-use Rattle.locale_numbers.specs.declared.refusal.Refusal.TheVariants as refusal
-use Rattle.locale_numbers.specs.declared.request.PatternLength.{PatternLength}
-use Rattle.locale_numbers.specs.declared.request.PatternLength.TheVariants.{Short, Long}
+use Rattle.locale_numbers_requests.specs.Request.{tab}
+use Rattle.locale_numbers_requests.specs.declared.Refusal.TheVariants as refusal
+use Rattle.locale_numbers_requests.specs.declared.PatternLength.{PatternLength}
+use Rattle.locale_numbers_requests.specs.declared.PatternLength.TheVariants.{Short, Long}
 
 -- ---- the tables
 

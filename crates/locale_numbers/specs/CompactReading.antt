@@ -6,7 +6,7 @@ use Rattle.fixed_decimal.specs.CompactText.{CompactValue}
 use Rattle.fixed_decimal.specs.NumberText.{spelled}
 use Rattle.fixed_decimal.specs.PlainText.{compact_mark}
 use Rattle.locale_numbers.specs.NumberReading.{Reading, number, beyond, nothing, is_mark, reading_of}
-use Rattle.locale_numbers.specs.RoundingField.{is_size}
+use Rattle.locale_numbers_requests.specs.RoundingField.{is_size}
 
 -- `c`, `e` or `E`
 abbrev pub marks_exponent : ℕ → Bool

@@ -18,10 +18,10 @@ use Rattle.locale_numbers.specs.Answer.{answer_with, found_in, written}
 use Rattle.locale_numbers.specs.CompactAnswer.{compact_answer, compact_with, found_compact}
 use Rattle.locale_numbers.specs.CompactReading.{CompactReading, compact_beyond, compact_nothing, compact_number, compact_reading_of}
 use Rattle.locale_numbers.specs.NumberReading.{Reading, number, beyond, nothing, reading_of}
-use Rattle.locale_numbers.specs.Request.{Asked, request_of}
+use Rattle.locale_numbers_requests.specs.Request.{Asked, request_of}
 use Rattle.locale_numbers_book.specs.Wanted.{wanted_of}
-use Rattle.locale_numbers.specs.declared.request.Form.{Form}
-use Rattle.locale_numbers.specs.declared.request.Form.TheVariants as form
+use Rattle.locale_numbers_requests.specs.declared.Form.{Form}
+use Rattle.locale_numbers_requests.specs.declared.Form.TheVariants as form
 use Rattle.locale_numbers.specs.declared.formatter_key.FormatterKey.{FormatterKey}
 use Rattle.locale_numbers.specs.declared.formatter_key.Kind.{Kind}
 use Rattle.locale_numbers.specs.declared.formatter_key.Kind.TheVariants as kind

@@ -12,20 +12,14 @@ use Rattle.locale_numbers.specs.Changing.{MayGrowRead, ReadsMore}
 use Rattle.locale_numbers.specs.FormatterKeys.{key_in, key_with, kind_of}
 use Rattle.locale_numbers.specs.NumberReading.{reading_of}
 use Rattle.locale_numbers.specs.ReadAnswer.{HasManyDigitsWith}
-use Rattle.locale_numbers.specs.Request.{Asked, request_of}
+use Rattle.locale_numbers_requests.specs.Request.{Asked, request_of, with_text}
 use Rattle.locale_numbers_book.specs.Wanted.{wanted_of}
 use Rattle.locale_numbers.specs.declared.formatter_key.FormatterKey.{FormatterKey}
 use Rattle.locale_numbers.specs.declared.front.Front.{Front}
-use Rattle.locale_numbers.specs.declared.refusal.Refusal.TheVariants as refusal
-use Rattle.locale_numbers.specs.declared.request.Form.{Form}
-use Rattle.locale_numbers.specs.declared.request.Form.TheVariants as form
-use Rattle.locale_numbers.specs.declared.rounding_field.RoundingAsked.{RoundingAsked}
-
--- a request with another text
-abbrev pub with_text : List ℕ → Option Asked → Option Asked
-with_text text None = None
-with_text text (Some asked) =
-    Some (record { tag = asked.tag; form = asked.form; grouping = asked.grouping; sign = asked.sign; rounding = asked.rounding; text = text })
+use Rattle.locale_numbers_requests.specs.declared.Refusal.TheVariants as refusal
+use Rattle.locale_numbers_requests.specs.declared.Form.{Form}
+use Rattle.locale_numbers_requests.specs.declared.Form.TheVariants as form
+use Rattle.locale_numbers_requests.specs.declared.RoundingAsked.{RoundingAsked}
 
 -- what a line asks, by the text behind its front and what this asks: nothing, where the text is not UTF-8
 abbrev pub asked_text : List ℕ → Option Asked → Option Asked

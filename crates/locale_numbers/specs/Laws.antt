@@ -8,7 +8,7 @@ use Rattle.fixed_decimal.specs.Number.{Number, place}
 use Rattle.fixed_decimal.specs.SignedRounding.{RoundsSigned}
 use Rattle.fixed_decimal.specs.SignedValue.{SignedValue}
 use Rattle.fixed_decimal.specs.declared.RoundingIncrement.{RoundingIncrement}
-use Rattle.fixed_decimal.specs.declared.modes.SignedRoundingMode.{SignedRoundingMode}
+use Rattle.fixed_decimal.specs.declared.SignedRoundingMode.{SignedRoundingMode}
 use Rattle.fixed_decimal.specs.SignedText.{ReadsSigned, IsBeyondSigned, IsNoSignedText, signed_text_of}
 use Rattle.fixed_decimal.specs.TextLaws.{IsDecimal}
 use Rattle.icu_decimal.specs.PlainText.{Tables, decimal_text}
@@ -24,15 +24,15 @@ use Rattle.icu_locale_core.specs.TagPreferences.{Preferences, least_of, keyword_
 use Rattle.locale_numbers_book.specs.Book.{BookTables}
 use Rattle.locale_numbers.specs.CompactReading.{CompactReading, compact_beyond, compact_nothing, compact_number, compact_reading_of}
 use Rattle.locale_numbers.specs.NumberReading.{Reading, number, beyond, nothing, reading_of}
-use Rattle.locale_numbers.specs.Request.{tab, Asked}
+use Rattle.locale_numbers_requests.specs.Request.{tab, Asked}
 use Rattle.locale_numbers.specs.Rounded.{rounded}
 use Rattle.locale_numbers_book.specs.Wanted.{wanted_of}
 use Rattle.locale_numbers.specs.Answer.{written, found_in, answer_asked, answer_of}
 use Rattle.locale_numbers.specs.declared.formatter_key.FormatterKey.{FormatterKey}
-use Rattle.locale_numbers.specs.declared.request.Form.TheVariants.{Plain, Read}
-use Rattle.locale_numbers.specs.declared.sign_field.SignAsked.TheVariants.{Keep}
-use Rattle.locale_numbers.specs.declared.rounding_field.RoundingAsked.{RoundingAsked}
-use Rattle.locale_numbers.specs.declared.rounding_field.RoundingAsked.TheVariants.{Unrounded, At}
+use Rattle.locale_numbers_requests.specs.declared.Form.TheVariants.{Plain, Read}
+use Rattle.locale_numbers_requests.specs.declared.SignAsked.TheVariants.{Keep}
+use Rattle.locale_numbers_requests.specs.declared.RoundingAsked.{RoundingAsked}
+use Rattle.locale_numbers_requests.specs.declared.RoundingAsked.TheVariants.{Unrounded, At}
 
 -- ---- numbers
 

@@ -1,8 +1,4 @@
 -- What a reader must believe: request lines and their answers.
-pub mod Cutting
-pub mod Request
-pub mod RoundingField
-pub mod Refusal
 pub mod Changing
 pub mod AnswerLine
 pub mod CompactAnswer
@@ -42,6 +38,12 @@ pub use Rattle.locale_numbers_book.specs.Wanted
 pub use Rattle.locale_numbers_cache.specs.Cached
 pub use Rattle.locale_numbers_cache.specs.Laws as CacheLaws
 pub use Rattle.locale_numbers_cache.specs.Recent
+-- Of the inner crates: what a request line asks, and the words that refuse it.
+pub use Rattle.locale_numbers_requests.specs.Cutting
+pub use Rattle.locale_numbers_requests.specs.Digits
+pub use Rattle.locale_numbers_requests.specs.Refusal
+pub use Rattle.locale_numbers_requests.specs.Request
+pub use Rattle.locale_numbers_requests.specs.RoundingField
 -- Of the inner crates: lines, readers and writers.
 pub use Rattle.locale_numbers_lines.specs.ByteIo
 pub use Rattle.locale_numbers_lines.specs.Laws as LineLaws

@@ -1,19 +1,15 @@
 -- The number that a text spells as a function of the text: its digits, its point and its exponent taken off from the front.
 -- Defined in docs/numbers.md, "The text"; a law of `laws.rt` says that it is the reading which the relations of NumberText.antt name.
 -- Cited by `answer` and `run`, through Answer.antt.
-use Rattle.std.specs.Prelude.{ℕ, ◌+◌, ◌==◌, ◌||◌, ◌&&◌, nat_le, nat_lt, Bool, true, false, if◌then◌else◌, List, [], ◌∷◌, length, Option, Some, None}
+use Rattle.std.specs.Prelude.{ℕ, ◌+◌, ◌==◌, ◌||◌, ◌&&◌, nat_le, Bool, true, false, if◌then◌else◌, List, [], ◌∷◌, length, Option, Some, None}
 use Rattle.std.specs.List.{list_all}
-use Rattle.std.specs.Char.{digit_value}
-use Rattle.fixed_decimal.specs.declared.sign.Sign.{Sign}
-use Rattle.fixed_decimal.specs.declared.sign.Sign.TheVariants.{None as Unsigned, Positive, Negative}
+use Rattle.fixed_decimal.specs.declared.Sign.{Sign}
+use Rattle.fixed_decimal.specs.declared.Sign.TheVariants.{None as Unsigned, Positive, Negative}
 use Rattle.fixed_decimal.specs.SignedValue.{SignedValue}
 use Rattle.fixed_decimal.specs.Number.{Number}
 use Rattle.fixed_decimal.specs.SignedText.{plus}
 use Rattle.fixed_decimal.specs.NumberText.{point, minus, small_mark, capital_mark, Parts, up_of, down_of, number_of}
-
--- one of the ten decimal digits
-abbrev pub is_digit : ℕ → Bool
-is_digit c = nat_lt (digit_value c) 10
+pub use Rattle.locale_numbers_requests.specs.Digits.{is_digit}
 
 -- the digits that a text begins with
 abbrev pub digits_front : List ℕ → List ℕ

@@ -20,12 +20,12 @@ use Rattle.locale_numbers.specs.CompactAnswer.{found_compact}
 use Rattle.locale_numbers.specs.CompactReading.{compact_number, compact_reading_of}
 use Rattle.locale_numbers.specs.Laws.{IsAtMagnitude}
 use Rattle.locale_numbers.specs.NumberReading.{number, reading_of}
-use Rattle.locale_numbers.specs.Request.{Asked, tab}
+use Rattle.locale_numbers_requests.specs.Request.{Asked, tab}
 use Rattle.locale_numbers_book.specs.Wanted.{wanted_of}
-use Rattle.locale_numbers.specs.declared.request.Form.TheVariants.{Compact, Exact}
-use Rattle.locale_numbers.specs.declared.request.PatternLength.{PatternLength}
-use Rattle.locale_numbers.specs.declared.rounding_field.RoundingAsked.TheVariants.{Unrounded}
-use Rattle.locale_numbers.specs.declared.sign_field.SignAsked.TheVariants.{Keep}
+use Rattle.locale_numbers_requests.specs.declared.Form.TheVariants.{Compact, Exact}
+use Rattle.locale_numbers_requests.specs.declared.PatternLength.{PatternLength}
+use Rattle.locale_numbers_requests.specs.declared.RoundingAsked.TheVariants.{Unrounded}
+use Rattle.locale_numbers_requests.specs.declared.SignAsked.TheVariants.{Keep}
 
 -- no tab stands in a text
 abbrev pub HasNoTab : List ℕ → Type 0

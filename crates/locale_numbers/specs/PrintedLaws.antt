@@ -19,10 +19,10 @@ use Rattle.locale_numbers_book.specs.Laws.{IsSoundTable}
 use Rattle.locale_numbers.specs.Answer.{answer_asked, refused, written}
 use Rattle.locale_numbers.specs.CompactAnswer.{found_compact}
 use Rattle.locale_numbers.specs.Printed.{FindsCompact, KeepsEntry, Prints, PrintsSize, exact_request, number_shown}
-use Rattle.locale_numbers.specs.Request.{Asked}
-use Rattle.locale_numbers.specs.declared.refusal.Refusal.TheVariants as refusal
-use Rattle.locale_numbers.specs.declared.request.PatternLength.{PatternLength}
-use Rattle.locale_numbers.specs.declared.rounding_field.RoundingAsked.TheVariants.{Unrounded}
+use Rattle.locale_numbers_requests.specs.Request.{Asked}
+use Rattle.locale_numbers_requests.specs.declared.Refusal.TheVariants as refusal
+use Rattle.locale_numbers_requests.specs.declared.PatternLength.{PatternLength}
+use Rattle.locale_numbers_requests.specs.declared.RoundingAsked.TheVariants.{Unrounded}
 
 -- ---- the value sent back
 

@@ -1,13 +1,13 @@
 -- The answer of the form `read`: the decimal whose plain text is given, as it is printed, or why there is none.
 -- Defined in docs/requests.md, "Answer line", and docs/reading.md, "Reading".
--- Cited by `answer` and `run`, through Answer.antt, and by the private `push_read`.
+-- Cited by `answer` and `run`, through Answer.antt, and by the private `write_read_answer`.
 use Rattle.std.specs.Prelude.{ℕ, List, Result, Ok, Err}
 use Rattle.fixed_decimal.specs.SignedText.{signed_text_of}
 use Rattle.icu_decimal.specs.declared.error.DataError.{DataError}
 use Rattle.icu_decimal.specs.PlainReading.{PlainReading, HasManyDigits, unreadable, not_written, decimal, plain_reading}
 use Rattle.icu_decimal.specs.PlainText.{Tables}
 use Rattle.locale_numbers.specs.AnswerLine.{refused, written}
-use Rattle.locale_numbers.specs.declared.refusal.Refusal.TheVariants as refusal
+use Rattle.locale_numbers_requests.specs.declared.Refusal.TheVariants as refusal
 
 -- what a text is under some tables, as an answer
 abbrev pub read_answer : PlainReading → List ℕ

@@ -9,7 +9,7 @@ use Rattle.fixed_decimal.specs.SignedValue.{SignedValue}
 use Rattle.fixed_decimal.specs.declared.UnsignedRoundingMode.{UnsignedRoundingMode}
 use Rattle.fixed_decimal.specs.declared.UnsignedRoundingMode.TheVariants.{Expand, Trunc, HalfExpand, HalfTrunc, HalfEven}
 use Rattle.fixed_decimal.specs.declared.RoundingIncrement.{RoundingIncrement}
-use Rattle.fixed_decimal.specs.declared.modes.SignedRoundingMode.{SignedRoundingMode}
+use Rattle.fixed_decimal.specs.declared.SignedRoundingMode.{SignedRoundingMode}
 
 -- whether the upper of two multiples is taken, by the unit, the rest above the lower one, and how many units make that
 abbrev pub takes_upper : UnsignedRoundingMode → ℕ → ℕ → ℕ → Bool

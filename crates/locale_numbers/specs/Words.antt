@@ -4,7 +4,7 @@
 use Rattle.std.specs.Prelude.{ℕ, ◌&&◌, nat_le, Bool, if◌then◌else◌, List, [], ◌∷◌, length, Option, Some, None}
 use Rattle.std.specs.List.{list_all}
 use Rattle.fixed_decimal.specs.NumberText.{spelled}
-use Rattle.locale_numbers.specs.NumberReading.{is_digit}
+use Rattle.locale_numbers_requests.specs.Digits.{is_digit}
 
 -- five digits at most, which spell 1 to 65535
 abbrev pub is_capacity : List ℕ → Bool

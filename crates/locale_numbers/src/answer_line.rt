@@ -6,14 +6,13 @@ ghost use Rattle.locale_numbers.specs.AnswerLine.{refused, written};
 ghost use Rattle.locale_numbers.specs.AnswerSink.{HasRoom};
 ghost use Rattle.locale_numbers.specs.Front.{if_text};
 
-use crate::answer_sink::push_written;
-use crate::refusal::Refusal;
-use crate::request::is_text;
+use crate::answer_sink::write_text_of;
+use locale_numbers_requests::{Refusal, is_text};
 use std::alloc::AllocError;
 use writeable::Writeable;
 
-/// Puts a refusal behind what `out` holds.
-pub(crate) fn push_refusal(out: &mut String, cause: Refusal) -> Result<(), AllocError>
+/// Writes `err`, a tab and the word of a refusal behind what `out` holds.
+pub(crate) fn write_refusal(out: &mut String, cause: Refusal) -> Result<(), AllocError>
     ensures text { OnOk result (string_bytes out.new ≡ string_bytes out.old ++ refused cause) }
     ensures err { OnErr result (Grows (string_bytes out.old) (string_bytes out.new)) }
     ensures room { HasRoom out.old (refused cause) → IsOk result }
@@ -22,8 +21,8 @@ pub(crate) fn push_refusal(out: &mut String, cause: Refusal) -> Result<(), Alloc
     out.push_str(cause.word())
 }
 
-/// Puts the refusal of a line with this text behind what `out` holds: by `shape`, where the text is not UTF-8.
-pub(crate) fn push_refusal_of(
+/// Writes a refusal of a line with this text behind what `out` holds, or one by `shape`, where the text is not UTF-8.
+pub(crate) fn write_refusal_or_shape(
     out: &mut String,
     text: &[u8],
     cause: Refusal,
@@ -33,19 +32,19 @@ pub(crate) fn push_refusal_of(
     ensures room { HasRoom out.old (if_text text.now (refused cause)) → IsOk result }
 {
     if is_text(text) {
-        push_refusal(out, cause)
+        write_refusal(out, cause)
     } else {
-        push_refusal(out, Refusal::Shape)
+        write_refusal(out, Refusal::Shape)
     }
 }
 
-/// Puts an answer that holds the text of a value behind what `out` holds.
-pub(crate) fn push_answer<T: Writeable>(out: &mut String, value: &T) -> Result<(), AllocError>
+/// Writes `ok`, a tab and the text of a value behind what `out` holds.
+pub(crate) fn write_ok<T: Writeable>(out: &mut String, value: &T) -> Result<(), AllocError>
     ensures text { OnOk result (string_bytes out.new ≡ string_bytes out.old ++ written (text_of (T.events value.now))) }
     ensures err { OnErr result (Grows (string_bytes out.old) (string_bytes out.new)) }
     ensures room { HasRoom out.old (written (text_of (T.events value.now))) → IsOk result }
     ensures capacity { OnOk result (string_capacity out.old ≤ string_capacity out.new) }
 {
     out.push_str("ok\t")?;
-    push_written(out, value)
+    write_text_of(out, value)
 }

@@ -18,8 +18,8 @@ struct AnswerSink<'o> {
     refused: bool,
 }
 
-// Puts a text for which there is room behind what `out` holds.
-fn push_fitting(out: &mut String, text: &str)
+// Writes a piece of a text, for which there is room, behind what `out` holds.
+fn write_piece_in_room(out: &mut String, text: &str)
     requires { HasRoom out.old text.now }
     ensures text { string_bytes out.new ≡ string_bytes out.old ++ text.now }
     ensures capacity { string_capacity out.old ≤ string_capacity out.new }
@@ -30,9 +30,10 @@ fn push_fitting(out: &mut String, text: &str)
     }
 }
 
-// Puts a text for which there may be no room behind what `out` holds. A call of its own, since there mostly is room.
+// Makes room for a piece of a text and writes it behind what `out` holds. A call of its own, since there mostly is
+// room.
 #[inline(never)]
-fn push_growing(out: &mut String, text: &str) -> Result<(), AllocError>
+fn write_piece_and_grow(out: &mut String, text: &str) -> Result<(), AllocError>
     ensures text { OnOk result (string_bytes out.new ≡ string_bytes out.old ++ text.now) }
     ensures same { OnErr result (string_bytes out.new ≡ string_bytes out.old) }
     ensures capacity { string_capacity out.old ≤ string_capacity out.new }
@@ -40,24 +41,24 @@ fn push_growing(out: &mut String, text: &str) -> Result<(), AllocError>
 {
     match out.reserve(text.len()) {
         Ok(()) => {
-            push_fitting(out, text);
+            write_piece_in_room(out, text);
             Ok(())
         }
         Err(_) => Err(AllocError),
     }
 }
 
-// Puts a text behind what `out` holds.
-fn push_text(out: &mut String, text: &str) -> Result<(), AllocError>
+// Writes a piece of a text behind what `out` holds.
+fn write_piece(out: &mut String, text: &str) -> Result<(), AllocError>
     ensures text { OnOk result (string_bytes out.new ≡ string_bytes out.old ++ text.now) }
     ensures same { OnErr result (string_bytes out.new ≡ string_bytes out.old) }
     ensures capacity { string_capacity out.old ≤ string_capacity out.new }
     ensures full { OnErr result (string_capacity out.new < length (string_bytes out.new) + length text.now) }
 {
     if out.capacity() - out.len() < text.len() {
-        return push_growing(out, text);
+        return write_piece_and_grow(out, text);
     }
-    push_fitting(out, text);
+    write_piece_in_room(out, text);
     Ok(())
 }
 
@@ -82,7 +83,7 @@ impl<'o> Sink for AnswerSink<'o> {
     }
 
     fn write_str(&mut self, text: &str) -> Result<(), Error> {
-        match push_text(self.out, text) {
+        match write_piece(self.out, text) {
             Ok(()) => Ok(()),
             Err(_) => {
                 self.refused = true;
@@ -100,12 +101,12 @@ impl<'o> Sink for AnswerSink<'o> {
     }
 }
 
-/// Puts the text of a value behind what `out` holds.
+/// Writes the text of a value behind what `out` holds.
 ///
 /// Where its hint tells the length, it allocates once; where there is room, not at all. After an error a part of the
 /// text may stand there.
 #[tactic(auto, using(writeable::proofs::AnnotatedTextLemmas::text_of_bytes))]
-pub(crate) fn push_written<T: Writeable>(out: &mut String, value: &T) -> Result<(), AllocError>
+pub(crate) fn write_text_of<T: Writeable>(out: &mut String, value: &T) -> Result<(), AllocError>
     ensures text { OnOk result (string_bytes out.new ≡ string_bytes out.old ++ text_of (T.events value.now)) }
     ensures err { OnErr result (Grows (string_bytes out.old) (string_bytes out.new)) }
     ensures room { HasRoom out.old (text_of (T.events value.now)) → IsOk result }
@@ -124,10 +125,11 @@ pub(crate) fn push_written<T: Writeable>(out: &mut String, value: &T) -> Result<
     }
 }
 
-/// Puts a decimal, as a compact formatter writes it, behind what `out` holds, makes it what is shown, and returns the exponent shown.
+/// Writes a decimal, as a compact formatter writes it, behind what `out` holds, makes it what is shown, and returns the
+/// exponent shown.
 ///
 /// Where there is room, it does not allocate. After an error a part of the text may stand there.
-pub(crate) fn push_shown(
+pub(crate) fn write_number_shown(
     formatter: &CompactDecimalFormatter<'_>,
     value: &mut Decimal,
     out: &mut String,

@@ -6,24 +6,24 @@ ghost use Rattle.locale_numbers.specs.AnswerSink.{HasRoom};
 ghost use Rattle.locale_numbers.specs.Front.{FitsForm, HasKeyThat, MayTakeBehind, answer_behind, key_behind};
 ghost use Rattle.locale_numbers.specs.declared.formatter_key.FormatterKey.{FormatterKey};
 
-use crate::answer_line::{push_refusal, push_refusal_of};
-use crate::exact_answer::push_exact_text;
+use crate::answer_line::{write_refusal, write_refusal_or_shape};
+use crate::exact_answer::answer_exact;
 use crate::formatters::Formatters;
-use crate::front::{Front, read_front};
+use crate::front::{Front, cut_text, read_front};
 use crate::kept_formatter::MadeFormatter;
-use crate::number_answer::push_text;
-use crate::read_answer::push_reading;
-use crate::refusal::Refusal;
-use crate::request::{Form, as_text, cut_text};
+use crate::number_answer::answer_number;
+use crate::read_answer::answer_read;
 use fixed_decimal::Decimal;
 use locale_numbers_book::Book;
+use locale_numbers_requests::{Form, Refusal, as_text};
 use std::alloc::{AllocError, Global};
 
-/// Puts the answer to a text behind a front, behind what `out` holds. It is tested as UTF-8 only where no number is read.
+/// Writes the answer to a text behind a front, behind what `out` holds. It is tested as UTF-8 only where no number is
+/// read.
 ///
-/// `value` is where a number is read, and `is_held` says whether the formatter that was found last is the front's. `AllocError`:
-/// out of memory; a part of the answer may then stand there.
-pub(crate) fn push_behind<'a, F: Formatters<'a>>(
+/// `value` is where a number is read, and `is_held` says whether the formatter that was found last is the front's.
+/// `AllocError`: out of memory; a part of the answer may then stand there.
+pub(crate) fn answer_behind_front<'a, F: Formatters<'a>>(
     alloc: Global,
     value: &mut Decimal,
     formatters: &mut F,
@@ -39,8 +39,9 @@ pub(crate) fn push_behind<'a, F: Formatters<'a>>(
         ≡ string_bytes out.old ++ answer_behind (F.book formatters.old) front.now text.now) }
     ensures err { OnErr result (Grows (string_bytes out.old) (string_bytes out.new)) }
 
-    // Where there is room for the answer, and handing out a formatter takes none, only a text of more than eight digits may be out
-    // of memory, to write a number only one of more than `value` had, and a rounding to multiples of 25 that may lengthen one of eight.
+    // Where there is room for the answer, and handing out a formatter takes none, only a text of more than eight digits
+    // may be out of memory, to write a number only one of more than `value` had, and a rounding to multiples of 25 that
+    // may lengthen one of eight.
     ensures room { HasRoom out.old (answer_behind (F.book formatters.old) front.now text.now)
         → ¬ (F.may_take_memory formatters.old) → ¬ (MayTakeBehind (F.book formatters.old) front.now text.now value.old) → IsOk result }
     ensures counted { OnOk result ((more : List (Option FormatterKey)) →
@@ -50,13 +51,13 @@ pub(crate) fn push_behind<'a, F: Formatters<'a>>(
     ensures ready { F.is_ready formatters.new }
 {
     let Some(front) = front else {
-        return push_refusal(out, Refusal::Shape);
+        return write_refusal(out, Refusal::Shape);
     };
     let Some(key) = &front.key else {
-        return push_refusal_of(out, text, Refusal::Tag);
+        return write_refusal_or_shape(out, text, Refusal::Tag);
     };
     match front.form {
-        Form::Plain | Form::Compact(_) => push_text(
+        Form::Plain | Form::Compact(_) => answer_number(
             value,
             formatters,
             key,
@@ -68,22 +69,22 @@ pub(crate) fn push_behind<'a, F: Formatters<'a>>(
         ),
         Form::Exact(length) => {
             let Some(text) = as_text(text) else {
-                return push_refusal(out, Refusal::Shape);
+                return write_refusal(out, Refusal::Shape);
             };
             *is_held = false;
-            push_exact_text(alloc, formatters, length, key, front.sign, text, out)
+            answer_exact(alloc, formatters, length, key, front.sign, text, out)
         }
         Form::Read => {
             let Some(text) = as_text(text) else {
-                return push_refusal(out, Refusal::Shape);
+                return write_refusal(out, Refusal::Shape);
             };
-            push_reading(alloc, formatters, key, is_held, text, out)
+            answer_read(alloc, formatters, key, is_held, text, out)
         }
     }
 }
 
-// Puts the answer to a line behind what `out` holds. After an error a part of it may stand there.
-fn push_line<'a, F: Formatters<'a>>(
+// Writes the answer to a line behind what `out` holds. After an error a part of it may stand there.
+fn answer_whole_line<'a, F: Formatters<'a>>(
     alloc: Global,
     formatters: &mut F,
     line: &[u8],
@@ -98,7 +99,7 @@ fn push_line<'a, F: Formatters<'a>>(
     let front = read_front(alloc, front)?;
     let mut value = Decimal::zero(alloc);
     let mut is_held = false;
-    push_behind(
+    answer_behind_front(
         alloc,
         &mut value,
         formatters,
@@ -128,6 +129,6 @@ pub fn answer(alloc: Global, book: &Book, line: &[u8]) -> Result<Vec<u8>, AllocE
         tables: book,
         made: None,
     };
-    push_line(alloc, &mut formatters, line, &mut out)?;
+    answer_whole_line(alloc, &mut formatters, line, &mut out)?;
     Ok(out.into_bytes())
 }

@@ -2,9 +2,8 @@
 ghost use Rattle.std.specs.Prelude.{◌≡◌, OnOk, OnErr};
 ghost use Rattle.locale_numbers.specs.Changing.{rounded_as, signed_as, changed, MayGrow};
 
-use crate::rounding_field::RoundingAsked;
-use crate::sign_field::SignAsked;
 use fixed_decimal::Decimal;
+use locale_numbers_requests::{RoundingAsked, SignAsked};
 use std::alloc::AllocError;
 
 // Rounds a number, where that is asked for.

@@ -12,13 +12,13 @@ ghost use Rattle.locale_numbers_lines.specs.Growth.{Grows};
 ghost use Rattle.locale_numbers.specs.AnswerLine.{written};
 ghost use Rattle.locale_numbers.specs.AnswerSink.{HasRoom};
 ghost use Rattle.locale_numbers.specs.CompactAnswer.{compact_answer};
-ghost use Rattle.locale_numbers.specs.Request.{tab};
+ghost use Rattle.locale_numbers_requests.specs.Request.{tab};
 
-use crate::answer_line::push_refusal;
-use crate::answer_sink::{push_shown, push_written};
-use crate::refusal::Refusal;
+use crate::answer_line::write_refusal;
+use crate::answer_sink::{write_number_shown, write_text_of};
 use fixed_decimal::{Decimal, Sign};
 use icu_decimal::CompactDecimalFormatter;
+use locale_numbers_requests::Refusal;
 use std::alloc::AllocError;
 
 // ASCII characters as a text.
@@ -29,8 +29,8 @@ fn ascii_text(characters: &[u8]) -> &str
     unsafe { str::from_utf8_unchecked(characters) }
 }
 
-// Puts a sign, behind a tab, behind what `out` holds.
-fn push_sign(out: &mut String, sign: Sign) -> Result<(), AllocError>
+// Writes a tab and a sign behind what `out` holds.
+fn write_tab_and_sign(out: &mut String, sign: Sign) -> Result<(), AllocError>
     ensures text { OnOk result (string_bytes out.new ≡ string_bytes out.old ++ tab ∷ sign_text sign) }
     ensures err { OnErr result (Grows (string_bytes out.old) (string_bytes out.new)) }
     ensures room { HasRoom out.old (tab ∷ sign_text sign) → IsOk result }
@@ -43,9 +43,9 @@ fn push_sign(out: &mut String, sign: Sign) -> Result<(), AllocError>
     }
 }
 
-// Puts an exponent with its mark, or nothing for 0, behind what `out` holds.
+// Writes an exponent with its mark, or nothing for 0, behind what `out` holds.
 #[tactic(auto, using(crate::proofs::ExponentLemmas::no_digits, crate::proofs::ExponentLemmas::one_digit, crate::proofs::ExponentLemmas::two_digits, crate::proofs::ExponentLemmas::three_digits))]
-fn push_exponent(out: &mut String, exponent: u8) -> Result<(), AllocError>
+fn write_exponent(out: &mut String, exponent: u8) -> Result<(), AllocError>
     ensures text { OnOk result (string_bytes out.new ≡ string_bytes out.old ++ behind_compact_mark (map character (digits_of 10 exponent))) }
     ensures err { OnErr result (Grows (string_bytes out.old) (string_bytes out.new)) }
     ensures room { HasRoom out.old (behind_compact_mark (map character (digits_of 10 exponent))) → IsOk result }
@@ -64,30 +64,35 @@ fn push_exponent(out: &mut String, exponent: u8) -> Result<(), AllocError>
     }
 }
 
-// Puts a decimal, behind a tab, behind what `out` holds.
-fn push_decimal(out: &mut String, value: &Decimal) -> Result<(), AllocError>
+// Writes a tab and a decimal behind what `out` holds.
+fn write_tab_and_decimal(out: &mut String, value: &Decimal) -> Result<(), AllocError>
     ensures text { OnOk result (string_bytes out.new ≡ string_bytes out.old ++ tab ∷ signed_text_of value.now) }
     ensures err { OnErr result (Grows (string_bytes out.old) (string_bytes out.new)) }
     ensures room { HasRoom out.old (tab ∷ signed_text_of value.now) → IsOk result }
     ensures capacity { OnOk result (string_capacity out.old ≤ string_capacity out.new) }
 {
-    push_sign(out, value.sign)?;
-    push_written(out, &value.absolute)
+    write_tab_and_sign(out, value.sign)?;
+    write_text_of(out, &value.absolute)
 }
 
-// Puts the value shown, behind a tab, behind what `out` holds.
-fn push_value(out: &mut String, significand: &Decimal, exponent: u8) -> Result<(), AllocError>
+// Writes a tab and the value shown behind what `out` holds.
+fn write_tab_and_value_shown(
+    out: &mut String,
+    significand: &Decimal,
+    exponent: u8,
+) -> Result<(), AllocError>
     ensures text { OnOk result (string_bytes out.new
         ≡ string_bytes out.old ++ tab ∷ compact_text_of (record { significand = significand.now; exponent = exponent })) }
     ensures err { OnErr result (Grows (string_bytes out.old) (string_bytes out.new)) }
     ensures room { HasRoom out.old (tab ∷ compact_text_of (record { significand = significand.now; exponent = exponent })) → IsOk result }
 {
-    push_decimal(out, significand)?;
-    push_exponent(out, exponent)
+    write_tab_and_decimal(out, significand)?;
+    write_exponent(out, exponent)
 }
 
-// Puts a number, as a compact formatter writes it, behind what `out` holds, makes it what is shown, and returns the exponent shown.
-fn push_text_shown(
+// Writes `ok`, a tab and a number, as a compact formatter writes it, behind what `out` holds, makes the number what is
+// shown, and returns the exponent shown.
+fn write_ok_and_number_shown(
     formatter: &CompactDecimalFormatter<'_>,
     value: &mut Decimal,
     out: &mut String,
@@ -101,14 +106,15 @@ fn push_text_shown(
     ensures capacity { OnOk result (string_capacity out.old ≤ string_capacity out.new) }
 {
     out.push_str("ok\t")?;
-    push_shown(formatter, value, out)
+    write_number_shown(formatter, value, out)
 }
 
-/// Puts a number as a compact formatter shows it, and the value shown, behind what `out` holds. The number becomes what is shown.
+/// Writes a number as a compact formatter shows it, and the value shown, behind what `out` holds. The number becomes
+/// what is shown.
 ///
-/// The word `range` stands there where the value shown would be no decimal. Where there is room for the answer, it does not
-/// allocate.
-pub(crate) fn push_compact(
+/// The word `range` stands there where the value shown would be no decimal. Where there is room for the answer, it does
+/// not allocate.
+pub(crate) fn write_compact_answer(
     formatter: &CompactDecimalFormatter<'_>,
     value: &mut Decimal,
     out: &mut String,
@@ -119,8 +125,8 @@ pub(crate) fn push_compact(
     ensures room { HasRoom out.old (compact_answer (compact_tables_of formatter.now) value.old) → IsOk result }
 {
     if !formatter.can_format(value) {
-        return push_refusal(out, Refusal::Range);
+        return write_refusal(out, Refusal::Range);
     }
-    let exponent = push_text_shown(formatter, value, out)?;
-    push_value(out, value, exponent)
+    let exponent = write_ok_and_number_shown(formatter, value, out)?;
+    write_tab_and_value_shown(out, value, exponent)
 }

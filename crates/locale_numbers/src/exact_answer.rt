@@ -11,17 +11,15 @@ ghost use Rattle.locale_numbers.specs.FormatterKeys.{key_exact};
 ghost use Rattle.locale_numbers.specs.declared.formatter_key.FormatterKey.{FormatterKey};
 ghost use Rattle.locale_numbers.specs.declared.formatter_key.Kind.{Kind};
 
-use crate::answer_line::{push_answer, push_refusal};
+use crate::answer_line::{write_ok, write_refusal};
 use crate::changing::choose_sign;
 use crate::formatter_key::FormatterKey;
 use crate::formatters::Formatters;
 use crate::kept_formatter::KeptFormatter;
-use crate::refusal::Refusal;
-use crate::request::PatternLength;
-use crate::sign_field::SignAsked;
 use fixed_decimal::{CompactDecimal, Decimal, ParseError};
 use icu_decimal::CompactDecimalFormatter;
 use locale_numbers_cache::Hashed;
+use locale_numbers_requests::{PatternLength, Refusal, SignAsked};
 use std::alloc::{AllocError, Global};
 
 // The compact number that a text says.
@@ -36,9 +34,10 @@ fn read_compact(alloc: Global, text: &str) -> Result<CompactDecimal, ParseError>
     CompactDecimal::try_from_str(alloc, text)
 }
 
-// Puts a significand with its exponent, as a compact formatter writes both, behind what `out` holds; or the word `range`, where
-// their magnitude is beyond that of a decimal; or the word `exponent`, where the formatter has another exponent for it.
-fn push_exact(
+// Writes a significand with its exponent, as a compact formatter writes both, behind what `out` holds; or the word
+// `range`, where their magnitude is beyond that of a decimal; or the word `exponent`, where the formatter has another
+// exponent for it.
+fn write_exact_answer(
     formatter: &CompactDecimalFormatter<'_>,
     significand: &Decimal,
     exponent: u8,
@@ -52,16 +51,17 @@ fn push_exact(
     ensures room { HasRoom out.old (exact_answer (compact_tables_of formatter.now) (record { significand = significand.now; exponent = exponent })) → IsOk result }
 {
     if !formatter.exponent_in_range(significand, exponent) {
-        return push_refusal(out, Refusal::Range);
+        return write_refusal(out, Refusal::Range);
     }
     match formatter.format_with_exponent(significand, exponent) {
-        Ok(text) => push_answer(out, &text),
-        Err(_) => push_refusal(out, Refusal::Exponent),
+        Ok(text) => write_ok(out, &text),
+        Err(_) => write_refusal(out, Refusal::Exponent),
     }
 }
 
-// Puts a significand with its exponent, as the formatter of a key writes both, behind what `out` holds.
-fn push_significand<'a, F: Formatters<'a>>(
+// Writes a significand with its exponent, as the formatter of a key writes both, behind what `out` holds; or the word
+// `table`, where it has none.
+fn write_exact_answer_of_key<'a, F: Formatters<'a>>(
     formatters: &mut F,
     length: PatternLength,
     key: &Hashed<FormatterKey>,
@@ -86,18 +86,18 @@ fn push_significand<'a, F: Formatters<'a>>(
 {
     let found = formatters.find(key)?;
     if !found {
-        return push_refusal(out, Refusal::Table);
+        return write_refusal(out, Refusal::Table);
     }
     match formatters.found(key) {
-        KeptFormatter::Compact(compact) => push_exact(compact, significand, exponent, out),
+        KeptFormatter::Compact(compact) => write_exact_answer(compact, significand, exponent, out),
         KeptFormatter::Plain(_) => unreachable!(),
     }
 }
 
-/// Puts the answer to the text of an exact form, with the formatter of a key, behind what `out` holds.
+/// Writes the answer to the text of an exact form, with the formatter of a key, behind what `out` holds.
 ///
 /// `AllocError`: out of memory; a part of the answer may then stand there.
-pub(crate) fn push_exact_text<'a, F: Formatters<'a>>(
+pub(crate) fn answer_exact<'a, F: Formatters<'a>>(
     alloc: Global,
     formatters: &mut F,
     length: PatternLength,
@@ -112,8 +112,8 @@ pub(crate) fn push_exact_text<'a, F: Formatters<'a>>(
         ≡ string_bytes out.old ++ exact_to (found_compact length (F.book formatters.old) key.now.preferences key.now.grouping) sign (compact_reading_of text.now)) }
     ensures err { OnErr result (Grows (string_bytes out.old) (string_bytes out.new)) }
 
-    // Where there is room for the answer, and handing out a formatter takes none, only a number of more than eight digits may be
-    // out of memory.
+    // Where there is room for the answer, and handing out a formatter takes none, only a number of more than eight
+    // digits may be out of memory.
     ensures room { HasRoom out.old (exact_to (found_compact length (F.book formatters.old) key.now.preferences key.now.grouping) sign (compact_reading_of text.now))
         → ¬ (F.may_take_memory formatters.old) → ¬ (ReadsLongCompact text.now) → IsOk result }
     ensures counted { OnOk result ((more : List (Option FormatterKey)) →
@@ -126,10 +126,10 @@ pub(crate) fn push_exact_text<'a, F: Formatters<'a>>(
             let exponent = value.exponent();
             let mut significand = value.into_significand();
             choose_sign(&mut significand, sign);
-            push_significand(formatters, length, key, &significand, exponent, out)
+            write_exact_answer_of_key(formatters, length, key, &significand, exponent, out)
         }
-        Err(ParseError::Syntax) => push_refusal(out, Refusal::Number),
-        Err(ParseError::Limit) => push_refusal(out, Refusal::Limit),
+        Err(ParseError::Syntax) => write_refusal(out, Refusal::Number),
+        Err(ParseError::Limit) => write_refusal(out, Refusal::Limit),
         Err(ParseError::Memory) => Err(AllocError),
     }
 }

@@ -18,7 +18,8 @@ pub enum ProgramFault {
     File,
     /// The book is refused, as the text `[1` by `BookError::Json`, or it was out of memory while it was read.
     Book(BookError),
-    /// The reader or the writer failed, as `RunError::Read` says of the reader, or it was out of memory while lines were answered.
+    /// The reader or the writer failed, as `RunError::Read` says of the reader, or it was out of memory while lines
+    /// were answered.
     Run(RunError),
 }
 

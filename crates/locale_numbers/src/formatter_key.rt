@@ -2,10 +2,10 @@
 ghost use Rattle.std.specs.Prelude.{◌≡◌};
 ghost use Rattle.locale_numbers.specs.FormatterKeys.{kind_of};
 
-use crate::request::{Form, PatternLength};
 use icu_decimal::DecimalFormatterPreferences;
 use icu_decimal::options::GroupingStrategy;
 use locale_numbers_cache::CacheKey;
+use locale_numbers_requests::{Form, PatternLength};
 
 /// Which tables a form is written with.
 #[derive(Clone, Copy, PartialEq, Eq, Hash)]
@@ -36,7 +36,7 @@ impl CacheKey for FormatterKey {
 }
 
 /// The kind of tables that a form is written with.
-pub(crate) fn kind_by(form: Form) -> Kind
+pub(crate) fn kind_of_form(form: Form) -> Kind
     ensures { result ≡ kind_of form }
 {
     match form {

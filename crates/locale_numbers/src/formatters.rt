@@ -25,7 +25,8 @@ pub(crate) trait Formatters<'a> {
     // The formatter that was found last is that of the key.
     ghost holds: { Self → FormatterKey → Type 0 };
 
-    /// Finds the formatter of a key; `false` where the book lacks one of its tables. The condition is that it is ready to find one.
+    /// Finds the formatter of a key; `false` where the book lacks one of its tables. The condition is that it is ready
+    /// to find one.
     fn find(&mut self, key: &Hashed<FormatterKey>) -> Result<bool, AllocError>
         requires { is_ready self.old }
         ensures value { IfOk result (λ found. found ≡ finds (book self.old) key.now) }

@@ -1,17 +1,18 @@
 //! The front of a line: all that stands before its text.
 ghost use Rattle.std.specs.Prelude.{◌≡◌, IfOk, option_map};
 ghost use Rattle.locale_numbers.specs.FormatterKeys.{key_with};
-ghost use Rattle.locale_numbers.specs.Front.{front_of};
+ghost use Rattle.locale_numbers.specs.Front.{asked_text, front_of};
+ghost use Rattle.locale_numbers_requests.specs.Request.{request_of};
 
-use crate::formatter_key::{FormatterKey, kind_by};
-use crate::request::{Form, read_request};
-use crate::rounding_field::RoundingAsked;
-use crate::sign_field::SignAsked;
+use crate::formatter_key::{FormatterKey, kind_of_form};
 use icu_decimal::DecimalFormatterPreferences;
 use icu_decimal::options::GroupingStrategy;
 use locale_numbers_book::read_preferences;
 use locale_numbers_cache::{Hashed, KeyReader};
+use locale_numbers_requests::{Form, RoundingAsked, SignAsked, cut_last, read_request};
 use std::alloc::{AllocError, Global};
+
+const TAB: u8 = b'\t';
 
 /// What the front of a line asks, whatever its text.
 #[derive(Clone, Copy)]
@@ -26,8 +27,17 @@ pub(crate) struct Front {
     pub key: Option<Hashed<FormatterKey>>,
 }
 
+/// The front of a line, which is all that stands before its text, and the text, which need not be UTF-8.
+///
+/// The front ends with the last tab. It asks what the line does, as a line with no text.
+pub(crate) fn cut_text(line: &[u8]) -> (&[u8], &[u8])
+    ensures { request_of line.now ≡ asked_text result.1.now (request_of result.0.now) }
+{
+    cut_last(line, TAB)
+}
+
 // The key of what a tag prefers, a form and a grouping.
-fn key_by(
+fn hashed_key(
     preferences: Option<DecimalFormatterPreferences>,
     form: Form,
     grouping: GroupingStrategy,
@@ -37,7 +47,7 @@ fn key_by(
     match preferences {
         Some(preferences) => Some(Hashed::new(FormatterKey {
             preferences,
-            kind: kind_by(form),
+            kind: kind_of_form(form),
             grouping,
         })),
         None => None,
@@ -58,7 +68,7 @@ pub(crate) fn read_front(alloc: Global, bytes: &[u8]) -> Result<Option<Front>, A
         form: request.form,
         sign: request.sign,
         rounding: request.rounding,
-        key: key_by(preferences, request.form, request.grouping),
+        key: hashed_key(preferences, request.form, request.grouping),
     }))
 }
 

@@ -9,12 +9,12 @@ ghost use Rattle.locale_numbers.specs.FormatterKeys.{IsMadeFor, KnowsAll, KnowsR
 
 use crate::formatter_key::{FormatterKey, Kind};
 use crate::formatters::Formatters;
-use crate::request::PatternLength;
 use crate::tables::Tables;
 use icu_decimal::options::{CompactDecimalFormatterOptions, DecimalFormatterOptions};
 use icu_decimal::provider::DataError;
 use icu_decimal::{CompactDecimalFormatter, DecimalFormatter, is_readable};
 use locale_numbers_cache::{Hashed, Maker};
+use locale_numbers_requests::PatternLength;
 use std::alloc::AllocError;
 
 /// A formatter of plain numbers, and what is known of its symbols.

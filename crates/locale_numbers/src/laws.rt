@@ -5,11 +5,10 @@ ghost use Rattle.locale_numbers.specs.CompactAnswer.{found_compact};
 ghost use Rattle.locale_numbers.specs.FormatterKeys.{same_keys};
 ghost use Rattle.locale_numbers.specs.Laws.{HasOneReading, HasOneCompactReading, HasOneRounding, AlikeTagsAreAnsweredAlike, NormalTextIsAnsweredAlike, AutoIsAnsweredAsAlways, AreTexts, ReadIsWrittenAgain, RoundedIsWrittenAgain, TellsKeys, WrittenReadsBack};
 ghost use Rattle.locale_numbers.specs.PrintedLaws.{FoundTablesAreSound, IsSoundWhereFound, PrintedIsAnswered, PrintedIsNear, PrintedIsWrittenAgain, PrintedKeepsOrder, PrintedPrintsItself, ZeroIsPrintedForZero};
-ghost use Rattle.locale_numbers.specs.declared.request.PatternLength.TheVariants.{Short, Long};
+ghost use Rattle.locale_numbers_requests.specs.declared.PatternLength.TheVariants.{Short, Long};
 
 use crate::formatter_key::{FormatterKey, Kind};
 use crate::kept_formatter::{compact_formatter, plain_formatter};
-use crate::request::PatternLength;
 use crate::tables::Tables;
 use icu_decimal::laws::compact::{
     held_entries_are_sound, shown_forms_are_answered, shown_values_are_compact,
@@ -27,28 +26,30 @@ pub use locale_numbers_cache::laws::{last_used_are_kept, unused_keys_miss};
 pub use locale_numbers_lines::laws::{
     each_input_splits, lines_are_the_pieces, outputs_join, whole_lines_are_the_pieces,
 };
+use locale_numbers_requests::PatternLength;
 
-/// Each text spells one number, or one beyond the limits, or none: what the relations of `fixed_decimal` say of a text is what
-/// the answer to a line goes by. `-12.30` spells -12.30, `1e32768` one beyond the limits, and `5.` none.
+/// Each text spells one number, or one beyond the limits, or none: what the relations of `fixed_decimal` say of a text
+/// is what the answer to a line goes by. `-12.30` spells -12.30, `1e32768` one beyond the limits, and `5.` none.
 pub fn texts_have_one_reading()
     ensures { HasOneReading }
 {}
 
-/// The same of texts of compact numbers, which exact forms are asked with: `-1.20c6` spells -1.20 with the exponent 6, `1c256`
-/// one beyond the limits, and `1c0` none.
+/// The same of texts of compact numbers, which exact forms are asked with: `-1.20c6` spells -1.20 with the exponent 6,
+/// `1c256` one beyond the limits, and `1c0` none.
 pub fn compact_texts_have_one_reading()
     ensures { HasOneCompactReading }
 {}
 
-/// Each rounding of a number has one end: what the relation of `fixed_decimal` names is what the answer to a line goes by. By
-/// `-2,half-trunc,25` the end of -7.235 is -7.25.
+/// Each rounding of a number has one end: what the relation of `fixed_decimal` names is what the answer to a line goes
+/// by. By `-2,half-trunc,25` the end of -7.235 is -7.25.
 pub fn roundings_have_one_end()
     ensures { HasOneRounding }
 {}
 
-/// Of a tag its language, script, region and first variant count, and its `sd` and `nu` where they read: nothing else in a tag
-/// changes an answer, neither `rg` nor any other keyword, attribute, extension, private subtag or later variant. Variants stand
-/// in the order of their bytes: the first one of `de-fonipa-1996` is `1996`. `EN-X-Foo` and `en` are answered alike.
+/// Of a tag its language, script, region and first variant count, and its `sd` and `nu` where they read: nothing else
+/// in a tag changes an answer, neither `rg` nor any other keyword, attribute, extension, private subtag or later
+/// variant. Variants stand in the order of their bytes: the first one of `de-fonipa-1996` is `1996`. `EN-X-Foo` and
+/// `en` are answered alike.
 pub fn alike_tags_are_answered_alike()
     ensures { AlikeTagsAreAnsweredAlike }
 {}
@@ -63,8 +64,9 @@ pub fn auto_is_answered_as_always()
     ensures { AutoIsAnsweredAsAlways }
 {}
 
-/// What is found in tables is ten digits, and symbols that are texts, as the laws of reading back ask for: with preferences of
-/// `en`, in the sample book, `0` to `9` and `-`, `+`, `.`, `,`. It makes a formatter to tell, and does not allocate.
+/// What is found in tables is ten digits, and symbols that are texts, as the laws of reading back ask for: with
+/// preferences of `en`, in the sample book, `0` to `9` and `-`, `+`, `.`, `,`. It makes a formatter to tell, and does
+/// not allocate.
 pub fn found_tables_are_texts<T: Tables>(
     tables: &T,
     preferences: DecimalFormatterPreferences,
@@ -82,8 +84,8 @@ pub fn found_tables_are_texts<T: Tables>(
     }
 }
 
-/// The answer to a text that is read back, sent as a plain number with `keep` and no rounding, writes that text: with `en`,
-/// `-987,654.321` is answered by `-987654.321`, and this by `-987,654.321`.
+/// The answer to a text that is read back, sent as a plain number with `keep` and no rounding, writes that text: with
+/// `en`, `-987,654.321` is answered by `-987654.321`, and this by `-987,654.321`.
 pub fn read_is_written_again()
     ensures { ReadIsWrittenAgain }
 {
@@ -91,16 +93,16 @@ pub fn read_is_written_again()
     both_trips();
 }
 
-/// Under readable symbols a text that was written reads back: the answer is the number, with its sign and the digits shown.
-/// With `en`, `-987,654.321` is read as `-987654.321`.
+/// Under readable symbols a text that was written reads back: the answer is the number, with its sign and the digits
+/// shown. With `en`, `-987,654.321` is read as `-987654.321`.
 pub fn written_reads_back()
     ensures { WrittenReadsBack }
 {
     both_trips();
 }
 
-/// Under readable symbols a plain answer, read back and written again with the same rounding and `keep`, is the same text. With
-/// `en` and `2,half-expand,1`, `1250` is answered by `1,300`; this is read as `1300`, and written `1,300`.
+/// Under readable symbols a plain answer, read back and written again with the same rounding and `keep`, is the same
+/// text. With `en` and `2,half-expand,1`, `1250` is answered by `1,300`; this is read as `1300`, and written `1,300`.
 pub fn rounded_is_written_again()
     ensures { RoundedIsWrittenAgain }
 {
@@ -108,17 +110,17 @@ pub fn rounded_is_written_again()
     texts_have_one_decimal();
 }
 
-/// What formatters are kept under is told apart exactly where preferences, kinds of tables or groupings differ: `en` and `en-x-foo`
-/// have one key under `plain` and `auto`, and another under `min2`.
+/// What formatters are kept under is told apart exactly where preferences, kinds of tables or groupings differ: `en`
+/// and `en-x-foo` have one key under `plain` and `auto`, and another under `min2`.
 pub fn keys_are_told_apart()
     ensures { TellsKeys (same_keys ⟦<DecimalFormatterPreferences as PartialEq>⟧.eq ⟦<Kind as PartialEq>⟧.eq ⟦<GroupingStrategy as PartialEq>⟧.eq) }
 {
     equal_keys_are_one::<FormatterKey>();
 }
 
-/// The value that a compact answer prints, sent back in the exact form with the same tag and grouping, `keep` and no rounding, is
-/// refused by `exponent` exactly where the entry of its magnitude has another exponent, and by no other word. With types 3 and 7
-/// and exponents 3 and 6, `999500` is answered by `1M` and `1c6`, and this by `exponent`.
+/// The value that a compact answer prints, sent back in the exact form with the same tag and grouping, `keep` and no
+/// rounding, is refused by `exponent` exactly where the entry of its magnitude has another exponent, and by no other
+/// word. With types 3 and 7 and exponents 3 and 6, `999500` is answered by `1M` and `1c6`, and this by `exponent`.
 pub fn printed_value_is_answered()
     ensures { PrintedIsAnswered }
 {
@@ -126,9 +128,9 @@ pub fn printed_value_is_answered()
     shown_forms_are_answered();
 }
 
-/// It is answered by the same compact text, where the entry of its magnitude is the one that was used; so where each type is its
-/// exponent, and where the value shown has the magnitude of the number. With `en`, `1650` is answered by `1.6K` and `1.6c3`, and
-/// this by `1.6K`.
+/// It is answered by the same compact text, where the entry of its magnitude is the one that was used; so where each
+/// type is its exponent, and where the value shown has the magnitude of the number. With `en`, `1650` is answered by
+/// `1.6K` and `1.6c3`, and this by `1.6K`.
 pub fn printed_value_is_written_again()
     ensures { PrintedIsWrittenAgain }
 {
@@ -137,8 +139,8 @@ pub fn printed_value_is_written_again()
     exact_forms_of_shown_values();
 }
 
-/// Of two numbers that are shown in one form under one tag, and not rounded, the smaller never prints a larger value. With `en`,
-/// `999499` prints `999c3`, and `999500` prints `1c6`.
+/// Of two numbers that are shown in one form under one tag, and not rounded, the smaller never prints a larger value.
+/// With `en`, `999499` prints `999c3`, and `999500` prints `1c6`.
 pub fn printed_values_keep_order()
     ensures { PrintedKeepsOrder }
 {
@@ -147,9 +149,9 @@ pub fn printed_values_keep_order()
     tables_show_values();
 }
 
-/// A printed value is off by at most a twentieth of the number after its rounding (`near`), and zero is printed only for zero
-/// (`zero_value`). A number of the size of a printed value prints this size (`itself`). With `en`, `1650` prints `1.6c3`, and
-/// `1600` prints it too.
+/// A printed value is off by at most a twentieth of the number after its rounding (`near`), and zero is printed only
+/// for zero (`zero_value`). A number of the size of a printed value prints this size (`itself`). With `en`, `1650`
+/// prints `1.6c3`, and `1600` prints it too.
 pub fn printed_values_are_near()
     ensures near { PrintedIsNear }
     ensures zero_value { ZeroIsPrintedForZero }
@@ -160,8 +162,8 @@ pub fn printed_values_are_near()
     tables_show_values();
 }
 
-/// What requests find in a book is sound, as the laws of printed values ask for: types that rise, exponents that fit them, and
-/// both in bytes. In `SAMPLE_BOOK` with `en` these are the types 3 and 6.
+/// What requests find in a book is sound, as the laws of printed values ask for: types that rise, exponents that fit
+/// them, and both in bytes. In `SAMPLE_BOOK` with `en` these are the types 3 and 6.
 pub fn found_compact_tables_are_sound()
     ensures { FoundTablesAreSound }
 {
@@ -187,8 +189,8 @@ fn found_tables_are_sound<T: Tables>(
     }
 }
 
-/// What the short form finds in tables of one's own is sound: in the sample book with `en` the types 3 and 6. It makes a formatter
-/// to tell, and does not allocate.
+/// What the short form finds in tables of one's own is sound: in the sample book with `en` the types 3 and 6. It makes
+/// a formatter to tell, and does not allocate.
 pub fn found_short_tables_are_sound<T: Tables>(
     tables: &T,
     preferences: DecimalFormatterPreferences,
@@ -199,8 +201,8 @@ pub fn found_short_tables_are_sound<T: Tables>(
     found_tables_are_sound(tables, PatternLength::Short, preferences, grouping);
 }
 
-/// What the long form finds in tables of one's own is sound: in the sample book with `en` the types 3 and 6. It makes a formatter
-/// to tell, and does not allocate.
+/// What the long form finds in tables of one's own is sound: in the sample book with `en` the types 3 and 6. It makes a
+/// formatter to tell, and does not allocate.
 pub fn found_long_tables_are_sound<T: Tables>(
     tables: &T,
     preferences: DecimalFormatterPreferences,

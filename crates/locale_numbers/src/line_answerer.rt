@@ -1,10 +1,9 @@
 //! The answerer of a run: it keeps formatters, and the fronts that were read, from line to line.
 
-use crate::answering::push_behind;
+use crate::answering::answer_behind_front;
 use crate::formatter_key::FormatterKey;
-use crate::front::{Front, FrontReader};
+use crate::front::{Front, FrontReader, cut_text};
 use crate::kept::Kept;
-use crate::request::cut_text;
 use crate::tables::Tables;
 use fixed_decimal::Decimal;
 use locale_numbers_cache::ReadKeys;
@@ -46,7 +45,7 @@ impl<'a, T: Tables> Answerer for LineAnswerer<'a, T> {
         let reader = FrontReader { alloc: self.alloc };
         let same = self.read.find(&reader, front)?;
         self.is_held &= same;
-        push_behind(
+        answer_behind_front(
             self.alloc,
             &mut self.value,
             &mut self.kept,

@@ -13,22 +13,20 @@ ghost use Rattle.locale_numbers.specs.Front.{if_text, key_if_text};
 ghost use Rattle.locale_numbers.specs.NumberReading.{number, beyond, nothing, reading_of};
 ghost use Rattle.locale_numbers.specs.declared.formatter_key.FormatterKey.{FormatterKey};
 
-use crate::answer_line::{push_answer, push_refusal, push_refusal_of};
+use crate::answer_line::{write_ok, write_refusal, write_refusal_or_shape};
 use crate::changing::change;
-use crate::compact_answer::push_compact;
+use crate::compact_answer::write_compact_answer;
 use crate::formatter_key::FormatterKey;
 use crate::formatters::Formatters;
 use crate::held::hold;
 use crate::kept_formatter::KeptFormatter;
-use crate::refusal::Refusal;
-use crate::rounding_field::RoundingAsked;
-use crate::sign_field::SignAsked;
 use fixed_decimal::{Decimal, ParseError};
 use icu_decimal::DecimalFormatter;
 use locale_numbers_cache::Hashed;
+use locale_numbers_requests::{Refusal, RoundingAsked, SignAsked};
 use std::alloc::AllocError;
 
-// Puts the number that a text says in place of the one that is there.
+// Reads the number that a text says in place of the one that is there.
 fn read_number(value: &mut Decimal, text: &[u8]) -> Result<(), ParseError>
     ensures value { OnOk result (reading_of text.now ≡ number value.new) }
     ensures limit { IsErrOf result ParseError.Limit → reading_of text.now ≡ beyond }
@@ -36,14 +34,15 @@ fn read_number(value: &mut Decimal, text: &[u8]) -> Result<(), ParseError>
     ensures limit_text { IsErrOf result ParseError.Limit → is_utf8 text.now ≡ true }
     ensures syntax { IsErrOf result ParseError.Syntax → reading_of text.now ≡ nothing }
 
-    // Only a text that says a number of more than eight digits, and of more than the one that is there, is told as out of memory.
+    // Only a text that says a number of more than eight digits, and of more than the one that is there, is told as out
+    // of memory.
     ensures memory { IsErrOf result ParseError.Memory → ReadsMore text.now value.old }
 {
     value.assign_from_utf8(text)
 }
 
-// Puts a number, as a formatter writes it, behind what `out` holds.
-fn push_formatted(
+// Writes the answer that is a number, as a plain formatter writes it, behind what `out` holds.
+fn write_plain_answer(
     formatter: &DecimalFormatter<'_>,
     value: &Decimal,
     out: &mut String,
@@ -53,11 +52,11 @@ fn push_formatted(
     ensures err { OnErr result (Grows (string_bytes out.old) (string_bytes out.new)) }
     ensures room { HasRoom out.old (written (decimal_text (tables_of formatter.now) value.now)) → IsOk result }
 {
-    push_answer(out, &formatter.format(value))
+    write_ok(out, &formatter.format(value))
 }
 
-// Puts a number, as a formatter of any kind writes it, behind what `out` holds.
-fn push_with(
+// Writes the answer to a number, by a formatter of either kind, behind what `out` holds.
+fn write_answer_of_formatter(
     formatter: &KeptFormatter<'_>,
     value: &mut Decimal,
     out: &mut String,
@@ -67,13 +66,14 @@ fn push_with(
     ensures room { HasRoom out.old (answer_by formatter.now value.old) → IsOk result }
 {
     match formatter {
-        KeptFormatter::Plain(plain) => push_formatted(&plain.formatter, value, out),
-        KeptFormatter::Compact(compact) => push_compact(compact, value, out),
+        KeptFormatter::Plain(plain) => write_plain_answer(&plain.formatter, value, out),
+        KeptFormatter::Compact(compact) => write_compact_answer(compact, value, out),
     }
 }
 
-// Puts a number, as the formatter of a key writes it, behind what `out` holds.
-fn push_number<'a, F: Formatters<'a>>(
+// Writes the answer to a number, by the formatter of a key, behind what `out` holds; or the word `table`, where it has
+// none.
+fn write_answer_of_key<'a, F: Formatters<'a>>(
     formatters: &mut F,
     key: &Hashed<FormatterKey>,
     is_held: &mut bool,
@@ -95,15 +95,16 @@ fn push_number<'a, F: Formatters<'a>>(
 {
     let found = hold(formatters, key, is_held)?;
     if !found {
-        return push_refusal(out, Refusal::Table);
+        return write_refusal(out, Refusal::Table);
     }
-    push_with(formatters.found(key), value, out)
+    write_answer_of_formatter(formatters.found(key), value, out)
 }
 
-/// Puts the answer to a number's text, with the formatter of a key, behind what `out` holds. `value` is read anew.
+/// Writes the answer to a number's text, with the formatter of a key, behind what `out` holds. `value` is read anew.
 ///
-/// `is_held` says whether the formatter that was found last is the one of the key. `AllocError`: out of memory; a part of the answer may then stand there.
-pub(crate) fn push_text<'a, F: Formatters<'a>>(
+/// `is_held` says whether the formatter that was found last is the one of the key. `AllocError`: out of memory; a part
+/// of the answer may then stand there.
+pub(crate) fn answer_number<'a, F: Formatters<'a>>(
     value: &mut Decimal,
     formatters: &mut F,
     key: &Hashed<FormatterKey>,
@@ -119,8 +120,9 @@ pub(crate) fn push_text<'a, F: Formatters<'a>>(
         ≡ string_bytes out.old ++ if_text text.now (answer_to (answer_of_kind key.now.kind (F.book formatters.old) key.now.preferences key.now.grouping) sign rounding (reading_of text.now))) }
     ensures err { OnErr result (Grows (string_bytes out.old) (string_bytes out.new)) }
 
-    // Where there is room for the answer, and handing out a formatter takes none, only a number of more than eight digits, and
-    // of more than `value` had, may be out of memory, and a rounding to multiples of 25 that may lengthen one of eight.
+    // Where there is room for the answer, and handing out a formatter takes none, only a number of more than eight
+    // digits, and of more than `value` had, may be out of memory, and a rounding to multiples of 25 that may lengthen
+    // one of eight.
     ensures room { HasRoom out.old (if_text text.now (answer_to (answer_of_kind key.now.kind (F.book formatters.old) key.now.preferences key.now.grouping) sign rounding (reading_of text.now)))
         → ¬ (F.may_take_memory formatters.old) → ¬ (ReadsMore text.now value.old) → ¬ (MayGrowRead rounding (reading_of text.now)) → IsOk result }
     ensures counted { OnOk result ((more : List (Option FormatterKey)) →
@@ -132,10 +134,10 @@ pub(crate) fn push_text<'a, F: Formatters<'a>>(
     match read_number(value, text) {
         Ok(()) => {
             change(value, rounding, sign)?;
-            push_number(formatters, key, is_held, value, out)
+            write_answer_of_key(formatters, key, is_held, value, out)
         }
-        Err(ParseError::Syntax) => push_refusal_of(out, text, Refusal::Number),
-        Err(ParseError::Limit) => push_refusal(out, Refusal::Limit),
+        Err(ParseError::Syntax) => write_refusal_or_shape(out, text, Refusal::Number),
+        Err(ParseError::Limit) => write_refusal(out, Refusal::Limit),
         Err(ParseError::Memory) => Err(AllocError),
     }
 }

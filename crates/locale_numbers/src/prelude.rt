@@ -1,4 +1,5 @@
-//! What a program needs: a book, the formatters of a tag, numbers, and what is written and read: `use locale_numbers::prelude::..`.
+//! What a program needs: a book, the formatters of a tag, numbers, and what is written and read:
+//! `use locale_numbers::prelude::..`.
 
 pub use fixed_decimal::{Decimal, Sign};
 pub use icu_decimal::error::{ReadError, WriteFault};

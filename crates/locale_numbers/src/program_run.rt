@@ -110,8 +110,8 @@ fn named_book<I: Read + Drop>(
     read_book(alloc, file)
 }
 
-// Answers the lines that `reader` gives by the book that `words` name, of which that is the file, and counts them and the
-// formatters made.
+// Answers the lines that `reader` gives by the book that `words` name, of which that is the file, and counts them and
+// the formatters made.
 fn report<I: Read + Drop, R: ByteReader, W: ByteWriter>(
     alloc: Global,
     words: &Words<'_>,

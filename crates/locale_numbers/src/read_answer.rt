@@ -12,28 +12,29 @@ ghost use Rattle.locale_numbers.specs.ReadAnswer.{HasManyDigitsWith, read_answer
 ghost use Rattle.locale_numbers.specs.declared.formatter_key.FormatterKey.{FormatterKey};
 ghost use Rattle.locale_numbers.specs.declared.formatter_key.Kind.{Kind};
 
-use crate::answer_line::{push_answer, push_refusal};
+use crate::answer_line::{write_ok, write_refusal};
 use crate::formatter_key::FormatterKey;
 use crate::formatters::Formatters;
 use crate::held::hold;
 use crate::kept_formatter::{KeptFormatter, PlainFormatter};
-use crate::refusal::Refusal;
 use fixed_decimal::Decimal;
 use icu_decimal::error::ReadError;
 use icu_decimal::{read_plain, read_readable};
 use locale_numbers_cache::Hashed;
+use locale_numbers_requests::Refusal;
 use std::alloc::{AllocError, Global};
 
-// Puts a number as it is printed behind what `out` holds.
-fn push_value(value: &Decimal, out: &mut String) -> Result<(), AllocError>
+// Writes the answer that is a number, as it is printed, behind what `out` holds.
+fn write_number_read(value: &Decimal, out: &mut String) -> Result<(), AllocError>
     ensures text { OnOk result (string_bytes out.new ≡ string_bytes out.old ++ written (signed_text_of value.now)) }
     ensures err { OnErr result (Grows (string_bytes out.old) (string_bytes out.new)) }
     ensures room { HasRoom out.old (written (signed_text_of value.now)) → IsOk result }
 {
-    push_answer(out, value)
+    write_ok(out, value)
 }
 
-// The number that a text was written from. The symbols are asked whether they are readable only where that is not known.
+// The number that a text was written from. The symbols are asked whether they are readable only where that is not
+// known.
 fn read_by(alloc: Global, plain: &PlainFormatter<'_>, text: &str) -> Result<Decimal, ReadError>
     requires { KnowsReadable plain.now }
     ensures memory { IsErrOf result ReadError.Memory → HasManyDigits (tables_of plain.now.formatter) text.now }
@@ -46,9 +47,9 @@ fn read_by(alloc: Global, plain: &PlainFormatter<'_>, text: &str) -> Result<Deci
     }
 }
 
-// Puts the answer to a text that is read back under a formatter behind what `out` holds: the number whose plain text this is,
-// printed with its sign and the digits shown, or the word `unreadable` or `not-written`.
-fn push_read(
+// Writes the answer to a text that is read back under a formatter behind what `out` holds: the number whose plain text
+// this is, printed with its sign and the digits shown, or the word `unreadable` or `not-written`.
+fn write_read_answer(
     alloc: Global,
     plain: &PlainFormatter<'_>,
     text: &str,
@@ -64,17 +65,18 @@ fn push_read(
         → ¬ (HasManyDigits (tables_of plain.now.formatter) text.now) → IsOk result }
 {
     match read_by(alloc, plain, text) {
-        Ok(value) => push_value(&value, out),
-        Err(ReadError::Unreadable) => push_refusal(out, Refusal::Unreadable),
-        Err(ReadError::NotWritten) => push_refusal(out, Refusal::NotWritten),
+        Ok(value) => write_number_read(&value, out),
+        Err(ReadError::Unreadable) => write_refusal(out, Refusal::Unreadable),
+        Err(ReadError::NotWritten) => write_refusal(out, Refusal::NotWritten),
         Err(ReadError::Memory) => Err(AllocError),
     }
 }
 
-/// Puts the answer to a text that the formatter of a key reads back behind what `out` holds.
+/// Writes the answer to a text that the formatter of a key reads back behind what `out` holds.
 ///
-/// `is_held` says whether the formatter that was found last is the one of the key. `AllocError`: out of memory; a part of the answer may then stand there.
-pub(crate) fn push_reading<'a, F: Formatters<'a>>(
+/// `is_held` says whether the formatter that was found last is the one of the key. `AllocError`: out of memory; a part
+/// of the answer may then stand there.
+pub(crate) fn answer_read<'a, F: Formatters<'a>>(
     alloc: Global,
     formatters: &mut F,
     key: &Hashed<FormatterKey>,
@@ -89,8 +91,8 @@ pub(crate) fn push_reading<'a, F: Formatters<'a>>(
         ≡ string_bytes out.old ++ read_with (found_in (F.book formatters.old) key.now.preferences key.now.grouping) text.now) }
     ensures err { OnErr result (Grows (string_bytes out.old) (string_bytes out.new)) }
 
-    // Where there is room for the answer, and handing out a formatter takes none, only a text of more than eight digits may be
-    // out of memory.
+    // Where there is room for the answer, and handing out a formatter takes none, only a text of more than eight digits
+    // may be out of memory.
     ensures room { HasRoom out.old (read_with (found_in (F.book formatters.old) key.now.preferences key.now.grouping) text.now)
         → ¬ (F.may_take_memory formatters.old)
         → ¬ (HasManyDigitsWith (found_in (F.book formatters.old) key.now.preferences key.now.grouping) text.now) → IsOk result }
@@ -102,10 +104,10 @@ pub(crate) fn push_reading<'a, F: Formatters<'a>>(
 {
     let found = hold(formatters, key, is_held)?;
     if !found {
-        return push_refusal(out, Refusal::Table);
+        return write_refusal(out, Refusal::Table);
     }
     match formatters.found(key) {
-        KeptFormatter::Plain(plain) => push_read(alloc, plain, text, out),
+        KeptFormatter::Plain(plain) => write_read_answer(alloc, plain, text, out),
         KeptFormatter::Compact(_) => unreachable!(),
     }
 }

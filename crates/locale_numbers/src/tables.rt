@@ -6,12 +6,12 @@ use icu_decimal::provider::{
 };
 use locale_numbers_book::Book;
 
-/// Tables of all five kinds and parents of locales, as those of a [`Book`]: of the sample book the symbols of `en`, the digits of
-/// `thai`, and so on.
+/// Tables of all five kinds and parents of locales, as those of a [`Book`]: of the sample book the symbols of `en`, the
+/// digits of `thai`, and so on.
 ///
-/// Under each identifier a type of your own returns what stands there in one book, at each call the same, and where nothing
-/// does it returns `IdentifierNotFound`: one that forwards to a book and counts what is loaded, say. Its parents and its chains
-/// of them are those of that book. That it does so is its proof's to say.
+/// Under each identifier a type of your own returns what stands there in one book, at each call the same, and where
+/// nothing does it returns `IdentifierNotFound`: one that forwards to a book and counts what is loaded, say. Its
+/// parents and its chains of them are those of that book. That it does so is its proof's to say.
 pub trait Tables: DataProvider<DecimalSymbolsV1>
     + DataProvider<DecimalDigitsV1>
     + DataProvider<PluralsCardinalV1>

@@ -1,8 +1,8 @@
 ghost use Rattle.std.specs.Prelude.{◌≡◌, ◌≤◌, None, Some, IfOk, IfErr, IfSome, map, option_map};
 ghost use Rattle.locale_numbers.specs.Words.{capacity_named, said_by, words_said};
 
-use crate::digits::{are_digits, capped_number};
 use crate::fault::ProgramFault;
+use locale_numbers_requests::{are_digits, capped_number};
 
 /// How many formatters a run keeps where its words do not say.
 const USUAL_CAPACITY: usize = 16;
@@ -20,7 +20,7 @@ pub struct Words<'a> {
 }
 
 // The capacity that a word names.
-fn capacity_by(word: &[u8]) -> Option<usize>
+fn capacity_named(word: &[u8]) -> Option<usize>
     ensures value { result ≡ capacity_named word.now }
     ensures room { IfSome result (λ capacity. 1 ≤ capacity) }
 {
@@ -56,9 +56,10 @@ fn words_by(path: &str, capacity: Option<usize>) -> Result<Words<'_>, ProgramFau
 
 /// What the words say that the program was started with, its own name left out: BOOK, or BOOK and CAPACITY, or none.
 ///
-/// No words name no book, so the sample book is read, and a capacity of 16. `b` is the book of that path and a capacity of
-/// 16, and `b`, `65535` that book and 65535; `00016` is 16. Does not allocate. [`ProgramFault::Usage`] comes for more than two
-/// words, for an empty BOOK, and for a CAPACITY that is not one to five digits of a number from 1 to 65535: for `b`, `0`.
+/// No words name no book, so the sample book is read, and a capacity of 16. `b` is the book of that path and a capacity
+/// of 16, and `b`, `65535` that book and 65535; `00016` is 16. Does not allocate. [`ProgramFault::Usage`] comes for
+/// more than two words, for an empty BOOK, and for a CAPACITY that is not one to five digits of a number from 1 to
+/// 65535: for `b`, `0`.
 pub fn read_words<'a>(words: &[&'a str]) -> Result<Words<'a>, ProgramFault>
     ensures value { IfOk result (λ read. words_said (map (λ word. word.now) words.now)
         ≡ Some (record { book = option_map (λ book. book.now) read.book; capacity = read.capacity })) }
@@ -72,7 +73,7 @@ pub fn read_words<'a>(words: &[&'a str]) -> Result<Words<'a>, ProgramFault>
             capacity: USUAL_CAPACITY,
         }),
         [book] => words_by(book, Some(USUAL_CAPACITY)),
-        [book, capacity] => words_by(book, capacity_by(capacity.as_bytes())),
+        [book, capacity] => words_by(book, capacity_named(capacity.as_bytes())),
         _ => Err(ProgramFault::Usage),
     }
 }

@@ -1,5 +1,6 @@
 -- The parents of a book close no cycle, so its chains end: `specs/Laws.antt`.
 use Rattle.std.proofs.Common.{◌≡◌, Bool, true, false, not, List, [], ◌∷◌, ◌++◌, append_assoc, Option, None, Some, is_some, option_and_then, option_map, unwrap_or, refl, sym, ◌∙◌, subst}
+use Rattle.std.proofs.lemmas.Option.{same_Some}
 use Rattle.serde_json.specs.Data.{Items, no_items, item}
 use Rattle.serde_json.specs.Find.{as_array}
 use Rattle.icu_locale_core.specs.TagPreferences.{DataLocaleMeaning}
@@ -13,7 +14,6 @@ use Rattle.locale_numbers_book.specs.Form.{has_form, items_at}
 use Rattle.locale_numbers_book.specs.Laws.{BookChainsEnd}
 use Rattle.locale_numbers_book.specs.ParentEntries.{closes_cycle, has_parent_shape, is_listed, parent_entry, parent_fault, parents_faults}
 use Rattle.locale_numbers_book.specs.Tables.{step_in, steps_in}
-use Rattle.locale_numbers_book.proofs.BookLemmas.{some_same}
 use Rattle.locale_numbers_book.proofs.SoundLemmas.{first_none, no_fault_of, second_none}
 
 -- an entry without a fault has a new locale, which the chain of its parent does not meet
@@ -29,7 +29,7 @@ parts_of_fault before read pair true is sound = by (listed_parent before pair.0)
     by (Some parent) met h = absurd (cc)
 
 sound_items : (items : Items) (before rest : List Entry) → IsParents before → all_of parent_entry items ≡ Some rest → parents_faults before items ≡ None → IsParents (before ++ rest)
-sound_items no_items before rest is all sound = subst (λ (xs : List Entry). IsParents (before ++ xs)) (some_same [] rest all) (subst IsParents (sym (append_none before)) is)
+sound_items no_items before rest is all sound = subst (λ (xs : List Entry). IsParents (before ++ xs)) (same_Some [] rest all) (subst IsParents (sym (append_none before)) is)
 sound_items (item entry items) before rest is all sound = by (λ more es. sound_items items more es) (parent_entry entry) refl (all_of parent_entry items) refl all
   where
     by : ((more es : List Entry) → IsParents more → all_of parent_entry items ≡ Some es → parents_faults more items ≡ None → IsParents (more ++ es))
@@ -41,7 +41,7 @@ sound_items (item entry items) before rest is all sound = by (λ more es. sound_
         let new = parts_of_fault before (parent_entry entry) e (has_parent_shape entry) reads (first_none (parent_fault before entry) _ sound) in
         let more = one_more before e is new.0 (stays_open before e.0 e.1 new.0 (cuts_none before is e.1) new.1) in
         let behind : parents_faults (before ++ e ∷ []) items ≡ None = rw reads at (second_none (parent_fault before entry) _ sound) in
-        subst (λ (xs : List Entry). IsParents (before ++ xs)) (some_same (e ∷ es) rest h) (subst IsParents (append_assoc before (e ∷ []) es) (again (before ++ e ∷ []) es more left behind))
+        subst (λ (xs : List Entry). IsParents (before ++ xs)) (same_Some (e ∷ es) rest h) (subst IsParents (append_assoc before (e ∷ []) es) (again (before ++ e ∷ []) es more left behind))
 
 entries_sound : (found : Option Items) (entries : List Entry) → parents_faults [] (unwrap_or found no_items) ≡ None → option_and_then (all_of parent_entry) found ≡ Some entries → IsParents entries
 entries_sound None entries sound all = absurd (cc)

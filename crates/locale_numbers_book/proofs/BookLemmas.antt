@@ -3,6 +3,7 @@ use Rattle.std.proofs.Common.{◌≡◌, Bool, true, ◌||◌, Option, Some, Non
 use Rattle.std.specs.Prelude.{Result, Ok, Err, IfErr, IsErrAnd}
 use Rattle.std.specs.Option.{option_or}
 use Rattle.std.specs.Str.{bytes_eq}
+use Rattle.std.proofs.lemmas.Option.{same_Some}
 use Rattle.serde_json.specs.Data.{Data, Items, no_items}
 use Rattle.serde_json.specs.Find.{as_array}
 use Rattle.locale_numbers_tables.specs.declared.BookError.{BookError}
@@ -20,16 +21,13 @@ use Rattle.locale_numbers_tables.specs.RulesEntries.{rules_entry}
 use Rattle.locale_numbers_tables.proofs.FaultLemmas.{told_at, told_first}
 use Rattle.locale_numbers_tables.proofs.TableLemmas.{either, front_true}
 
-pub some_same : {A : Type 0} (x y : A) → Some x ≡ Some y → x ≡ y
-some_same x y h = cc
-
 pub one_book : (value : Data) (book other : BookTables) → IsBook value book → IsBook value other → book ≡ other
 one_book value book other m n =
-    let symbols = some_same book.symbols other.symbols (sym m.symbols ∙ n.symbols) in
-    let digits = some_same book.digits other.digits (sym m.digits ∙ n.digits) in
-    let rules = some_same book.rules other.rules (sym m.rules ∙ n.rules) in
-    let short = some_same book.short other.short (sym m.short ∙ n.short) in
-    let long = some_same book.long other.long (sym m.long ∙ n.long) in
+    let symbols = same_Some book.symbols other.symbols (sym m.symbols ∙ n.symbols) in
+    let digits = same_Some book.digits other.digits (sym m.digits ∙ n.digits) in
+    let rules = same_Some book.rules other.rules (sym m.rules ∙ n.rules) in
+    let short = same_Some book.short other.short (sym m.short ∙ n.short) in
+    let long = same_Some book.long other.long (sym m.long ∙ n.long) in
     let parents : book.parents ≡ other.parents = sym m.parents ∙ n.parents in
     λ i. record { symbols = symbols i; digits = digits i; rules = rules i; short = short i; long = long i; parents = parents i }
 

@@ -1,10 +1,9 @@
 -- The types of each table of patterns of a book rise, and its numbers fit into bytes: `specs/Laws.antt`.
-use Rattle.std.proofs.Common.{◌≡◌, ◌<◌, ℕ, suc, Bool, true, false, cond, nat_lt, List, [], ◌∷◌, map, Option, Some, None, option_map, refl, sym, ap, ◌∙◌, subst, if◌then◌else◌, arith}
+use Rattle.std.proofs.Common.{◌≡◌, ◌<◌, ℕ, suc, Bool, true, false, cond, nat_lt, List, [], ◌∷◌, map, Option, Some, None, option_map, refl, sym, ap, ◌∙◌, subst, if◌then◌else◌}
 use Rattle.std.specs.List.{AllByRecursion}
 use Rattle.std.specs.Option.{option_and_then, option_or}
 use Rattle.std.specs.Prelude.{is_some, unwrap_or, nat_le}
-use Rattle.std.proofs.lemmas.Bool.{and_parts}
-use Rattle.std.proofs.lemmas.Bool.Decides.{nat_tests}
+use Rattle.std.proofs.lemmas.Bool.{and_parts, ltb-true}
 use Rattle.serde_json.specs.Data.{Data, Items, no_items, item}
 use Rattle.serde_json.specs.Find.{as_array, as_number, as_u64, at}
 use Rattle.icu_decimal.specs.Entries.{Rises}
@@ -29,15 +28,12 @@ use Rattle.locale_numbers_tables.proofs.CompactLemmas.{table_meant, true_le}
 
 -- ---- numbers of rows
 
-less_shown : (a b : ℕ) → nat_lt a b ≡ true → a < b
-less_shown a b h = grind (arith, nat_tests, h)
-
 small_if : (o : Option ℕ) (n : ℕ) → option_and_then (λ m. if nat_lt m 256 then Some m else None) o ≡ Some n → n < 256
 small_if None n is = absurd (cc)
 small_if (Some m) n is = by (nat_lt m 256) refl is
   where
     by : (b : Bool) → nat_lt m 256 ≡ b → (if b then Some m else None) ≡ Some n → n < 256
-    by true test same = let one : m ≡ n = cc in subst (λ x. x < 256) one (less_shown m 256 test)
+    by true test same = let one : m ≡ n = cc in subst (λ x. x < 256) one (ltb-true m 256 test)
     by false test same = absurd (cc)
 
 size_small : (field : Data) (n : ℕ) → size_in field ≡ Some n → n < 256

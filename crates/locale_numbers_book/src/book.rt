@@ -21,8 +21,8 @@ use std::alloc::Global;
 use std::marker::Model;
 use tinystr::TinyAsciiStr;
 
-/// Tables of symbols, of digits, of plural rules and of short and long patterns, and the parents of locales, as a JSON text names
-/// them. `SAMPLE_BOOK` names the symbols of `en`, whose separators are `.` and `,`, and no parents.
+/// Tables of symbols, of digits, of plural rules and of short and long patterns, and the parents of locales, as a JSON
+/// text names them. `SAMPLE_BOOK` names the symbols of `en`, whose separators are `.` and `,`, and no parents.
 pub struct Book {
     pub(crate) symbols: Table<DataIdentifier, DecimalSymbols>,
     pub(crate) digits: Table<TinyAsciiStr<8>, [char; 10]>,
@@ -40,7 +40,8 @@ impl Model for Book {
     ghost view = { λ b. record { symbols = b.symbols.map.entries; digits = b.digits.map.entries; rules = b.rules.map.entries; short = b.short.map.entries; long = b.long.map.entries; parents = b.parents } };
 }
 
-// A book is let go by one call, whose proof a user's exits cite: a derived drop would be opened table by table at each of them.
+// A book is let go by one call, whose proof a user's exits cite: a derived drop would be opened table by table at each
+// of them.
 impl Drop for Book {
     fn drop(self) {
         let Book {
@@ -108,9 +109,9 @@ fn book_of(alloc: Global, seed: Seed, value: Value) -> Result<Book, BookError>
 impl Book {
     /// The book that a JSON text is.
     ///
-    /// An array of five arrays: of symbols, each under a data locale and a system or none, of digits, of plural rules, and of short
-    /// and long patterns; and of a sixth or none, of locales and their parents. `SAMPLE_BOOK` is one, `[[],[],[],[],[]]` the
-    /// shortest. It allocates. The form and the faults are defined in docs/books.md.
+    /// An array of five arrays: of symbols, each under a data locale and a system or none, of digits, of plural rules,
+    /// and of short and long patterns; and of a sixth or none, of locales and their parents. `SAMPLE_BOOK` is one,
+    /// `[[],[],[],[],[]]` the shortest. It allocates. The form and the faults are defined in docs/books.md.
     ///
     /// - Json: the bytes have no reading as JSON, as `[1`.
     /// - Shape: the value is not an array of five arrays or six, as `[]`. Else the first faulty entry decides, and in an entry the
@@ -127,8 +128,8 @@ impl Book {
     }
 }
 
-/// The book that a JSON text is, as by [`Book::from_json`]: the one without tables of `[[],[],[],[],[]]`, and `Json` of `[1`. The
-/// text is let go before the tables are made, so that the two are never in memory together.
+/// The book that a JSON text is, as by [`Book::from_json`]: the one without tables of `[[],[],[],[],[]]`, and `Json` of
+/// `[1`. The text is let go before the tables are made, so that the two are never in memory together.
 pub fn book_from(alloc: Global, bytes: Vec<u8>) -> Result<Book, BookError>
     ensures value { IfOk result (λ book. (value : Data) × Reads bytes.items value × IsBook value book) }
     ensures refused { IfErr result (λ fault. IsRefused bytes.items fault) }

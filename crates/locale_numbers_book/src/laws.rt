@@ -13,14 +13,14 @@ pub fn data_locales_are_read()
     ensures { DataLocalesAreRead }
 {}
 
-/// Two keys of symbols are one exactly where they are equal: locales are compared as values. Those of `en` and `EN` are one,
-/// and those of `en` with `thai` and of `en` without a system are two.
+/// Two keys of symbols are one exactly where they are equal: locales are compared as values. Those of `en` and `EN` are
+/// one, and those of `en` with `thai` and of `en` without a system are two.
 pub fn keys_are_one_where_equal()
     ensures { KeysAreOneWhereEqual }
 {}
 
-/// The function by which patterns are read makes exactly the tables of `CompactPatterns::new`: of `K` at the types 3 and 6 only
-/// that of type 3.
+/// The function by which patterns are read makes exactly the tables of `CompactPatterns::new`: of `K` at the types 3
+/// and 6 only that of type 3.
 pub fn tables_are_made()
     ensures { TablesAreMade }
 {}
@@ -30,8 +30,8 @@ pub fn is_one_book()
     ensures { IsOneBook }
 {}
 
-/// The types of each table of patterns of a book rise strictly, each exponent fits its type, and both fit into bytes: in `SAMPLE_BOOK`
-/// the types 3 and 6 of `en`.
+/// The types of each table of patterns of a book rise strictly, each exponent fits its type, and both fit into bytes:
+/// in `SAMPLE_BOOK` the types 3 and 6 of `en`.
 pub fn tables_are_sound()
     ensures { BookTablesAreSound }
 {}
@@ -42,8 +42,8 @@ pub fn chains_end()
     ensures { BookChainsEnd }
 {}
 
-/// The sample book is a book with these tables and no others: the symbols of `en` and of `ar-EG`, the digits of `latn`, `arab` and
-/// `thai`, the English plural rules and the English patterns, short and long.
+/// The sample book is a book with these tables and no others: the symbols of `en` and of `ar-EG`, the digits of `latn`,
+/// `arab` and `thai`, the English plural rules and the English patterns, short and long.
 pub fn sample_book_is_known()
     ensures { SampleBookIsKnown }
 {}

@@ -1,7 +1,7 @@
 //! Books: tables of symbols, digits, plural rules and patterns as a JSON text names them, which formatters borrow.
 //!
-//! From `SAMPLE_BOOK` the preferences of `ar-EG-u-nu-thai` get the Arabic separators of the entry `ar-EG` and the digits of the
-//! entry `thai`; those of `en` get `.`, `,` and the digits of `latn`, which its symbols name.
+//! From `SAMPLE_BOOK` the preferences of `ar-EG-u-nu-thai` get the Arabic separators of the entry `ar-EG` and the
+//! digits of the entry `thai`; those of `en` get `.`, `,` and the digits of `latn`, which its symbols name.
 
 #![tactic(auto)]
 

@@ -25,8 +25,8 @@ fn found<T>(there: Option<&T>) -> Result<&T, DataError>
 
 /// The symbols of the entry with this locale and this system, or with none where the attributes are empty.
 ///
-/// In `SAMPLE_BOOK`, `en` with no system has `.` and `,`; `en` with `thai` has no entry, nor has `en-US`. `IdentifierNotFound`: the
-/// book has no such entry. It does not allocate.
+/// In `SAMPLE_BOOK`, `en` with no system has `.` and `,`; `en` with `thai` has no entry, nor has `en-US`.
+/// `IdentifierNotFound`: the book has no such entry. It does not allocate.
 impl DataProvider<DecimalSymbolsV1> for Book {
     ghost use Rattle.locale_numbers_book.specs.Tables.{symbols_under};
 
@@ -39,8 +39,8 @@ impl DataProvider<DecimalSymbolsV1> for Book {
 
 /// The ten digits of the entry with this system, from zero up.
 ///
-/// In `SAMPLE_BOOK` those of `und` with `thai` are `๐` to `๙`; `deva` has no entry, nor has `thai` under a locale other than `und`.
-/// `IdentifierNotFound`: the book has no such entry. It does not allocate.
+/// In `SAMPLE_BOOK` those of `und` with `thai` are `๐` to `๙`; `deva` has no entry, nor has `thai` under a locale other
+/// than `und`. `IdentifierNotFound`: the book has no such entry. It does not allocate.
 impl DataProvider<DecimalDigitsV1> for Book {
     ghost use Rattle.locale_numbers_book.specs.Tables.{digits_under};
 
@@ -56,8 +56,8 @@ impl DataProvider<DecimalDigitsV1> for Book {
 
 /// The plural rules of the entry with this locale.
 ///
-/// In `SAMPLE_BOOK` those of `en`; `en-US` has no entry, nor has `en` with attributes. `IdentifierNotFound`: the book has no such
-/// entry. It does not allocate.
+/// In `SAMPLE_BOOK` those of `en`; `en-US` has no entry, nor has `en` with attributes. `IdentifierNotFound`: the book
+/// has no such entry. It does not allocate.
 impl DataProvider<PluralsCardinalV1> for Book {
     ghost use Rattle.locale_numbers_book.specs.Tables.{rules_under};
 
@@ -73,8 +73,8 @@ impl DataProvider<PluralsCardinalV1> for Book {
 
 /// The short patterns of the entry with this locale and this system, or with none where the attributes are empty.
 ///
-/// In `SAMPLE_BOOK` `en` with no system has `K` from a thousand on. `IdentifierNotFound`: the book has no such entry. It does not
-/// allocate.
+/// In `SAMPLE_BOOK` `en` with no system has `K` from a thousand on. `IdentifierNotFound`: the book has no such entry.
+/// It does not allocate.
 impl DataProvider<DecimalCompactShortV1> for Book {
     ghost use Rattle.locale_numbers_book.specs.Tables.{short_under};
 
@@ -87,8 +87,8 @@ impl DataProvider<DecimalCompactShortV1> for Book {
 
 /// The long patterns of the entry with this locale and this system, or with none where the attributes are empty.
 ///
-/// In `SAMPLE_BOOK` `en` with no system has `a thousand` for 1000. `IdentifierNotFound`: the book has no such entry. It does not
-/// allocate.
+/// In `SAMPLE_BOOK` `en` with no system has `a thousand` for 1000. `IdentifierNotFound`: the book has no such entry. It
+/// does not allocate.
 impl DataProvider<DecimalCompactLongV1> for Book {
     ghost use Rattle.locale_numbers_book.specs.Tables.{long_under};
 
@@ -99,11 +99,12 @@ impl DataProvider<DecimalCompactLongV1> for Book {
     }
 }
 
-/// The parents of a book: after a locale the one that its sixth array lists, or else the locale without its last part. Without a sixth
-/// array no locale has a parent.
+/// The parents of a book: after a locale the one that its sixth array lists, or else the locale without its last part.
+/// Without a sixth array no locale has a parent.
 ///
-/// With `[["en-AU","en-001"]]` `en-001` comes after `en-AU`, `en` after `en-US`, and none after `en`; in `SAMPLE_BOOK` none after
-/// any. The limit is five for each entry and four, or 0 without a sixth array; it cuts no chain. It does not allocate.
+/// With `[["en-AU","en-001"]]` `en-001` comes after `en-AU`, `en` after `en-US`, and none after `en`; in `SAMPLE_BOOK`
+/// none after any. The limit is five for each entry and four, or 0 without a sixth array; it cuts no chain. It does not
+/// allocate.
 impl ParentProvider for Book {
     ghost use Rattle.locale_numbers_book.specs.Tables.{parent_under, steps_in};
 

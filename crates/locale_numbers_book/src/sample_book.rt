@@ -1,8 +1,8 @@
 /// A small book: symbols for English and for Arabic in Egypt, digits of three systems, and the English plural rules and
 /// compact patterns.
 ///
-/// The long patterns, but for `a thousand`, have a hyphen before the word, as in `1.0-thousands`, which is not how English writes
-/// them. The last byte is `]`. `Book::from_json` takes it.
+/// The long patterns, but for `a thousand`, have a hyphen before the word, as in `1.0-thousands`, which is not how
+/// English writes them. The last byte is `]`. `Book::from_json` takes it.
 pub const SAMPLE_BOOK: &str = r#"[[["en","","latn","-","","+","",".",",",3,3,1],
   ["ar-EG","","arab","-","","+","","٫","٬",3,3,1]],
  [["latn","0123456789"],["arab","٠١٢٣٤٥٦٧٨٩"],["thai","๐๑๒๓๔๕๖๗๘๙"]],

@@ -107,7 +107,8 @@ fn compact_formatter<'b, L: Length>(
 }
 
 impl Book {
-    /// The formatter of plain numbers for a tag, with default options: of `SAMPLE_BOOK` that of `en` writes -1234.5 as `-1,234.5`.
+    /// The formatter of plain numbers for a tag, with default options: of `SAMPLE_BOOK` that of `en` writes -1234.5 as
+    /// `-1,234.5`.
     ///
     /// Its tables are those that `answer` finds for the tag with the grouping `auto`, and are borrowed from the book.
     ///
@@ -133,11 +134,11 @@ impl Book {
         }
     }
 
-    /// The formatter of compact numbers in short form for a tag, with default options: of `SAMPLE_BOOK` that of `en` writes 1650 as
-    /// `1.6K`.
+    /// The formatter of compact numbers in short form for a tag, with default options: of `SAMPLE_BOOK` that of `en`
+    /// writes 1650 as `1.6K`.
     ///
-    /// It borrows its tables from the book. Errors as [`Book::formatter`], `Table` also where the book has no plural rules or no
-    /// short patterns for the tag.
+    /// It borrows its tables from the book. Errors as [`Book::formatter`], `Table` also where the book has no plural
+    /// rules or no short patterns for the tag.
     pub fn short_formatter(
         &self,
         alloc: Global,
@@ -151,8 +152,8 @@ impl Book {
         compact_formatter::<Short>(self, alloc, tag)
     }
 
-    /// The formatter of compact numbers in long form for a tag, with default options: of `SAMPLE_BOOK` that of `en` writes 1650 as
-    /// `1.6-thousands`.
+    /// The formatter of compact numbers in long form for a tag, with default options: of `SAMPLE_BOOK` that of `en`
+    /// writes 1650 as `1.6-thousands`.
     ///
     /// It borrows its tables from the book. Errors as [`Book::short_formatter`], of long patterns.
     pub fn long_formatter(

@@ -54,11 +54,11 @@ fn read_any(alloc: Global, tag: &[u8]) -> Result<Option<DecimalFormatterPreferen
     }
 }
 
-/// What a tag prefers, or `None` where the bytes are no tag: `en-u-nu-thai` prefers the locale `en` and the system `thai`, and `e`
-/// is no tag.
+/// What a tag prefers, or `None` where the bytes are no tag: `en-u-nu-thai` prefers the locale `en` and the system
+/// `thai`, and `e` is no tag.
 ///
-/// `AllocError`: out of memory. A tag of at most one variant and one keyword does not allocate, nor does one of language, script
-/// and region only.
+/// `AllocError`: out of memory. A tag of at most one variant and one keyword does not allocate, nor does one of
+/// language, script and region only.
 pub fn read_preferences(
     alloc: Global,
     tag: &[u8],

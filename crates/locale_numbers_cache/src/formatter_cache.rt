@@ -10,8 +10,8 @@ use std::alloc::{AllocError, Global};
 use std::marker::Model;
 use std::num::NonZeroUsize;
 
-/// Things that a [`Maker`] made for keys, the most recently used, up to a capacity; and a count of all that were made. With a
-/// capacity of 2, after the keys 1, 2, 1, 3 it keeps what was made for 3 and 1.
+/// Things that a [`Maker`] made for keys, the most recently used, up to a capacity; and a count of all that were made.
+/// With a capacity of 2, after the keys 1, 2, 1, 3 it keeps what was made for 3 and 1.
 #[derive(Drop)]
 pub struct FormatterCache<K: CacheKey, F: Drop> {
     kept: LruCache<K, F>,
@@ -32,8 +32,8 @@ impl<K: CacheKey, F: Drop> Model for FormatterCache<K, F> {
 }
 
 impl<K: CacheKey, F: Drop> FormatterCache<K, F> {
-    /// A cache that keeps nothing yet, `capacity` things at most, 1 at least: with 16 it keeps up to sixteen, and `made`
-    /// returns 0.
+    /// A cache that keeps nothing yet, `capacity` things at most, 1 at least: with 16 it keeps up to sixteen, and
+    /// `made` returns 0.
     ///
     /// The condition is that the capacity is 1 at least. It allocates. `AllocError`: out of memory.
     pub fn new(alloc: Global, capacity: usize) -> Result<Self, AllocError>
@@ -47,10 +47,11 @@ impl<K: CacheKey, F: Drop> FormatterCache<K, F> {
 
     /// Sees to it that what the maker makes for `key` is kept and is the latest; `false` where it makes nothing for it.
     ///
-    /// It is made only where it is not kept already, and then pushes out what was used longest ago where the cache is full: with
-    /// a capacity of 2, after the keys 1, 2, 1 the key 3 pushes out 2. A key for which nothing is made changes nothing. The
-    /// condition is that all that is kept is what this maker makes for its key. It allocates only for a key that is not kept, and
-    /// for which something is made. `AllocError`: out of memory; the cache is then as before.
+    /// It is made only where it is not kept already, and then pushes out what was used longest ago where the cache is
+    /// full: with a capacity of 2, after the keys 1, 2, 1 the key 3 pushes out 2. A key for which nothing is made
+    /// changes nothing. The condition is that all that is kept is what this maker makes for its key. It allocates only
+    /// for a key that is not kept, and for which something is made. `AllocError`: out of memory; the cache is then as
+    /// before.
     pub fn keep<M: Maker<K, F>>(&mut self, maker: &M, key: &K) -> Result<bool, AllocError>
         requires { IsSound (M.finds maker.now) (M.is_made maker.now) self.old }
         ensures succeeds { M.finds maker.now key.now ≡ false → IsOk result }
@@ -86,8 +87,8 @@ impl<K: CacheKey, F: Drop> FormatterCache<K, F> {
         self.made
     }
 
-    /// What was kept or used last: after the keys 1, 2, 1 what was made for 1; `None` where nothing is kept. To use its key
-    /// again would change nothing. It does not allocate.
+    /// What was kept or used last: after the keys 1, 2, 1 what was made for 1; `None` where nothing is kept. To use its
+    /// key again would change nothing. It does not allocate.
     pub fn latest(&self) -> Option<&F>
         ensures value { option_copied result ≡ option_map (λ entry. entry.1) (slice_get self.now.entries 0) }
         // Whichever keys things are found for.

@@ -9,8 +9,8 @@ use std::alloc::AllocError;
 use std::hash::{FoldHasher, Hash, Hasher};
 use std::marker::Model;
 
-/// A value beside its hash: a part of a key that is looked up often is gone through once. `Hashed::new(5)` is 5 beside the hash
-/// of 5.
+/// A value beside its hash: a part of a key that is looked up often is gone through once. `Hashed::new(5)` is 5 beside
+/// the hash of 5.
 ///
 /// It is compared by its hash first, and feeds a hasher that one number.
 #[derive_where(Copy)]

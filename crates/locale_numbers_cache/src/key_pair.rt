@@ -68,8 +68,8 @@ impl<K: Copy> KeyPair<K> {
 
     /// The key of the bytes, which are read only where neither place remembers them.
     ///
-    /// The condition is that each key it remembers is the one that this reader reads. Bytes that are read push out those that
-    /// were not used last. `AllocError`: out of memory; it then remembers what it did.
+    /// The condition is that each key it remembers is the one that this reader reads. Bytes that are read push out
+    /// those that were not used last. `AllocError`: out of memory; it then remembers what it did.
     pub fn key_of<R: KeyReader<K>>(&mut self, reader: &R, bytes: &[u8]) -> Result<K, AllocError>
         requires { AreRead (R.key_of reader.now) self.old }
         ensures value { IfOk result (λ key. key ≡ R.key_of reader.now bytes.now) }

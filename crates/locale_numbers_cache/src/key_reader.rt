@@ -7,8 +7,8 @@ pub trait KeyReader<K> {
     // The key of the bytes.
     ghost key_of: { Self → List ℕ → K };
 
-    /// The key of the bytes, as of the front of a line: of `en`, `plain`, `auto`, `keep`, `-` with tabs between what plain
-    /// numbers in English ask.
+    /// The key of the bytes, as of the front of a line: of `en`, `plain`, `auto`, `keep`, `-` with tabs between what
+    /// plain numbers in English ask.
     ///
     /// `AllocError`: out of memory.
     fn read(&self, bytes: &[u8]) -> Result<K, AllocError>

@@ -10,8 +10,8 @@ pub trait Maker<K, F> {
     // It is what is made for the key.
     ghost is_made: { Self → K → F → Type 0 };
 
-    /// Makes what there is for the key; `None` where the maker finds nothing for it. With the sample book it is a formatter for
-    /// `en`, and `None` for `xx`.
+    /// Makes what there is for the key; `None` where the maker finds nothing for it. With the sample book it is a
+    /// formatter for `en`, and `None` for `xx`.
     fn make(&self, key: K) -> Option<F>
         ensures value { MatchOption result
             (finds self.now key ≡ false)

@@ -109,12 +109,12 @@ impl<K: Copy> ReadKeys<K> {
         }
     }
 
-    /// Finds the key of the bytes, which is then the latest. They are read only where their pair of places does not remember
-    /// them: of `a` and then `a` the first.
+    /// Finds the key of the bytes, which is then the latest. They are read only where their pair of places does not
+    /// remember them: of `a` and then `a` the first.
     ///
-    /// The condition is that each key it remembers is the one that this reader reads. Bytes of more than 256 are read each time.
-    /// It allocates where they are read. `true` is returned only where nothing has changed: of bytes that came last.
-    /// `AllocError`: out of memory; it then remembers what it did.
+    /// The condition is that each key it remembers is the one that this reader reads. Bytes of more than 256 are read
+    /// each time. It allocates where they are read. `true` is returned only where nothing has changed: of bytes that
+    /// came last. `AllocError`: out of memory; it then remembers what it did.
     pub fn find<R: KeyReader<K>>(&mut self, reader: &R, bytes: &[u8]) -> Result<bool, AllocError>
         requires { All (AreRead (R.key_of reader.now)) self.old.pairs }
         ensures value { OnOk result (self.new.latest ≡ Some (R.key_of reader.now bytes.now)) }
@@ -134,7 +134,8 @@ impl<K: Copy> ReadKeys<K> {
         Ok(false)
     }
 
-    /// The key that was found last: that of `a` after `find` of `a`. The condition is that one was found. It does not allocate.
+    /// The key that was found last: that of `a` after `find` of `a`. The condition is that one was found. It does not
+    /// allocate.
     pub fn latest(&self) -> &K
         requires { IsSome self.now.latest }
         ensures { self.now.latest ≡ Some result.now }

@@ -1,10 +1,12 @@
 -- How far a run has come: which lines of the bytes so far were answered, and which answers are still to be written.
 -- Defined in docs/requests.md, "What a run leaves".
 -- Cited by the private functions that a run is made of, and by no public one.
-use Rattle.std.specs.Prelude.{ℕ, ◌≡◌, ◌+◌, min, List, [], ◌∷◌, ◌++◌, length, take, Option}
+use Rattle.std.specs.Prelude.{ℕ, ◌≡◌, ◌+◌, min, List, [], ◌∷◌, ◌++◌, length, take, Option, Result, MatchResult}
 use Rattle.std.specs.List.{flat_map}
 use Rattle.std.specs.Io.KnownBytes.{Appends}
+use Rattle.locale_numbers_lines.specs.declared.run_error.RunError.{RunError}
 use Rattle.locale_numbers_lines.specs.Lines.{line_feed, ended, HasNoFeed, AreLines, last_line, answers_to}
+use Rattle.locale_numbers_lines.specs.Outcomes.{MatchRun}
 use Rattle.locale_numbers_lines.specs.Run.{most, WritesAll, CountsLines, CountsMade}
 
 -- the bytes are a line, its feed and what follows
@@ -65,3 +67,9 @@ module _ (answer : List ℕ → List ℕ) where
     pub wrote : WritesAll answer had before after
     pub counted : CountsLines had count
     pub made : CountsMade over had (next [])
+
+-- these bytes were fed: their lines were answered, `held` is behind the last feed, and `ready` are the answers that are not written yet
+abbrev pub Feeds : (List ℕ → List ℕ) → (bytes held ready : List ℕ) → (before after : Option (List ℕ)) → ℕ → (over next : List (List ℕ) → ℕ) → Result ℕ RunError → Type 0
+Feeds answer bytes held ready before after old over next result = MatchResult result
+    (λ count. Progress answer bytes held [] ready before after old count over next)
+    (λ refusal. MatchRun refusal ⊥ (AnsweredPart answer bytes before after) (Answered answer bytes ready before after))

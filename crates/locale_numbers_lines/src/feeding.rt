@@ -1,7 +1,7 @@
-ghost use Rattle.std.specs.Prelude.{◌≡◌, ◌<◌, false, ◌++◌, [], length, string_bytes, MatchResult, OnOk};
+ghost use Rattle.std.specs.Prelude.{◌≡◌, ◌<◌, false, ◌++◌, [], length, string_bytes, OnOk};
 ghost use Rattle.locale_numbers_lines.specs.Lines.{HasNoFeed};
-ghost use Rattle.locale_numbers_lines.specs.Outcomes.{MatchRun, ends_in_write};
-ghost use Rattle.locale_numbers_lines.specs.Progress.{Progress, Answered, AnsweredPart};
+ghost use Rattle.locale_numbers_lines.specs.Outcomes.{ends_in_write};
+ghost use Rattle.locale_numbers_lines.specs.Progress.{Feeds};
 
 use crate::answerer::Answerer;
 use crate::byte_writer::ByteWriter;
@@ -24,14 +24,8 @@ fn gather<A: Answerer, W: ByteWriter>(
     requires cut { HasNoFeed held.old.items }
     requires nothing { string_bytes ready.old ≡ [] }
     requires writer_well { W.failed writer.old ≡ false }
-    ensures came { let answer = A.answer_of answerer.old in
-        let bytes = held.old.items ++ piece.now in
-        let before = W.contents writer.old in
-        let after = W.contents writer.new in
-        MatchResult result
-        (λ count. Progress answer bytes held.new.items [] (string_bytes ready.new) before after lines count
-        (A.made_over answerer.old) (A.made_over answerer.new))
-        (λ refusal. MatchRun refusal ⊥ (AnsweredPart answer bytes before after) (Answered answer bytes (string_bytes ready.new) before after)) }
+    ensures came { Feeds (A.answer_of answerer.old) (held.old.items ++ piece.now) held.new.items (string_bytes ready.new)
+        (W.contents writer.old) (W.contents writer.new) lines (A.made_over answerer.old) (A.made_over answerer.new) result }
     ensures short { OnOk result (length (string_bytes ready.new) < PIECE) }
     ensures fault { W.failed writer.new ≡ ends_in_write result }
     ensures same { A.answer_of answerer.new ≡ A.answer_of answerer.old }
@@ -62,14 +56,8 @@ pub fn feed<A: Answerer, W: ByteWriter>(
     requires cut { HasNoFeed held.old.items }
     requires nothing { string_bytes ready.old ≡ [] }
     requires writer_well { W.failed writer.old ≡ false }
-    ensures came { let answer = A.answer_of answerer.old in
-        let bytes = held.old.items ++ piece.now in
-        let before = W.contents writer.old in
-        let after = W.contents writer.new in
-        MatchResult result
-        (λ count. Progress answer bytes held.new.items [] [] before after lines count
-        (A.made_over answerer.old) (A.made_over answerer.new))
-        (λ refusal. MatchRun refusal ⊥ (AnsweredPart answer bytes before after) (Answered answer bytes [] before after)) }
+    ensures came { Feeds (A.answer_of answerer.old) (held.old.items ++ piece.now) held.new.items []
+        (W.contents writer.old) (W.contents writer.new) lines (A.made_over answerer.old) (A.made_over answerer.new) result }
     ensures nothing { OnOk result (string_bytes ready.new ≡ []) }
     ensures fault { W.failed writer.new ≡ ends_in_write result }
     ensures same { A.answer_of answerer.new ≡ A.answer_of answerer.old }

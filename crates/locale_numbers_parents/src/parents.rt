@@ -23,7 +23,8 @@ pub enum ParentFault {
     Memory,
 }
 
-/// Locales and their parents, of which no locale stands twice and none leads back to itself: `en-001` for `en-AU`, `en` for `en-001`.
+/// Locales and their parents, of which no locale stands twice and none leads back to itself: `en-001` for `en-AU`, `en`
+/// for `en-001`.
 #[derive(Drop)]
 pub struct Parents {
     pairs: IndexMap<DataLocale, DataLocale>,
@@ -57,8 +58,8 @@ impl Parents {
         self.pairs.get(locale)
     }
 
-    /// The next locale to ask for: the parent that is listed, or else the locale without its last part. With `en-001` for `en-AU`
-    /// it is `en-001` after `en-AU`, `en` after `en-US`, and none after `en`. It does not allocate.
+    /// The next locale to ask for: the parent that is listed, or else the locale without its last part. With `en-001`
+    /// for `en-AU` it is `en-001` after `en-AU`, `en` after `en-US`, and none after `en`. It does not allocate.
     pub fn parent(&self, locale: &DataLocale) -> Option<DataLocale>
         ensures { result ≡ parent_step self.now locale.now }
     {
@@ -68,8 +69,8 @@ impl Parents {
         }
     }
 
-    /// The bound on the steps of a chain, which no chain exceeds: five for each parent that is listed, and four. It does not
-    /// allocate.
+    /// The bound on the steps of a chain, which no chain exceeds: five for each parent that is listed, and four. It
+    /// does not allocate.
     pub fn chain_limit(&self) -> u128
         ensures value { result ≡ most_steps self.now }
         ensures cuts_none { (l : DataLocaleMeaning) → Follows (parent_step self.now) l (walk (parent_step self.now) result l) }

@@ -2,8 +2,8 @@
 
 use rows::{Stop, number_of, split_word};
 
-/// How many bytes a reader gives at its first read and at the others, how many reads it answers, and whether it fails behind its last
-/// byte.
+/// How many bytes a reader gives at its first read and at the others, how many reads it answers, and whether it fails
+/// behind its last byte.
 #[derive(Clone, Copy)]
 pub struct Giving {
     pub at_first: usize,
@@ -13,8 +13,8 @@ pub struct Giving {
 }
 
 impl Giving {
-    /// The reader of `3`, of `3 then fails`, or of `3 fails after 1`: three bytes a read, to the end; then it fails; or after one read
-    /// it fails.
+    /// The reader of `3`, of `3 then fails`, or of `3 fails after 1`: three bytes a read, to the end; then it fails; or
+    /// after one read it fails.
     pub fn of(field: &str) -> Result<Giving, Stop> {
         let (at_once, behind) = split_word(field);
         let at_once = number_of(at_once)?;

@@ -6,8 +6,8 @@ use locale_numbers::{ByteReadFault, ByteReader};
 use std::alloc::Global;
 use std::cell::Cell;
 
-/// Gives bytes as it is told to. Where it watches a writer, it notes how many bytes were written when it had given how many, at each
-/// read at which there are more of them than at the one before.
+/// Gives bytes as it is told to. Where it watches a writer, it notes how many bytes were written when it had given how
+/// many, at each read at which there are more of them than at the one before.
 #[derive(Drop)]
 pub struct Pieces<'a> {
     pub rest: &'a [u8],

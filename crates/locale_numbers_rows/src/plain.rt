@@ -6,8 +6,8 @@ use icu_decimal::options::GroupingStrategy;
 use icu_decimal::provider::GroupingSizes;
 use rows::{Stop, number_of, put};
 
-// The signs or the digits of this name, as they stand in a book: signs are the prefix and the suffix of the minus sign, and those of
-// the plus sign.
+// The signs or the digits of this name, as they stand in a book: signs are the prefix and the suffix of the minus sign,
+// and those of the plus sign.
 fn text_named(name: &str) -> Result<&'static str, Stop> {
     match name {
         "english" => Ok(r#""-","","+","""#),
@@ -19,8 +19,8 @@ fn text_named(name: &str) -> Result<&'static str, Stop> {
     }
 }
 
-/// Writes the answer of a book whose entry `en` has these signs and sizes, the separators of English and these digits, to the line
-/// that asks for the plain text of a number.
+/// Writes the answer of a book whose entry `en` has these signs and sizes, the separators of English and these digits,
+/// to the line that asks for the plain text of a number.
 pub fn answer_sized(passed: &[&str], out: &mut String) -> Result<(), Stop> {
     let [signs, sizes, digits, grouping, number] = passed else {
         return Err(Stop::Unknown);

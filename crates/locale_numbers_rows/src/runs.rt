@@ -83,7 +83,8 @@ pub fn put_left<T: Runs>(runs: &T, sides: Sides<'_>, out: &mut String) -> Result
     put
 }
 
-// Writes how a run ended and what its writer holds; or how many lines it answered, and whether its writer holds the bytes that are wanted.
+// Writes how a run ended and what its writer holds; or how many lines it answered, and whether its writer holds the
+// bytes that are wanted.
 fn put_held(
     outcome: Result<Report, RunError>,
     held: &[u8],

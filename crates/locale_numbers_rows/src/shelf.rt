@@ -5,7 +5,8 @@ use std::io;
 use std::io::{Read, Seek, SeekFrom, Write};
 use std::rt::Files;
 
-/// A file system that has the same thing under every path: `nothing`, a `whole` file with a text, or one that is `broken` off behind it.
+/// A file system that has the same thing under every path: `nothing`, a `whole` file with a text, or one that is
+/// `broken` off behind it.
 #[derive(Clone, Copy)]
 pub struct Shelf<'a> {
     pub kind: &'a str,

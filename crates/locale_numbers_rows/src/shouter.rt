@@ -67,7 +67,8 @@ impl Runs for Shouter {
     }
 }
 
-/// Writes what a run leaves whose answers are in upper case, and which is refused memory after so many of them, or never (`all`).
+/// Writes what a run leaves whose answers are in upper case, and which is refused memory after so many of them, or
+/// never (`all`).
 pub fn answer(passed: &[&str], input: &[u8], out: &mut String) -> Result<(), Stop> {
     let [answers, reader, writer, _] = passed else {
         return Err(Stop::Unknown);

@@ -49,7 +49,8 @@ impl<F: Files> Runs for Start<'_, F> {
     }
 }
 
-// Writes what the program leaves over files, started with these words: the path of a book, or `-` for none, and a capacity.
+// Writes what the program leaves over files, started with these words: the path of a book, or `-` for none, and a
+// capacity.
 fn put_program<F: Files>(
     files: &F,
     words: [&str; 2],
@@ -65,8 +66,8 @@ fn put_program<F: Files>(
     put_left(&start, sides, out)
 }
 
-/// Writes what the program leaves. The kind says what stands under every path: `nothing`, a `whole` file with this text, one that is
-/// `broken` off behind it, or what is there (`real`).
+/// Writes what the program leaves. The kind says what stands under every path: `nothing`, a `whole` file with this
+/// text, one that is `broken` off behind it, or what is there (`real`).
 pub fn answer<F: Files>(
     files: &F,
     passed: &[&str],

@@ -34,8 +34,8 @@ pub fn write(piece: &[u8], out: &mut String) -> Result<(), Stop> {
     Ok(())
 }
 
-/// Writes whether a flush of a writer that is `sound`, or of one that is `broken`, succeeds, whether the writer has failed then, and how
-/// often the one that it tracks was flushed.
+/// Writes whether a flush of a writer that is `sound`, or of one that is `broken`, succeeds, whether the writer has
+/// failed then, and how often the one that it tracks was flushed.
 pub fn flush(passed: &[&str], out: &mut String) -> Result<(), Stop> {
     let fault = match passed {
         [kind] if *kind == "sound" => None,

@@ -3,7 +3,7 @@ use Rattle.std.proofs.Common.{◌≡◌, ◌≤◌, ℕ, suc, Bool, true, false,
 use Rattle.std.specs.BTreeMap.{insert_entry}
 use Rattle.std.specs.Ordering.{nat_cmp}
 use Rattle.std.specs.declared.cmp.Ordering.TheVariants.{Greater}
-use Rattle.std.proofs.lemmas.Bool.{and_parts, and_from}
+use Rattle.std.proofs.lemmas.Bool.{and_parts, and_from, le-leb}
 use Rattle.std.proofs.lemmas.Bool.Decides.{nat_tests}
 use Rattle.icu_decimal.specs.declared.error.DataError.{DataError}
 use Rattle.icu_decimal.specs.KeptEntries.{CompactTable, IsFaulty, IsTable, IsTableFault, NeverFalls, Patterns, TypePatterns, first_fault, table_of}
@@ -13,15 +13,12 @@ use Rattle.locale_numbers_tables.specs.CompactEntries.{Row, never_fall_from, ris
 
 -- ---- tables
 
-le_true : (a b : ℕ) → a ≤ b → nat_le a b ≡ true
-le_true a b h = grind (arith, nat_tests, h)
-
 pub true_le : (a b : ℕ) → nat_le a b ≡ true → a ≤ b
 true_le a b h = grind (arith, nat_tests, h)
 
 order_tested : (least : ℕ) (xs : List TypePatterns) → NeverFalls least xs → never_fall_from least xs ≡ true
 order_tested least [] order = refl
-order_tested least (x ∷ xs) order = and_from (nat_le least x.exponent) _ (le_true least x.exponent order.0) (order_tested x.exponent xs order.1)
+order_tested least (x ∷ xs) order = and_from (nat_le least x.exponent) _ (le-leb least x.exponent order.0) (order_tested x.exponent xs order.1)
 
 test_orders : (least : ℕ) (xs : List TypePatterns) → never_fall_from least xs ≡ true → NeverFalls least xs
 test_orders least [] test = tt

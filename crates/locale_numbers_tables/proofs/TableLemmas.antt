@@ -1,5 +1,6 @@
 -- One more entry of an array: `specs/Keys.antt` and `specs/Allocation.antt`.
-use Rattle.std.proofs.Common.{get_or, drop, drop-cons, add-one, ◌<◌, true≢false, append_assoc, ◌≡◌, if◌then◌else◌, ℕ, ◌+◌, suc, Bool, true, false, ◌&&◌, ◌||◌, not, List, [], ◌∷◌, ◌++◌, length, Option, Some, None, is_some, option_map, refl, sym, ap, ◌∙◌, arith}
+use Rattle.std.proofs.Common.{get_or, drop, drop-cons, add-one, ◌<◌, append_assoc, ◌≡◌, if◌then◌else◌, ℕ, ◌+◌, suc, Bool, true, false, ◌&&◌, ◌||◌, not, List, [], ◌∷◌, ◌++◌, length, Option, Some, None, is_some, option_map, refl, sym, ap, ◌∙◌, arith}
+use Rattle.std.proofs.lemmas.Bool.{and_parts}
 use Rattle.serde_json.specs.Data.{Data, Items}
 use Rattle.serde_json.specs.View.{items_view, view}
 use Rattle.serde_json.specs.declared.value.Value.{Value}
@@ -10,15 +11,7 @@ pub count-items : (fields : List Value) → count_of_items (items_view fields) �
 count-items [] = refl
 count-items (field ∷ fields) = let rest = count-items fields in omega arith
 
-pub none_from_is_some : {T : Type 0} (o : Option T) → is_some o ≡ false → o ≡ None
-none_from_is_some None h = refl
-none_from_is_some (Some x) h = cc
-
 -- ---- no key twice
-
-both_true : (a b : Bool) → (a && b) ≡ true → (a ≡ true) × (b ≡ true)
-both_true true b h = (refl, h)
-both_true false b h = let no : false ≡ true = h in (h, absurd (true≢false (sym no)))
 
 and_false : (a : Bool) → (a && false) ≡ false
 and_false true = refl
@@ -67,7 +60,7 @@ module _ {K V : Type 0} (same : K → K → Bool) (symmetric : (a b : K) → sam
           → has_no_key_twice same ((pair ∷ pairs) ++ (key, value) ∷ []) ≡ true
       by again true e g m = cc
       by again false e g m =
-          let parts = both_true (not (is_some (table_at same pair.0 pairs))) (has_no_key_twice same pairs) m in
+          let parts = and_parts (not (is_some (table_at same pair.0 pairs))) (has_no_key_twice same pairs) m in
           rw (absent_behind pairs pair.0 key value (symmetric pair.0 key ∙ e), parts.0) (again g parts.1)
 
   -- a key that is there already: the array makes no table

@@ -1,14 +1,13 @@
 //! Entries of compact patterns.
-ghost use Rattle.std.specs.Prelude.{◌≡◌, true, IfOk, IsErrOf, IfErr, OnOk, Some, None, is_some, map, option_map};
+ghost use Rattle.std.specs.Prelude.{◌≡◌, true, IfOk, IfErr, OnOk, Some, None, is_some, map, option_map};
 ghost use Rattle.std.specs.BTreeMap.{insert_entry};
 ghost use Rattle.std.specs.Ordering.{nat_cmp};
 ghost use Rattle.serde_json.specs.View.{view, items_view};
 ghost use Rattle.icu_decimal.specs.KeptEntries.{of_type};
 ghost use Rattle.icu_decimal.specs.SlotsJson.{slots_of};
-ghost use Rattle.locale_numbers_tables.specs.CompactEntries.{row_in, rows_in, zero_in, rise_from, table_made, compact_of, compact_entry};
+ghost use Rattle.locale_numbers_tables.specs.CompactEntries.{row_in, rows_in, zero_in, rise_from, table_made, compact_of};
 ghost use Rattle.locale_numbers_tables.specs.CompactSteps.{has_table_shape, key_fault, table_fault, types_fault};
 ghost use Rattle.locale_numbers_tables.specs.Entries.{all_of, field_at, entry_key};
-ghost use Rattle.locale_numbers_tables.specs.Faults.{compact_fault};
 ghost use Rattle.locale_numbers_tables.specs.Telling.{IsTold};
 ghost use Rattle.locale_numbers_tables.specs.Allocation.{compact_may_grow};
 
@@ -295,38 +294,6 @@ fn has_frame(entry: &Value) -> bool
     has_count(entry, 4) && is_text_at(entry, 0) && is_text_at(entry, 1)
 }
 
-/// The table of patterns of an entry, with its key.
-///
-/// A fault of the key comes behind one of the form: only then are types and patterns read to see which it is.
-#[tactic(auto, using(crate::proofs::CompactFaults::sound_whole, crate::proofs::CompactFaults::told_table, crate::proofs::CompactFaults::told_key, crate::proofs::CompactFaults::no_shape, crate::proofs::CompactFaults::no_frame))]
-pub fn compact_entry(
-    alloc: Global,
-    entry: &Value,
-) -> Result<(DataIdentifier, CompactPatterns), BookError>
-    ensures value { IfOk result (λ pair. compact_entry (view entry.now) ≡ Some pair) }
-    ensures key { IfOk result (λ pair. entry_key (view entry.now) ≡ Some pair.0) }
-    ensures sound { OnOk result (compact_fault (view entry.now) ≡ None) }
-    ensures fault { IfErr result (λ fault. IsTold (compact_fault (view entry.now)) fault) }
-
-    // An entry that has not four fields, or whose first two are no texts, is never reported as out of memory.
-    ensures room { IsErrOf result BookError.Memory → compact_may_grow (view entry.now) ≡ true }
-{
-    if !has_frame(entry) {
-        return Err(BookError::Shape);
-    }
-    match plain_key(alloc, entry) {
-        Ok(key) => match entry_table(alloc, entry) {
-            Ok(table) => Ok((key, table)),
-            Err(fault) => Err(fault),
-        },
-        Err(fault) => match has_table_shape(alloc, entry) {
-            Ok(true) => Err(fault),
-            Ok(false) => Err(BookError::Shape),
-            Err(_) => Err(BookError::Memory),
-        },
-    }
-}
-
 impl Entry for CompactPatterns {
     ghost use Rattle.locale_numbers_tables.specs.CompactEntries.{compact_entry};
     ghost use Rattle.locale_numbers_tables.specs.Entries.{entry_key};
@@ -341,13 +308,26 @@ impl Entry for CompactPatterns {
 
     ghost fault_in = { compact_fault };
 
+    // An entry that has not four fields, or whose first two are no texts, is never reported as out of memory.
     ghost may_grow = { compact_may_grow };
 
-    #[tactic(auto, using(crate::proofs::FaultLemmas::compact_sound))]
+    #[tactic(auto, using(crate::proofs::FaultLemmas::compact_sound, crate::proofs::CompactFaults::sound_whole, crate::proofs::CompactFaults::told_table, crate::proofs::CompactFaults::told_key, crate::proofs::CompactFaults::no_shape, crate::proofs::CompactFaults::no_frame))]
     fn read(alloc: Global, entry: &Value) -> Result<(DataIdentifier, CompactPatterns), BookError> {
-        match compact_entry(alloc, entry) {
-            Ok(read) => Ok(read),
-            Err(fault) => Err(fault),
+        if !has_frame(entry) {
+            return Err(BookError::Shape);
+        }
+        match plain_key(alloc, entry) {
+            Ok(key) => match entry_table(alloc, entry) {
+                Ok(table) => Ok((key, table)),
+                Err(fault) => Err(fault),
+            },
+            // A fault of the key comes behind one of the form: only then are types and patterns read to see which it
+            // is.
+            Err(fault) => match has_table_shape(alloc, entry) {
+                Ok(true) => Err(fault),
+                Ok(false) => Err(BookError::Shape),
+                Err(_) => Err(BookError::Memory),
+            },
         }
     }
 }

@@ -1,11 +1,9 @@
 //! Entries of symbols and of digits.
-ghost use Rattle.std.specs.Prelude.{◌≡◌, true, IfOk, IsErrOf, IfErr, OnOk, Some, None};
+ghost use Rattle.std.specs.Prelude.{◌≡◌, IfOk, Some, None};
 ghost use Rattle.serde_json.specs.View.{view};
 ghost use Rattle.icu_decimal.specs.Symbols.{SymbolStrings};
-ghost use Rattle.locale_numbers_tables.specs.Entries.{grouping_sizes_of, symbol_texts, has_count, has_texts, symbols_entry, digits_entry, digits_key, entry_key};
-ghost use Rattle.locale_numbers_tables.specs.Faults.{has_symbols_shape, symbols_fault, has_digits_shape, digits_fault};
-ghost use Rattle.locale_numbers_tables.specs.Telling.{IsTold};
-ghost use Rattle.locale_numbers_tables.specs.Allocation.{symbols_may_grow, digits_may_grow};
+ghost use Rattle.locale_numbers_tables.specs.Entries.{grouping_sizes_of, symbol_texts, has_count, has_texts};
+ghost use Rattle.locale_numbers_tables.specs.Faults.{has_symbols_shape, has_digits_shape};
 
 use crate::BookError;
 use crate::entry::Entry;
@@ -85,85 +83,10 @@ fn symbol_texts(
     Ok(strings.build())
 }
 
-/// The symbols of an entry, with their key.
-pub fn symbols_entry(
-    alloc: Global,
-    entry: &Value,
-) -> Result<(DataIdentifier, DecimalSymbols), BookError>
-    ensures value { IfOk result (λ pair. symbols_entry (view entry.now) ≡ Some pair) }
-    ensures key { IfOk result (λ pair. entry_key (view entry.now) ≡ Some pair.0) }
-    ensures sound { OnOk result (symbols_fault (view entry.now) ≡ None) }
-    ensures fault { IfErr result (λ fault. IsTold (symbols_fault (view entry.now)) fault) }
-
-    // A fault is reported as out of memory only behind a locale whose reading may allocate.
-    ensures room { IsErrOf result BookError.Memory → symbols_may_grow (view entry.now) ≡ true }
-{
-    if !has_symbols_shape(entry) {
-        return Err(BookError::Shape);
-    }
-    let Ok(found) = locale(alloc, entry, 0) else {
-        return Err(BookError::Memory);
-    };
-    let Some(locale) = found else {
-        return Err(BookError::Tag);
-    };
-    let Some(asked) = system_or_none(entry, 1) else {
-        return Err(BookError::System);
-    };
-    let Some(numsys) = system(entry, 2) else {
-        return Err(BookError::System);
-    };
-    if !has_texts(entry) {
-        return Err(BookError::Text);
-    }
-    let Some(grouping_sizes) = grouping_sizes(entry) else {
-        return Err(BookError::Shape);
-    };
-    let Ok(strings) = symbol_texts(alloc, entry, numsys) else {
-        return Err(BookError::Memory);
-    };
-    let key = DataIdentifier::for_marker_attributes_and_locale(asked, locale);
-    Ok((
-        key,
-        DecimalSymbols {
-            strings,
-            grouping_sizes,
-        },
-    ))
-}
-
 fn has_digits_shape(entry: &Value) -> bool
     ensures { result ≡ has_digits_shape (view entry.now) }
 {
     has_count(entry, 2) && is_text_at(entry, 0) && is_text_at(entry, 1)
-}
-
-/// The digits of an entry, with their system.
-pub fn digits_entry(
-    alloc: Global,
-    entry: &Value,
-) -> Result<(TinyAsciiStr<8>, [char; 10]), BookError>
-    ensures value { IfOk result (λ pair. digits_entry (view entry.now) ≡ Some pair) }
-    ensures key { IfOk result (λ pair. digits_key (view entry.now) ≡ Some pair.0) }
-    ensures sound { OnOk result (digits_fault (view entry.now) ≡ None) }
-    ensures fault { IfErr result (λ fault. IsTold (digits_fault (view entry.now)) fault) }
-
-    // No fault of an entry of digits is ever reported as out of memory.
-    ensures room { IsErrOf result BookError.Memory → digits_may_grow (view entry.now) ≡ true }
-{
-    if !has_digits_shape(entry) {
-        return Err(BookError::Shape);
-    }
-    let Some(system) = system(entry, 0) else {
-        return Err(BookError::System);
-    };
-    let Ok(found) = digits(alloc, entry, 1) else {
-        return Err(BookError::Memory);
-    };
-    match found {
-        Some(digits) => Ok((system, digits)),
-        None => Err(BookError::Digits),
-    }
 }
 
 impl Entry for DecimalSymbols {
@@ -179,14 +102,43 @@ impl Entry for DecimalSymbols {
 
     ghost fault_in = { symbols_fault };
 
+    // A fault is reported as out of memory only behind a locale whose reading may allocate.
     ghost may_grow = { symbols_may_grow };
 
     #[tactic(auto, using(crate::proofs::FaultLemmas::symbols_sound))]
     fn read(alloc: Global, entry: &Value) -> Result<(DataIdentifier, DecimalSymbols), BookError> {
-        match symbols_entry(alloc, entry) {
-            Ok(read) => Ok(read),
-            Err(fault) => Err(fault),
+        if !has_symbols_shape(entry) {
+            return Err(BookError::Shape);
         }
+        let Ok(found) = locale(alloc, entry, 0) else {
+            return Err(BookError::Memory);
+        };
+        let Some(locale) = found else {
+            return Err(BookError::Tag);
+        };
+        let Some(asked) = system_or_none(entry, 1) else {
+            return Err(BookError::System);
+        };
+        let Some(numsys) = system(entry, 2) else {
+            return Err(BookError::System);
+        };
+        if !has_texts(entry) {
+            return Err(BookError::Text);
+        }
+        let Some(grouping_sizes) = grouping_sizes(entry) else {
+            return Err(BookError::Shape);
+        };
+        let Ok(strings) = symbol_texts(alloc, entry, numsys) else {
+            return Err(BookError::Memory);
+        };
+        let key = DataIdentifier::for_marker_attributes_and_locale(asked, locale);
+        Ok((
+            key,
+            DecimalSymbols {
+                strings,
+                grouping_sizes,
+            },
+        ))
     }
 }
 
@@ -203,13 +155,23 @@ impl Entry for [char; 10] {
 
     ghost fault_in = { digits_fault };
 
+    // No fault of an entry of digits is ever reported as out of memory.
     ghost may_grow = { digits_may_grow };
 
     #[tactic(auto, using(crate::proofs::FaultLemmas::digits_sound))]
     fn read(alloc: Global, entry: &Value) -> Result<(TinyAsciiStr<8>, [char; 10]), BookError> {
-        match digits_entry(alloc, entry) {
-            Ok(read) => Ok(read),
-            Err(fault) => Err(fault),
+        if !has_digits_shape(entry) {
+            return Err(BookError::Shape);
+        }
+        let Some(system) = system(entry, 0) else {
+            return Err(BookError::System);
+        };
+        let Ok(found) = digits(alloc, entry, 1) else {
+            return Err(BookError::Memory);
+        };
+        match found {
+            Some(digits) => Ok((system, digits)),
+            None => Err(BookError::Digits),
         }
     }
 }

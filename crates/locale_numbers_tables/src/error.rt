@@ -18,13 +18,15 @@ pub enum BookError {
     /// A locale, or the parent of one, is refused, as `e` or `en-u-nu-thai`.
     #[error("tag")]
     Tag,
-    /// A name of a numbering system is not 3 to 8 lower-case letters and digits, nor empty where it may be: `Thai`, `th`.
+    /// A name of a numbering system is not 3 to 8 lower-case letters and digits, nor empty where it may be: `Thai`,
+    /// `th`.
     #[error("system")]
     System,
     /// A tab or a line feed stands in the text of a symbol or a pattern, as a tab for the minus sign.
     #[error("text")]
     Text,
-    /// The digits of a system are not ten characters, as the nine of `012345678`, or a tab or a line feed is among them.
+    /// The digits of a system are not ten characters, as the nine of `012345678`, or a tab or a line feed is among
+    /// them.
     #[error("digits")]
     Digits,
     /// The condition of a plural category is not one, as `i is 1`.
@@ -33,7 +35,8 @@ pub enum BookError {
     /// The types of patterns do not rise strictly, as 6 and then 3.
     #[error("types")]
     Types,
-    /// The exponents of patterns are refused: one falls, is above its type, as 4 at type 3, or is more than 15 below it.
+    /// The exponents of patterns are refused: one falls, is above its type, as 4 at type 3, or is more than 15 below
+    /// it.
     #[error("exponents")]
     Exponents,
     /// An earlier entry of the same array has the same key, as `EN` behind `en`.

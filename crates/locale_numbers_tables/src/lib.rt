@@ -1,7 +1,8 @@
-//! The tables of a book: what the entries of its arrays say, each under its key, and what is wrong with the first faulty one.
+//! The tables of a book: what the entries of its arrays say, each under its key, and what is wrong with the first
+//! faulty one.
 //!
-//! The array `[["latn","0123456789"]]` is the table of one system, `latn`, with its ten digits; with a second entry for `latn` it is
-//! refused as `Duplicate`.
+//! The array `[["latn","0123456789"]]` is the table of one system, `latn`, with its ten digits; with a second entry for
+//! `latn` it is refused as `Duplicate`.
 
 #![tactic(auto)]
 

@@ -1,14 +1,11 @@
 //! Entries of plural rules.
-ghost use Rattle.std.specs.Prelude.{◌≡◌, true, IfOk, IsErrOf, IfErr, OnOk, Some, None, is_some, option_map, option_and_then};
+ghost use Rattle.std.specs.Prelude.{◌≡◌, true, IfOk, Some, None, is_some, option_map};
 ghost use Rattle.serde_json.specs.Find.{as_array};
 ghost use Rattle.serde_json.specs.View.{view, items_view};
 ghost use Rattle.icu_decimal.specs.Reading.{is_same, pairs_of};
 ghost use Rattle.locale_numbers_tables.specs.Entries.{field_at};
-ghost use Rattle.locale_numbers_tables.specs.Faults.{rules_fault};
 ghost use Rattle.locale_numbers_tables.specs.Keys.{table_at, table_in};
-ghost use Rattle.locale_numbers_tables.specs.Telling.{IsTold};
-ghost use Rattle.locale_numbers_tables.specs.Allocation.{rules_may_grow};
-ghost use Rattle.locale_numbers_tables.specs.RulesEntries.{category_in, condition_in, conditions_in, rules_entry, rules_key};
+ghost use Rattle.locale_numbers_tables.specs.RulesEntries.{category_in, condition_in, conditions_in};
 
 use crate::BookError;
 use crate::entry::Entry;
@@ -99,41 +96,6 @@ fn entry_conditions(
     }
 }
 
-/// The plural rules of an entry, with their locale.
-pub fn rules_entry(alloc: Global, entry: &Value) -> Result<(DataLocale, PluralRules), BookError>
-    ensures value { IfOk result (λ pair. rules_entry (view entry.now) ≡ Some pair) }
-    ensures key { IfOk result (λ pair. rules_key (view entry.now) ≡ Some pair.0) }
-    ensures sound { OnOk result (rules_fault (view entry.now) ≡ None) }
-    ensures fault { IfErr result (λ fault. IsTold (rules_fault (view entry.now)) fault) }
-
-    // An entry that has not two fields, or whose first is no text, is never reported as out of
-    // memory.
-    ensures room { IsErrOf result BookError.Memory → rules_may_grow (view entry.now) ≡ true }
-{
-    if !has_count(entry, 2) || !is_text_at(entry, 0) {
-        return Err(BookError::Shape);
-    }
-    let Ok(found) = entry_conditions(alloc, entry) else {
-        return Err(BookError::Memory);
-    };
-    let Some(list) = found else {
-        return Err(BookError::Shape);
-    };
-    let Ok(found) = locale(alloc, entry, 0) else {
-        return Err(BookError::Memory);
-    };
-    let Some(locale) = found else {
-        return Err(BookError::Tag);
-    };
-    match PluralRules::new(alloc, list.as_slice()) {
-        Ok(rules) => Ok((locale, rules)),
-        Err(fault) => match fault {
-            DataError::Memory => Err(BookError::Memory),
-            _ => Err(BookError::Condition),
-        },
-    }
-}
-
 impl Entry for PluralRules {
     ghost use Rattle.locale_numbers_tables.specs.Faults.{rules_fault};
     ghost use Rattle.locale_numbers_tables.specs.Allocation.{rules_may_grow};
@@ -147,13 +109,32 @@ impl Entry for PluralRules {
 
     ghost fault_in = { rules_fault };
 
+    // An entry that has not two fields, or whose first is no text, is never reported as out of memory.
     ghost may_grow = { rules_may_grow };
 
     #[tactic(auto, using(crate::proofs::FaultLemmas::rules_sound))]
     fn read(alloc: Global, entry: &Value) -> Result<(DataLocale, PluralRules), BookError> {
-        match rules_entry(alloc, entry) {
-            Ok(read) => Ok(read),
-            Err(fault) => Err(fault),
+        if !has_count(entry, 2) || !is_text_at(entry, 0) {
+            return Err(BookError::Shape);
+        }
+        let Ok(found) = entry_conditions(alloc, entry) else {
+            return Err(BookError::Memory);
+        };
+        let Some(list) = found else {
+            return Err(BookError::Shape);
+        };
+        let Ok(found) = locale(alloc, entry, 0) else {
+            return Err(BookError::Memory);
+        };
+        let Some(locale) = found else {
+            return Err(BookError::Tag);
+        };
+        match PluralRules::new(alloc, list.as_slice()) {
+            Ok(rules) => Ok((locale, rules)),
+            Err(fault) => match fault {
+                DataError::Memory => Err(BookError::Memory),
+                _ => Err(BookError::Condition),
+            },
         }
     }
 }

@@ -1,7 +1,7 @@
 //! What the tables of a book are hashed by: two numbers that come of the book's text.
 //!
-//! With a hash that is known, keys can be chosen that all have one: they would make the loading of a book quadratic. Here they would
-//! have to be chosen for the digest of the text that they stand in.
+//! With a hash that is known, keys can be chosen that all have one: they would make the loading of a book quadratic.
+//! Here they would have to be chosen for the digest of the text that they stand in.
 
 ghost use Rattle.std.specs.Prelude.{◌≡◌};
 ghost use Rattle.std.specs.Hash as fed;
@@ -66,8 +66,8 @@ impl Seed {
         }
     }
 
-    /// The seed of a text: the halves of its SHA-512 digest, each as one number. The hash of a key begins with the first and ends
-    /// with the second. It does not allocate.
+    /// The seed of a text: the halves of its SHA-512 digest, each as one number. The hash of a key begins with the
+    /// first and ends with the second. It does not allocate.
     pub fn of_text(text: &[u8]) -> Self
         ensures value { (writes : HashWrites) → ⟦<SeededHasher as Hasher>⟧.finish (fold ⟦<SeededHasher as Hasher>⟧.write (⟦<Seed as BuildHasher>⟧.build_hasher result) writes) ≡ key_hash text.now writes }
     {

@@ -13,7 +13,8 @@ pub struct Table<K: Eq + Hash, V> {
     pub map: IndexMap<K, V, Seed>,
 }
 
-// A table is let go by one call, whose proof a user's exits cite: a derived drop would be opened column by column at each of them.
+// A table is let go by one call, whose proof a user's exits cite: a derived drop would be opened column by column at
+// each of them.
 impl<K: Eq + Hash + Drop, V: Drop> Drop for Table<K, V> {
     fn drop(self) {
         let Self { map: _map } = self;

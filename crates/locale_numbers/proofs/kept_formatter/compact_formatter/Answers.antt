@@ -1,5 +1,5 @@
 use Rattle.icu_decimal_chains.specs.Chains.{chain}
-use Rattle.locale_numbers.specs.declared.request.PatternLength.TheVariants.{Short, Long}
+use Rattle.locale_numbers_requests.specs.declared.PatternLength.TheVariants.{Short, Long}
 use Rattle.locale_numbers.proofs.FoundCompactLemmas.{compact_found_by}
 use Rattle.locale_numbers.proofs.kept_formatter.compact_formatter.Goals as goal
 

@@ -5,7 +5,8 @@ use Rattle.locale_numbers_tables.specs.Keys.{table_at}
 use Rattle.locale_numbers_tables.specs.RulesEntries.{condition_in}
 use Rattle.locale_numbers_tables.proofs.KeyLemmas.{is_same_symmetric}
 use Rattle.locale_numbers_tables.proofs.RulesLemmas.{pairs_more}
-use Rattle.locale_numbers_tables.proofs.TableLemmas.{none_from_is_some, no_table, once_more, one_more}
+use Rattle.locale_numbers_parents.proofs.PairsLemmas.{none_from}
+use Rattle.locale_numbers_tables.proofs.TableLemmas.{no_table, once_more, one_more}
 use Rattle.locale_numbers_tables.proofs.rules.conditions.Goals as goal
 
 pub returns-then-has_category : goal.returns-then-has_category
@@ -20,7 +21,7 @@ loop-item-preserved c =
     let read = one_more condition_in c.args.items.now c.loop-item.item-index c.item-item.result (c.in-Some.category, c.in-Some.text.now) (pairs_of c.loop-item.list.items)
     c.loop-item-test.true c.item-item.is (sym c.in-Some.ensures) c.loop-item.invariant.all in
     let absent : is_some (table_at is_same c.in-Some.category (pairs_of c.loop-item.list.items)) ≡ false = rw (← c.as_slice.ensures.value) (sym c.has_category.ensures ∙ c.if-has_category.false) in
-    let fresh : table_at is_same c.in-Some.category (pairs_of c.loop-item.list.items) ≡ None = none_from_is_some _ absent in
+    let fresh : table_at is_same c.in-Some.category (pairs_of c.loop-item.list.items) ≡ None = none_from _ absent in
     record {
       all = rw (c.in_ok-push.ensures.items, pairs_more c.loop-item.list.items c.in-Some.category c.in-Some.text) read;
       once = rw (c.in_ok-push.ensures.items, pairs_more c.loop-item.list.items c.in-Some.category c.in-Some.text) (once_more is_same is_same_symmetric (pairs_of c.loop-item.list.items) c.in-Some.category c.in-Some.text.now fresh c.loop-item.invariant.once);

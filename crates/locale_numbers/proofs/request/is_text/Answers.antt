@@ -1,6 +1,0 @@
-use Rattle.std.proofs.Common.{◌∙◌}
-use Rattle.locale_numbers.proofs.RequestLemmas.{text_tells}
-use Rattle.locale_numbers.proofs.request.is_text.Goals as goal
-
-pub returns : goal.returns
-returns c = c.is_ok.ensures.value ∙ text_tells c.args.bytes.now _ _ c.from_utf8.result c.from_utf8.ensures.cases

@@ -1,0 +1,4 @@
+pub mod CuttingLemmas
+pub mod DigitsLemmas
+mod KnownValues
+pub mod RequestLemmas

@@ -1,0 +1,43 @@
+// Pieces of a text between the bytes that part them.
+ghost use Rattle.std.specs.Prelude.{◌≡◌, ◌<◌, ◌+◌, ◌∷◌, [], length, position, drop, slice_index, MatchOption};
+ghost use Rattle.std.specs.List.{All};
+ghost use Rattle.locale_numbers_requests.specs.Cutting.{IsLastCut, IsNot, is_separator, cut_at};
+
+use memchr::{memchr, memrchr};
+
+// The place of the first separator.
+fn first_separator(text: &[u8], separator: u8) -> Option<usize>
+    ensures { result ≡ position (is_separator separator) text.now }
+{
+    memchr(separator, text)
+}
+
+// The place of the last separator.
+fn last_separator(text: &[u8], separator: u8) -> Option<usize>
+    ensures { MatchOption result
+        (All (IsNot separator) text.now)
+        (λ end. (end < length text.now) × (slice_index text.now end ≡ separator) × All (IsNot separator) (drop (end + 1) text.now)) }
+{
+    memrchr(separator, text)
+}
+
+/// The first piece of a text, and what stands behind its separator, where it ends with one.
+pub(crate) fn cut_field(text: &[u8], separator: u8) -> (&[u8], Option<&[u8]>)
+    ensures { MatchOption result.1 (cut_at separator text.now ≡ result.0.now ∷ [])
+        (λ rest. cut_at separator text.now ≡ result.0.now ∷ cut_at separator rest.now) }
+{
+    match first_separator(text, separator) {
+        None => (text, None),
+        Some(end) => (&text[..end], Some(&text[end + 1..])),
+    }
+}
+
+/// What stands before the last piece of a text, the separator with it, and that piece.
+pub fn cut_last(text: &[u8], separator: u8) -> (&[u8], &[u8])
+    ensures { IsLastCut separator text.now result.0.now result.1.now }
+{
+    match last_separator(text, separator) {
+        None => text.split_at(0),
+        Some(end) => text.split_at(end + 1),
+    }
+}

@@ -1,0 +1,28 @@
+//! Request lines: what each asks, and the words by which lines are refused.
+//!
+//! A line is six fields between tabs: tag, form, grouping, sign, rounding, text. Nothing here knows of books or
+//! locales: the tag and the text are bytes. The rules are in docs/requests.md.
+//!
+//! ```rust
+//! use locale_numbers_requests::{Refusal, cut_last, read_request};
+//!
+//! let (front, text) = cut_last(b"en\tplain\tmin2\tkeep\t-\t1000", b'\t');   // the first five fields with the tab behind them, and `1000`
+//! let request = read_request(front);                                       // Some: the tag `en`, plain, Min2, the sign of the text, no rounding
+//! let word = Refusal::Shape.word();                                        // "shape"
+//! ```
+#![tactic(auto)]
+
+mod cutting;
+mod digits;
+mod refusal;
+mod request;
+mod rounding_field;
+mod sign_field;
+mod word_table;
+
+pub use cutting::cut_last;
+pub use digits::{are_digits, capped_number};
+pub use refusal::Refusal;
+pub use request::{Form, PatternLength, Request, as_text, is_text, read_request};
+pub use rounding_field::RoundingAsked;
+pub use sign_field::SignAsked;

@@ -1,0 +1,136 @@
+// The rounding that a request asks for: a position, a mode and an increment, or none.
+ghost use Rattle.std.specs.Prelude.{◌≡◌, ◌≤◌, ◌∷◌, [], ◌↔◌, length, IsSome, IfSome};
+ghost use Rattle.locale_numbers_requests.specs.RoundingField.{comma, is_size, size_named, position_named, mode_named, increment_named, rounding_in, rounding_named};
+ghost use Rattle.locale_numbers_requests.specs.Cutting.{cut_at};
+
+use crate::cutting::cut_field;
+use crate::digits::{are_digits, capped_number};
+use crate::word_table::value_beside;
+use fixed_decimal::{RoundingIncrement, SignedRoundingMode, UnsignedRoundingMode};
+
+const COMMA: u8 = b',';
+
+/// What is rounded.
+#[derive(Clone, Copy)]
+pub enum RoundingAsked {
+    /// Nothing.
+    Unrounded,
+    /// The number, at a position, by a mode, to multiples of an increment.
+    At(i16, SignedRoundingMode, RoundingIncrement),
+}
+
+// Whether a word is digits, of which the first is not zero.
+fn is_size(word: &[u8]) -> bool
+    ensures { result ≡ is_size word.now }
+{
+    match word.split_first() {
+        None => false,
+        Some((first, _)) => *first != b'0' && are_digits(word),
+    }
+}
+
+// The number above zero, and not above a bound, that a word writes with no zero in front.
+fn size_named(most: u32, word: &[u8]) -> Option<u32>
+    requires { most ≤ 32768 }
+    ensures { result ≡ size_named most word.now }
+{
+    if !is_size(word) {
+        return None;
+    }
+    let number = capped_number(word);
+    if number <= most { Some(number) } else { None }
+}
+
+// The position that a word names.
+fn position_named(word: &[u8]) -> Option<i16>
+    ensures { result ≡ position_named word.now }
+{
+    let (first, rest) = word.split_first()?;
+    if word == b"0".as_slice() {
+        Some(0)
+    } else if *first == b'-' {
+        let size = size_named(32768, rest)?;
+        Some((-(size as i32)) as i16)
+    } else {
+        let size = size_named(32767, word)?;
+        Some(size as i16)
+    }
+}
+
+// The words of modes.
+const MODES: [(&[u8], SignedRoundingMode); 9] = [
+    (
+        b"expand",
+        SignedRoundingMode::Unsigned(UnsignedRoundingMode::Expand),
+    ),
+    (
+        b"trunc",
+        SignedRoundingMode::Unsigned(UnsignedRoundingMode::Trunc),
+    ),
+    (b"ceil", SignedRoundingMode::Ceil),
+    (b"floor", SignedRoundingMode::Floor),
+    (
+        b"half-expand",
+        SignedRoundingMode::Unsigned(UnsignedRoundingMode::HalfExpand),
+    ),
+    (
+        b"half-trunc",
+        SignedRoundingMode::Unsigned(UnsignedRoundingMode::HalfTrunc),
+    ),
+    (b"half-ceil", SignedRoundingMode::HalfCeil),
+    (b"half-floor", SignedRoundingMode::HalfFloor),
+    (
+        b"half-even",
+        SignedRoundingMode::Unsigned(UnsignedRoundingMode::HalfEven),
+    ),
+];
+
+// The mode that a word names.
+fn mode_named(word: &[u8]) -> Option<SignedRoundingMode>
+    ensures { result ≡ mode_named word.now }
+{
+    value_beside(&MODES, word)
+}
+
+// The words of increments.
+const INCREMENTS: [(&[u8], RoundingIncrement); 4] = [
+    (b"1", RoundingIncrement::MultiplesOf1),
+    (b"2", RoundingIncrement::MultiplesOf2),
+    (b"5", RoundingIncrement::MultiplesOf5),
+    (b"25", RoundingIncrement::MultiplesOf25),
+];
+
+// The increment that a word names.
+fn increment_named(word: &[u8]) -> Option<RoundingIncrement>
+    ensures { result ≡ increment_named word.now }
+{
+    value_beside(&INCREMENTS, word)
+}
+
+// The three words between the commas of a field, where they are three.
+fn three_words(field: &[u8]) -> Option<(&[u8], &[u8], &[u8])>
+    ensures three { IsSome result ↔ (length (cut_at comma field.now) ≡ 3) }
+    ensures words { IfSome result (λ three. cut_at comma field.now ≡ three.0.now ∷ three.1.now ∷ three.2.now ∷ []) }
+{
+    let (position, rest) = cut_field(field, COMMA);
+    let (mode, rest) = cut_field(rest?, COMMA);
+    match cut_field(rest?, COMMA) {
+        (increment, None) => Some((position, mode, increment)),
+        (_, Some(_)) => None,
+    }
+}
+
+/// What a field rounds, where it is known: `-`, or a position, a mode and an increment between commas, as
+/// `-2,half-even,5`.
+pub(crate) fn rounding_named(field: &[u8]) -> Option<RoundingAsked>
+    ensures { result ≡ rounding_named field.now }
+{
+    if field == b"-".as_slice() {
+        return Some(RoundingAsked::Unrounded);
+    }
+    let (position, mode, increment) = three_words(field)?;
+    let position = position_named(position)?;
+    let mode = mode_named(mode)?;
+    let increment = increment_named(increment)?;
+    Some(RoundingAsked::At(position, mode, increment))
+}

@@ -1,0 +1,32 @@
+// The sign that a request asks for.
+ghost use Rattle.std.specs.Prelude.{◌≡◌};
+ghost use Rattle.locale_numbers_requests.specs.Request.{sign_named};
+
+use crate::word_table::value_beside;
+use fixed_decimal::SignDisplay;
+
+/// Which sign is written.
+#[derive(Clone, Copy)]
+pub enum SignAsked {
+    /// The one of the text.
+    Keep,
+    /// The one that is chosen by the number.
+    Show(SignDisplay),
+}
+
+// The words of signs.
+const SIGNS: [(&[u8], SignAsked); 6] = [
+    (b"keep", SignAsked::Keep),
+    (b"auto", SignAsked::Show(SignDisplay::Auto)),
+    (b"never", SignAsked::Show(SignDisplay::Never)),
+    (b"always", SignAsked::Show(SignDisplay::Always)),
+    (b"except-zero", SignAsked::Show(SignDisplay::ExceptZero)),
+    (b"negative", SignAsked::Show(SignDisplay::Negative)),
+];
+
+/// The sign that a field asks for.
+pub(crate) fn sign_named(word: &[u8]) -> Option<SignAsked>
+    ensures { result ≡ sign_named word.now }
+{
+    value_beside(&SIGNS, word)
+}
