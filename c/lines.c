@@ -1,6 +1,6 @@
 /*
  * Writes the answers to the request lines of standard input, under the book of a file. Where the calls of a formatter do what a line
- * asks for, what they say has to be the answer too: another text stands behind it.
+ * asks for, what they say has to be the answer too: another text stands behind it. Behind the first 5,000 lines the book is kept.
  *
  * usage: lines BOOK < LINES > ANSWERS
  */
@@ -9,7 +9,7 @@
 #include <stdlib.h>
 #include <string.h>
 
-enum { ROOM = 1 << 16, NO_CALL = -1 };
+enum { ROOM = 1 << 16, NO_CALL = -1, UNKEPT = 5000 };
 
 /* A text, as the calls take it. */
 typedef struct {
@@ -164,9 +164,11 @@ int main(int count, char **words) {
     legumeyet_book book = {0};
     FILE *file = count == 2 ? fopen(words[1], "rb") : NULL;
     int32_t error = file == NULL ? NO_CALL : legumeyet_book_open(json, fread(json, 1, sizeof json, file), &book);
+    size_t lines;
     if (file != NULL) fclose(file);
-    while (error == 0 && fgets(line, sizeof line, stdin) != NULL) {
+    for (lines = 0; error == 0 && fgets(line, sizeof line, stdin) != NULL; lines++) {
         piece given = {(const uint8_t *)line, strcspn(line, "\n")};
+        if (lines == UNKEPT) error = legumeyet_book_keep(&book);
         answer_line(&book, given);
     }
     legumeyet_book_close(&book);

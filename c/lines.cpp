@@ -1,4 +1,5 @@
-// Writes the answers to the request lines of standard input, under the book of a file, as c/lines.c does in C.
+// Writes the answers to the request lines of standard input, under the book of a file, which is kept behind the first 5,000 of them, as
+// c/lines.c does in C.
 //
 // usage: lines BOOK < LINES > ANSWERS
 #include <legumeyet.hpp>
@@ -88,7 +89,9 @@ static int answer_lines(const char *path) {
     std::ifstream file(path, std::ios::binary);
     const std::string json{std::istreambuf_iterator<char>(file), {}};
     Book book(json);
+    int lines = 0;
     for (std::string line; std::getline(std::cin, line);) {
+        if (lines++ == 5000) book.keep();
         const std::string answer = book.answer(line), said = by_formatter(book, line);
         std::cout << answer << (said.empty() || said == answer ? "" : " but " + said) << '\n';
     }

@@ -96,6 +96,19 @@ static void answers(Book &book) {
     expect(std::to_string(book.answer(long_line).size()), "1336");
 }
 
+// The kept book is never given back.
+static void keeps() {
+    Book kept(BOOK);
+    kept.keep();
+    kept.keep();
+    DecimalFormatter english(kept, "en"), moved = std::move(english);
+    CompactDecimalFormatter short_english(kept, "en");
+    kept = Book("[[],[],[],[],[]]");
+    expect(moved.format("-987654.321"), "-987,654.321");
+    expect(short_english.format("-1172700"), "-1.2M");
+    expect_error(LEGUMEYET_TABLE, [&] { DecimalFormatter(kept, "en"); });
+}
+
 int main() {
     Book first(BOOK), book(std::move(first)); // `first` is closed by that
     DecimalFormatter english(book, "en"), moved = std::move(english);
@@ -106,6 +119,7 @@ int main() {
     expect_error(LEGUMEYET_CLOSED, [&] { DecimalFormatter(first, "en"); });
     expect_error(LEGUMEYET_CLOSED, [&] { CompactDecimalFormatter(first, "en"); });
     expect_error(LEGUMEYET_CLOSED, [&] { first.answer(""); });
+    expect_error(LEGUMEYET_CLOSED, [&] { first.keep(); });
     expect_error(LEGUMEYET_BOOK_JSON, [] { Book("[1"); });
     expect_error(LEGUMEYET_BOOK_JSON, [] { Book(std::string_view{}); });
     expect_error(LEGUMEYET_TAG, [&] { DecimalFormatter(book, "e"); });
@@ -116,5 +130,6 @@ int main() {
     book = Book("[[],[],[],[],[]]");
     formats(moved);
     parts(moved);
+    keeps();
     return wrong;
 }

@@ -1,7 +1,8 @@
 /*
  * Uses handles in threads, for a tool that looks for races: a formatter that is opened here, and used and closed in another
  * thread, a plain and a compact one; two formatters of one book, both used at once; and a book that another thread opens formatters
- * of. The status is 1 where a text is wrong.
+ * of. All this is done with a book, and then with one that is kept, whose tables the formatters share. The status is 1 where a text is
+ * wrong.
  */
 #include <legumeyet.h>
 #include <pthread.h>
@@ -56,7 +57,8 @@ static void *do_work(void *given) {
     return NULL;
 }
 
-int main(void) {
+/* Whether all threads write what they should with formatters of a book, which is kept first or not. */
+static int is_right_in_threads(int is_kept) {
     legumeyet_book book = {0};
     work works[3] = {
         {NULL, NULL, {0}, "-987,654,321.25", 0},
@@ -66,16 +68,17 @@ int main(void) {
     legumeyet_compact_formatter compact = {0};
     pthread_t threads[3], compact_thread;
     void *done = NULL;
-    int at, is_right = legumeyet_book_open(TEXT(BOOK), &book) == 0 &&
+    int at, is_right = legumeyet_book_open(TEXT(BOOK), &book) == 0 && (!is_kept || legumeyet_book_keep(&book) == 0) &&
                        legumeyet_decimal_formatter_open(&book, TEXT("en"), 0, &works[0].formatter) == 0 &&
                        legumeyet_decimal_formatter_open(&book, TEXT("de"), 0, &works[1].formatter) == 0 &&
                        legumeyet_compact_formatter_open(&book, TEXT("en"), LEGUMEYET_WIDTH_SHORT, 0, &compact) == 0;
     works[2].book = &book;
     for (at = 0; at < 3; at++)
-        if (pthread_create(&threads[at], NULL, do_work, &works[at]) != 0) return 2;
-    if (pthread_create(&compact_thread, NULL, do_compact_work, &compact) != 0) return 2;
+        if (pthread_create(&threads[at], NULL, do_work, &works[at]) != 0) return 0;
+    if (pthread_create(&compact_thread, NULL, do_compact_work, &compact) != 0) return 0;
     for (at = 0; at < 3; at++) is_right = pthread_join(threads[at], NULL) == 0 && works[at].is_right && is_right;
     is_right = pthread_join(compact_thread, &done) == 0 && done != NULL && is_right;
-    is_right = legumeyet_book_close(&book) == 0 && is_right;
-    return is_right ? 0 : 1;
+    return legumeyet_book_close(&book) == 0 && is_right;
 }
+
+int main(void) { return is_right_in_threads(0) && is_right_in_threads(1) ? 0 : 1; }

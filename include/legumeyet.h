@@ -23,6 +23,9 @@
  * is not for callers. It may be used in another thread than the one that opened it, by one call at a time. Handles are free of each
  * other: a formatter has the tables that it needs, so its book may be closed before it.
  *
+ * A program that uses a book until it ends may keep it, by legumeyet_book_keep. Formatters of a kept book borrow its tables: they are
+ * opened sooner, hold less memory and write faster.
+ *
  * A call that returns a number other than 0 leaves its handles as they were. Where several numbers apply, it returns the one that
  * stands first in its list.
  *
@@ -156,7 +159,8 @@ typedef struct {
 } legumeyet_interval;
 
 /*
- * Opens the book that a JSON text is; books/README.md says how such a text is made.
+ * Opens the book that a JSON text is. docs/books.md of the repository has its form, and books/README.md says how one of all locales is
+ * made.
  *
  * What `book` had open is closed, where the call returns 0. `[[],[],[],[],[]]` is the shortest book.
  *
@@ -172,8 +176,20 @@ int32_t legumeyet_book_open(const uint8_t *json, size_t json_length, legumeyet_b
 int32_t legumeyet_book_close(legumeyet_book *book);
 
 /*
- * Answers a request line, as docs/requests.md has it, without its line feed: `en`, `plain`, `auto`, `keep`, `-`, `-987654.321` with tabs
- * between by `ok`, a tab and `-987,654.321`. For a line that is refused the text is `err`, a tab and a word, and the call returns 0.
+ * Keeps a book for the rest of the program: its memory is never given back, not even where the book is closed.
+ *
+ * A formatter that is opened from it afterwards borrows its tables, and has no copy of its own. Such formatters and the book are still
+ * closed in any order, and may be used in threads of their own. A formatter that was opened before stays as it is. To keep a book that
+ * is kept already does nothing. A book that is opened in its place is not kept.
+ *
+ * Returns 0; LEGUMEYET_CLOSED; LEGUMEYET_MEMORY.
+ */
+int32_t legumeyet_book_keep(legumeyet_book *book);
+
+/*
+ * Answers a request line, without its line feed: `en`, `plain`, `auto`, `keep`, `-`, `-987654.321` with tabs between by `ok`, a tab and
+ * `-987,654.321`. For a line that is refused the text is `err`, a tab and a word, and the call returns 0. The page locale_numbers(1) of
+ * `man` has the six fields, and docs/requests.md of the repository all about them.
  *
  * Returns 0; LEGUMEYET_CLOSED; LEGUMEYET_MEMORY; LEGUMEYET_TOO_SMALL.
  */
@@ -182,7 +198,7 @@ int32_t legumeyet_book_answer(legumeyet_book *book, const uint8_t *line, size_t 
 /*
  * Opens the formatter of plain numbers for a locale tag: that of `en` writes -1234.5 as `-1,234.5`, that of `ar-EG` as `-١٬٢٣٤٫٥`.
  *
- * It has its own copy of the tables. What `formatter` had open is closed, where the call returns 0.
+ * It has its own copy of the tables, unless the book is kept. What `formatter` had open is closed, where the call returns 0.
  *
  * Returns 0; LEGUMEYET_CLOSED, of the book; LEGUMEYET_OPTION, of the grouping; LEGUMEYET_TAG; LEGUMEYET_TABLE, where the book has no
  * symbols or no digits for the tag; LEGUMEYET_MEMORY, also in place of the last two.
@@ -241,7 +257,7 @@ int32_t legumeyet_decimal_formatter_read(legumeyet_decimal_formatter *formatter,
  * Opens the formatter of compact numbers for a locale tag, short or long: those of `en` write 1650 as `1.6K` and as `1.6 thousand`.
  *
  * `width` is a LEGUMEYET_WIDTH. The grouping that compact numbers have by default is LEGUMEYET_GROUPING_MIN2: `1000T`, `10,000T`.
- * It has its own copy of the tables. What `formatter` had open is closed, where the call returns 0.
+ * It has its own copy of the tables, unless the book is kept. What `formatter` had open is closed, where the call returns 0.
  *
  * Returns 0; LEGUMEYET_CLOSED, of the book; LEGUMEYET_OPTION, of the width or the grouping; LEGUMEYET_TAG; LEGUMEYET_TABLE, where the
  * book has no symbols, no digits, no plural rules or no patterns of the width for the tag; LEGUMEYET_MEMORY, also in place of the last

@@ -107,13 +107,17 @@ class Book : inner::Owned<legumeyet_book, legumeyet_book_close> {
   public:
     explicit Book(std::string_view json) { inner::expect_well(legumeyet_book_open(inner::bytes(json), json.size(), &handle)); }
 
+    // Keeps the book for the rest of the program: its memory is never given back. Formatters that are opened from it afterwards borrow
+    // its tables: they hold less memory and write faster.
+    void keep() { inner::expect_well(legumeyet_book_keep(&handle)); }
+
     // The answer to a request line, without its line feed: `ok`, a tab and a text, or `err`, a tab and a word.
     std::string answer(std::string_view line) {
         return inner::written([&](auto... out) { return legumeyet_book_answer(&handle, inner::bytes(line), line.size(), out...); });
     }
 };
 
-// The formatter of plain numbers for a locale tag. It keeps nothing of the book.
+// The formatter of plain numbers for a locale tag. It may outlive the book.
 class DecimalFormatter : inner::Owned<legumeyet_decimal_formatter, legumeyet_decimal_formatter_close> {
   public:
     DecimalFormatter(Book &book, std::string_view tag, uint32_t grouping = LEGUMEYET_GROUPING_AUTO) {
@@ -146,7 +150,7 @@ class DecimalFormatter : inner::Owned<legumeyet_decimal_formatter, legumeyet_dec
     }
 };
 
-// The formatter of compact numbers for a locale tag, of a LEGUMEYET_WIDTH. It keeps nothing of the book.
+// The formatter of compact numbers for a locale tag, of a LEGUMEYET_WIDTH. It may outlive the book.
 class CompactDecimalFormatter : inner::Owned<legumeyet_compact_formatter, legumeyet_compact_formatter_close> {
   public:
     CompactDecimalFormatter(Book &book, std::string_view tag, uint32_t width = LEGUMEYET_WIDTH_SHORT,

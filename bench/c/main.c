@@ -1,5 +1,6 @@
 /*
  * Times the calls of legumeyet.h beside those of ICU4C, in turns, and prints the one over the other: below 1 this library is faster.
+ * `k` is of formatters that borrow the tables of a book that is kept.
  * ICU4C's texts are UTF-16, as its calls for C write and read them; what it reads is an integer, and here the digits.
  *
  * usage: main BOOK [TURNS]
@@ -16,9 +17,9 @@
 
 enum { ROOM = 128, DIGITS = 18, CALLS = 20000, HANDLES = 64 };
 
-static legumeyet_book book;
-static legumeyet_decimal_formatter plain;
-static legumeyet_compact_formatter compact;
+static legumeyet_book book, kept_book;
+static legumeyet_decimal_formatter plain, kept_plain;
+static legumeyet_compact_formatter compact, kept_compact;
 static const legumeyet_options AS_GIVEN = {0, 0, 0};
 static UNumberFormatter *icu_plain, *icu_compact;
 static UNumberFormat *icu_reader;
@@ -39,9 +40,13 @@ static void end(const char *what) {
     exit(1);
 }
 
-static void text_here(void) {
-    if (legumeyet_decimal_formatter_format(&plain, (const uint8_t *)NUMBER, count, &AS_GIVEN, out, ROOM, &length) != 0) end("format");
+static void text_by(legumeyet_decimal_formatter *formatter) {
+    if (legumeyet_decimal_formatter_format(formatter, (const uint8_t *)NUMBER, count, &AS_GIVEN, out, ROOM, &length) != 0) end("format");
 }
+
+static void text_here(void) { text_by(&plain); }
+
+static void kept_text_here(void) { text_by(&kept_plain); }
 
 static void text_there(void) {
     unumf_formatDecimal(icu_plain, NUMBER, (int32_t)count, icu_result, &status);
@@ -57,9 +62,13 @@ static void integer_there(void) {
     unumf_resultToString(icu_result, wide_out, ROOM, &status);
 }
 
-static void short_here(void) {
-    if (legumeyet_compact_formatter_format(&compact, (const uint8_t *)NUMBER, count, &AS_GIVEN, out, ROOM, &length) != 0) end("compact");
+static void short_by(legumeyet_compact_formatter *formatter) {
+    if (legumeyet_compact_formatter_format(formatter, (const uint8_t *)NUMBER, count, &AS_GIVEN, out, ROOM, &length) != 0) end("compact");
 }
+
+static void short_here(void) { short_by(&compact); }
+
+static void kept_short_here(void) { short_by(&kept_compact); }
 
 static void short_there(void) {
     unumf_formatDecimal(icu_compact, NUMBER, (int32_t)count, icu_result, &status);
@@ -82,6 +91,8 @@ static const row ROWS[] = {
     {"integer", integer_here, integer_there},
     {"short", short_here, short_there},
     {"read", read_here, read_there},
+    {"text k", kept_text_here, text_there},
+    {"short k", kept_short_here, short_there},
 };
 
 enum { KINDS = sizeof ROWS / sizeof ROWS[0] };
@@ -123,9 +134,13 @@ static void prepare(size_t digits) {
     text_there();
     text_here();
     expect_same("the texts differ");
+    kept_text_here();
+    expect_same("the texts of a kept book differ");
     short_there();
     short_here();
     expect_same("the short texts differ");
+    kept_short_here();
+    expect_same("the short texts of a kept book differ");
     integer_there();
     integer_here();
     expect_same("the texts of integers differ");
@@ -136,14 +151,26 @@ static void prepare(size_t digits) {
     if (U_FAILURE(status)) end(u_errorName(status));
 }
 
+static void open_plain(legumeyet_book *from, legumeyet_decimal_formatter *formatter) {
+    if (legumeyet_decimal_formatter_open(from, (const uint8_t *)"en", 2, LEGUMEYET_GROUPING_AUTO, formatter) != 0) end("plain");
+}
+
+static void open_compact(legumeyet_book *from, legumeyet_compact_formatter *formatter) {
+    if (legumeyet_compact_formatter_open(from, (const uint8_t *)"en", 2, LEGUMEYET_WIDTH_SHORT, LEGUMEYET_GROUPING_MIN2, formatter) != 0)
+        end("compact");
+}
+
 static void open_all(const char *path) {
     static uint8_t json[1 << 24];
     FILE *file = fopen(path, "rb");
-    if (file == NULL || legumeyet_book_open(json, fread(json, 1, sizeof json, file), &book) != 0) end("the book can't be opened");
+    size_t json_length = file == NULL ? 0 : fread(json, 1, sizeof json, file);
+    if (json_length == 0 || legumeyet_book_open(json, json_length, &book) != 0) end("the book can't be opened");
+    if (legumeyet_book_open(json, json_length, &kept_book) != 0 || legumeyet_book_keep(&kept_book) != 0) end("the book can't be kept");
     fclose(file);
-    if (legumeyet_decimal_formatter_open(&book, (const uint8_t *)"en", 2, LEGUMEYET_GROUPING_AUTO, &plain) != 0) end("plain");
-    if (legumeyet_compact_formatter_open(&book, (const uint8_t *)"en", 2, LEGUMEYET_WIDTH_SHORT, LEGUMEYET_GROUPING_MIN2, &compact) != 0)
-        end("compact");
+    open_plain(&book, &plain);
+    open_plain(&kept_book, &kept_plain);
+    open_compact(&book, &compact);
+    open_compact(&kept_book, &kept_compact);
     icu_plain = unumf_openForSkeletonAndLocale(u"", 0, "en", &status);
     icu_compact = unumf_openForSkeletonAndLocale(u"compact-short", -1, "en", &status);
     icu_reader = unum_open(UNUM_DECIMAL, NULL, 0, "en", NULL, &status);
@@ -151,17 +178,18 @@ static void open_all(const char *path) {
     if (U_FAILURE(status)) end(u_errorName(status));
 }
 
-/* What a formatter holds, beside its handle. */
-static void print_memory(void) {
-    static legumeyet_decimal_formatter plains[HANDLES];
-    static legumeyet_compact_formatter compacts[HANDLES];
+/* What formatters of a book hold, beside their handles; they stay open, so that no memory is used again. */
+static void print_memory(const char *whose, legumeyet_book *from) {
+    legumeyet_decimal_formatter *plains = calloc(HANDLES, sizeof *plains);
+    legumeyet_compact_formatter *compacts = calloc(HANDLES, sizeof *compacts);
     size_t start = mallinfo2().uordblks, held;
     int at;
-    for (at = 0; at < HANDLES; at++) legumeyet_decimal_formatter_open(&book, (const uint8_t *)"en", 2, 0, &plains[at]);
+    if (plains == NULL || compacts == NULL) end("memory");
+    for (at = 0; at < HANDLES; at++) open_plain(from, &plains[at]);
     held = mallinfo2().uordblks - start;
-    printf("a formatter holds %zu bytes, a handle %zu\n", held / HANDLES, sizeof plain);
-    for (at = 0; at < HANDLES; at++) legumeyet_compact_formatter_open(&book, (const uint8_t *)"en", 2, LEGUMEYET_WIDTH_SHORT, 3, &compacts[at]);
-    printf("a short one holds %zu bytes\n", (mallinfo2().uordblks - start - held) / HANDLES);
+    for (at = 0; at < HANDLES; at++) open_compact(from, &compacts[at]);
+    printf("a formatter of %s holds %zu bytes, a short one %zu\n", whose, held / HANDLES,
+           (mallinfo2().uordblks - start - held) / HANDLES);
 }
 
 int main(int words, char **word) {
@@ -193,6 +221,8 @@ int main(int words, char **word) {
     printf("mean  ");
     for (kind = 0; kind < KINDS; kind++) printf("%9.2f         ", sums[kind]);
     printf("%6.2f\n", integer_sum / text_sum);
-    print_memory();
+    printf("a handle has %zu bytes\n", sizeof plain);
+    print_memory("a book", &book);
+    print_memory("a kept book", &kept_book);
     return 0;
 }

@@ -97,6 +97,20 @@ class Book(Open):
         given = encoded(json)
         expect_well(library.legumeyet_book_open(given, len(given), self._handle))
 
+    def keep(self) -> None:
+        """Keeps the book for the rest of the program: its memory is never given back, not even where the book is closed.
+
+        Formatters that are opened from it afterwards borrow its tables, and have no copy of their own: they hold less memory and write
+        faster. Raises `Error` 2 where the book is closed, 1 where memory was refused.
+
+        >>> kept = Book('[[["en","","latn","-","","+","",".",",",3,3,1]],[["latn","0123456789"]],[],[],[]]')
+        >>> kept.keep()
+        >>> DecimalFormatter(kept, "en").format(1234)
+        '1,234'
+        """
+        with self._lock:
+            expect_well(library.legumeyet_book_keep(self._handle))
+
     def answer(self, line: Text) -> str:
         """The answer to a request line, without its line feed: `ok`, a tab and a text, or `err`, a tab and a word.
 
@@ -148,7 +162,7 @@ class Formatter(Open):
 
 
 class DecimalFormatter(Formatter):
-    """The formatter of plain numbers for a locale tag. It keeps nothing of the book.
+    """The formatter of plain numbers for a locale tag. It may outlive the book.
 
     Raises `Error` 2 where the book is closed, 5 where the text is no locale tag, 6 where the book lacks a table for it, 1 where
     memory was refused.
@@ -187,8 +201,8 @@ class DecimalFormatter(Formatter):
 
 
 class CompactDecimalFormatter(Formatter):
-    """The formatter of compact numbers for a locale tag, short or long. It keeps nothing of the book. The parts that it lists are
-    those of the sign.
+    """The formatter of compact numbers for a locale tag, short or long. It may outlive the book. The parts that it lists are those
+    of the sign.
 
     Raises as `DecimalFormatter`.
 

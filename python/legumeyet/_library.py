@@ -55,6 +55,7 @@ def load() -> ctypes.CDLL:
     for name, arguments in {
         "book_open": [*given, handle],
         "book_close": [handle],
+        "book_keep": [handle],
         "book_answer": [handle, *given, *written],
         "decimal_formatter_open": [handle, *given, number, handle],
         "decimal_formatter_close": [handle],

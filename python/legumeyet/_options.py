@@ -3,7 +3,11 @@ from enum import IntEnum
 
 
 class Grouping(IntEnum):
-    """When grouping separators are written."""
+    """When grouping separators are written.
+
+    AUTO: where the sizes of the locale place them, `1,234,567`. NEVER: nowhere, `1234567`. ALWAYS: as AUTO. MIN2: as AUTO, but only
+    with two digits before the last separator, `1000` and `10,000`.
+    """
 
     AUTO = 0
     NEVER = 1
@@ -12,14 +16,19 @@ class Grouping(IntEnum):
 
 
 class Width(IntEnum):
-    """Which patterns compact numbers are written in: `1.6K`, or `1.6 thousand`."""
+    """Which patterns compact numbers are written in. SHORT: `1.6K`. LONG: `1.6 thousand`."""
 
     SHORT = 0
     LONG = 1
 
 
 class Sign(IntEnum):
-    """Which sign is written; it is chosen by what the rounding left."""
+    """Which sign is written; it is chosen by what the rounding left.
+
+    KEEP: the one of the number as it was given, so `+5` stays `+5`. AUTO: a minus where the number has one; a plus is left out. NEVER:
+    none. ALWAYS: a plus where the number has none. EXCEPT_ZERO: none at zero, and else as ALWAYS. NEGATIVE: a minus on a number that
+    is not zero, and else none.
+    """
 
     KEEP = 0
     AUTO = 1
@@ -30,7 +39,9 @@ class Sign(IntEnum):
 
 
 class Kind(IntEnum):
-    """What a part of a text is."""
+    """What a part of a text is. INTEGER: the integer digits with their separators; GROUP: a separator inside them; DECIMAL: the decimal
+    separator; FRACTION: the fraction digits.
+    """
 
     MINUS_SIGN = 1
     PLUS_SIGN = 2
@@ -41,7 +52,11 @@ class Kind(IntEnum):
 
 
 class Rounding(IntEnum):
-    """Which neighbour a number is rounded to."""
+    """Which of its neighbours at the position a number is rounded to.
+
+    KEEP: it is not rounded. EXPAND: the one away from zero. TRUNC: towards zero. CEIL: upwards. FLOOR: downwards. The others: the nearest,
+    and at a tie as their names say; HALF_EVEN: the even one.
+    """
 
     KEEP = 0
     EXPAND = 1

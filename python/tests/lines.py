@@ -1,5 +1,5 @@
 """Writes the answers to the request lines of standard input, under the book of a file. Where a formatter does what a line asks for,
-what it says has to be the answer too: another text stands behind it.
+what it says has to be the answer too: another text stands behind it. Behind the first 5,000 lines the book is kept.
 
 usage: python3 lines.py BOOK < LINES > ANSWERS
 """
@@ -58,7 +58,9 @@ def is_said(answer, said):
 def main(path):
     """Answers all lines."""
     with open(path, "rb") as file, Book(file.read()) as book:
-        for line in sys.stdin.buffer:
+        for count, line in enumerate(sys.stdin.buffer):
+            if count == 5000:
+                book.keep()
             line = line.rstrip(b"\n")
             answer, said = book.answer(line), by_formatter(book, line.decode())
             sys.stdout.buffer.write(f"{answer}{'' if is_said(answer, said) else f' but {said}'}\n".encode())

@@ -153,6 +153,18 @@ class Calls(unittest.TestCase):
         for call in (self.short.format, self.short.format_parts, self.short.shown, self.short.format_exact):
             self.refused(2, call, "1")
 
+    def test_kept(self):
+        book = Book(JSON)
+        book.keep()
+        book.keep()
+        arabic, short = DecimalFormatter(book, "ar"), CompactDecimalFormatter(book, "en")
+        self.assertEqual(book.answer("en\tplain\tauto\tkeep\t-\t1234"), "ok\t1,234")
+        book.close()
+        self.refused(2, book.keep)
+        self.assertEqual(arabic.format("-1234.5"), "-١٬٢٣٤٫٥")
+        self.assertEqual(arabic.read("-١٬٢٣٤٫٥"), Decimal("-1234.5"))
+        self.assertEqual(short.format(-1172700), "-1.2M")
+
     def test_error_of_another_version(self):
         self.assertEqual((Error(99).number, Error(99).word), (99, "an error of another version"))
 

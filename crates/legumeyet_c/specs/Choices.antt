@@ -8,10 +8,10 @@ use Rattle.fixed_decimal.specs.SignedRounding.{RoundsSigned}
 use Rattle.fixed_decimal.specs.SignedValue.{SignedValue}
 use Rattle.fixed_decimal.specs.declared.RoundingIncrement.{RoundingIncrement}
 use Rattle.fixed_decimal.specs.declared.UnsignedRoundingMode.TheVariants.{Expand, Trunc, HalfExpand, HalfTrunc, HalfEven}
-use Rattle.fixed_decimal.specs.declared.modes.SignedRoundingMode.{SignedRoundingMode}
-use Rattle.fixed_decimal.specs.declared.modes.SignedRoundingMode.TheVariants.{Unsigned, Ceil, Floor, HalfCeil, HalfFloor}
-use Rattle.fixed_decimal.specs.declared.sign.SignDisplay.{SignDisplay}
-use Rattle.fixed_decimal.specs.declared.sign.SignDisplay.TheVariants as display
+use Rattle.fixed_decimal.specs.declared.SignedRoundingMode.{SignedRoundingMode}
+use Rattle.fixed_decimal.specs.declared.SignedRoundingMode.TheVariants.{Unsigned, Ceil, Floor, HalfCeil, HalfFloor}
+use Rattle.fixed_decimal.specs.declared.SignDisplay.{SignDisplay}
+use Rattle.fixed_decimal.specs.declared.SignDisplay.TheVariants as display
 use Rattle.icu_decimal.specs.declared.options.GroupingStrategy.{GroupingStrategy}
 use Rattle.icu_decimal.specs.declared.options.GroupingStrategy.TheVariants as grouping
 use Rattle.legumeyet_c.specs.declared.choices.Choices.{Choices}

@@ -9,6 +9,7 @@ pub mod Numbers
 pub mod Opening
 pub mod Owned
 pub mod Parts
+pub mod Places
 pub mod Putting
 pub mod Reading
 pub mod Views

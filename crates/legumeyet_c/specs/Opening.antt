@@ -1,7 +1,7 @@
--- What a call that opens a handle leaves in it, and why it is refused.
+-- What a call that opens, keeps or closes leaves in a handle, and why it is refused.
 -- Defined in include/legumeyet.h, docs/books.md, "Faults", and docs/formatters.md, "Choosing tables".
--- Cited by the exports that open and close.
-use Rattle.std.specs.Prelude.{◌≡◌, ◌⊎◌, ℕ, List, Option, Some, None, Result, Ok, Err, IsOk, IfErr, IsUtf8}
+-- Cited by the exports that open, keep and close.
+use Rattle.std.specs.Prelude.{◌≡◌, ◌⊎◌, ℕ, Bool, true, false, List, Option, Some, None, is_some, Result, Ok, Err, IsOk, IfErr, IsUtf8}
 use Rattle.icu_decimal.specs.CompactTables.{CompactTables}
 use Rattle.icu_decimal.specs.PlainText.{Tables}
 use Rattle.icu_decimal.specs.declared.options.GroupingStrategy.{GroupingStrategy}
@@ -103,3 +103,18 @@ IsCompactFault book width strategy tag error = IsFindingFault (λ book choice ta
 abbrev pub IsClosing : {T : Type 0} → Option T → Result (Unit {0}) CallError → Type 0
 IsClosing None outcome = outcome ≡ Err Closed
 IsClosing (Some x) outcome = outcome ≡ Ok tt
+
+-- ---- keeping
+
+-- a closed book comes first; memory is wanted only where the book is not kept yet
+abbrev pub IsKeepingFault : Option BookTables → Bool → CallError → Type 0
+IsKeepingFault None was_kept error = error ≡ Closed
+IsKeepingFault (Some book) true error = ⊥
+IsKeepingFault (Some book) false error = error ≡ Memory
+
+-- an open book is kept, or a fault comes and the handle is as it was
+pub record IsKeeping (book : Option BookTables) (was_kept is_kept : Bool) (outcome : Result (Unit {0}) CallError) : Type 0 where
+  pub was_open : IsOk outcome → is_some book ≡ true
+  pub kept : IsOk outcome → is_kept ≡ true
+  pub cause : IfErr outcome (IsKeepingFault book was_kept)
+  pub same : IfErr outcome (λ error. is_kept ≡ was_kept)

@@ -29,8 +29,8 @@ fn answer_behind(alloc: Global, book: &mut BookHandle, line: &[u8]) -> Result<Ve
     found
 }
 
-/// Answers a request line, without its line feed: `en`, `plain`, `auto`, `keep`, `-`, `-987654.321` with tabs between by `ok`, a tab
-/// and `-987,654.321`. A line that is refused is answered too, by `err`, a tab and a word.
+/// Answers a request line, without its line feed: `en`, `plain`, `auto`, `keep`, `-`, `-987654.321` with tabs between
+/// by `ok`, a tab and `-987,654.321`. A line that is refused is answered too, by `err`, a tab and a word.
 ///
 /// Returns 0; 2, the book is closed; 1, out of memory; 3, the answer needs more room.
 #[unsafe(no_mangle)]

@@ -11,8 +11,8 @@ use crate::opening::{close, put_behind};
 use locale_numbers::{Book, BookError};
 use std::alloc::Global;
 
-/// Opens the book that a JSON text is: `[[],[],[],[],[]]` is the shortest. What the handle had open is closed, where the call returns
-/// 0, and else the handle is as it was.
+/// Opens the book that a JSON text is: `[[],[],[],[],[]]` is the shortest. What the handle had open is closed, where
+/// the call returns 0, and else the handle is as it was.
 ///
 /// Returns 0; 101 to 111, the number of the first fault of the text and 100; 1, out of memory.
 #[unsafe(no_mangle)]

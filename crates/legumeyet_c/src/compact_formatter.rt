@@ -9,7 +9,7 @@ ghost use Rattle.legumeyet_c.specs.Views.{book_open, compact_open};
 
 use crate::call_error::{CallError, answer};
 use crate::choices::{Width, choice_by};
-use crate::compact_tables::OwnedCompactTables;
+use crate::compact_tables::HeldCompactTables;
 use crate::handles::{BookHandle, CompactHandle};
 use crate::opening::{Found, close, open};
 use icu_decimal::CompactDecimalFormatter;
@@ -33,7 +33,7 @@ fn formatter_in<'b>(
     }
 }
 
-impl Found for OwnedCompactTables {
+impl Found for HeldCompactTables {
     type Choice = (Width, GroupingStrategy);
 
     ghost found = { λ book choice tag. compact_for_width choice.0 book tag };
@@ -45,22 +45,34 @@ impl Found for OwnedCompactTables {
         book: &Book,
         choice: (Width, GroupingStrategy),
         tag: &str,
-    ) -> Result<OwnedCompactTables, FormatterError> {
+    ) -> Result<HeldCompactTables, FormatterError> {
         let (width, strategy) = choice;
         let formatter = formatter_in(alloc, book, tag, width)?;
-        match OwnedCompactTables::of(alloc, &formatter, strategy) {
+        match HeldCompactTables::of(alloc, &formatter, strategy) {
             Ok(tables) => Ok(tables),
             Err(_) => Err(FormatterError::Memory),
         }
     }
+
+    fn find_kept(
+        alloc: Global,
+        book: &'static Book,
+        choice: (Width, GroupingStrategy),
+        tag: &str,
+    ) -> Result<HeldCompactTables, FormatterError> {
+        let (width, strategy) = choice;
+        let formatter = formatter_in(alloc, book, tag, width)?;
+        Ok(HeldCompactTables::kept(&formatter, strategy))
+    }
 }
 
-/// Opens the formatter of compact numbers for a locale tag, short or long: those of `en` write 1650 as `1.6K` and as `1.6 thousand`.
-/// It has its own copy of the tables. What the handle had open is closed, where the call returns 0, and else the handle is as it was;
-/// the book stays open.
+/// Opens the formatter of compact numbers for a locale tag, short or long: those of `en` write 1650 as `1.6K` and as
+/// `1.6 thousand`. It has its own copy of the tables, unless the book is kept. What the handle had open is closed,
+/// where the call returns 0, and else the handle is as it was; the book stays open.
 ///
-/// Returns 0; 2, the book is closed; 4, the width is above 1 or the grouping above 3; 5, the text is no locale tag; 6, the book has
-/// no symbols, no digits, no plural rules or no patterns of the width for it; 1, out of memory, also in place of the last two.
+/// Returns 0; 2, the book is closed; 4, the width is above 1 or the grouping above 3; 5, the text is no locale tag; 6,
+/// the book has no symbols, no digits, no plural rules or no patterns of the width for it; 1, out of memory, also in
+/// place of the last two.
 #[unsafe(no_mangle)]
 pub extern "C" fn legumeyet_compact_formatter_open(
     alloc: Global,
@@ -75,7 +87,7 @@ pub extern "C" fn legumeyet_compact_formatter_open(
 {
     let choice = choice_by(width, grouping);
     let (book, formatter) = (&mut book.handle, &mut formatter.handle);
-    answer(open::<OwnedCompactTables>(alloc, book, choice, tag, formatter))
+    answer(open::<HeldCompactTables>(alloc, book, choice, tag, formatter))
 }
 
 /// Closes a formatter, and lets go of its memory.
@@ -89,5 +101,5 @@ pub extern "C" fn legumeyet_compact_formatter_close(
     ensures closed { compact_open formatter.new ≡ None }
     ensures told { Answers (IsClosing (compact_open formatter.old)) result }
 {
-    answer(close::<OwnedCompactTables>(alloc, &mut formatter.handle))
+    answer(close::<HeldCompactTables>(alloc, &mut formatter.handle))
 }

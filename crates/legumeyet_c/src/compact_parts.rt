@@ -12,7 +12,7 @@ ghost use Rattle.legumeyet_c.specs.Writing.{IsChangedFault, WritesChanged};
 
 use crate::call_error::{CallError, answer};
 use crate::choices::Options;
-use crate::compact_tables::OwnedCompactTables;
+use crate::compact_tables::HeldCompactTables;
 use crate::handles::CompactHandle;
 use crate::intervals::Interval;
 use crate::numbers::number_of_text;
@@ -21,7 +21,7 @@ use fixed_decimal::Decimal;
 use std::alloc::Global;
 use writeable::{PartsSink, Writeable};
 
-impl Annotates for OwnedCompactTables {
+impl Annotates for HeldCompactTables {
     ghost use Rattle.legumeyet_c.specs.CompactWriting.{parts_other};
 
     ghost says = { IsCompactAnnotated };
@@ -46,8 +46,8 @@ impl Annotates for OwnedCompactTables {
     ghost other = { parts_other };
 }
 
-/// Writes a decimal number that is given as text, and lists the parts of its text, which are those of its sign: of `-1.2M` in short
-/// English the minus sign at 0 to 1. `count` is how many.
+/// Writes a decimal number that is given as text, and lists the parts of its text, which are those of its sign: of
+/// `-1.2M` in short English the minus sign at 0 to 1. `count` is how many.
 ///
 /// Returns as `legumeyet_compact_formatter_format`; 1 of any number; 3 also where the list needs more room.
 #[unsafe(no_mangle)]
@@ -66,5 +66,5 @@ pub extern "C" fn legumeyet_compact_formatter_format_parts(
 {
     let number = number_of_text(alloc, number, options);
     let handle = &mut formatter.handle;
-    answer(write_parts::<OwnedCompactTables>(alloc, handle, &number, out, length, intervals, count))
+    answer(write_parts::<HeldCompactTables>(alloc, handle, &number, out, length, intervals, count))
 }

@@ -13,7 +13,7 @@ ghost use Rattle.legumeyet_c.specs.Writing.{IsChangedFault, WritesChanged};
 
 use crate::call_error::{CallError, answer};
 use crate::choices::Options;
-use crate::compact_tables::OwnedCompactTables;
+use crate::compact_tables::HeldCompactTables;
 use crate::handles::CompactHandle;
 use crate::numbers::{compact_of_text, number_of_i64, number_of_text};
 use crate::putting::put;
@@ -26,7 +26,7 @@ use std::alloc::{AllocError, Global};
 pub(crate) struct CompactText;
 
 impl Form for CompactText {
-    type Tables = OwnedCompactTables;
+    type Tables = HeldCompactTables;
 
     type Number = Decimal;
 
@@ -35,7 +35,7 @@ impl Form for CompactText {
     ghost fails = { IsCompactFault };
 
     fn write(
-        tables: &OwnedCompactTables,
+        tables: &HeldCompactTables,
         value: &Decimal,
         out: &mut [u8],
         length: &mut usize,
@@ -73,7 +73,7 @@ fn shown_by(
 pub(crate) struct ShownText;
 
 impl Form for ShownText {
-    type Tables = OwnedCompactTables;
+    type Tables = HeldCompactTables;
 
     type Number = Decimal;
 
@@ -82,7 +82,7 @@ impl Form for ShownText {
     ghost fails = { IsShownFault };
 
     fn write(
-        tables: &OwnedCompactTables,
+        tables: &HeldCompactTables,
         value: &Decimal,
         out: &mut [u8],
         length: &mut usize,
@@ -102,7 +102,7 @@ impl Form for ShownText {
 pub(crate) struct ExactText;
 
 impl Form for ExactText {
-    type Tables = OwnedCompactTables;
+    type Tables = HeldCompactTables;
 
     type Number = CompactDecimal;
 
@@ -111,7 +111,7 @@ impl Form for ExactText {
     ghost fails = { IsExactFault };
 
     fn write(
-        tables: &OwnedCompactTables,
+        tables: &HeldCompactTables,
         value: &CompactDecimal,
         out: &mut [u8],
         length: &mut usize,
@@ -131,9 +131,9 @@ impl Form for ExactText {
 
 /// Writes a decimal number that is given as text: `-1172700` as `-1.2M` in short English.
 ///
-/// Returns 0; 2, the handle is closed; 4, an option is unknown; 7, the text is no decimal number; 8, one with a digit beyond the
-/// magnitudes -32768 to 32767; 9, what is shown reaches ten to the power 32768; 1, out of memory, which a number of eight digits at
-/// most never takes; 3, the text needs more room.
+/// Returns 0; 2, the handle is closed; 4, an option is unknown; 7, the text is no decimal number; 8, one with a digit
+/// beyond the magnitudes -32768 to 32767; 9, what is shown reaches ten to the power 32768; 1, out of memory, which a
+/// number of eight digits at most never takes; 3, the text needs more room.
 #[unsafe(no_mangle)]
 pub extern "C" fn legumeyet_compact_formatter_format(
     alloc: Global,
@@ -152,7 +152,8 @@ pub extern "C" fn legumeyet_compact_formatter_format(
 
 /// Writes the number `mantissa` times ten to the power `exponent`: -11727 and 2 as `-1.2M` in short English.
 ///
-/// Returns as `legumeyet_compact_formatter_format`, but for 7; 8, where the first digit would stand above magnitude 32767.
+/// Returns as `legumeyet_compact_formatter_format`, but for 7; 8, where the first digit would stand above magnitude
+/// 32767.
 #[unsafe(no_mangle)]
 pub extern "C" fn legumeyet_compact_formatter_format_i64(
     alloc: Global,
@@ -170,7 +171,8 @@ pub extern "C" fn legumeyet_compact_formatter_format_i64(
     answer(write_behind::<CompactText>(alloc, &mut formatter.handle, &number, out, length))
 }
 
-/// Writes the value that the text of a number shows: of `-1172700` in short English `-1.2c6`, which is -1.2 times ten to the power 6.
+/// Writes the value that the text of a number shows: of `-1172700` in short English `-1.2c6`, which is -1.2 times ten
+/// to the power 6.
 ///
 /// Returns as `legumeyet_compact_formatter_format`; 1 also where what is shown has more than eight digits.
 #[unsafe(no_mangle)]
@@ -189,13 +191,13 @@ pub extern "C" fn legumeyet_compact_formatter_shown(
     answer(write_behind::<ShownText>(alloc, &mut formatter.handle, &number, out, length))
 }
 
-/// Writes a significand with an exponent, its digits as they are: `-1.20c6` as `-1.20M` in short English. The options change the
-/// significand.
+/// Writes a significand with an exponent, its digits as they are: `-1.20c6` as `-1.20M` in short English. The options
+/// change the significand.
 ///
-/// Returns 0; 2, the handle is closed; 4, an option is unknown; 7, the text is no compact number, as `1.2e6`; 8, its significand has
-/// a digit beyond the magnitudes -32768 to 32767, or its exponent is above 255; 1, out of memory, which a significand of eight digits
-/// at most never takes; 9, the magnitude of both together is above 32767; 13, the formatter has another exponent for this magnitude,
-/// as for `1.2c5`; 3, the text needs more room.
+/// Returns 0; 2, the handle is closed; 4, an option is unknown; 7, the text is no compact number, as `1.2e6`; 8, its
+/// significand has a digit beyond the magnitudes -32768 to 32767, or its exponent is above 255; 1, out of memory, which
+/// a significand of eight digits at most never takes; 9, the magnitude of both together is above 32767; 13, the
+/// formatter has another exponent for this magnitude, as for `1.2c5`; 3, the text needs more room.
 #[unsafe(no_mangle)]
 pub extern "C" fn legumeyet_compact_formatter_format_exact(
     alloc: Global,

@@ -1,9 +1,9 @@
 // What an open handle has.
 
-ghost use Rattle.std.specs.Prelude.{◌≡◌, Some, None, true, refl};
+ghost use Rattle.std.specs.Prelude.{◌≡◌, IfSome, Some, None, true, refl};
 ghost use Rattle.legumeyet_c.specs.Kinds.{book_in, book_is, compact_in, compact_is, decimal_in, decimal_is, is_for_book, is_for_compact, is_for_decimal};
 
-use crate::compact_tables::OwnedCompactTables;
+use crate::compact_tables::HeldCompactTables;
 use crate::decimal_tables::DecimalTables;
 use locale_numbers::Book;
 
@@ -12,10 +12,14 @@ use locale_numbers::Book;
 pub enum Content {
     /// A book.
     Book(Book),
+    /// A book that is kept for the rest of the run.
+    Kept(&'static Book),
     /// What plain numbers are written with.
     Decimal(DecimalTables),
     /// What compact numbers are written with.
-    Compact(OwnedCompactTables),
+    Compact(HeldCompactTables),
+    /// Nothing yet: no handle has it open.
+    Nothing,
 }
 
 /// What the handles of one kind have open.
@@ -46,6 +50,16 @@ pub(crate) trait Held: Drop {
     ghost held_is: { (content : Content) → is_for (Some content) ≡ true → (held : Self) × (held_in (Some content) ≡ Some held) };
 }
 
+/// The book of a content, where it is kept.
+pub(crate) fn kept_in(content: &Content) -> Option<&'static Book>
+    ensures { IfSome result (λ kept. book_in (Some content.now) ≡ Some kept.now) }
+{
+    match content {
+        Content::Kept(book) => Some(*book),
+        Content::Book(_) | Content::Decimal(_) | Content::Compact(_) | Content::Nothing => None,
+    }
+}
+
 impl Held for Book {
     ghost is_for = { is_for_book };
 
@@ -54,7 +68,8 @@ impl Held for Book {
     fn held_by(content: &Content) -> &Book {
         match content {
             Content::Book(book) => book,
-            Content::Decimal(_) | Content::Compact(_) => unreachable!(),
+            Content::Kept(book) => *book,
+            Content::Decimal(_) | Content::Compact(_) | Content::Nothing => unreachable!(),
         }
     }
 
@@ -75,7 +90,9 @@ impl Held for DecimalTables {
     fn held_by(content: &Content) -> &DecimalTables {
         match content {
             Content::Decimal(tables) => tables,
-            Content::Book(_) | Content::Compact(_) => unreachable!(),
+            Content::Book(_) | Content::Kept(_) | Content::Compact(_) | Content::Nothing => {
+                unreachable!()
+            }
         }
     }
 
@@ -88,15 +105,17 @@ impl Held for DecimalTables {
     ghost held_is = { decimal_is };
 }
 
-impl Held for OwnedCompactTables {
+impl Held for HeldCompactTables {
     ghost is_for = { is_for_compact };
 
     ghost held_in = { compact_in };
 
-    fn held_by(content: &Content) -> &OwnedCompactTables {
+    fn held_by(content: &Content) -> &HeldCompactTables {
         match content {
             Content::Compact(tables) => tables,
-            Content::Book(_) | Content::Decimal(_) => unreachable!(),
+            Content::Book(_) | Content::Kept(_) | Content::Decimal(_) | Content::Nothing => {
+                unreachable!()
+            }
         }
     }
 

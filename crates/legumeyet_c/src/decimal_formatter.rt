@@ -43,6 +43,16 @@ impl Found for DecimalTables {
             Err(_) => Err(FormatterError::Memory),
         }
     }
+
+    fn find_kept(
+        alloc: Global,
+        book: &'static Book,
+        strategy: GroupingStrategy,
+        tag: &str,
+    ) -> Result<DecimalTables, FormatterError> {
+        let formatter = book.formatter(alloc, tag)?;
+        Ok(DecimalTables::kept(&formatter, strategy))
+    }
 }
 
 /// The text of a number.
@@ -67,11 +77,12 @@ impl Form for DecimalText {
     }
 }
 
-/// Opens the formatter of plain numbers for a locale tag: that of `en` writes -1234.5 as `-1,234.5`. It has its own copy of the tables.
-/// What the handle had open is closed, where the call returns 0, and else the handle is as it was; the book stays open.
+/// Opens the formatter of plain numbers for a locale tag: that of `en` writes -1234.5 as `-1,234.5`. It has its own
+/// copy of the tables, unless the book is kept. What the handle had open is closed, where the call returns 0, and else
+/// the handle is as it was; the book stays open.
 ///
-/// Returns 0; 2, the book is closed; 4, the grouping is above 3; 5, the text is no locale tag; 6, the book has no symbols or no
-/// digits for it; 1, out of memory, also in place of the last two.
+/// Returns 0; 2, the book is closed; 4, the grouping is above 3; 5, the text is no locale tag; 6, the book has no
+/// symbols or no digits for it; 1, out of memory, also in place of the last two.
 #[unsafe(no_mangle)]
 pub extern "C" fn legumeyet_decimal_formatter_open(
     alloc: Global,
@@ -104,8 +115,9 @@ pub extern "C" fn legumeyet_decimal_formatter_close(
 
 /// Writes a decimal number that is given as text: `-987654.321` as `-987,654.321` in English.
 ///
-/// Returns 0; 2, the handle is closed; 4, an option is unknown; 7, the text is no decimal number; 8, one with a digit beyond the
-/// magnitudes -32768 to 32767; 1, out of memory, which a number of eight digits at most never takes; 3, the text needs more room.
+/// Returns 0; 2, the handle is closed; 4, an option is unknown; 7, the text is no decimal number; 8, one with a digit
+/// beyond the magnitudes -32768 to 32767; 1, out of memory, which a number of eight digits at most never takes; 3, the
+/// text needs more room.
 #[unsafe(no_mangle)]
 pub extern "C" fn legumeyet_decimal_formatter_format(
     alloc: Global,
@@ -122,9 +134,11 @@ pub extern "C" fn legumeyet_decimal_formatter_format(
     answer(write_behind::<DecimalText>(alloc, &mut formatter.handle, &number, out, length))
 }
 
-/// Writes the number `mantissa` times ten to the power `exponent`: -123456 and -2 as `-1,234.56` in English, and 500 and -2 as `5.00`.
+/// Writes the number `mantissa` times ten to the power `exponent`: -123456 and -2 as `-1,234.56` in English, and 500
+/// and -2 as `5.00`.
 ///
-/// Returns as `legumeyet_decimal_formatter_format`, but for 7; 8, where the first digit would stand above magnitude 32767.
+/// Returns as `legumeyet_decimal_formatter_format`, but for 7; 8, where the first digit would stand above magnitude
+/// 32767.
 #[unsafe(no_mangle)]
 pub extern "C" fn legumeyet_decimal_formatter_format_i64(
     alloc: Global,

@@ -1,4 +1,4 @@
-// What plain numbers are written with, owned.
+// What plain numbers are written with: tables of one's own, or those of a book that is kept.
 
 ghost use Rattle.std.specs.Prelude.{◌≡◌, IfOk};
 ghost use Rattle.icu_decimal.specs.HeldTables.{tables_of};
@@ -9,15 +9,15 @@ use icu_decimal::provider::DecimalSymbols;
 use std::alloc::AllocError;
 use std::marker::Model;
 
-/// Symbols, digits, and when separators stand.
+/// Symbols, digits, and when separators stand, in memory of their own.
 #[derive(Drop)]
-pub struct DecimalTables {
+pub(crate) struct OwnedDecimalTables {
     symbols: DecimalSymbols,
     digits: [char; 10],
     strategy: GroupingStrategy,
 }
 
-impl Model for DecimalTables {
+impl Model for OwnedDecimalTables {
     ghost use Rattle.icu_decimal.specs.PlainText.{Tables};
 
     ghost Value = { Tables };
@@ -25,16 +25,16 @@ impl Model for DecimalTables {
     ghost view = { λ t. record { symbols = t.symbols; digits = t.digits; strategy = t.strategy } };
 }
 
-impl DecimalTables {
+impl OwnedDecimalTables {
     /// The tables that a formatter borrows, with a strategy of their own. `AllocError`: out of memory.
     pub(crate) fn of(
         formatter: &DecimalFormatter<'_>,
         strategy: GroupingStrategy,
-    ) -> Result<DecimalTables, AllocError>
+    ) -> Result<OwnedDecimalTables, AllocError>
         ensures { IfOk result (λ tables. tables ≡ record (tables_of formatter.now) { strategy = strategy }) }
     {
         let symbols = formatter.symbols().try_clone()?;
-        Ok(DecimalTables {
+        Ok(OwnedDecimalTables {
             symbols,
             digits: *formatter.digits(),
             strategy,
@@ -47,5 +47,78 @@ impl DecimalTables {
     {
         let options = DecimalFormatterOptions::from(self.strategy);
         DecimalFormatter::from_tables(&self.symbols, &self.digits, options)
+    }
+}
+
+// Where they are.
+#[derive(Drop)]
+enum DecimalPlace {
+    // In memory of their own.
+    Own(OwnedDecimalTables),
+    // In a book that is kept.
+    Kept(DecimalFormatter<'static>),
+}
+
+/// What a handle writes plain numbers with.
+#[derive(Drop)]
+pub struct DecimalTables {
+    place: DecimalPlace,
+}
+
+impl Model for DecimalTables {
+    ghost use Rattle.icu_decimal.specs.PlainText.{Tables};
+
+    ghost Value = { Tables };
+
+    ghost use Rattle.legumeyet_c.specs.Places.{decimal_at};
+
+    ghost view = { λ t. decimal_at t.place };
+}
+
+/// The same formatter with another strategy. It does not allocate.
+pub(crate) fn with_strategy<'b>(
+    formatter: &DecimalFormatter<'b>,
+    strategy: GroupingStrategy,
+) -> DecimalFormatter<'b>
+    ensures { tables_of result ≡ record (tables_of formatter.now) { strategy = strategy } }
+{
+    let options = DecimalFormatterOptions::from(strategy);
+    DecimalFormatter::from_tables(formatter.symbols(), formatter.digits(), options)
+}
+
+impl DecimalTables {
+    /// A copy of the tables that a formatter borrows, with a strategy of their own. `AllocError`: out of memory.
+    pub(crate) fn of(
+        formatter: &DecimalFormatter<'_>,
+        strategy: GroupingStrategy,
+    ) -> Result<DecimalTables, AllocError>
+        ensures { IfOk result (λ tables. tables ≡ record (tables_of formatter.now) { strategy = strategy }) }
+    {
+        let own = OwnedDecimalTables::of(formatter, strategy)?;
+        Ok(DecimalTables {
+            place: DecimalPlace::Own(own),
+        })
+    }
+
+    /// The tables that a formatter borrows for the rest of the run, with a strategy of their own. It does not allocate.
+    pub(crate) fn kept(
+        formatter: &DecimalFormatter<'static>,
+        strategy: GroupingStrategy,
+    ) -> DecimalTables
+        ensures { result ≡ record (tables_of formatter.now) { strategy = strategy } }
+    {
+        DecimalTables {
+            place: DecimalPlace::Kept(with_strategy(formatter, strategy)),
+        }
+    }
+
+    /// The formatter that writes with them. It does not allocate.
+    pub(crate) fn formatter(&self) -> DecimalFormatter<'_>
+        ensures { tables_of result ≡ self.now }
+    {
+        match &self.place {
+            DecimalPlace::Own(tables) => tables.formatter(),
+            DecimalPlace::Kept(formatter) => *formatter,
+        }
     }
 }

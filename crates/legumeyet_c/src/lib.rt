@@ -1,4 +1,5 @@
-//! The C API: books and formatters behind handles, and texts in bytes of the caller's. `include/legumeyet.h` says what each call does.
+//! The C API: books and formatters behind handles, and texts in bytes of the caller's. `include/legumeyet.h` says what
+//! each call does.
 //!
 //! ```c
 //! legumeyet_book_open(json, json_length, &book);
@@ -24,6 +25,7 @@ mod handle;
 mod handles;
 pub mod information;
 mod intervals;
+pub mod keeping;
 mod numbers;
 mod opening;
 pub mod parts;

@@ -1,16 +1,16 @@
 // Handles opened and closed.
 
-ghost use Rattle.std.specs.Prelude.{◌≡◌, ◌⊎◌, Err, None, true, IfOk, IfErr};
+ghost use Rattle.std.specs.Prelude.{◌≡◌, ◌⊎◌, Err, None, true, IfOk, IfErr, IfSome};
 ghost use Rattle.legumeyet_c.specs.Kinds.{book_in, is_for_book};
 ghost use Rattle.legumeyet_c.specs.Opening.{Finds, IsClosing, IsFindingFault, IsOpening, IsTagFault};
 
 use crate::call_error::CallError;
-use crate::content::Held;
+use crate::content::{Held, kept_in};
 use crate::handle::Handle;
 use locale_numbers::{Book, FormatterError};
 use std::alloc::Global;
 
-/// What a book has for a tag, in a copy of its own.
+/// What a book has for a tag: a copy, or what is borrowed of a book that is kept.
 pub(crate) trait Found: Held {
     ghost use Rattle.std.specs.Prelude.{List, Result, ℕ};
     ghost use Rattle.locale_numbers.specs.Book.{BookTables};
@@ -22,10 +22,11 @@ pub(crate) trait Found: Held {
     // what the book has
     ghost found: { BookTables → Self.Choice → List ℕ → Result Self FormatterError };
 
-    // the copy of it
+    // what is found
     ghost finds: { BookTables → Self.Choice → List ℕ → Self → Type 0 };
 
-    /// What the book has for the tag. `Tag`: it is no locale tag. `Table`: the book lacks a table for it. `Memory`: out of memory.
+    /// What the book has for the tag. `Tag`: it is no locale tag. `Table`: the book lacks a table for it. `Memory`: out
+    /// of memory.
     fn find(
         alloc: Global,
         book: &Book,
@@ -34,22 +35,38 @@ pub(crate) trait Found: Held {
     ) -> Result<Self, FormatterError>
         ensures value { IfOk result (λ tables. finds book.now choice tag.now tables) }
         ensures fault { IfErr result (λ fault. (fault ≡ FormatterError.Memory) ⊎ (found book.now choice tag.now ≡ Err fault)) };
+
+    /// The same of a book that is kept for the rest of the run, whose tables are borrowed and not copied.
+    fn find_kept(
+        alloc: Global,
+        book: &'static Book,
+        choice: Self::Choice,
+        tag: &str,
+    ) -> Result<Self, FormatterError>
+        ensures value { IfOk result (λ tables. finds book.now choice tag.now tables) }
+        ensures fault { IfErr result (λ fault. (fault ≡ FormatterError.Memory) ⊎ (found book.now choice tag.now ≡ Err fault)) };
 }
 
-// The same, with the errors of calls.
+// The same, with the errors of calls; where the book is kept, its tables are borrowed.
 fn find_for<T: Found>(
     alloc: Global,
     book: &Book,
+    kept: Option<&'static Book>,
     choice: T::Choice,
     tag: &[u8],
 ) -> Result<T, CallError>
+    requires kept { IfSome kept (λ kept. book.now ≡ kept.now) }
     ensures value { IfOk result (λ tables. T.finds book.now choice tag.now tables) }
     ensures fault { IfErr result (λ error. IsTagFault (T.found book.now choice tag.now) tag.now error) }
 {
     let Ok(tag) = str::from_utf8(tag) else {
         return Err(CallError::Tag);
     };
-    match T::find(alloc, book, choice, tag) {
+    let found = match kept {
+        Some(kept) => T::find_kept(alloc, kept, choice, tag),
+        None => T::find(alloc, book, choice, tag),
+    };
+    match found {
         Ok(tables) => Ok(tables),
         Err(FormatterError::Tag) => Err(CallError::Tag),
         Err(FormatterError::Table) => Err(CallError::Table),
@@ -73,7 +90,10 @@ fn find_behind<T: Found>(
         return Err(CallError::Closed);
     };
     let found = match choice {
-        Some(choice) => find_for::<T>(alloc, Book::held_by(&content), choice, tag),
+        Some(choice) => {
+            let kept = kept_in(&content);
+            find_for::<T>(alloc, Book::held_by(&content), kept, choice, tag)
+        }
         None => Err(CallError::UnknownOption),
     };
     book.put(alloc, content);
@@ -100,7 +120,8 @@ pub(crate) fn put_behind<T: Held>(
     }
 }
 
-/// Opens a handle with what the book behind another one has for a tag, where a choice is known; the book stays as it is.
+/// Opens a handle with what the book behind another one has for a tag, where a choice is known; the book stays as it
+/// is.
 pub(crate) fn open<T: Found>(
     alloc: Global,
     book: &mut Handle,

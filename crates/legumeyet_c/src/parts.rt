@@ -140,8 +140,9 @@ pub(crate) fn write_parts<T: Annotates>(
     }
 }
 
-/// Writes a decimal number that is given as text, and lists the parts of its text in order of their beginning: of `-1,234.5` the minus
-/// sign at 0 to 1, the integer at 1 to 6, the group at 2 to 3, the decimal at 6 to 7 and the fraction at 7 to 8. `count` is how many.
+/// Writes a decimal number that is given as text, and lists the parts of its text in order of their beginning: of
+/// `-1,234.5` the minus sign at 0 to 1, the integer at 1 to 6, the group at 2 to 3, the decimal at 6 to 7 and the
+/// fraction at 7 to 8. `count` is how many.
 ///
 /// Returns as `legumeyet_decimal_formatter_format`; 1 of any number; 3 also where the list needs more room.
 #[unsafe(no_mangle)]

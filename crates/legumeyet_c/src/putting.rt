@@ -8,7 +8,8 @@ use crate::call_error::CallError;
 use writeable::Writeable;
 use writeable_bytes::{copy_to_slice, write_to_slice};
 
-/// Writes the text of a value to the front of the bytes, and tells its length. `TooSmall`: the text is longer than the bytes.
+/// Writes the text of a value to the front of the bytes, and tells its length. `TooSmall`: the text is longer than the
+/// bytes.
 pub(crate) fn put<T: Writeable>(
     value: &T,
     out: &mut [u8],

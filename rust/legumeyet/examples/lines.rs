@@ -1,5 +1,5 @@
 //! Writes the answers to the request lines of standard input, under the book of a file. Where a formatter does what a line asks for,
-//! what it says has to be the answer too: another text stands behind it.
+//! what it says has to be the answer too: another text stands behind it. Behind the first 5,000 lines the book is kept.
 //!
 //! usage: lines BOOK < LINES > ANSWERS
 
@@ -116,8 +116,11 @@ fn main() -> Result<(), Box<dyn error::Error>> {
     let path = std::env::args_os().nth(1).ok_or("usage: lines BOOK < LINES > ANSWERS")?;
     let book = Book::from_json(&std::fs::read(path)?)?;
     let mut out = io::BufWriter::new(io::stdout().lock());
-    for line in io::stdin().lock().split(b'\n') {
+    for (count, line) in io::stdin().lock().split(b'\n').enumerate() {
         let line = line?;
+        if count == 5000 {
+            book.keep()?;
+        }
         let fields: Vec<&str> = std::str::from_utf8(&line)?.split('\t').collect();
         let (answer, said) = (book.answer(&line)?, text_for(&book, &fields).map(answer_of));
         match said {

@@ -40,6 +40,13 @@ impl Book {
         Owned::open(sys::legumeyet_book_close, |book| unsafe { sys::legumeyet_book_open(json.as_ptr(), json.len(), book) }).map(Book)
     }
 
+    /// Keeps the book for the rest of the program: its memory is never given back, not even where the book is dropped. Formatters that
+    /// are opened from it afterwards borrow its tables: they hold less memory and write faster. Refused by `MEMORY`.
+    pub fn keep(&self) -> Result<(), Error> {
+        // SAFETY: no other call has the handle.
+        Error::check(unsafe { sys::legumeyet_book_keep(self.0.at()) })
+    }
+
     /// The answer to a request line, without its line feed: `ok`, a tab and a text, or `err`, a tab and a word. Refused by `MEMORY`.
     pub fn answer(&self, line: &[u8]) -> Result<String, Error> {
         // SAFETY: a slice is memory of its length, and no other call has the handle.
@@ -47,7 +54,7 @@ impl Book {
     }
 }
 
-/// The formatter of plain numbers for a locale tag. It keeps nothing of the book.
+/// The formatter of plain numbers for a locale tag. It may outlive the book.
 pub struct DecimalFormatter(Owned);
 
 impl DecimalFormatter {
@@ -95,7 +102,7 @@ impl DecimalFormatter {
     }
 }
 
-/// The formatter of compact numbers for a locale tag, short or long. It keeps nothing of the book.
+/// The formatter of compact numbers for a locale tag, short or long. It may outlive the book.
 ///
 /// ```
 /// use legumeyet::{Book, CompactDecimalFormatter, Grouping, Options, Width};

@@ -35,6 +35,7 @@ pub struct Interval {
 extern "C" {
     pub fn legumeyet_book_open(json: *const u8, json_length: usize, book: *mut Handle) -> i32;
     pub fn legumeyet_book_close(book: *mut Handle) -> i32;
+    pub fn legumeyet_book_keep(book: *mut Handle) -> i32;
     pub fn legumeyet_book_answer(book: *mut Handle, line: *const u8, line_length: usize, out: *mut u8, room: usize, length: *mut usize) -> i32;
     pub fn legumeyet_decimal_formatter_open(book: *mut Handle, tag: *const u8, tag_length: usize, grouping: u32, formatter: *mut Handle) -> i32;
     pub fn legumeyet_decimal_formatter_close(formatter: *mut Handle) -> i32;

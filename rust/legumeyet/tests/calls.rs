@@ -120,6 +120,19 @@ fn books_and_tags() {
 }
 
 #[test]
+fn kept() {
+    let book = book();
+    book.keep().unwrap();
+    book.keep().unwrap();
+    let english = DecimalFormatter::new(&book, "en", Grouping::Auto).unwrap();
+    let short = CompactDecimalFormatter::new(&book, "en", Width::Short, Grouping::Min2).unwrap();
+    assert_eq!(book.answer(b"en\tplain\tauto\tkeep\t-\t1234").unwrap(), "ok\t1,234");
+    drop(book);
+    assert_eq!(english.format("-987654.321", &AS_GIVEN).unwrap(), "-987,654.321");
+    assert_eq!(short.format("-1172700", &AS_GIVEN).unwrap(), "-1.2M");
+}
+
+#[test]
 fn threads() {
     let book = book();
     let workers: Vec<_> = (0..4)

@@ -4,7 +4,7 @@ use Rattle.writeable.specs.HeldParts.{Held, HeldParts}
 use Rattle.icu_decimal.specs.Affixes.{WithSign}
 use Rattle.icu_decimal.specs.CompactTables.{CompactTables}
 use Rattle.icu_decimal.specs.CompactText.{CompactNumber, compact_decimal_events, compact_formatted}
-use Rattle.legumeyet_c.proofs.compact_parts.OwnedCompactTablesAnnotates.annotated.Goals as goal
+use Rattle.legumeyet_c.proofs.compact_parts.HeldCompactTablesAnnotates.annotated.Goals as goal
 
 pub returns-in-Ok-write_to-clause-value : goal.returns-in-Ok-write_to-clause-value
 returns-in-Ok-write_to-clause-value c =

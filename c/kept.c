@@ -1,0 +1,110 @@
+/*
+ * Keeps a book, and writes with formatters of it: one that was opened before, those that borrow its tables, and these after the book is
+ * closed. tools/try_c also runs it with each request for memory refused in turn: a call is then well or answers LEGUMEYET_MEMORY, and is
+ * well when it is made again. It prints how many were refused; the status is 1 where something is otherwise. What a kept book has is
+ * never given back, so no tool may look for lost memory here.
+ */
+#include <legumeyet.h>
+#include <malloc.h>
+#include <stdio.h>
+#include <string.h>
+
+#define TEXT(text) (const uint8_t *)(text), strlen(text)
+#define TWICE(call) (is_refused(call) ? expect(#call, call, LEGUMEYET_OK) : (void)0)
+
+static const char BOOK[] = "[[[\"en\",\"\",\"latn\",\"-\",\"\",\"+\",\"\",\".\",\",\",3,3,1]],[[\"latn\",\"0123456789\"]],"
+                           "[[\"en\",[[\"one\",\"i = 1\"]]]],[[\"en\",\"\",[[3,3,[[\"one\",[\"\",\" k\"]],[\"other\",[\"\",\" ks\"]]]]],null]],"
+                           "[[\"en\",\"\",[[3,3,[[\"other\",[\"\",\" thousand\"]]]]],null]]]";
+
+static legumeyet_book book;
+static legumeyet_decimal_formatter own, plain;
+static legumeyet_compact_formatter own_short, short_english, long_english;
+static const legumeyet_options AS_GIVEN = {0, 0, 0};
+static uint8_t out[64];
+static size_t length;
+static int refused, wrong;
+
+static void expect(const char *what, int64_t got, int64_t wanted) {
+    if (got == wanted) return;
+    printf("%s: %lld, and not %lld\n", what, (long long)got, (long long)wanted);
+    wrong = 1;
+}
+
+static int is_refused(int32_t error) {
+    if (error != LEGUMEYET_MEMORY) expect("a call", error, LEGUMEYET_OK);
+    refused += error == LEGUMEYET_MEMORY;
+    return error == LEGUMEYET_MEMORY;
+}
+
+static void expect_text(const char *text) {
+    expect(text, (int64_t)length, (int64_t)strlen(text));
+    expect(text, memcmp(out, text, strlen(text)), 0);
+}
+
+/* Opens a formatter of each kind, and tells the memory that they hold; 0 under valgrind, which has an allocator of its own. */
+static size_t open_both(legumeyet_decimal_formatter *decimal, legumeyet_compact_formatter *compact) {
+    const size_t start = mallinfo2().uordblks;
+    TWICE(legumeyet_decimal_formatter_open(&book, TEXT("en"), LEGUMEYET_GROUPING_MIN2, decimal));
+    TWICE(legumeyet_compact_formatter_open(&book, TEXT("en"), LEGUMEYET_WIDTH_SHORT, LEGUMEYET_GROUPING_MIN2, compact));
+    return mallinfo2().uordblks - start;
+}
+
+/* Each call of formatters, which are the same whoever has the tables. */
+static void write_all(legumeyet_decimal_formatter *decimal, legumeyet_compact_formatter *compact) {
+    legumeyet_interval parts[8];
+    size_t count = 0;
+    TWICE(legumeyet_decimal_formatter_format(decimal, TEXT("-1234.5"), &AS_GIVEN, out, sizeof out, &length));
+    expect_text("-1234.5");
+    TWICE(legumeyet_decimal_formatter_format_i64(decimal, 98765432109, 0, &AS_GIVEN, out, sizeof out, &length));
+    expect_text("98,765,432,109");
+    TWICE(legumeyet_decimal_formatter_format_parts(decimal, TEXT("-12345.5"), &AS_GIVEN, out, sizeof out, &length, parts, 8, &count));
+    expect("parts", (int64_t)count, 5);
+    TWICE(legumeyet_decimal_formatter_read(decimal, TEXT("12,345"), out, sizeof out, &length));
+    expect_text("12345");
+    TWICE(legumeyet_compact_formatter_format(compact, TEXT("1650"), &AS_GIVEN, out, sizeof out, &length));
+    expect_text("1.6 k");
+    TWICE(legumeyet_compact_formatter_format_i64(compact, 98765432109, 0, &AS_GIVEN, out, sizeof out, &length));
+    expect_text("98,765,432 ks");
+    TWICE(legumeyet_compact_formatter_format_parts(compact, TEXT("-1650"), &AS_GIVEN, out, sizeof out, &length, parts, 8, &count));
+    expect("parts", (int64_t)count, 1);
+    TWICE(legumeyet_compact_formatter_shown(compact, TEXT("1650"), &AS_GIVEN, out, sizeof out, &length));
+    expect_text("1.6c3");
+    TWICE(legumeyet_compact_formatter_format_exact(compact, TEXT("1.60c3"), &AS_GIVEN, out, sizeof out, &length));
+    expect_text("1.60 k");
+}
+
+/* Calls on a kept book answer as on any other. */
+static void use_kept_book(void) {
+    TWICE(legumeyet_book_answer(&book, TEXT("en\tplain\tauto\tkeep\t-\t-1234.5"), out, sizeof out, &length));
+    expect_text("ok\t-1,234.5");
+    TWICE(legumeyet_compact_formatter_open(&book, TEXT("en"), LEGUMEYET_WIDTH_LONG, LEGUMEYET_GROUPING_AUTO, &long_english));
+    TWICE(legumeyet_compact_formatter_format(&long_english, TEXT("1650"), &AS_GIVEN, out, sizeof out, &length));
+    expect_text("1.6 thousand");
+    expect("a tag", legumeyet_decimal_formatter_open(&book, TEXT("e"), 0, &plain), LEGUMEYET_TAG);
+    expect("no option", legumeyet_decimal_formatter_open(&book, TEXT("en"), 4, &plain), LEGUMEYET_OPTION);
+}
+
+int main(void) {
+    size_t held, borrowed;
+    expect("a closed book", legumeyet_book_keep(&book), LEGUMEYET_CLOSED);
+    TWICE(legumeyet_book_open(TEXT(BOOK), &book));
+    held = open_both(&own, &own_short);
+    TWICE(legumeyet_book_keep(&book));
+    expect("once more", legumeyet_book_keep(&book), LEGUMEYET_OK);
+    borrowed = open_both(&plain, &short_english);
+    if (held != 0) expect("it borrows", 2 * borrowed < held, 1);
+    use_kept_book();
+    write_all(&own, &own_short);
+    write_all(&plain, &short_english);
+    expect("the book", legumeyet_book_close(&book), LEGUMEYET_OK);
+    expect("a closed book", legumeyet_book_keep(&book), LEGUMEYET_CLOSED);
+    write_all(&plain, &short_english);
+    expect("its formatter", legumeyet_decimal_formatter_close(&plain), LEGUMEYET_OK);
+    expect("its formatter", legumeyet_compact_formatter_close(&short_english), LEGUMEYET_OK);
+    expect("its formatter", legumeyet_compact_formatter_close(&long_english), LEGUMEYET_OK);
+    write_all(&own, &own_short);
+    expect("its formatter", legumeyet_decimal_formatter_close(&own), LEGUMEYET_OK);
+    expect("its formatter", legumeyet_compact_formatter_close(&own_short), LEGUMEYET_OK);
+    printf("%d refused\n", refused);
+    return wrong;
+}

@@ -1,0 +1,61 @@
+//! Books kept for the rest of the run: `legumeyet_book_keep`.
+
+ghost use Rattle.std.specs.Prelude.{◌≡◌, Some, true};
+ghost use Rattle.legumeyet_c.specs.Kinds.{book_in, is_for_book, is_kept};
+ghost use Rattle.legumeyet_c.specs.Opening.{IsKeeping};
+ghost use Rattle.legumeyet_c.specs.Putting.{Answers};
+ghost use Rattle.legumeyet_c.specs.Views.{book_kept, book_open};
+
+use crate::call_error::{CallError, answer};
+use crate::content::{Content, Held};
+use crate::handle::Handle;
+use crate::handles::BookHandle;
+use locale_numbers::Book;
+use std::alloc::Global;
+
+// The content with its book kept, and the content as it was where memory is refused.
+fn keep(alloc: Global, content: Box<Content>) -> (Box<Content>, Result<(), CallError>)
+    requires { is_for_book (Some content.value) ≡ true }
+    ensures kind { is_for_book (Some result.0.value) ≡ true }
+    ensures same { book_in (Some result.0.value) ≡ book_in (Some content.value) }
+    ensures told { IsKeeping (book_in (Some content.value)) (is_kept (Some content.value)) (is_kept (Some result.0.value)) result.1 }
+{
+    if let Content::Kept(_) = &*content {
+        return (content, Ok(()));
+    }
+    match Box::new(alloc, Content::Nothing) {
+        Ok(mut block) => {
+            let leaked: &'static Content = Box::leak(content);
+            let _ = Box::replace(&mut block, Content::Kept(Book::held_by(leaked)));
+            (block, Ok(()))
+        }
+        Err(_) => (content, Err(CallError::Memory)),
+    }
+}
+
+// Keeps the book behind a handle.
+fn keep_behind(alloc: Global, book: &mut Handle) -> Result<(), CallError>
+    requires { is_for_book book.old.pointer.value ≡ true }
+    ensures kind { is_for_book book.new.pointer.value ≡ true }
+    ensures same { book_in book.new.pointer.value ≡ book_in book.old.pointer.value }
+    ensures told { IsKeeping (book_in book.old.pointer.value) (is_kept book.old.pointer.value) (is_kept book.new.pointer.value) result }
+{
+    let Some(content) = book.take(alloc) else {
+        return Err(CallError::Closed);
+    };
+    let (content, outcome) = keep(alloc, content);
+    book.put(alloc, content);
+    outcome
+}
+
+/// Keeps a book for the rest of the run: its memory is never given back, not even where the book is closed. A formatter
+/// that is opened from it afterwards borrows its tables, and has no copy of its own.
+///
+/// Returns 0; 2, the book is closed; 1, out of memory, never of a book that is kept already.
+#[unsafe(no_mangle)]
+pub extern "C" fn legumeyet_book_keep(alloc: Global, book: &mut BookHandle) -> i32
+    ensures same { book_open book.new ≡ book_open book.old }
+    ensures told { Answers (IsKeeping (book_open book.old) (book_kept book.old) (book_kept book.new)) result }
+{
+    answer(keep_behind(alloc, &mut book.handle))
+}
