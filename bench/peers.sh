@@ -105,16 +105,16 @@ def left_of(name, source):
 
 
 start = {name: spent(command, os.devnull) for name, command in COMMANDS.items()}
-print(f"{'lines':<36}{'speed':>8}{'memory':>8}{'here MB':>9}{'there MB':>10}{'same':>11}")
+print(f"{'lines':<42}{'speed':>8}{'memory':>8}{'here MB':>9}{'there MB':>10}{'same':>11}")
 for name, form, tags, least, most in [
-    ("short numbers, one locale", "plain", ONE, 1, 8),
-    ("short numbers, twenty locales", "plain", TWENTY, 1, 8),
-    ("long numbers, one locale", "plain", ONE, 100, 200),
-    ("long numbers, twenty locales", "plain", TWENTY, 100, 200),
-    ("compact, one locale", "short", ONE, 1, 14),
-    ("compact, twenty locales", "short", TWENTY, 1, 14),
-    ("read back, one locale", "read", ONE, 1, 8),
-    ("read back, twenty locales", "read", TWENTY, 1, 8),
+    ("plain, 1 to 8 digits, one locale", "plain", ONE, 1, 8),
+    ("plain, 1 to 8 digits, twenty locales", "plain", TWENTY, 1, 8),
+    ("plain, 100 to 200 digits, one locale", "plain", ONE, 100, 200),
+    ("plain, 100 to 200 digits, twenty locales", "plain", TWENTY, 100, 200),
+    ("short, 1 to 14 digits, one locale", "short", ONE, 1, 14),
+    ("short, 1 to 14 digits, twenty locales", "short", TWENTY, 1, 14),
+    ("read, 1 to 8 digits, one locale", "read", ONE, 1, 8),
+    ("read, 1 to 8 digits, twenty locales", "read", TWENTY, 1, 8),
 ]:
     source = write(name, form, tags, least, most)
     took = {it: left_of(it, source) for it in COMMANDS}
@@ -122,7 +122,7 @@ for name, form, tags, least, most in [
     here, there = answers(f"{made}/peers.here", form), answers(f"{made}/peers.there", form)
     same = sum(a == b for a, b in zip(here, there)) / count
     print(
-        f"{name:<36}{took['there'] / took['here']:>8.2f}{memory['there'] / memory['here']:>8.2f}"
+        f"{name:<42}{took['there'] / took['here']:>8.2f}{memory['there'] / memory['here']:>8.2f}"
         f"{memory['here']:>9.1f}{memory['there']:>10.1f}{100 * same:>10.2f}%"
     )
     if not any(line[0] == b"ok" for line in here):
