@@ -12,8 +12,14 @@
 #define TEXT(text) (const uint8_t *)(text), strlen(text)
 #define TWICE(call) (is_refused(call) ? expect(#call, call, LEGUMEYET_OK) : (void)0)
 
+/* The patterns of thousands are those of each magnitude from three on, but for eight of them, which have their own: so a formatter that has
+   a copy of the short table holds far more than one that borrows it. */
+#define PATTERNS(magnitude, word) "[" #magnitude ",3,[[\"one\",[\"\",\" k" word "\"]],[\"other\",[\"\",\" ks" word "\"]]]]"
+#define FOUR(a, b, c, d) PATTERNS(a, " one") "," PATTERNS(b, " two") "," PATTERNS(c, " three") "," PATTERNS(d, " four")
+
 static const char BOOK[] = "[[[\"en\",\"\",\"latn\",\"-\",\"\",\"+\",\"\",\".\",\",\",3,3,1]],[[\"latn\",\"0123456789\"]],"
-                           "[[\"en\",[[\"one\",\"i = 1\"]]]],[[\"en\",\"\",[[3,3,[[\"one\",[\"\",\" k\"]],[\"other\",[\"\",\" ks\"]]]]],null]],"
+                           "[[\"en\",[[\"one\",\"i = 1\"]]]],"
+                           "[[\"en\",\"\",[" PATTERNS(3, "") "," FOUR(11, 12, 13, 14) "," FOUR(15, 16, 17, 18) "],null]],"
                            "[[\"en\",\"\",[[3,3,[[\"other\",[\"\",\" thousand\"]]]]],null]]]";
 
 static legumeyet_book book;
@@ -41,7 +47,8 @@ static void expect_text(const char *text) {
     expect(text, memcmp(out, text, strlen(text)), 0);
 }
 
-/* Opens a formatter of each kind, and tells the memory that they hold; 0 under valgrind, which has an allocator of its own. */
+/* Opens a formatter of each kind, and tells the memory that they hold; 0 under valgrind, which has an allocator of its own. What a
+   refused call gave back may be given again in larger blocks, so it is compared only where none was refused before. */
 static size_t open_both(legumeyet_decimal_formatter *decimal, legumeyet_compact_formatter *compact) {
     const size_t start = mallinfo2().uordblks;
     TWICE(legumeyet_decimal_formatter_open(&book, TEXT("en"), LEGUMEYET_GROUPING_MIN2, decimal));
@@ -92,7 +99,7 @@ int main(void) {
     TWICE(legumeyet_book_keep(&book));
     expect("once more", legumeyet_book_keep(&book), LEGUMEYET_OK);
     borrowed = open_both(&plain, &short_english);
-    if (held != 0) expect("it borrows", 2 * borrowed < held, 1);
+    if (held != 0 && refused == 0) expect("it borrows", 2 * borrowed < held, 1);
     use_kept_book();
     write_all(&own, &own_short);
     write_all(&plain, &short_english);
