@@ -6,8 +6,8 @@ use Rattle.std.proofs.lemmas.Nat.{mod-mul-add}
 use Rattle.std.proofs.Math.Nat.{zero-mul}
 use Rattle.fixed_decimal_digits.specs.RoundingSteps.{IsAppended}
 use Rattle.fixed_decimal_digits.specs.DigitList.{count_of}
-use Rattle.fixed_decimal_digits.proofs.DigitsLemmas.{below_push}
-use Rattle.fixed_decimal_digits.proofs.TenLemmas.{tens_split}
+use Rattle.fixed_decimal_digit_words.proofs.DigitsLemmas.{below_push}
+use Rattle.fixed_decimal_digit_words.proofs.TenLemmas.{tens_split}
 
 whole_pair : (n pair : ℕ) → (n * 10 + pair / 10) * 10 + pair % 10 ≡ n * 100 + pair
 whole_pair n pair = omega arith

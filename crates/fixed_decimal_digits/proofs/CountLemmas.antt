@@ -5,8 +5,8 @@ use Rattle.std.specs.Int.Digits.{number_from_digits, AllBelowBase}
 use Rattle.std.proofs.lemmas.Int.Digits.{number_lt}
 use Rattle.fixed_decimal_digits.specs.CountDigits.{digit}
 use Rattle.fixed_decimal_digits.specs.DigitList.{count_of}
-use Rattle.fixed_decimal_digits.proofs.TenLemmas.{tens_positive, tens_split, digit_above, digit_under, quotient_kept}
-use Rattle.fixed_decimal_digits.proofs.DigitsLemmas.{number_positive, number_reaches, number_digit}
+use Rattle.fixed_decimal_digit_words.proofs.TenLemmas.{tens_positive, tens_split, digit_above, digit_under, quotient_kept}
+use Rattle.fixed_decimal_digit_words.proofs.DigitsLemmas.{number_positive, number_reaches, number_digit}
 
 pub count_below : (ds : List ℕ) (top : ℕ) → AllBelowBase 10 ds → length ds ≤ top + 1 → count_of ds top < 10 ^ (top + 1)
 count_below ds top h l =

@@ -6,8 +6,8 @@ use Rattle.std.proofs.lemmas.Bool.{cases_lt}
 use Rattle.std.proofs.lemmas.List.{take_all}
 use Rattle.std.specs.Int.Digits.{number_from_digits, AllBelowBase}
 use Rattle.fixed_decimal_digits.specs.DigitList.{IsTrimmed, count_of}
-use Rattle.fixed_decimal_digits.proofs.TenLemmas.{tens_positive, tens_split, tens_apart, tens_next, mod_below_power}
-use Rattle.fixed_decimal_digits.proofs.DigitsLemmas.{number_cons, number_cut, number_remainder, below_drop}
+use Rattle.fixed_decimal_digit_words.proofs.TenLemmas.{tens_positive, tens_split, tens_apart, tens_next, mod_below_power}
+use Rattle.fixed_decimal_digit_words.proofs.DigitsLemmas.{number_cons, number_cut, number_remainder, below_drop}
 use Rattle.fixed_decimal_digits.proofs.LoopLemmas.{front_last}
 use Rattle.fixed_decimal_digits.proofs.CountLemmas.{count_below}
 

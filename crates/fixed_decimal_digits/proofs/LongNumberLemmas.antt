@@ -1,14 +1,12 @@
 -- A number of more than sixteen digits: its last sixteen behind the others.
 use Rattle.std.proofs.Common.{◌≡◌, ℕ, ◌+◌, ◌-◌, ◌*◌, ◌/◌, ◌%◌, ◌^◌, ◌<◌, ◌≤◌, List, [], ◌∷◌, ◌++◌, length, length-append, get_or, sym, ap, ◌∙◌, subst, arith, append_assoc, ⊎_elim}
 use Rattle.std.proofs.lemmas.Bool.{cases_lt}
-use Rattle.std.specs.Int.Count.{count_leading_zeros}
 use Rattle.std.specs.Int.Digits.{number_from_digits, AllBelowBase}
-use Rattle.fixed_decimal_digits.specs.DigitWord.{word_digits, SpellsNumber, IsCutWord}
-use Rattle.fixed_decimal_digits.proofs.DigitsLemmas.{number_joined, number_reaches, below_joined}
-use Rattle.fixed_decimal_digits.proofs.TenLemmas.{tens_apart}
-use Rattle.fixed_decimal_digits.proofs.WordLemmas.{word_length}
-use Rattle.fixed_decimal_digits.proofs.NumberWordLemmas.{word_joined}
-use Rattle.fixed_decimal_digits.proofs.CutWordLemmas.{front_counted}
+use Rattle.fixed_decimal_digit_words.specs.DigitWord.{word_digits, SpellsNumber, IsCutWord}
+use Rattle.fixed_decimal_digit_words.proofs.DigitsLemmas.{number_joined, number_reaches, below_joined}
+use Rattle.fixed_decimal_digit_words.proofs.TenLemmas.{tens_apart}
+use Rattle.fixed_decimal_digit_words.proofs.WordLemmas.{word_length}
+use Rattle.fixed_decimal_digit_words.proofs.NumberWordLemmas.{word_joined}
 
 -- the first digit of a word, and the fifteen behind it
 sixteen_split : (w : ℕ) → w < 2 ^ 64 → word_digits w 16 ≡ (w / 1152921504606846976) ∷ word_digits (w % 1152921504606846976) 15
@@ -32,9 +30,6 @@ pub even_behind : (ds : List ℕ) (d : ℕ) → length (ds ++ d ∷ []) ≡ leng
 even_behind ds d = length-append ds (d ∷ [])
 
 -- the digits of a number that fits in a word
-pub word_first : (w : ℕ) → w < 2 ^ 64 → AllBelowBase 10 (word_digits w 16) → IsCutWord w w (16 - count_leading_zeros 64 w / 4) 0
-word_first w h t = front_counted w h t
-
 pub number_of_first : (w k n : ℕ) → SpellsNumber w 16 n → IsCutWord w w k 0 → number_from_digits 10 (word_digits w k) ≡ n
 number_of_first w k n s c =
     let once : number_from_digits 10 (word_digits w k) ≡ number_from_digits 10 (word_digits w k) * 10 ^ 0 = omega arith in

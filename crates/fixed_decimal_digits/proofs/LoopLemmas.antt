@@ -4,8 +4,8 @@ use Rattle.std.specs.Int.Digits.{number_from_digits, AllBelowBase}
 use Rattle.std.proofs.lemmas.Int.Digits.{number_more, number_push}
 use Rattle.std.proofs.lemmas.Nat.{mod-mul-add}
 use Rattle.std.proofs.lemmas.List.{length-take-le}
-use Rattle.fixed_decimal_digits.proofs.TenLemmas.{tens_next}
-use Rattle.fixed_decimal_digits.proofs.DigitsLemmas.{below_take, below_at, below_push}
+use Rattle.fixed_decimal_digit_words.proofs.TenLemmas.{tens_next}
+use Rattle.fixed_decimal_digit_words.proofs.DigitsLemmas.{below_take, below_at, below_push}
 
 -- a front is the front without its last digit, and that digit
 pub front_more : (ds : List ℕ) (n : ℕ) → 0 < n → n ≤ length ds → number_from_digits 10 (take n ds) ≡ number_from_digits 10 (take (n - 1) ds) * 10 + get_or ds (n - 1) 0

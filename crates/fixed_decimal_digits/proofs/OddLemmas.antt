@@ -1,5 +1,5 @@
 -- Multiples of 25 that end in 25 or 75: only these put two digits where none stood.
-use Rattle.std.proofs.Common.{◌≡◌, ◌≢◌, ℕ, ◌+◌, ◌-◌, ◌*◌, ◌%◌, ◌<◌, ◌≤◌, ◌∙◌, ⊎_elim, arith}
+use Rattle.std.proofs.Common.{◌≡◌, ◌≢◌, ℕ, ◌+◌, ◌-◌, ◌*◌, ◌%◌, ◌<◌, ◌≤◌, ◌∙◌, ⊎_elim, arith, Result, Ok, Err, OnErr}
 use Rattle.std.proofs.lemmas.Bool.{cases_lt}
 use Rattle.std.proofs.Math.Nat.{eq_of_mul-eq-mul_right}
 use Rattle.fixed_decimal_digits.specs.Rounding.{increment_number}
@@ -26,3 +26,8 @@ two_added top place len capacity kept added more k m deep fits inline most full 
 pub not_deeper : (top place len capacity kept added more : ℕ) → kept ≡ top + 1 - (place + 2) → more ≡ kept + added - len → len ≤ capacity → 8 ≤ capacity → added ≤ 2
     → (len + more ≤ capacity → ⊥) → top < place + len → ⊥
 not_deeper top place len capacity kept added more k m fits inline most full deeper = full (omega arith)
+
+-- what holds anyway holds where memory is refused
+pub refused_anyway : {T E P : Type 0} (r : Result T E) → P → OnErr r P
+refused_anyway (Ok x) holds = tt
+refused_anyway (Err x) holds = holds

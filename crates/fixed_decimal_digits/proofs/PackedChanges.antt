@@ -2,8 +2,8 @@
 use Rattle.std.proofs.Common.{◌≡◌, ℕ, zero, suc, min, ◌+◌, ◌-◌, ◌*◌, ◌/◌, ◌%◌, ◌<◌, ◌≤◌, ◌↔◌, List, [], ◌∷◌, ◌++◌, length, get_or, set, take, drop, refl, sym, ap, ◌∙◌, subst, arith, length-drop, length-append, drop-cons, add-one}
 use Rattle.std.proofs.lemmas.List.{length_push, length-take-le, get_or-take, drop-drop}
 use Rattle.std.specs.Int.Digits.{AllBelowBase}
-use Rattle.fixed_decimal_digits.specs.Packed.{packed, digits_in, IsPacked, shifted}
-use Rattle.fixed_decimal_digits.proofs.DigitsLemmas.{below_take, below_drop, below_push}
+use Rattle.fixed_decimal_digit_words.specs.Packed.{packed, digits_in, IsPacked, shifted}
+use Rattle.fixed_decimal_digit_words.proofs.DigitsLemmas.{below_take, below_drop, below_push}
 use Rattle.fixed_decimal_digits.proofs.PackedLemmas.{kept_so, packed_length, upper_packed, lower_packed, pushed_upper, pushed_both, pushed_lower, last_room, taken_even, taken_odd, raised_upper, raised_lower, dropped_even, dropped_one}
 
 pub bytes_length : (bytes : List ℕ) (count : ℕ) → IsPacked bytes count → length bytes ≡ (count + 1) / 2

@@ -1,7 +1,7 @@
 -- Digits in bytes: what each change of the digits does to the bytes.
 use Rattle.std.proofs.Common.{◌≡◌, ℕ, zero, suc, ◌+◌, ◌*◌, ◌/◌, ◌%◌, ◌<◌, ◌≤◌, List, [], ◌∷◌, ◌++◌, length, get_or, set, take, drop, refl, sym, ap, ◌∙◌, subst, arith}
 use Rattle.std.specs.Int.Digits.{AllBelowBase}
-use Rattle.fixed_decimal_digits.specs.Packed.{packed, halves, digits_in, IsPacked, shifted}
+use Rattle.fixed_decimal_digit_words.specs.Packed.{packed, halves, digits_in, IsPacked, shifted}
 
 -- the digits packed are found in the halves again
 pub given_back : (ds : List ℕ) → AllBelowBase 10 ds → take (length ds) (halves (packed ds)) ≡ ds

@@ -11,8 +11,8 @@ use Rattle.fixed_decimal_digits.specs.declared.modes.RoundingIncrement.TheVarian
 use Rattle.fixed_decimal_digits.specs.Rounding.{IsRounded, increment_number}
 use Rattle.fixed_decimal_digits.specs.RoundingSteps.{Compares, takes_upper_of}
 use Rattle.fixed_decimal_digits.specs.DigitList.{count_of}
-use Rattle.fixed_decimal_digits.proofs.TenLemmas.{tens_positive, tens_split, tens_apart, quotient_kept, mod_below_power, digit_under}
-use Rattle.fixed_decimal_digits.proofs.DigitsLemmas.{number_quotient}
+use Rattle.fixed_decimal_digit_words.proofs.TenLemmas.{tens_positive, tens_split, tens_apart, quotient_kept, mod_below_power, digit_under}
+use Rattle.fixed_decimal_digit_words.proofs.DigitsLemmas.{number_quotient}
 use Rattle.fixed_decimal_digits.proofs.CountLemmas.{count_below}
 use Rattle.fixed_decimal_digits.proofs.RoundingLemmas.{picks, exact}
 

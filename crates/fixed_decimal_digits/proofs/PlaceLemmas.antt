@@ -12,8 +12,8 @@ use Rattle.fixed_decimal_digits.specs.CountDigits.{digit}
 use Rattle.fixed_decimal_digits.specs.DigitList.{count_of, IsTrimmed}
 use Rattle.fixed_decimal_digits.specs.Rounding.{IsRounded}
 use Rattle.fixed_decimal_digits.specs.RoundingSteps.{Compares, takes_upper_of}
-use Rattle.fixed_decimal_digits.proofs.TenLemmas.{tens_positive, tens_split, tens_apart, quotient_kept}
-use Rattle.fixed_decimal_digits.proofs.DigitsLemmas.{number_quotient}
+use Rattle.fixed_decimal_digit_words.proofs.TenLemmas.{tens_positive, tens_split, tens_apart, quotient_kept}
+use Rattle.fixed_decimal_digit_words.proofs.DigitsLemmas.{number_quotient}
 use Rattle.fixed_decimal_digits.proofs.CountLemmas.{count_below, digit_over, digit_inside}
 use Rattle.fixed_decimal_digits.proofs.RoundingStepLemmas.{below_less, below_greater, below_middle, below_some, below_none, below_zero}
 use Rattle.fixed_decimal_digits.proofs.RoundingLemmas.{picks, exact}

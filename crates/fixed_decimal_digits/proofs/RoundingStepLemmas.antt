@@ -7,7 +7,7 @@ use Rattle.std.specs.declared.cmp.Ordering.TheVariants.{Less, Equal, Greater}
 use Rattle.fixed_decimal_digits.specs.CountDigits.{digit}
 use Rattle.fixed_decimal_digits.specs.DigitList.{count_of, IsTrimmed}
 use Rattle.fixed_decimal_digits.specs.RoundingSteps.{Compares}
-use Rattle.fixed_decimal_digits.proofs.TenLemmas.{tens_positive, tens_split, tens_next, mod_below_power, remainder_more, tens_apart}
+use Rattle.fixed_decimal_digit_words.proofs.TenLemmas.{tens_positive, tens_split, tens_next, mod_below_power, remainder_more, tens_apart}
 use Rattle.fixed_decimal_digits.proofs.CountLemmas.{count_none, count_reaches}
 use Rattle.std.proofs.lemmas.Bool.{cases_lt}
 

@@ -5,8 +5,8 @@ use Rattle.std.proofs.lemmas.List.{ext_get_or}
 use Rattle.std.specs.Bool.{Decides}
 use Rattle.std.specs.Int.Digits.{number_from_digits, AllBelowBase}
 use Rattle.fixed_decimal_digits.specs.DigitList.{IsTrimmed, count_of}
-use Rattle.fixed_decimal_digits.proofs.TenLemmas.{tens_positive, mod_below_power}
-use Rattle.fixed_decimal_digits.proofs.DigitsLemmas.{number_digit}
+use Rattle.fixed_decimal_digit_words.proofs.TenLemmas.{tens_positive, mod_below_power}
+use Rattle.fixed_decimal_digit_words.proofs.DigitsLemmas.{number_digit}
 use Rattle.fixed_decimal_digits.proofs.CountLemmas.{count_below, count_none, count_positive}
 use Rattle.fixed_decimal_digits.proofs.RoundingStepLemmas.{top_below, whole_room}
 

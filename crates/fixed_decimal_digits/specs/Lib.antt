@@ -1,7 +1,6 @@
 pub mod CountDigits
 pub mod DigitList
-pub mod DigitText
-pub mod DigitWord
-pub mod Packed
 pub mod Rounding
 pub mod RoundingSteps
+pub use Rattle.fixed_decimal_digit_words.specs.DigitText
+pub use Rattle.fixed_decimal_digit_words.specs.DigitWord

@@ -1,9 +1,7 @@
 // Changes of the bytes that hold two digits each.
-ghost use Rattle.std.specs.Prelude.{◌≡◌, ◌+◌, ◌/◌, ◌%◌, ◌<◌, ◌≤◌, ◌++◌, length, map, slice_set, take, drop};
-ghost use Rattle.std.specs.Char.{digit_value};
-ghost use Rattle.fixed_decimal_digits.specs.DigitWord.{word_bytes};
-ghost use Rattle.fixed_decimal_digits.specs.DigitText.{AreDigits, character};
-ghost use Rattle.fixed_decimal_digits.specs.Packed.{halves, packed, shifted};
+ghost use Rattle.std.specs.Prelude.{◌≡◌, ◌+◌, ◌<◌, ◌≤◌, ◌++◌, length, slice_set, take, drop};
+ghost use Rattle.fixed_decimal_digit_words.specs.DigitWord.{word_bytes};
+ghost use Rattle.fixed_decimal_digit_words.specs.Packed.{shifted};
 
 use crate::digits::INLINE;
 use smallvec::SmallVec;
@@ -26,7 +24,7 @@ fn inline_bytes(alloc: Global, word: u64, count: usize) -> SmallVec<u8, INLINE>
 }
 
 // Replaces the bytes by the lowest `count` bytes of a word, the highest of them first. The memory stays.
-#[tactic(auto, using(crate::proofs::WordLemmas::last_bytes))]
+#[tactic(auto, using(crate::proofs::WordBytesLemmas::last_bytes))]
 pub fn assign_bytes(kept: &mut SmallVec<u8, INLINE>, word: u64, count: usize)
     requires few { count ≤ 8 }
     requires inline { 4 ≤ kept.old.capacity }
@@ -42,81 +40,6 @@ pub fn assign_bytes(kept: &mut SmallVec<u8, INLINE>, word: u64, count: usize)
     } else {
         *kept = inline_bytes(*kept.allocator(), word, count);
     }
-}
-
-/// The digit of a character: 7 of `7`. The condition is that the character is a digit. It does not allocate.
-pub fn digit_of(c: u8) -> u8
-    requires { digit_value c < 10 }
-    ensures { result ≡ digit_value c }
-{
-    c - b'0'
-}
-
-// The bytes that hold the digits of a text, an even count of them and at most a block, with zeros behind.
-#[tactic(auto, using(crate::proofs::DigitTextLemmas::digits_at, crate::proofs::BlockLemmas::byte_more))]
-pub fn bytes_of_block(text: &[u8]) -> [u8; 32]
-    requires text_digits { AreDigits text.now }
-    requires block { length text.now ≤ 64 }
-    requires even { length text.now % 2 ≡ 0 }
-    ensures { take (length text.now / 2) result ≡ packed (map digit_value text.now) }
-{
-    let mut bytes = [0; 32];
-    let mut index = 0;
-    while index < text.len() / 2 {
-        let upper = digit_of(text[2 * index]);
-        let lower = digit_of(text[2 * index + 1]);
-        bytes[index] = upper * 16 + lower;
-        index += 1;
-    }
-    bytes
-}
-
-// The text of the digits that lie in a block of bytes.
-#[tactic(auto, using(crate::proofs::TextBlockLemmas::two_more, crate::proofs::TextBlockLemmas::text_whole))]
-pub fn text_of_block(bytes: &[u8]) -> [u8; 64]
-    requires { length bytes.now ≡ 32 }
-    ensures { result ≡ map character (halves bytes.now) }
-{
-    let mut text = [b'0'; 64];
-    let mut index = 0;
-    while index < 32 {
-        text[2 * index] = b'0' + bytes[index] / 16;
-        text[2 * index + 1] = b'0' + bytes[index] % 16;
-        index += 1;
-    }
-    text
-}
-
-// The digits that lie in eight bytes.
-#[tactic(auto, using(crate::proofs::HalvesLemmas::two_halves, crate::proofs::HalvesLemmas::halves_filled))]
-pub fn digits_within(bytes: &[u8]) -> [u8; 16]
-    requires { length bytes.now ≡ 8 }
-    ensures { result ≡ halves bytes.now }
-{
-    let mut digits = [0; 16];
-    let mut index = 0;
-    while index < 8 {
-        digits[2 * index] = bytes[index] / 16;
-        digits[2 * index + 1] = bytes[index] % 16;
-        index += 1;
-    }
-    digits
-}
-
-// The digits that lie in nine bytes between the first half and the last one.
-#[tactic(auto, using(crate::proofs::HalvesLemmas::two_between, crate::proofs::HalvesLemmas::between_filled))]
-pub fn digits_between(bytes: &[u8]) -> [u8; 16]
-    requires { length bytes.now ≡ 9 }
-    ensures { result ≡ take 16 (drop 1 (halves bytes.now)) }
-{
-    let mut digits = [0; 16];
-    let mut index = 0;
-    while index < 8 {
-        digits[2 * index] = bytes[index] % 16;
-        digits[2 * index + 1] = bytes[index + 1] / 16;
-        index += 1;
-    }
-    digits
 }
 
 // The first N bytes, or all where they are fewer, with zeros behind them.
@@ -149,7 +72,7 @@ pub fn copy_bytes(kept: &mut SmallVec<u8, INLINE>, bytes: &[u8])
 }
 
 // Adds the bytes of a word, for which there is room, the highest first.
-#[tactic(auto, using(crate::proofs::WordLemmas::last_bytes))]
+#[tactic(auto, using(crate::proofs::WordBytesLemmas::last_bytes))]
 pub fn push_bytes(kept: &mut SmallVec<u8, INLINE>, word: u64)
     requires { length kept.old.items + 8 ≤ kept.old.capacity }
     ensures items { kept.new.items ≡ kept.old.items ++ word_bytes word 8 }

@@ -2,13 +2,12 @@
 ghost use Rattle.std.specs.Prelude.{◌≡◌, ◌+◌, ◌%◌, ◌^◌, ◌<◌, ◌≤◌, [], ◌∷◌, ◌++◌, length, drop, map, IsOk, OnOk, OnErr};
 ghost use Rattle.std.specs.Char.{digit_value};
 ghost use Rattle.std.specs.Int.Digits.{AllBelowBase};
-ghost use Rattle.fixed_decimal_digits.specs.DigitText.{AreDigits};
-ghost use Rattle.fixed_decimal_digits.specs.DigitWord.{word_digits};
+ghost use Rattle.fixed_decimal_digit_words.specs.DigitText.{AreDigits};
+ghost use Rattle.fixed_decimal_digit_words.specs.DigitWord.{word_digits};
 
-use crate::digit_bytes::{
-    assign_bytes, bytes_of_block, copy_bytes, drop_bytes, push_bytes, set_byte, shift_half,
-};
+use crate::digit_bytes::{assign_bytes, copy_bytes, drop_bytes, push_bytes, set_byte, shift_half};
 use crate::digits::{Digits, INLINE_DIGITS};
+use fixed_decimal_digit_words::bytes_of_block;
 use std::alloc::AllocError;
 
 // What the first digit of sixteen counts in a word.

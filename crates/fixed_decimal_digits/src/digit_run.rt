@@ -2,8 +2,9 @@
 ghost use Rattle.std.specs.Prelude.{◌≡◌, ◌+◌, ◌^◌, ◌<◌, ◌≤◌, length, min, take, drop};
 ghost use Rattle.std.specs.Iterator.{YieldsFirst, item_count};
 
-use crate::digit_bytes::{digits_between, digits_within, first_bytes, put_front};
+use crate::digit_bytes::{first_bytes, put_front};
 use crate::digits::{Digits, STEP};
+use fixed_decimal_digit_words::{digits_between, digits_within};
 use std::iter::FusedIterator;
 use std::marker::Model;
 

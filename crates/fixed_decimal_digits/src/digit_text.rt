@@ -1,41 +1,11 @@
 // The digits of a text.
-ghost use Rattle.std.specs.Prelude.{◌≡◌, ◌+◌, ◌%◌, ◌^◌, ◌<◌, ◌≤◌, ◌++◌, length, map, take, OnOk, OnErr, IsTrue};
+ghost use Rattle.std.specs.Prelude.{◌≡◌, ◌+◌, ◌%◌, ◌^◌, ◌<◌, ◌≤◌, ◌++◌, length, map, OnOk, OnErr};
 ghost use Rattle.std.specs.Char.{digit_value};
-ghost use Rattle.fixed_decimal_digits.specs.DigitText.{AreDigits};
+ghost use Rattle.fixed_decimal_digit_words.specs.DigitText.{AreDigits};
 
-use crate::digit_bytes::digit_of;
 use crate::digits::{BLOCK, Digits};
+use fixed_decimal_digit_words::digit_of;
 use std::alloc::AllocError;
-
-// How many characters one step looks at.
-const STRIDE: usize = 8;
-
-// Whether each character is a digit.
-fn are_digits(text: &[u8]) -> bool
-    ensures { IsTrue result → AreDigits text.now }
-{
-    let mut all = true;
-    for c in text {
-        all = all & c.is_ascii_digit();
-    }
-    all
-}
-
-/// How many characters whole words of digits make up, eight in each, that a text begins with: 64 of seventy ones, 0 of
-/// `1.5`. It does not allocate.
-pub fn digits_in_words(text: &[u8]) -> usize
-    ensures within { result ≤ length text.now }
-    ensures digits { AreDigits (take result text.now) }
-{
-    let mut count = 0;
-    while text.len() - count >= STRIDE {
-        if !are_digits(&text[count..count + STRIDE]) {
-            return count;
-        }
-        count += STRIDE;
-    }
-    count
-}
 
 // Adds the digits of a text, at most a block, for which there is room, behind an even count.
 #[tactic(auto, using(crate::proofs::BlockLemmas::digits_ahead, crate::proofs::BlockLemmas::digits_past, crate::proofs::BlockLemmas::parts_pushed, crate::proofs::BlockLemmas::pushed_length))]
@@ -73,7 +43,7 @@ fn push_blocks(digits: &mut Digits, text: &[u8])
 }
 
 // Adds the digits of a text, for which there is room, behind those that are there.
-#[tactic(auto, using(crate::proofs::DigitTextLemmas::digits_behind, crate::proofs::BlockLemmas::first_left))]
+#[tactic(auto, using(fixed_decimal_digit_words::proofs::DigitTextLemmas::digits_behind, crate::proofs::BlockLemmas::first_left))]
 fn push_text(digits: &mut Digits, text: &[u8])
     requires text_digits { AreDigits text.now }
     requires room { length digits.old.items + length text.now ≤ digits.old.capacity }

@@ -2,9 +2,9 @@
 // memory.
 ghost use Rattle.std.specs.Prelude.{◌≡◌, ◌==◌, ◌+◌, ◌%◌, ◌<◌, ◌≤◌, ◌↔◌, [], length, slice_index, take, drop, map, IsTrue, IfOk, OnErr};
 ghost use Rattle.std.specs.Bool.{Decides};
-ghost use Rattle.fixed_decimal_digits.specs.DigitText.{character};
+ghost use Rattle.fixed_decimal_digit_words.specs.DigitText.{character};
 
-use crate::digit_bytes::{digits_between, digits_within, text_of_block};
+use fixed_decimal_digit_words::{digits_between, digits_within, text_of_block};
 use smallvec::SmallVec;
 use std::alloc::{AllocError, Global};
 use std::marker::Model;
@@ -32,7 +32,7 @@ pub struct Digits {
 
 impl Model for Digits {
     ghost use Rattle.std.specs.Prelude.{◌-◌, ◌*◌, ◌^◌, ◌≤◌, min};
-    ghost use Rattle.fixed_decimal_digits.specs.Packed.{digits_in, IsPacked};
+    ghost use Rattle.fixed_decimal_digit_words.specs.Packed.{digits_in, IsPacked};
     ghost use Rattle.fixed_decimal_digits.specs.DigitList.{DigitList};
 
     ghost Value = { DigitList };

@@ -1,16 +1,16 @@
 // The digits of a whole number.
-ghost use Rattle.std.specs.Prelude.{◌≡◌, ◌*◌, ◌%◌, ◌^◌, ◌<◌, ◌≤◌, [], length, slice_index, OnOk, OnErr};
+ghost use Rattle.std.specs.Prelude.{◌≡◌, ◌^◌, ◌<◌, ◌≤◌, [], length, slice_index, OnOk, OnErr};
 ghost use Rattle.std.specs.Int.Digits.{number_from_digits, AllBelowBase};
 
-use crate::digit_words::{WORD_DIGITS, word_of_number};
 use crate::digits::Digits;
+use fixed_decimal_digit_words::{WORD_DIGITS, word_of_number};
 use std::alloc::AllocError;
 
 // Ten to the power of the digits that a word has.
 const WORD_LIMIT: u128 = 10_000_000_000_000_000;
 
 // Puts the digits of a number, at most sixteen, into a list in place of those that are there.
-#[tactic(auto, using(crate::proofs::LongNumberLemmas::word_first, crate::proofs::LongNumberLemmas::number_of_first, crate::proofs::LongNumberLemmas::first_reaches, crate::proofs::LongNumberLemmas::none_of_zero))]
+#[tactic(auto, using(fixed_decimal_digit_words::proofs::CutWordLemmas::front_counted, crate::proofs::LongNumberLemmas::number_of_first, crate::proofs::LongNumberLemmas::first_reaches, crate::proofs::LongNumberLemmas::none_of_zero))]
 fn assign_number(digits: &mut Digits, number: u64) -> Result<(), AllocError>
     requires { number < 10 ^ 16 }
     ensures value { OnOk result (number_from_digits 10 digits.new.items ≡ number) }
@@ -45,22 +45,4 @@ pub fn push_number(digits: &mut Digits, number: u128) -> Result<(), AllocError>
     let word = word_of_number((number % WORD_LIMIT) as u64);
     digits.push_sixteen(word);
     Ok(())
-}
-
-/// A number without the zeros that it ends in, and how many these are: 25 and 1 of 250. The condition is that it is not
-/// 0. It does not allocate.
-#[tactic(auto, using(crate::proofs::WholeLemmas::zero_stripped, crate::proofs::WholeLemmas::zeros_few))]
-pub fn strip_zeros(number: u128) -> (u128, usize)
-    requires { 0 < number }
-    ensures value { number ≡ result.0 * 10 ^ result.1 }
-    ensures last { 0 < result.0 % 10 }
-    ensures few { result.1 < 39 }
-{
-    let mut left = number;
-    let mut zeros = 0usize;
-    while left % 10 == 0 {
-        left /= 10;
-        zeros += 1;
-    }
-    (left, zeros)
 }

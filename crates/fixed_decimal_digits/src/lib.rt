@@ -1,8 +1,8 @@
 //! The digits of a number as they are kept, two to a byte: the inner crate of `fixed_decimal_unsigned`.
 //!
 //! `Digits` holds them from the highest to the lowest one that is not zero. They are made of a text or of a whole
-//! number, put behind others, cut, rounded, and shown one by one or in blocks; all else of a number is in the crates
-//! above.
+//! number, put behind others, cut, rounded, and shown one by one or in blocks. Digits in words, in bytes and in texts
+//! are those of `fixed_decimal_digit_words`; all else of a number is in the crates above.
 
 #![tactic(auto)]
 
@@ -14,7 +14,6 @@ mod digit_changes;
 mod digit_fronts;
 mod digit_run;
 mod digit_text;
-mod digit_words;
 mod digits;
 mod integers;
 mod modes;
@@ -29,11 +28,13 @@ mod turns;
 pub use comparing::is_same_count;
 pub use concatenation::{push_behind, push_zeros, zeros_between};
 pub use cutting::cut_above;
-pub use digit_bytes::digit_of;
-pub use digit_text::{assign_texts, digits_in_words};
-pub use digit_words::{CutWord, WORD_DIGITS, cut_word, word_behind, word_of_number};
+pub use digit_text::assign_texts;
 pub use digits::{BLOCK, Digits};
-pub use integers::{push_number, strip_zeros};
+pub use fixed_decimal_digit_words::{
+    CutWord, WORD_DIGITS, cut_word, digit_of, digits_in_words, strip_zeros, word_behind,
+    word_of_number,
+};
+pub use integers::push_number;
 pub use modes::{RoundingIncrement, UnsignedRoundingMode};
 pub use places::ONES;
 pub use rounding_pair::round_digits;

@@ -27,7 +27,7 @@ pub fn count_before_zeros<L: Ledger>(digits: &Digits, from: usize, turns: &mut T
 }
 
 // Removes the zeros that the digits end in.
-#[tactic(auto, using(crate::proofs::DigitsLemmas::number_all, crate::proofs::DigitsLemmas::below_take))]
+#[tactic(auto, using(fixed_decimal_digit_words::proofs::DigitsLemmas::number_all, fixed_decimal_digit_words::proofs::DigitsLemmas::below_take))]
 pub fn drop_zeros<L: Ledger>(digits: &mut Digits, turns: &mut Turns<L>)
     requires tens { AllBelowBase 10 digits.old.items }
     requires first { 0 < length digits.old.items → 0 < slice_index digits.old.items 0 }
@@ -100,7 +100,7 @@ pub fn count_before_nines<L: Ledger>(digits: &Digits, from: usize, turns: &mut T
 }
 
 // Adds one at the last digit, and returns whether the number has a digit more before its first.
-#[tactic(auto, using(crate::proofs::DigitsLemmas::number_all, crate::proofs::LoopLemmas::raised_value, crate::proofs::LoopLemmas::raised_last, crate::proofs::LoopLemmas::raised_below, crate::proofs::LoopLemmas::raised_first, crate::proofs::LoopLemmas::raised_length))]
+#[tactic(auto, using(fixed_decimal_digit_words::proofs::DigitsLemmas::number_all, crate::proofs::LoopLemmas::raised_value, crate::proofs::LoopLemmas::raised_last, crate::proofs::LoopLemmas::raised_below, crate::proofs::LoopLemmas::raised_first, crate::proofs::LoopLemmas::raised_length))]
 pub fn add_one<L: Ledger>(digits: &mut Digits, turns: &mut Turns<L>) -> bool
     requires tens { AllBelowBase 10 digits.old.items }
     requires first { 0 < length digits.old.items → 0 < slice_index digits.old.items 0 }

@@ -8,7 +8,7 @@ use Rattle.std.specs.Str.Parse.{digits_value_after}
 use Rattle.fixed_decimal_unsigned.specs.NumberText.{AreDigits, spelled}
 use Rattle.fixed_decimal_digits.proofs.TenLemmas.{tens_next}
 use Rattle.fixed_decimal_digits.proofs.WordLemmas.{digits_joined}
-pub use Rattle.fixed_decimal_digits.proofs.DigitTextLemmas.{digits_at}
+pub use Rattle.fixed_decimal_digits.proofs.DigitTextLemmas.{digits_at, digits_behind}
 
 capped_step : (n d : ℕ) → min (min n 65536 * 10 + d) 65536 ≡ min (n * 10 + d) 65536
 capped_step n d = omega arith

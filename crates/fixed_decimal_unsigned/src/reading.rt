@@ -20,7 +20,7 @@ const EXPONENT_CAP: usize = 65536;
 
 /// The number that digits spell, or 65536 where it is larger: 12 of `012`. The condition is that each byte is a digit.
 /// It does not allocate.
-#[tactic(auto, using(fixed_decimal_digits::proofs::DigitTextLemmas::digits_at, crate::proofs::SpelledLemmas::capped_more))]
+#[tactic(auto, using(crate::proofs::SpelledLemmas::digits_at, crate::proofs::SpelledLemmas::capped_more))]
 pub fn capped_number(text: &[u8]) -> usize
     requires { AreDigits text.now }
     ensures { result ≡ min (spelled text.now) 65536 }
@@ -52,7 +52,7 @@ fn without_end_zeros(text: &[u8]) -> &[u8]
 }
 
 // The text without the zeros that it begins with.
-#[tactic(auto, using(fixed_decimal_digits::proofs::DigitTextLemmas::digits_behind, crate::proofs::SpelledLemmas::value_behind, crate::proofs::SpelledLemmas::front_positive))]
+#[tactic(auto, using(crate::proofs::SpelledLemmas::digits_behind, crate::proofs::SpelledLemmas::value_behind, crate::proofs::SpelledLemmas::front_positive))]
 fn without_front_zeros(text: &[u8]) -> &[u8]
     requires { AreDigits text.now }
     ensures digits { AreDigits result.now }

@@ -1,5 +1,5 @@
 use Rattle.std.proofs.Common.{length, ◌-◌, ◌≡◌, ◌≤◌, ◌++◌, take, drop}
-use Rattle.fixed_decimal_digits.specs.Packed.{shifted}
+use Rattle.fixed_decimal_digit_words.specs.Packed.{shifted}
 use Rattle.fixed_decimal_digits.proofs.digit_bytes.shift_bytes.Given as goal
 
 abbrev pub invariant-loop-index : goal.invariant-loop-index

@@ -1,6 +1,6 @@
 use Rattle.std.proofs.Common.{◌≡◌, ◌+◌, ◌++◌, ◌∙◌, length, map, subst, ap, arith}
 use Rattle.std.specs.Char.{digit_value}
-use Rattle.fixed_decimal_digits.specs.DigitText.{AreDigits}
+use Rattle.fixed_decimal_digit_words.specs.DigitText.{AreDigits}
 use Rattle.fixed_decimal_digits.proofs.BlockLemmas.{parts_pushed, pushed_length, digits_ahead, digits_past}
 use Rattle.fixed_decimal_digits.proofs.digit_text.push_blocks.Goals as goal
 

@@ -1,6 +1,6 @@
 use Rattle.std.proofs.Common.{◌≡◌, ◌+◌, ◌%◌, ◌≤◌, ◌++◌, length, map}
 use Rattle.std.specs.Char.{digit_value}
-use Rattle.fixed_decimal_digits.specs.DigitText.{AreDigits}
+use Rattle.fixed_decimal_digit_words.specs.DigitText.{AreDigits}
 use Rattle.fixed_decimal_digits.proofs.digit_text.push_blocks.Given as goal
 
 abbrev pub invariant-loop-rest : goal.invariant-loop-rest

@@ -1,6 +1,6 @@
 use Rattle.std.proofs.Common.{◌≡◌, ◌%◌, ◌++◌, refl, sym, ap, ◌∙◌, subst}
 use Rattle.std.specs.Int.Digits.{number_from_digits, AllBelowBase}
-use Rattle.fixed_decimal_digits.specs.DigitWord.{word_digits}
+use Rattle.fixed_decimal_digit_words.specs.DigitWord.{word_digits}
 use Rattle.fixed_decimal_digits.proofs.LongNumberLemmas.{number_behind, tens_behind}
 use Rattle.fixed_decimal_digits.proofs.integers.+push_number.Goals as goal
 

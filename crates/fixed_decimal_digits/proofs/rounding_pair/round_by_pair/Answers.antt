@@ -4,9 +4,8 @@ use Rattle.fixed_decimal_digits.specs.DigitList.{count_of}
 use Rattle.fixed_decimal_digits.specs.Rounding.{IsRounded, increment_number}
 use Rattle.fixed_decimal_digits.proofs.PairLemmas.{kept_number}
 use Rattle.fixed_decimal_digits.proofs.AppendLemmas.{made_count}
-use Rattle.fixed_decimal_digits.proofs.OddLemmas.{odd_pair, two_added, not_deeper}
-use Rattle.fixed_decimal_digits.proofs.TenLemmas.{tens_positive}
-use Rattle.fixed_decimal_digits.proofs.WholeLemmas.{refused_anyway}
+use Rattle.fixed_decimal_digits.proofs.OddLemmas.{odd_pair, two_added, not_deeper, refused_anyway}
+use Rattle.fixed_decimal_digit_words.proofs.TenLemmas.{tens_positive}
 use Rattle.fixed_decimal_digits.proofs.rounding_pair.round_by_pair.Goals as goal
 
 pub returns-clause-value : goal.returns-clause-value

@@ -1,7 +1,7 @@
 use Rattle.std.proofs.Common.{◌%◌, ◌^◌, ◌<◌, ◌⊎◌, inl, inr, ⊎_elim}
 use Rattle.std.proofs.Math.Nat.{mod-lt}
 use Rattle.fixed_decimal_digits.specs.DigitList.{count_of}
-use Rattle.fixed_decimal_digits.proofs.TenLemmas.{tens_positive}
+use Rattle.fixed_decimal_digit_words.proofs.TenLemmas.{tens_positive}
 use Rattle.fixed_decimal_digits.proofs.RoundingStepLemmas.{nothing_left}
 use Rattle.fixed_decimal_digits.proofs.PairLemmas.{rounded_value, exact_value, rest_reaches, rest_deeper}
 use Rattle.fixed_decimal_digits.proofs.rounding_pair.rounded_pair.Goals as goal

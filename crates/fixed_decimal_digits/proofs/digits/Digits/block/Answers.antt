@@ -1,6 +1,6 @@
 use Rattle.std.proofs.Common.{◌≡◌, ◌/◌, length, map, take, drop, sym, ap, ◌∙◌, arith}
-use Rattle.fixed_decimal_digits.specs.DigitText.{character}
-use Rattle.fixed_decimal_digits.proofs.TextBlockLemmas.{block_is}
+use Rattle.fixed_decimal_digit_words.specs.DigitText.{character}
+use Rattle.fixed_decimal_digits.proofs.HalvesLemmas.{block_is}
 use Rattle.fixed_decimal_digits.proofs.digits.Digits.block.Goals as goal
 
 pub returns : goal.returns

@@ -1,6 +1,6 @@
 use Rattle.std.proofs.Common.{◌≡◌, ◌≤◌, ◌*◌, ◌/◌, ◌%◌, length, take, drop, sym, ap, ◌∙◌, arith}
 use Rattle.std.proofs.lemmas.List.{take-take}
-use Rattle.fixed_decimal_digits.specs.Packed.{halves}
+use Rattle.fixed_decimal_digit_words.specs.Packed.{halves}
 use Rattle.fixed_decimal_digits.proofs.HalvesLemmas.{digits_first}
 use Rattle.fixed_decimal_digits.proofs.PackedChanges.{bytes_length}
 use Rattle.fixed_decimal_digits.proofs.digits.Digits.few.Goals as goal

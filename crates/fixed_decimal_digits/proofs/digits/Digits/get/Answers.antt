@@ -1,6 +1,6 @@
 use Rattle.std.proofs.Common.{◌≡◌, ◌/◌, ◌%◌, ◌<◌, length, get_or, sym, ap, ◌∙◌, subst, arith}
-use Rattle.fixed_decimal_digits.specs.Packed.{digits_in}
-use Rattle.fixed_decimal_digits.proofs.DigitsLemmas.{below_at}
+use Rattle.fixed_decimal_digit_words.specs.Packed.{digits_in}
+use Rattle.fixed_decimal_digit_words.proofs.DigitsLemmas.{below_at}
 use Rattle.fixed_decimal_digits.proofs.PackedChanges.{upper_digit, lower_digit}
 use Rattle.fixed_decimal_digits.proofs.digits.Digits.get.Goals as goal
 

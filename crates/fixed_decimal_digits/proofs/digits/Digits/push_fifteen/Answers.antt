@@ -1,8 +1,9 @@
 use Rattle.std.proofs.Common.{◌≡◌, ◌+◌, ◌-◌, ◌*◌, ◌/◌, ◌%◌, ◌^◌, ◌≤◌, ◌++◌, length, min, sym, ap, ◌∙◌, arith}
-use Rattle.fixed_decimal_digits.specs.DigitWord.{word_digits}
+use Rattle.fixed_decimal_digit_words.specs.DigitWord.{word_digits}
 use Rattle.fixed_decimal_digits.proofs.PackedChanges.{bytes_length}
 use Rattle.fixed_decimal_digits.proofs.BlockLemmas.{block_pushed}
-use Rattle.fixed_decimal_digits.proofs.WordLemmas.{word_length, word_odd}
+use Rattle.fixed_decimal_digit_words.proofs.WordLemmas.{word_length}
+use Rattle.fixed_decimal_digits.proofs.WordBytesLemmas.{word_odd}
 use Rattle.fixed_decimal_digits.proofs.digits.Digits.push_fifteen.Goals as goal
 
 pub push_bytes-requires : goal.push_bytes-requires

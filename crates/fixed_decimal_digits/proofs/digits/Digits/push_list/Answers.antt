@@ -1,5 +1,5 @@
 use Rattle.std.proofs.Common.{◌≡◌, ◌+◌, ◌-◌, ◌*◌, ◌/◌, ◌%◌, ◌^◌, ◌≤◌, ◌++◌, length, min, sym, ap, ◌∙◌, arith}
-use Rattle.fixed_decimal_digits.specs.Packed.{digits_in}
+use Rattle.fixed_decimal_digit_words.specs.Packed.{digits_in}
 use Rattle.fixed_decimal_digits.proofs.PackedChanges.{bytes_length}
 use Rattle.fixed_decimal_digits.proofs.BlockLemmas.{block_pushed}
 use Rattle.fixed_decimal_digits.proofs.digits.Digits.push_list.Goals as goal

@@ -1,5 +1,5 @@
 use Rattle.std.proofs.Common.{◌%◌, ◌++◌, ap, ◌∙◌}
-use Rattle.fixed_decimal_digits.specs.DigitWord.{word_digits}
+use Rattle.fixed_decimal_digit_words.specs.DigitWord.{word_digits}
 use Rattle.fixed_decimal_digits.proofs.LongNumberLemmas.{pushed_sixteen}
 use Rattle.fixed_decimal_digits.proofs.digits.Digits.push_sixteen.Goals as goal
 

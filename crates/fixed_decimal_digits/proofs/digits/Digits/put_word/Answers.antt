@@ -1,5 +1,6 @@
 use Rattle.std.proofs.Common.{◌≡◌, ◌%◌, ◌≤◌, ◌∙◌, ap, arith}
-use Rattle.fixed_decimal_digits.proofs.WordLemmas.{word_fits, even_word, odd_word}
+use Rattle.fixed_decimal_digit_words.proofs.WordLemmas.{word_fits}
+use Rattle.fixed_decimal_digits.proofs.WordBytesLemmas.{even_word, odd_word}
 use Rattle.fixed_decimal_digits.proofs.digits.Digits.put_word.Goals as goal
 use Rattle.fixed_decimal_digits.proofs.digits.Digits.put_word.Goals.{then-count-eq0, else-count-eq0}
 

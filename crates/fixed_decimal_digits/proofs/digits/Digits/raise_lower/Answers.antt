@@ -1,6 +1,6 @@
 use Rattle.std.proofs.Common.{rules, ◌≡◌, ◌+◌, ◌-◌, ◌/◌, ◌%◌, ◌<◌, length, get_or, set, sym, ap, ◌∙◌, subst, arith}
 use Rattle.std.proofs.lemmas.List.{length-take-le}
-use Rattle.fixed_decimal_digits.specs.Packed.{digits_in}
+use Rattle.fixed_decimal_digit_words.specs.Packed.{digits_in}
 use Rattle.fixed_decimal_digits.proofs.PackedChanges.{bytes_length, even_raised, lower_taken, raised_by}
 use Rattle.fixed_decimal_digits.proofs.digits.Digits.raise_lower.Goals as goal
 

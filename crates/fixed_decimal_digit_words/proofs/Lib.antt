@@ -1,0 +1,11 @@
+pub mod TenLemmas
+pub mod DigitsLemmas
+pub mod DigitTextLemmas
+pub mod WordLemmas
+pub mod NumberWordLemmas
+pub mod CutWordLemmas
+pub mod WholeLemmas
+pub mod HalvesLemmas
+pub mod BlockLemmas
+pub mod TextBlockLemmas
+pub mod KnownDigits

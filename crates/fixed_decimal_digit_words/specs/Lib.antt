@@ -1,0 +1,3 @@
+pub mod DigitText
+pub mod DigitWord
+pub mod Packed

@@ -1,0 +1,84 @@
+// Blocks of digits, two to a byte: the bytes of a text, the text of bytes, and the digits that lie in them.
+ghost use Rattle.std.specs.Prelude.{◌≡◌, ◌/◌, ◌%◌, ◌≤◌, length, map, take, drop};
+ghost use Rattle.std.specs.Char.{digit_value};
+ghost use Rattle.fixed_decimal_digit_words.specs.DigitText.{AreDigits, character};
+ghost use Rattle.fixed_decimal_digit_words.specs.Packed.{halves, packed};
+
+use crate::digit_text::digit_of;
+
+/// The bytes that hold the digits of a text, an even count of them and at most sixty-four, with zeros behind: 0x90, 0x57
+/// and thirty zeros of `9057`.
+///
+/// The condition is that each character is a digit. It does not allocate.
+#[tactic(auto, using(crate::proofs::DigitTextLemmas::digits_at, crate::proofs::BlockLemmas::byte_more))]
+pub fn bytes_of_block(text: &[u8]) -> [u8; 32]
+    requires text_digits { AreDigits text.now }
+    requires block { length text.now ≤ 64 }
+    requires even { length text.now % 2 ≡ 0 }
+    ensures { take (length text.now / 2) result ≡ packed (map digit_value text.now) }
+{
+    let mut bytes = [0; 32];
+    let mut index = 0;
+    while index < text.len() / 2 {
+        let upper = digit_of(text[2 * index]);
+        let lower = digit_of(text[2 * index + 1]);
+        bytes[index] = upper * 16 + lower;
+        index += 1;
+    }
+    bytes
+}
+
+/// The text of the digits that lie in thirty-two bytes: of as many 0x11, `1` sixty-four times.
+///
+/// The condition is that there are so many bytes. It does not allocate.
+#[tactic(auto, using(crate::proofs::TextBlockLemmas::two_more, crate::proofs::TextBlockLemmas::text_whole))]
+pub fn text_of_block(bytes: &[u8]) -> [u8; 64]
+    requires { length bytes.now ≡ 32 }
+    ensures { result ≡ map character (halves bytes.now) }
+{
+    let mut text = [b'0'; 64];
+    let mut index = 0;
+    while index < 32 {
+        text[2 * index] = b'0' + bytes[index] / 16;
+        text[2 * index + 1] = b'0' + bytes[index] % 16;
+        index += 1;
+    }
+    text
+}
+
+/// The digits that lie in eight bytes: 9, 0, 5, 7 and twelve zeros of 0x90, 0x57 and six zeros.
+///
+/// The condition is that there are so many bytes. It does not allocate.
+#[tactic(auto, using(crate::proofs::HalvesLemmas::two_halves, crate::proofs::HalvesLemmas::halves_filled))]
+pub fn digits_within(bytes: &[u8]) -> [u8; 16]
+    requires { length bytes.now ≡ 8 }
+    ensures { result ≡ halves bytes.now }
+{
+    let mut digits = [0; 16];
+    let mut index = 0;
+    while index < 8 {
+        digits[2 * index] = bytes[index] / 16;
+        digits[2 * index + 1] = bytes[index] % 16;
+        index += 1;
+    }
+    digits
+}
+
+/// The digits that lie in nine bytes between the first half and the last one: 0, 5, 7 and thirteen zeros of 0x90, 0x57
+/// and seven zeros.
+///
+/// The condition is that there are so many bytes. It does not allocate.
+#[tactic(auto, using(crate::proofs::HalvesLemmas::two_between, crate::proofs::HalvesLemmas::between_filled))]
+pub fn digits_between(bytes: &[u8]) -> [u8; 16]
+    requires { length bytes.now ≡ 9 }
+    ensures { result ≡ take 16 (drop 1 (halves bytes.now)) }
+{
+    let mut digits = [0; 16];
+    let mut index = 0;
+    while index < 8 {
+        digits[2 * index] = bytes[index] % 16;
+        digits[2 * index + 1] = bytes[index + 1] / 16;
+        index += 1;
+    }
+    digits
+}

@@ -1,8 +1,0 @@
-use Rattle.fixed_decimal_digits.specs.DigitWord.{IsCutWord}
-use Rattle.fixed_decimal_digits.proofs.digit_words.cut_word.Given as goal
-
-abbrev pub invariant-loop-count : goal.invariant-loop-count
-invariant-loop-count l = IsCutWord l.word l.left l.count l.zeros
-
-abbrev pub decreases-loop-count : goal.decreases-loop-count
-decreases-loop-count l = l.count
