@@ -1,6 +1,7 @@
 -- When a rounded value is ten to the next magnitude, and when the next entry has this exponent.
 use Rattle.std.proofs.Common.{◌≡◌, ℕ, suc, ◌+◌, ◌^◌, ◌<◌, ◌≤◌, ◌==◌, ◌&&◌, Bool, true, false, nat_lt, List, length, get_or, Option, None, Some, refl, sym, ap, ◌∙◌, arith, inl, inr, ⊎_elim}
 use Rattle.std.specs.List.{position}
+use Rattle.std.proofs.Math.Bool.{and-false}
 use Rattle.std.proofs.lemmas.Bool.{cases_lt}
 use Rattle.std.proofs.lemmas.Bool.Decides.{nat_tests}
 use Rattle.std.proofs.lemmas.Option.{slice_get-get_or}
@@ -45,11 +46,7 @@ module _ (entries : List CompactEntry) (k v first : ℕ) (at : first ≡ magnitu
   pub no_next : (next : Option ℕ) → next ≡ position (λ x. nat_lt k (32768 + x.log10_type)) entries → next ≡ None → is_carried_to 32768 entries k v ≡ false
   no_next next e z =
       let none : next_at 32768 entries k ≡ None = sym (next_is next e) ∙ ap (entry_of entries) z in
-      ap (λ o. (v == 10 ^ suc k) && has_exponent_at 32768 (suc k) o) none ∙ go (v == 10 ^ suc k)
-    where
-      go : (b : Bool) → (b && false) ≡ false
-      go true = refl
-      go false = refl
+      ap (λ o. (v == 10 ^ suc k) && has_exponent_at 32768 (suc k) o) none ∙ and-false (v == 10 ^ suc k)
 
   module _ (near : StaysNear k v) (above : k < first) (i : ℕ) (e : Some i ≡ position (λ x. nat_lt k (32768 + x.log10_type)) entries) where
     pub next_entry : entry_of entries (Some i) ≡ next_at 32768 entries k

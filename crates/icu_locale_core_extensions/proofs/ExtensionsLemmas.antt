@@ -1,18 +1,18 @@
 -- Extensions without anything in them are no extension.
-use Rattle.std.proofs.Common.{◌≡◌, true, eqb, ◌&&◌, List, [], ◌∷◌, Option, None, Some, length, refl, arith}
+use Rattle.std.proofs.Common.{◌≡◌, ◌↔◌, Bool, true, eqb, ◌&&◌, List, [], Option, None, Some, IsTrue, length, refl, sym, ap, ◌∙◌}
 use Rattle.std.specs.Prelude.{is_none}
 use Rattle.std.proofs.lemmas.Bool.{and_parts, eqb-true}
+use Rattle.std.proofs.lemmas.List.{nil_from_length}
 use Rattle.icu_locale_core_extensions.specs.ExtensionsValue.{ExtensionsValue, nothing, is_empty_unicode, is_empty_transform, is_empty_extensions}
 
 no_list : {A : Type 0} (xs : List A) → eqb (length xs) 0 ≡ true → xs ≡ []
-no_list [] empty = refl
-no_list (x ∷ xs) empty = let wrong : length (x ∷ xs) ≡ 0 = eqb-true (length (x ∷ xs)) 0 empty in absurd (omega (arith, wrong))
+no_list xs empty = nil_from_length xs (eqb-true (length xs) 0 empty)
 
 no_option : {A : Type 0} (o : Option A) → is_none o ≡ true → o ≡ None
 no_option None empty = refl
 no_option (Some x) empty = cc
 
-pub empty_is_nothing : (e : ExtensionsValue) → is_empty_extensions e ≡ true → e ≡ nothing
+empty_is_nothing : (e : ExtensionsValue) → is_empty_extensions e ≡ true → e ≡ nothing
 empty_is_nothing e empty =
     let own_and_others = eqb (length e.own) 0 && eqb (length e.blocks.others) 0 in
     let first = and_parts (is_empty_unicode e.blocks.unicode) (is_empty_transform e.blocks.transform && own_and_others) empty in
@@ -30,3 +30,6 @@ empty_is_nothing e empty =
       blocks = record { unicode = record { head = attributes i; entries = keywords i }; transform = record { head = language i; entries = fields i }; others = others i };
       own = own i;
     }
+
+pub empty_iff : (e : ExtensionsValue) (b : Bool) → b ≡ is_empty_extensions e → IsTrue b ↔ (e ≡ nothing)
+empty_iff e b is = (λ none. empty_is_nothing e (sym is ∙ none), λ same. is ∙ ap is_empty_extensions same)

@@ -1,6 +1,8 @@
 pub mod BlockLemmas
+pub mod HintLemmas
 pub mod ExtensionsLemmas
 pub mod OpeningLemmas
+pub mod HeadedLemmas
 pub mod OrderLemmas
 pub mod PlacedLemmas
 pub mod RetainingLemmas

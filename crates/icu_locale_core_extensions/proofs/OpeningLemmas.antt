@@ -1,8 +1,5 @@
 -- What is read behind a singleton is what the whole text is read as.
 use Rattle.std.proofs.Common.{◌≡◌, List, ◌∷◌, sym, ◌∙◌, subst, inl, inr}
-use Rattle.std.specs.Result.{IfErr}
-use Rattle.std.specs.declared.result.Result.{Result}
-use Rattle.std.specs.declared.result.Result.TheVariants.{Ok, Err}
 use Rattle.icu_locale_core_grammar.specs.Subtags.{Text, spells}
 use Rattle.icu_locale_core_grammar.specs.PartReaders.{IsExtension, ReadsOther}
 use Rattle.icu_locale_core_grammar.specs.Pieces.{pieces}
@@ -20,22 +17,11 @@ module _ {M : Type 0} (singleton : Text) (Means : List Text → M → Type 0) wh
   abbrev pub Reads : List Text → M → Type 0
   Reads ps m = IsExtension (spells singleton) Means ps m
 
-  pub read_behind : (ps body : List Text) (m : M) → Opens singleton ps body → Means body m → Reads ps m
-  read_behind ps body m o a = record { singleton = o.first; body = body; parts = sym o.parts; is = o.is; filled = o.filled; meant = a }
-
   pub opened : (ps : List Text) (m : M) → Reads ps m → (body : List Text) × Opens singleton ps body
   opened ps m r = (r.body, record { first = r.singleton; parts = sym r.parts; is = r.is; filled = r.filled })
 
-  refused_body : (ps body : List Text) (m : M) → Opens singleton ps body → Reads ps m → Means body m
-  refused_body ps body m o r = subst (λ l. Means l m) (same_tail _ _ _ _ (r.parts ∙ o.parts)) r.meant
-
-  pub refused_behind : (ps body : List Text) (e : ParseError) → Opens singleton ps body → IsRefused (Means body) e → IsRefused (Reads ps) e
-  refused_behind ps body e o (inl f) = inl f
-  refused_behind ps body e o (inr f) = inr (f.0, λ m r. f.1 m (refused_body ps body m o r))
-
-pub each_error : {T E : Type 0} (P Q : E → Type 0) (r : Result T E) → ((e : E) → P e → Q e) → IfErr r P → IfErr r Q
-each_error P Q (Ok t) f a = a
-each_error P Q (Err e) f a = f e a
+  pub meant_behind : (ps body : List Text) (m : M) → Opens singleton ps body → Reads ps m → Means body m
+  meant_behind ps body m o r = subst (λ l. Means l m) (same_tail _ _ _ _ (r.parts ∙ o.parts)) r.meant
 
 -- ---- extensions that have no rule of their own
 

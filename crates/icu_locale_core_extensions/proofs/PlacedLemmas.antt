@@ -1,6 +1,7 @@
 -- The text of the extensions of a tag, part by part.
 use Rattle.std.proofs.Common.{◌≡◌, ℕ, ◌+◌, ◌<◌, ◌≤◌, Bool, true, false, ◌&&◌, List, [], ◌∷◌, ◌++◌, length, take, drop, get_or, refl, sym, ap, subst, ◌∙◌, append_assoc}
 use Rattle.std.specs.Prelude.{flat_map}
+use Rattle.std.proofs.Math.Bool.{and-true}
 use Rattle.std.proofs.lemmas.List.{drop_more, drop_all}
 use Rattle.std.proofs.lemmas.List.Concat.{flat_map-append}
 use Rattle.writeable.specs.AnnotatedText.{Event, bytes}
@@ -73,11 +74,7 @@ module _ (os : List Entry) (i : ℕ) (b : Bool) where
     no_other_placed = ap (λ l. bytes (placed b (block_pieces (other_blocks l)))) (drop_all i os past) ∙ nothing_placed b
 
     pub no_other_none : (b && has_none (left i)) ≡ b
-    no_other_none = ap (λ l. b && has_none (block_pieces (other_blocks l))) (drop_all i os past) ∙ alone b
-      where
-        alone : (c : Bool) → (c && true) ≡ c
-        alone true = refl
-        alone false = refl
+    no_other_none = ap (λ l. b && has_none (block_pieces (other_blocks l))) (drop_all i os past) ∙ and-true b
 
 -- ---- all of them
 

@@ -1,11 +1,12 @@
 -- Where the reading of an extension may allocate: a step along its pieces, up to the first one at fault, or else its end.
 -- Defined in docs/tags.md, "Parts read alone" and "Stages".
 -- Cited by the readers of `u` and `t`, and by the functions that step along the pieces of an extension.
-use Rattle.std.specs.Prelude.{Bool, true, false, ◌&&◌, List, [], ◌∷◌, None, Some}
+use Rattle.std.specs.Prelude.{Bool, true, false, ◌&&◌, List, [], ◌∷◌, Option, None, Some}
 use Rattle.icu_locale_core_grammar.specs.Subtags.{Text, is_attribute, is_key, is_field_key, is_other_piece}
-use Rattle.icu_locale_core_grammar.specs.Stepping.{InHead}
+use Rattle.icu_locale_core_grammar.specs.Stepping.{InHead, headed_after}
 use Rattle.icu_locale_core_grammar.specs.TagStages.{BodyStage, InUnicode, InTransform, InOther, UnicodeStage, unicode_after, TransformStage, transform_after}
 use Rattle.icu_locale_core_langid.specs.Allocation as language
+use Rattle.icu_locale_core_keywords_fields.specs.HeadedView.{ends_anywhere}
 use Rattle.icu_locale_core_keywords_fields.specs.Allocation.{grows_at, keeps_last}
 
 -- the piece is one more attribute, is kept in a value, or ends a keyword
@@ -27,6 +28,10 @@ abbrev pub body_keeps : BodyStage → Bool
 body_keeps (InUnicode s) = keeps_last s
 body_keeps (InTransform s) = keeps_last s
 body_keeps (InOther own) = true
+
+-- the pieces behind a singleton, read as a head and entries from a head that is not begun
+abbrev pub headed_may_grow : {H : Type 0} → (H → Text → Option H) → (H → Text → Bool) → (Text → Bool) → Bool → H → List Text → Bool
+headed_may_grow step grows is_key needs begun ps = language.grows_along (headed_after step ends_anywhere is_key needs) (grows_at grows is_key) keeps_last (Some (InHead begun)) ps
 
 -- the pieces behind `u`
 abbrev pub unicode_may_grow : List Text → Bool

@@ -1,4 +1,5 @@
 pub mod Opening
+pub mod HeadedReading
 pub mod Allocation
 pub mod BodyView
 pub mod OtherSingleton

@@ -1,6 +1,6 @@
 //! Printing one extension: its singleton, and the pieces behind it.
 
-ghost use Rattle.std.specs.Prelude.{◌≡◌, ◌++◌, ◌<◌, ◌^◌, ◌&&◌, false, [], ◌∷◌, is_err, length, flat_map, IfOk, OnOk, OnErr, Some, SomeIff};
+ghost use Rattle.std.specs.Prelude.{◌≡◌, ◌++◌, ◌<◌, ◌^◌, ◌&&◌, false, [], ◌∷◌, is_err, length, flat_map, IfOk, OnOk, OnErr, Some};
 ghost use Rattle.writeable.specs.AnnotatedText.{bytes, text_of};
 ghost use Rattle.writeable.specs.LengthHint.{IsWithinHint};
 ghost use Rattle.writeable.specs.Taking.{HasBegun};
@@ -115,17 +115,6 @@ pub(crate) fn write_alone<B: Block, S: Sink>(block: &B, sink: &mut S) -> Result<
     Ok(())
 }
 
-// How many bytes the text has, where a `usize` holds it.
-fn text_length<B: Block>(block: &B) -> Option<usize>
-    ensures { SomeIff result (length (block_text (B.first block.now) (B.behind block.now) (B.part block.now)) < 2 ^ 64) (length (block_text (B.first block.now) (B.behind block.now) (B.part block.now))) }
-{
-    let mut sink = CountSink::new();
-    match write_alone(block, &mut sink) {
-        Ok(()) => Some(sink.count() as usize),
-        Err(_) => None,
-    }
-}
-
 /// How long the text is: exact where a `usize` holds it.
 #[tactic(auto, using(writeable::proofs::AnnotatedTextLemmas::text_of_bytes))]
 pub(crate) fn length_hint<B: Block>(block: &B) -> LengthHint
@@ -133,8 +122,9 @@ pub(crate) fn length_hint<B: Block>(block: &B) -> LengthHint
     ensures low { length (block_text (B.first block.now) (B.behind block.now) (B.part block.now)) < 2 ^ 64 → result.low ≡ length (block_text (B.first block.now) (B.behind block.now) (B.part block.now)) }
     ensures high { length (block_text (B.first block.now) (B.behind block.now) (B.part block.now)) < 2 ^ 64 → result.high ≡ Some (length (block_text (B.first block.now) (B.behind block.now) (B.part block.now))) }
 {
-    match text_length(block) {
-        Some(length) => LengthHint::exact(length),
-        None => LengthHint::at_least(usize::MAX),
+    let mut sink = CountSink::new();
+    match write_alone(block, &mut sink) {
+        Ok(()) => LengthHint::exact(sink.count() as usize),
+        Err(_) => LengthHint::at_least(usize::MAX),
     }
 }

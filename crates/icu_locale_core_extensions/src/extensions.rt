@@ -1,8 +1,8 @@
 //! All extensions of a locale.
 
-ghost use Rattle.std.specs.Prelude.{◌≡◌, ◌↔◌, false, [], ◌∷◌, ◌++◌, ℕ, List, IsOk, IfOk, IsTrue, OnOk, OnErr};
+ghost use Rattle.std.specs.Prelude.{◌≡◌, ◌↔◌, false, [], ℕ, List, IsOk, IfOk, IsTrue, OnOk, OnErr};
 ghost use Rattle.icu_locale_core_extensions.specs.BodyView.{HasKey, is_other_part, put_extension};
-ghost use Rattle.icu_locale_core_extensions.specs.ExtensionsValue.{nothing, only_unicode, is_empty_extensions};
+ghost use Rattle.icu_locale_core_extensions.specs.ExtensionsValue.{nothing, only_unicode};
 
 use crate::body::Part;
 use crate::other::{Other, put_other};
@@ -37,17 +37,6 @@ impl Model for Extensions {
     } };
 }
 
-// Puts an equal extension behind the others.
-fn push_copy(others: &mut Vec<Other>, other: &Other) -> Result<(), AllocError>
-    ensures { OnOk result (others.new.items ≡ others.old.items ++ other.now ∷ []) }
-{
-    let copy = other.try_clone()?;
-    match others.push(copy) {
-        Ok(()) => Ok(()),
-        Err(_) => Err(AllocError),
-    }
-}
-
 // The same extensions, in the same order.
 fn copied(alloc: Global, others: &[Other]) -> Result<Vec<Other>, AllocError>
     ensures succeeds { others.now ≡ [] → IsOk result }
@@ -55,7 +44,10 @@ fn copied(alloc: Global, others: &[Other]) -> Result<Vec<Other>, AllocError>
 {
     let mut copy = Vec::new(alloc);
     for other in others {
-        push_copy(&mut copy, other)?;
+        let next = other.try_clone()?;
+        let Ok(()) = copy.push(next) else {
+            return Err(AllocError);
+        };
     }
     Ok(copy)
 }
@@ -92,23 +84,16 @@ impl Extensions {
         self.other.clear();
     }
 
-    // Whether no part has anything.
-    fn has_none(&self) -> bool
-        ensures { result ≡ is_empty_extensions self.now }
-    {
-        self.unicode.is_empty()
-            && self.transform.is_empty()
-            && self.private.is_empty()
-            && self.other.is_empty()
-    }
-
     /// Whether there is no extension: true of those of `en`, and false of those of `en-x-a`.
     ///
     /// False also where another extension is there without a piece. It does not allocate.
     pub fn is_empty(&self) -> bool
         ensures { IsTrue result ↔ (self.now ≡ nothing) }
     {
-        self.has_none()
+        self.unicode.is_empty()
+            && self.transform.is_empty()
+            && self.private.is_empty()
+            && self.other.is_empty()
     }
 
     /// A copy: of `a-foo-u-nu-thai` it is `a-foo-u-nu-thai`. `AllocError`: out of memory. It allocates only where there

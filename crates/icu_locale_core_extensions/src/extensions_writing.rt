@@ -1,12 +1,12 @@
 //! Printing the extensions of a tag, in the order of a tag.
 
-ghost use Rattle.std.specs.Prelude.{◌≡◌, ◌<◌, ◌≤◌, ◌^◌, ◌&&◌, false, is_err, length, take, drop, IfOk, OnOk, OnErr, SomeIff};
+ghost use Rattle.std.specs.Prelude.{◌≡◌, ◌≤◌, ◌&&◌, false, is_err, length, take, drop, IfOk, OnOk, OnErr};
 ghost use Rattle.writeable.specs.AnnotatedText.{bytes};
 ghost use Rattle.writeable.specs.Taking.{HasBegun};
 ghost use Rattle.icu_locale_core_grammar.specs.NormalText.{block_pieces, other_blocks, before_transform as number_before};
 ghost use Rattle.icu_locale_core_grammar.specs.TagStages.{has_none};
 ghost use Rattle.icu_locale_core_extensions.specs.ExtensionText.{placed, ordered_events};
-ghost use Rattle.icu_locale_core_extensions.specs.ExtensionsText.{extensions_pieces, extensions_alone};
+ghost use Rattle.icu_locale_core_extensions.specs.ExtensionsText.{extensions_pieces};
 
 use crate::block_writing::write_placed;
 use crate::extensions::Extensions;
@@ -85,17 +85,6 @@ pub fn write_extensions<S: Sink>(
     Ok(())
 }
 
-// How many bytes the text has, where a `usize` holds it.
-fn text_length(extensions: &Extensions) -> Option<usize>
-    ensures { SomeIff result (length (extensions_alone extensions.now) < 2 ^ 64) (length (extensions_alone extensions.now)) }
-{
-    let mut sink = CountSink::new();
-    match write_extensions(extensions, true, &mut sink) {
-        Ok(()) => Some(sink.count() as usize),
-        Err(_) => None,
-    }
-}
-
 /// The extensions in byte order of their singletons, and the private subtags: `u-nu-thai-x-foo`. Nothing where there
 /// are none.
 ///
@@ -118,9 +107,10 @@ impl Writeable for Extensions {
         ensures low { length (extensions_alone self.now) < 2 ^ 64 → result.low ≡ length (extensions_alone self.now) }
         ensures high { length (extensions_alone self.now) < 2 ^ 64 → result.high ≡ Some (length (extensions_alone self.now)) }
     {
-        match text_length(self) {
-            Some(length) => LengthHint::exact(length),
-            None => LengthHint::at_least(usize::MAX),
+        let mut sink = CountSink::new();
+        match write_extensions(self, true, &mut sink) {
+            Ok(()) => LengthHint::exact(sink.count() as usize),
+            Err(_) => LengthHint::at_least(usize::MAX),
         }
     }
 }

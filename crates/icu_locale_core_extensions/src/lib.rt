@@ -18,6 +18,7 @@ mod extension_type;
 mod extensions;
 mod extensions_writing;
 mod head;
+mod headed_reading;
 pub mod laws;
 mod opening;
 mod other;

@@ -1,6 +1,6 @@
 //! Extensions that have no rule of their own.
 
-ghost use Rattle.std.specs.Prelude.{◌≡◌, ℕ, ◌==◌, false, List, [], ◌∷◌, ◌++◌, length, take, drop, IsOk, IfOk, IfErr, OnOk, OnErr, MatchOption};
+ghost use Rattle.std.specs.Prelude.{◌≡◌, ℕ, ◌==◌, false, List, [], ◌∷◌, length, take, drop, IsOk, IfOk, IfErr, OnOk, OnErr, MatchOption};
 ghost use Rattle.std.specs.Result.{IsErrOf};
 ghost use Rattle.std.specs.Iterator.Adapters.{IterYieldsInOrder};
 ghost use Rattle.std.specs.Slice.Iter.{iter_rest};
@@ -57,18 +57,6 @@ impl Other {
             singleton,
             subtags: Vec::new(alloc),
         }
-    }
-
-    // Puts one more piece behind the others.
-    pub(crate) fn push(&mut self, subtag: Subtag) -> Result<(), AllocError>
-        ensures ok { OnOk result (self.new ≡ (self.old.0, self.old.1 ++ subtag ∷ [])) }
-        ensures err { OnErr result (self.new ≡ self.old) }
-    {
-        subtags_are_words(&subtag);
-        let Ok(()) = self.subtags.push(subtag) else {
-            return Err(AllocError);
-        };
-        Ok(())
     }
 
     /// The singleton as text, in lower case: of `A-Foo-bar` it is `a`. It does not allocate.
@@ -197,7 +185,10 @@ pub(crate) fn other_after(mut other: Other, piece: &[u8]) -> Result<Step<Other>,
 {
     match Subtag::try_from_utf8(piece) {
         Ok(subtag) => {
-            other.push(subtag)?;
+            subtags_are_words(&subtag);
+            let Ok(()) = other.subtags.push(subtag) else {
+                return Err(AllocError);
+            };
             Ok(Step::Taken(other))
         }
         Err(_) => Ok(Step::Refused(other)),

@@ -5,20 +5,18 @@ ghost use Rattle.std.specs.Result.{IsErrOf};
 ghost use Rattle.icu_locale_core_grammar.specs.declared.error.ParseError.{ParseError};
 ghost use Rattle.icu_locale_core_grammar.specs.Subtags.{is_transform};
 ghost use Rattle.icu_locale_core_grammar.specs.Pieces.{pieces};
-ghost use Rattle.icu_locale_core_grammar.specs.Meaning.{MeansTransform, no_transform};
+ghost use Rattle.icu_locale_core_grammar.specs.Meaning.{no_transform};
 ghost use Rattle.icu_locale_core_grammar.specs.PartReaders.{ReadsTransform};
 ghost use Rattle.icu_locale_core_subtag_lists.specs.Reading.{IsRefused};
 ghost use Rattle.icu_locale_core_extensions.specs.ExtensionsValue.{is_empty_transform};
 ghost use Rattle.icu_locale_core_extensions.specs.Allocation.{transform_may_grow, grows_behind};
 
 use crate::head::{LanguageHead, settled_language};
-use crate::opening::body_behind;
+use crate::headed_reading::read_headed;
 use icu_locale_core_grammar::ParseError;
 use icu_locale_core_keywords_fields::transform::Fields;
-use icu_locale_core_keywords_fields::{HeadedStage, headed_after, headed_finish};
-use icu_locale_core_langid::{LanguageIdentifier, LanguageStage};
+use icu_locale_core_langid::LanguageIdentifier;
 use icu_locale_core_subtags::transform::KeyRule;
-use icu_locale_core_subtags::{Step, SubtagIterator};
 use std::alloc::{AllocError, Global};
 use std::marker::Model;
 
@@ -37,30 +35,6 @@ impl Model for Transform {
     ghost Value = { TransformMeaning };
 
     ghost view = { λ t. record { head = t.lang; entries = t.fields } };
-}
-
-// The language part and the fields that these pieces are.
-fn read_body(alloc: Global, body: SubtagIterator<'_>) -> Result<Transform, ParseError>
-    ensures value { IfOk result (MeansTransform body.entry) }
-    ensures fault { IfErr result (IsRefused (MeansTransform body.entry)) }
-    ensures room { transform_may_grow body.entry ≡ false → ¬ (IsErrOf result ParseError.Memory) }
-{
-    let mut stage: HeadedStage<Option<LanguageStage>, KeyRule> = HeadedStage::InHead(None);
-    for piece in body {
-        match headed_after::<LanguageHead, KeyRule>(alloc, stage, piece) {
-            Ok(Step::Taken(next)) => stage = next,
-            Ok(Step::Refused(_)) => return Err(ParseError::InvalidExtension),
-            Err(_) => return Err(ParseError::Memory),
-        }
-    }
-    match headed_finish(alloc, stage) {
-        Ok(Some((lang, fields))) => Ok(Transform {
-            lang: settled_language(lang),
-            fields,
-        }),
-        Ok(None) => Err(ParseError::InvalidExtension),
-        Err(_) => Err(ParseError::Memory),
-    }
 }
 
 // An equal language part, or none.
@@ -134,9 +108,12 @@ impl Transform {
         ensures fault { IfErr result (IsRefused (ReadsTransform code_units.now)) }
         ensures room { grows_behind is_transform transform_may_grow (pieces code_units.now) ≡ false → ¬ (IsErrOf result ParseError.Memory) }
     {
-        match body_behind(code_units, b't') {
-            Some(body) => read_body(alloc, body),
-            None => Err(ParseError::InvalidExtension),
+        match read_headed::<LanguageHead, KeyRule>(alloc, code_units, b't', None) {
+            Ok((lang, fields)) => Ok(Transform {
+                lang: settled_language(lang),
+                fields,
+            }),
+            Err(fault) => Err(fault),
         }
     }
 }

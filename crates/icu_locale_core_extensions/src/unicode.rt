@@ -5,7 +5,7 @@ ghost use Rattle.std.specs.Result.{IsErrOf};
 ghost use Rattle.icu_locale_core_grammar.specs.declared.error.ParseError.{ParseError};
 ghost use Rattle.icu_locale_core_grammar.specs.Subtags.{is_unicode};
 ghost use Rattle.icu_locale_core_grammar.specs.Pieces.{pieces};
-ghost use Rattle.icu_locale_core_grammar.specs.Meaning.{MeansUnicode, no_unicode};
+ghost use Rattle.icu_locale_core_grammar.specs.Meaning.{no_unicode};
 ghost use Rattle.icu_locale_core_grammar.specs.Collections.{set_of};
 ghost use Rattle.icu_locale_core_keywords_fields.specs.EntryChanges.{joined_maps};
 ghost use Rattle.icu_locale_core_grammar.specs.PartReaders.{ReadsUnicode};
@@ -14,14 +14,12 @@ ghost use Rattle.icu_locale_core_extensions.specs.ExtensionsValue.{is_empty_unic
 ghost use Rattle.icu_locale_core_extensions.specs.Allocation.{unicode_may_grow, grows_behind};
 
 use crate::head::AttributesHead;
-use crate::opening::body_behind;
+use crate::headed_reading::read_headed;
 use icu_locale_core_grammar::ParseError;
 use icu_locale_core_keywords_fields::unicode::Keywords;
-use icu_locale_core_keywords_fields::{HeadedStage, headed_after, headed_finish};
 use icu_locale_core_subtag_lists::laws::texts_rise;
 use icu_locale_core_subtag_lists::{Attributes, GrowingSet};
-use icu_locale_core_subtags::unicode::{AttributeRule, KeyRule};
-use icu_locale_core_subtags::{Step, SubtagIterator};
+use icu_locale_core_subtags::unicode::KeyRule;
 use std::alloc::{AllocError, Global};
 use std::marker::Model;
 
@@ -40,32 +38,6 @@ impl Model for Unicode {
     ghost Value = { UnicodeMeaning };
 
     ghost view = { λ u. record { head = u.attributes; entries = u.keywords } };
-}
-
-// The attributes and keywords that these pieces are.
-fn read_body(alloc: Global, body: SubtagIterator<'_>) -> Result<Unicode, ParseError>
-    ensures value { IfOk result (MeansUnicode body.entry) }
-    ensures fault { IfErr result (IsRefused (MeansUnicode body.entry)) }
-    ensures room { unicode_may_grow body.entry ≡ false → ¬ (IsErrOf result ParseError.Memory) }
-{
-    let mut stage: HeadedStage<GrowingSet<AttributeRule>, KeyRule> = HeadedStage::InHead(
-        GrowingSet::new(alloc),
-    );
-    for piece in body {
-        match headed_after::<AttributesHead, KeyRule>(alloc, stage, piece) {
-            Ok(Step::Taken(next)) => stage = next,
-            Ok(Step::Refused(_)) => return Err(ParseError::InvalidExtension),
-            Err(_) => return Err(ParseError::Memory),
-        }
-    }
-    match headed_finish(alloc, stage) {
-        Ok(Some((attributes, keywords))) => Ok(Unicode {
-            keywords,
-            attributes: attributes.settled(),
-        }),
-        Ok(None) => Err(ParseError::InvalidExtension),
-        Err(_) => Err(ParseError::Memory),
-    }
 }
 
 impl Unicode {
@@ -149,9 +121,13 @@ impl Unicode {
         ensures fault { IfErr result (IsRefused (ReadsUnicode code_units.now)) }
         ensures room { grows_behind is_unicode unicode_may_grow (pieces code_units.now) ≡ false → ¬ (IsErrOf result ParseError.Memory) }
     {
-        match body_behind(code_units, b'u') {
-            Some(body) => read_body(alloc, body),
-            None => Err(ParseError::InvalidExtension),
+        let attributes = GrowingSet::new(alloc);
+        match read_headed::<AttributesHead, KeyRule>(alloc, code_units, b'u', attributes) {
+            Ok((attributes, keywords)) => Ok(Unicode {
+                keywords,
+                attributes: attributes.settled(),
+            }),
+            Err(fault) => Err(fault),
         }
     }
 }

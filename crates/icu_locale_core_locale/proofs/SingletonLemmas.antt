@@ -1,5 +1,6 @@
 -- A list of singletons has a piece exactly where the piece is one character and its byte is there.
-use Rattle.std.proofs.Common.{◌≡◌, ℕ, ◌<◌, ◌≤◌, Bool, true, false, ◌||◌, ◌&&◌, List, [], ◌∷◌, length, refl, sym, ap, ◌∙◌, nat_eq, arith}
+use Rattle.std.proofs.Common.{◌≡◌, ℕ, ◌<◌, ◌≤◌, Bool, false, ◌||◌, List, [], ◌∷◌, length, refl, sym, ap, ◌∙◌, nat_eq, arith}
+use Rattle.std.proofs.Math.Bool.{and-true, and-false}
 use Rattle.std.specs.List.{list_any}
 use Rattle.std.specs.Char.{to_ascii_lowercase}
 use Rattle.std.specs.Prelude.{slice_index_or}
@@ -8,21 +9,13 @@ use Rattle.icu_locale_core_grammar.specs.Subtags.{Text, lower}
 use Rattle.icu_locale_core_grammar.specs.Collections.{contains_text}
 use Rattle.icu_locale_core_locale.specs.StageView.{singletons}
 
-and_true : (b : Bool) → (b && true) ≡ b
-and_true true = refl
-and_true false = refl
-
 pub byte_contained : (b : ℕ) (seen : List ℕ) → contains_text (b ∷ []) (singletons seen) ≡ list_any (λ c. nat_eq c b) seen
 byte_contained b [] = refl
-byte_contained b (c ∷ cs) = λ i. (and_true (nat_eq b c) ∙ nat_eq_equiv.symm b c) i || byte_contained b cs i
-
-and_false : (b : Bool) → (b && false) ≡ false
-and_false true = refl
-and_false false = refl
+byte_contained b (c ∷ cs) = λ i. (and-true (nat_eq b c) ∙ nat_eq_equiv.symm b c) i || byte_contained b cs i
 
 longer_apart : (b c : ℕ) (bs : Text) (seen : List ℕ) → contains_text (b ∷ c ∷ bs) (singletons seen) ≡ false
 longer_apart b c bs [] = refl
-longer_apart b c bs (d ∷ ds) = λ i. and_false (nat_eq b d) i || longer_apart b c bs ds i
+longer_apart b c bs (d ∷ ds) = λ i. and-false (nat_eq b d) i || longer_apart b c bs ds i
 
 none_apart : (seen : List ℕ) → contains_text [] (singletons seen) ≡ false
 none_apart [] = refl

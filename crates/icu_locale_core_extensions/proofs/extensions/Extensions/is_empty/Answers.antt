@@ -1,7 +1,9 @@
-use Rattle.std.proofs.Common.{sym, ap, ◌∙◌}
-use Rattle.icu_locale_core_extensions.specs.ExtensionsValue.{is_empty_extensions}
-use Rattle.icu_locale_core_extensions.proofs.ExtensionsLemmas.{empty_is_nothing}
+use Rattle.std.proofs.Common.{rules}
+use Rattle.icu_locale_core_extensions.proofs.ExtensionsLemmas.{empty_iff}
 use Rattle.icu_locale_core_extensions.proofs.extensions.Extensions.is_empty.Goals as goal
 
-pub returns : goal.returns
-returns c = (λ e. empty_is_nothing c.args.self.now (sym c.has_none.ensures ∙ e), λ e. c.has_none.ensures ∙ ap is_empty_extensions e)
+pub returns-then-is_empty-3 : goal.returns-then-is_empty-3
+returns-then-is_empty-3 c = empty_iff c.args.self.now _ (search rules)
+
+pub returns-else-is_empty-3 : goal.returns-else-is_empty-3
+returns-else-is_empty-3 c = empty_iff c.args.self.now _ (search rules)

@@ -1,21 +1,18 @@
-use Rattle.std.proofs.Common.{refl, inr}
-use Rattle.icu_locale_core_grammar.specs.Meaning.{MeansTransform}
+use Rattle.std.proofs.Common.{◌≡◌, Err, ap}
+use Rattle.icu_locale_core_grammar.specs.declared.error.ParseError.TheVariants.{Memory}
 use Rattle.icu_locale_core_grammar.specs.Pieces.{pieces}
-use Rattle.icu_locale_core_grammar.specs.Subtags.{transform_text, is_transform}
-use Rattle.icu_locale_core_extensions.specs.Allocation.{transform_may_grow}
-use Rattle.icu_locale_core_extensions.proofs.AllocationLemmas.{growth_behind}
-use Rattle.icu_locale_core_extensions.proofs.OpeningLemmas.{opened, refused_behind, each_error}
+use Rattle.icu_locale_core_grammar.specs.Subtags.{is_transform}
+use Rattle.icu_locale_core_grammar.proofs.BodyReaders.{transform_reader}
+use Rattle.icu_locale_core_extensions.proofs.HeadedLemmas.{found_meant, refused_unmeant}
 use Rattle.icu_locale_core_extensions.proofs.transform.Transform.try_from_utf8.Goals as goal
 
-pub returns-in-Some-clause-fault : goal.returns-in-Some-clause-fault
-returns-in-Some-clause-fault c =
-    each_error _ _ c.read_body.result (λ e f. refused_behind transform_text MeansTransform (pieces c.args.code_units.now) c.in-Some.body e c.in-Some.ensures f) c.read_body.ensures.fault
+pub returns-in-Ok-clause-value : goal.returns-in-Ok-clause-value
+returns-in-Ok-clause-value c = rw c.settled_language.ensures (found_meant transform_reader is_transform (pieces c.args.code_units.now) _ c.in-Ok.ensures.value)
 
-pub returns-in-None-clause-fault : goal.returns-in-None-clause-fault
-returns-in-None-clause-fault c =
-    inr (refl, λ m r. let o = opened transform_text MeansTransform (pieces c.args.code_units.now) m r in c.in-None.ensures o.0 o.1)
+pub returns-in-Err-clause-fault : goal.returns-in-Err-clause-fault
+returns-in-Err-clause-fault c = refused_unmeant transform_reader is_transform (pieces c.args.code_units.now) _ c.in-Err.ensures.fault
 
-pub returns-in-Some-clause-room : goal.returns-in-Some-clause-room
-returns-in-Some-clause-room c = λ none.
-    let opens = c.in-Some.ensures in
-    c.read_body.ensures.room (growth_behind is_transform transform_may_grow (pieces c.args.code_units.now) c.in-Some.body opens.first opens.parts opens.is none)
+pub returns-in-Err-clause-room : goal.returns-in-Err-clause-room
+returns-in-Err-clause-room c = λ none memory.
+    let fault : c.in-Err.fault ≡ Memory = cc in
+    c.in-Err.ensures.room none (ap Err fault)
