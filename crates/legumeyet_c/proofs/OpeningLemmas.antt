@@ -2,9 +2,9 @@
 use Rattle.std.proofs.Common.{◌≡◌, ℕ, List, Option, Some, None, Result, Ok, Err, refl, sym, subst}
 use Rattle.locale_numbers.specs.Book.{BookTables}
 use Rattle.locale_numbers.specs.declared.FormatterError.{FormatterError}
+use Rattle.legumeyet_c_values.specs.declared.CallError.{CallError}
+use Rattle.legumeyet_c_values.specs.declared.CallError.TheVariants.{Memory}
 use Rattle.legumeyet_c.specs.Opening.{Finds, IsFindingFault, IsOpening, IsTagFault}
-use Rattle.legumeyet_c.specs.declared.call_error.CallError.{CallError}
-use Rattle.legumeyet_c.specs.declared.call_error.CallError.TheVariants.{Memory}
 
 -- a call that is refused before it opens
 pub opening_refused : {T : Type 0} (is_found : T → Type 0) (fault : CallError → Type 0) (handle : Option T) (error : CallError)

@@ -4,8 +4,8 @@
 use Rattle.std.specs.Prelude.{◌≡◌, ℕ, List, Option, Some, None}
 use Rattle.locale_numbers.specs.Answer.{answer_of}
 use Rattle.locale_numbers.specs.Book.{BookTables}
-use Rattle.legumeyet_c.specs.declared.call_error.CallError.{CallError}
-use Rattle.legumeyet_c.specs.declared.call_error.CallError.TheVariants.{Memory, Closed}
+use Rattle.legumeyet_c_values.specs.declared.CallError.{CallError}
+use Rattle.legumeyet_c_values.specs.declared.CallError.TheVariants.{Memory, Closed}
 
 -- the answer of an open book; a line that is refused has one too
 abbrev pub SaysAnswer : Option BookTables → List ℕ → List ℕ → Type 0

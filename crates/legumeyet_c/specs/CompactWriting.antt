@@ -13,11 +13,11 @@ use Rattle.icu_decimal.specs.ExactForms.{IsInRange}
 use Rattle.icu_decimal.specs.ExactText.{exact_text}
 use Rattle.icu_decimal.specs.ShownChoice.{CanShow}
 use Rattle.writeable.specs.AnnotatedText.{AnnotatedText, annotated}
-use Rattle.legumeyet_c.specs.Numbers.{GivesCompact, IsChangeFault, IsCompactNumberFault}
+use Rattle.legumeyet_c_values.specs.Numbers.{GivesCompact, IsChangeFault, IsCompactNumberFault}
+use Rattle.legumeyet_c_values.specs.declared.Choices.{Choices}
+use Rattle.legumeyet_c_values.specs.declared.CallError.{CallError}
+use Rattle.legumeyet_c_values.specs.declared.CallError.TheVariants.{Memory, TooSmall, Range, Exponent}
 use Rattle.legumeyet_c.specs.Writing.{IsWritingFault, Writes}
-use Rattle.legumeyet_c.specs.declared.choices.Choices.{Choices}
-use Rattle.legumeyet_c.specs.declared.call_error.CallError.{CallError}
-use Rattle.legumeyet_c.specs.declared.call_error.CallError.TheVariants.{Memory, TooSmall, Range, Exponent}
 
 -- ---- a number
 

@@ -7,8 +7,8 @@ use Rattle.fixed_decimal.specs.SignedValue.{SignedValue}
 use Rattle.icu_decimal.specs.PartIntervals.{decimal_annotated}
 use Rattle.icu_decimal.specs.PlainText.{Tables, decimal_text}
 use Rattle.writeable.specs.AnnotatedText.{AnnotatedText}
-use Rattle.legumeyet_c.specs.declared.call_error.CallError.{CallError}
-use Rattle.legumeyet_c.specs.declared.call_error.CallError.TheVariants.{Memory, TooSmall}
+use Rattle.legumeyet_c_values.specs.declared.CallError.{CallError}
+use Rattle.legumeyet_c_values.specs.declared.CallError.TheVariants.{Memory, TooSmall}
 
 abbrev pub IsDecimalText : Tables → SignedValue Number → List ℕ → Type 0
 IsDecimalText tables value text = text ≡ decimal_text tables value

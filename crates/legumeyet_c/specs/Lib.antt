@@ -1,16 +1,10 @@
 pub mod Answering
-pub mod CallErrors
-pub mod Choices
 pub mod CompactWriting
 pub mod DecimalWriting
-pub mod Information
 pub mod Kinds
-pub mod Numbers
 pub mod Opening
 pub mod Owned
-pub mod Parts
 pub mod Places
-pub mod Putting
 pub mod Reading
 pub mod Views
 pub mod Writing

@@ -13,11 +13,11 @@ use Rattle.locale_numbers.specs.TagFormatters.{plain_for, short_for, long_for}
 use Rattle.locale_numbers.specs.declared.BookError.{BookError}
 use Rattle.locale_numbers.specs.declared.FormatterError.{FormatterError}
 use Rattle.locale_numbers.specs.declared.FormatterError.TheVariants as formatter
-use Rattle.legumeyet_c.specs.Choices.{both_of}
-use Rattle.legumeyet_c.specs.declared.choices.Width.{Width}
-use Rattle.legumeyet_c.specs.declared.choices.Width.TheVariants.{Short, Long}
-use Rattle.legumeyet_c.specs.declared.call_error.CallError.{CallError}
-use Rattle.legumeyet_c.specs.declared.call_error.CallError.TheVariants.{Memory, Closed, UnknownOption, Tag, Table, Book}
+use Rattle.legumeyet_c_values.specs.Choices.{both_of}
+use Rattle.legumeyet_c_values.specs.declared.Width.{Width}
+use Rattle.legumeyet_c_values.specs.declared.Width.TheVariants.{Short, Long}
+use Rattle.legumeyet_c_values.specs.declared.CallError.{CallError}
+use Rattle.legumeyet_c_values.specs.declared.CallError.TheVariants.{Memory, Closed, UnknownOption, Tag, Table, Book}
 
 -- what was found is open; after a fault the handle is as it was
 pub record IsOpening {T : Type 0} (is_found : T → Type 0) (fault : CallError → Type 0) (before after : Option T) (outcome : Result (Unit {0}) CallError) : Type 0 where

@@ -7,8 +7,8 @@ use Rattle.fixed_decimal.specs.SignedText.{signed_text_of}
 use Rattle.fixed_decimal.specs.SignedValue.{SignedValue}
 use Rattle.icu_decimal.specs.PlainReading.{HasManyDigits, PlainReading, decimal, not_written, plain_reading, unreadable}
 use Rattle.icu_decimal.specs.PlainText.{Tables}
-use Rattle.legumeyet_c.specs.declared.call_error.CallError.{CallError}
-use Rattle.legumeyet_c.specs.declared.call_error.CallError.TheVariants.{Memory, Closed, NoUtf8, Unreadable, NotWritten}
+use Rattle.legumeyet_c_values.specs.declared.CallError.{CallError}
+use Rattle.legumeyet_c_values.specs.declared.CallError.TheVariants.{Memory, Closed, NoUtf8, Unreadable, NotWritten}
 
 -- a text in UTF-8 is this under the tables: the plain text of one number, or of none
 pub record HasReading (tables : Tables) (text : List ℕ) (reading : PlainReading) : Type 0 where

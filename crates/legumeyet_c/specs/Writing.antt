@@ -4,10 +4,10 @@
 use Rattle.std.specs.Prelude.{◌≡◌, ◌⊎◌, Option, Some, None, Result, Ok, Err}
 use Rattle.fixed_decimal.specs.Number.{Number}
 use Rattle.fixed_decimal.specs.SignedValue.{SignedValue}
-use Rattle.legumeyet_c.specs.Numbers.{Gives, IsChangeFault}
-use Rattle.legumeyet_c.specs.declared.choices.Choices.{Choices}
-use Rattle.legumeyet_c.specs.declared.call_error.CallError.{CallError}
-use Rattle.legumeyet_c.specs.declared.call_error.CallError.TheVariants.{Closed}
+use Rattle.legumeyet_c_values.specs.Numbers.{Gives, IsChangeFault}
+use Rattle.legumeyet_c_values.specs.declared.Choices.{Choices}
+use Rattle.legumeyet_c_values.specs.declared.CallError.{CallError}
+use Rattle.legumeyet_c_values.specs.declared.CallError.TheVariants.{Closed}
 
 -- ---- of the value that a call is given
 

@@ -1,14 +1,13 @@
 //! Answers to request lines: `legumeyet_book_answer`.
 
 ghost use Rattle.std.specs.Prelude.{◌≡◌, IfOk, IfErr};
+ghost use Rattle.legumeyet_c_values.specs.Putting.{Answers, IsPut};
 ghost use Rattle.legumeyet_c.specs.Answering.{IsAnswerFault, SaysAnswer};
-ghost use Rattle.legumeyet_c.specs.Putting.{Answers, IsPut};
 ghost use Rattle.legumeyet_c.specs.Views.{book_open};
 
-use crate::call_error::{CallError, answer};
 use crate::content::Held;
 use crate::handles::BookHandle;
-use crate::putting::put_bytes;
+use legumeyet_c_values::{CallError, answer, put_bytes};
 use locale_numbers::Book;
 use std::alloc::Global;
 

@@ -1,13 +1,13 @@
 //! Books: `legumeyet_book_open`, `legumeyet_book_close`.
 
 ghost use Rattle.std.specs.Prelude.{◌≡◌, None};
+ghost use Rattle.legumeyet_c_values.specs.Putting.{Answers};
 ghost use Rattle.legumeyet_c.specs.Opening.{IsBookFault, IsClosing, IsOpening, SaysBook};
-ghost use Rattle.legumeyet_c.specs.Putting.{Answers};
 ghost use Rattle.legumeyet_c.specs.Views.{book_open};
 
-use crate::call_error::{CallError, answer};
 use crate::handles::BookHandle;
 use crate::opening::{close, put_behind};
+use legumeyet_c_values::{CallError, answer};
 use locale_numbers::{Book, BookError};
 use std::alloc::Global;
 

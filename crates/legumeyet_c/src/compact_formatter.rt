@@ -2,18 +2,17 @@
 
 ghost use Rattle.std.specs.Prelude.{◌≡◌, ◌⊎◌, Ok, Err, None, IfOk, IfErr};
 ghost use Rattle.icu_decimal.specs.HeldCompact.{compact_tables_of};
-ghost use Rattle.legumeyet_c.specs.Choices.{grouping_of, width_of};
+ghost use Rattle.legumeyet_c_values.specs.Choices.{grouping_of, width_of};
+ghost use Rattle.legumeyet_c_values.specs.Putting.{Answers};
 ghost use Rattle.legumeyet_c.specs.Opening.{FindsCompact, IsClosing, IsCompactFault, IsCompactFor, IsOpening, compact_for_width};
-ghost use Rattle.legumeyet_c.specs.Putting.{Answers};
 ghost use Rattle.legumeyet_c.specs.Views.{book_open, compact_open};
 
-use crate::call_error::{CallError, answer};
-use crate::choices::{Width, choice_by};
 use crate::compact_tables::HeldCompactTables;
 use crate::handles::{BookHandle, CompactHandle};
 use crate::opening::{Found, close, open};
 use icu_decimal::CompactDecimalFormatter;
 use icu_decimal::options::GroupingStrategy;
+use legumeyet_c_values::{CallError, Width, answer, choice_by};
 use locale_numbers::{Book, FormatterError};
 use std::alloc::Global;
 

@@ -2,22 +2,19 @@
 
 ghost use Rattle.std.specs.Prelude.{◌≡◌};
 ghost use Rattle.fixed_decimal.specs.SignedText.{ReadsSigned};
-ghost use Rattle.legumeyet_c.specs.Choices.{choices_of};
+ghost use Rattle.legumeyet_c_values.specs.Choices.{choices_of};
+ghost use Rattle.legumeyet_c_values.specs.Numbers.{IsNumberFault};
+ghost use Rattle.legumeyet_c_values.specs.Parts.{IsPutInParts, given};
+ghost use Rattle.legumeyet_c_values.specs.Putting.{Answers};
 ghost use Rattle.legumeyet_c.specs.CompactWriting.{IsCompactAnnotated, IsCompactPartsFault};
-ghost use Rattle.legumeyet_c.specs.Numbers.{IsNumberFault};
-ghost use Rattle.legumeyet_c.specs.Parts.{IsPutInParts, given};
-ghost use Rattle.legumeyet_c.specs.Putting.{Answers};
 ghost use Rattle.legumeyet_c.specs.Views.{compact_open};
 ghost use Rattle.legumeyet_c.specs.Writing.{IsChangedFault, WritesChanged};
 
-use crate::call_error::{CallError, answer};
-use crate::choices::Options;
 use crate::compact_tables::HeldCompactTables;
 use crate::handles::CompactHandle;
-use crate::intervals::Interval;
-use crate::numbers::number_of_text;
 use crate::parts::{Annotates, write_parts};
 use fixed_decimal::Decimal;
+use legumeyet_c_values::{CallError, Interval, Options, answer, number_of_text};
 use std::alloc::Global;
 use writeable::{PartsSink, Writeable};
 

@@ -4,22 +4,21 @@ ghost use Rattle.std.specs.Prelude.{◌≡◌, IfOk, IfErr};
 ghost use Rattle.fixed_decimal.specs.SignedText.{ReadsSigned};
 ghost use Rattle.icu_decimal.specs.CompactText.{value_shown};
 ghost use Rattle.icu_decimal.specs.HeldCompact.{compact_tables_of};
-ghost use Rattle.legumeyet_c.specs.Choices.{choices_of};
+ghost use Rattle.legumeyet_c_values.specs.Choices.{choices_of};
+ghost use Rattle.legumeyet_c_values.specs.Numbers.{IsNumberFault, IsScaled, IsScaledFault};
+ghost use Rattle.legumeyet_c_values.specs.Putting.{Answers, IsPut};
 ghost use Rattle.legumeyet_c.specs.CompactWriting.{IsCompactFault, IsCompactText, IsExactFault, IsExactText, IsExactWritingFault, IsShowable, IsShownFault, IsShownText, WritesExact};
-ghost use Rattle.legumeyet_c.specs.Numbers.{IsNumberFault, IsScaled, IsScaledFault};
-ghost use Rattle.legumeyet_c.specs.Putting.{Answers, IsPut};
 ghost use Rattle.legumeyet_c.specs.Views.{compact_open};
 ghost use Rattle.legumeyet_c.specs.Writing.{IsChangedFault, WritesChanged};
 
-use crate::call_error::{CallError, answer};
-use crate::choices::Options;
 use crate::compact_tables::HeldCompactTables;
 use crate::handles::CompactHandle;
-use crate::numbers::{compact_of_text, number_of_i64, number_of_text};
-use crate::putting::put;
 use crate::writing::{Form, write_behind};
 use fixed_decimal::{CompactDecimal, Decimal};
 use icu_decimal::CompactDecimalFormatter;
+use legumeyet_c_values::{
+    CallError, Options, answer, compact_of_text, number_of_i64, number_of_text, put,
+};
 use std::alloc::{AllocError, Global};
 
 /// The compact text of a number.

@@ -3,24 +3,23 @@
 ghost use Rattle.std.specs.Prelude.{◌≡◌, None};
 ghost use Rattle.fixed_decimal.specs.SignedText.{ReadsSigned};
 ghost use Rattle.locale_numbers.specs.TagFormatters.{plain_for};
-ghost use Rattle.legumeyet_c.specs.Choices.{choices_of, grouping_of};
+ghost use Rattle.legumeyet_c_values.specs.Choices.{choices_of, grouping_of};
+ghost use Rattle.legumeyet_c_values.specs.Numbers.{IsNumberFault, IsScaled, IsScaledFault};
+ghost use Rattle.legumeyet_c_values.specs.Putting.{Answers, IsPut};
 ghost use Rattle.legumeyet_c.specs.DecimalWriting.{HasNoFault, IsDecimalText};
-ghost use Rattle.legumeyet_c.specs.Numbers.{IsNumberFault, IsScaled, IsScaledFault};
 ghost use Rattle.legumeyet_c.specs.Opening.{FindsDecimal, IsClosing, IsDecimalFault, IsDecimalFor, IsOpening};
-ghost use Rattle.legumeyet_c.specs.Putting.{Answers, IsPut};
 ghost use Rattle.legumeyet_c.specs.Views.{book_open, decimal_open};
 ghost use Rattle.legumeyet_c.specs.Writing.{IsChangedFault, WritesChanged};
 
-use crate::call_error::{CallError, answer};
-use crate::choices::{Options, grouping_by};
 use crate::decimal_tables::DecimalTables;
 use crate::handles::{BookHandle, DecimalHandle};
-use crate::numbers::{number_of_i64, number_of_text};
 use crate::opening::{Found, close, open};
-use crate::putting::put;
 use crate::writing::{Form, write_behind};
 use fixed_decimal::Decimal;
 use icu_decimal::options::GroupingStrategy;
+use legumeyet_c_values::{
+    CallError, Options, answer, grouping_by, number_of_i64, number_of_text, put,
+};
 use locale_numbers::{Book, FormatterError};
 use std::alloc::Global;
 

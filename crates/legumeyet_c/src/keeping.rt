@@ -1,15 +1,15 @@
 //! Books kept for the rest of the run: `legumeyet_book_keep`.
 
 ghost use Rattle.std.specs.Prelude.{◌≡◌, Some, true};
+ghost use Rattle.legumeyet_c_values.specs.Putting.{Answers};
 ghost use Rattle.legumeyet_c.specs.Kinds.{book_in, is_for_book, is_kept};
 ghost use Rattle.legumeyet_c.specs.Opening.{IsKeeping};
-ghost use Rattle.legumeyet_c.specs.Putting.{Answers};
 ghost use Rattle.legumeyet_c.specs.Views.{book_kept, book_open};
 
-use crate::call_error::{CallError, answer};
 use crate::content::{Content, Held};
 use crate::handle::Handle;
 use crate::handles::BookHandle;
+use legumeyet_c_values::{CallError, answer};
 use locale_numbers::Book;
 use std::alloc::Global;
 

@@ -11,8 +11,6 @@
 
 pub mod answering;
 pub mod book;
-mod call_error;
-mod choices;
 pub mod compact_formatter;
 pub mod compact_parts;
 mod compact_tables;
@@ -24,12 +22,9 @@ mod decimal_tables;
 mod handle;
 mod handles;
 pub mod information;
-mod intervals;
 pub mod keeping;
-mod numbers;
 mod opening;
 pub mod parts;
-mod putting;
 pub mod reading;
 mod unboxed;
 mod writing;

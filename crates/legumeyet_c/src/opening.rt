@@ -4,9 +4,9 @@ ghost use Rattle.std.specs.Prelude.{◌≡◌, ◌⊎◌, Err, None, true, IfOk,
 ghost use Rattle.legumeyet_c.specs.Kinds.{book_in, is_for_book};
 ghost use Rattle.legumeyet_c.specs.Opening.{Finds, IsClosing, IsFindingFault, IsOpening, IsTagFault};
 
-use crate::call_error::CallError;
 use crate::content::{Held, kept_in};
 use crate::handle::Handle;
+use legumeyet_c_values::CallError;
 use locale_numbers::{Book, FormatterError};
 use std::alloc::Global;
 

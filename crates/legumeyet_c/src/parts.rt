@@ -1,32 +1,28 @@
 //! Numbers written with their parts: `legumeyet_decimal_formatter_format_parts`.
 
-ghost use Rattle.std.specs.Prelude.{◌≡◌, ◌≢◌, ◌≤◌, ◌↔◌, true, length, IfOk, IfErr, IsTrue};
+ghost use Rattle.std.specs.Prelude.{◌≡◌, ◌≢◌, true, IfOk, IfErr};
 ghost use Rattle.fixed_decimal.specs.SignedText.{ReadsSigned};
-ghost use Rattle.legumeyet_c.specs.Choices.{choices_of};
+ghost use Rattle.legumeyet_c_values.specs.Choices.{choices_of};
+ghost use Rattle.legumeyet_c_values.specs.Numbers.{IsNumberFault};
+ghost use Rattle.legumeyet_c_values.specs.Parts.{IsPutInParts, given, held_text};
+ghost use Rattle.legumeyet_c_values.specs.Putting.{Answers};
 ghost use Rattle.legumeyet_c.specs.DecimalWriting.{IsDecimalAnnotated, WantsMemory};
-ghost use Rattle.legumeyet_c.specs.Numbers.{IsNumberFault};
-ghost use Rattle.legumeyet_c.specs.Parts.{IsPutInParts, given, held_text, over};
-ghost use Rattle.legumeyet_c.specs.Putting.{Answers};
 ghost use Rattle.legumeyet_c.specs.Views.{decimal_open};
 ghost use Rattle.legumeyet_c.specs.Writing.{IsChangedFault, IsValueFault, WritesChanged, WritesValue};
 
-use crate::call_error::{CallError, answer};
-use crate::choices::Options;
 use crate::content::Held;
 use crate::decimal_tables::DecimalTables;
 use crate::handle::Handle;
 use crate::handles::DecimalHandle;
-use crate::intervals::{Interval, list_parts};
-use crate::numbers::number_of_text;
 use fixed_decimal::Decimal;
 use icu_decimal::laws::text::parts_law;
+use legumeyet_c_values::{CallError, Interval, Options, answer, number_of_text, put_parts};
 use std::alloc::Global;
 use writeable::{PartsSink, Writeable};
-use writeable_bytes::copy_to_slice;
 
 /// Tables whose texts of numbers have parts.
 pub(crate) trait Annotates: Held {
-    ghost use Rattle.legumeyet_c.specs.declared.call_error.CallError.{CallError};
+    ghost use Rattle.legumeyet_c_values.specs.declared.CallError.{CallError};
     ghost use Rattle.fixed_decimal.specs.Number.{Number};
     ghost use Rattle.fixed_decimal.specs.SignedValue.{SignedValue};
     ghost use Rattle.writeable.specs.AnnotatedText.{AnnotatedText};
@@ -85,38 +81,6 @@ fn annotated_behind<T: Annotates>(
     };
     handle.put(alloc, content);
     found
-}
-
-// Lays a text over the caller's bytes; whether it has room there.
-fn lay_text(text: &str, out: &mut [u8]) -> bool
-    ensures written { out.new ≡ over text.now out.old }
-    ensures room { IsTrue result ↔ (length text.now ≤ length out.old) }
-{
-    copy_to_slice(text.as_bytes(), out).is_ok()
-}
-
-// Writes a text with its parts to what the caller gives. `TooSmall`: one of both needs more room.
-fn put_parts(
-    sink: &PartsSink,
-    out: &mut [u8],
-    length: &mut usize,
-    intervals: &mut [Interval],
-    count: &mut usize,
-) -> Result<(), CallError>
-    ensures { IsPutInParts (λ text. text ≡ held_text sink.now) (λ error. ⊥) (given out.old length.old intervals.old count.old) (given out.new length.new intervals.new count.new) result }
-{
-    let text = sink.text();
-    let parts = sink.parts();
-    let is_listed = parts.len() <= intervals.len();
-    list_parts(parts, intervals);
-    let is_whole = lay_text(text, out);
-    *length = text.len();
-    *count = parts.len();
-    if is_whole && is_listed {
-        Ok(())
-    } else {
-        Err(CallError::TooSmall)
-    }
 }
 
 /// Writes a number, where there is one, and its parts, with what stands behind a handle, which stays as it is.

@@ -2,18 +2,17 @@
 
 ghost use Rattle.std.specs.Prelude.{◌≡◌, IfOk, IfErr};
 ghost use Rattle.icu_decimal.specs.PlainReading.{decimal};
-ghost use Rattle.legumeyet_c.specs.Putting.{Answers, IsPut};
+ghost use Rattle.legumeyet_c_values.specs.Putting.{Answers, IsPut};
 ghost use Rattle.legumeyet_c.specs.Reading.{HasReading, IsReadFault, IsUnread, ReadsBack, SaysRead};
 ghost use Rattle.legumeyet_c.specs.Views.{decimal_open};
 
-use crate::call_error::{CallError, answer};
 use crate::content::Held;
 use crate::decimal_tables::DecimalTables;
 use crate::handles::DecimalHandle;
-use crate::putting::put;
 use fixed_decimal::Decimal;
 use icu_decimal::error::ReadError;
 use icu_decimal::read_plain;
+use legumeyet_c_values::{CallError, answer, put};
 use std::alloc::Global;
 
 // The number that is written so with tables.

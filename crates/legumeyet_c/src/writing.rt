@@ -1,18 +1,18 @@
 // Numbers written with what stands behind a handle.
 
 ghost use Rattle.std.specs.Prelude.{◌≡◌, ◌≢◌, Some, true, IfErr};
-ghost use Rattle.legumeyet_c.specs.Putting.{IsPut};
+ghost use Rattle.legumeyet_c_values.specs.Putting.{IsPut};
 ghost use Rattle.legumeyet_c.specs.Writing.{IsValueFault, WritesValue};
 
-use crate::call_error::CallError;
 use crate::content::Held;
 use crate::handle::Handle;
+use legumeyet_c_values::CallError;
 use std::alloc::Global;
 
 /// What is written of a number: its text, or another one. A type that holds nothing stands for it.
 pub(crate) trait Form {
     ghost use Rattle.std.specs.Prelude.{List, ℕ};
-    ghost use Rattle.legumeyet_c.specs.declared.call_error.CallError.{CallError};
+    ghost use Rattle.legumeyet_c_values.specs.declared.CallError.{CallError};
 
     /// What it is written with.
     type Tables: Held;

@@ -1,9 +1,10 @@
 use Rattle.std.proofs.Common.{rules, ℕ, List, w32, Err, sym, subst, ◌∙◌}
 use Rattle.std.proofs.lemmas.Int.{to_z-of_z}
 use mir.Val.{SFits}
+use Rattle.legumeyet_c_values.proofs.PuttingLemmas.{put_by, put_refused}
 use Rattle.legumeyet_c.specs.Answering.{SaysAnswer}
 use Rattle.legumeyet_c.specs.Views.{book_open}
-use Rattle.legumeyet_c.proofs.PuttingLemmas.{answer_fault_other, put_by, put_refused}
+use Rattle.legumeyet_c.proofs.WritingLemmas.{answer_fault_other}
 use Rattle.legumeyet_c.proofs.answering.legumeyet_book_answer.Goals as goal
 
 pub returns-in-Ok-clause-told : goal.returns-in-Ok-clause-told

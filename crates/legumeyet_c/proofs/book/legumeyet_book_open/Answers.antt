@@ -1,9 +1,9 @@
 use Rattle.std.proofs.Common.{rules, w32, Err, refl, sym, subst, ◌∙◌}
 use Rattle.std.proofs.lemmas.Int.{to_z-of_z}
 use mir.Val.{SFits}
+use Rattle.legumeyet_c_values.specs.declared.CallError.TheVariants.{Book}
 use Rattle.legumeyet_c.specs.Opening.{SaysBook}
 use Rattle.legumeyet_c.specs.Views.{book_open}
-use Rattle.legumeyet_c.specs.declared.call_error.CallError.TheVariants.{Book}
 use Rattle.legumeyet_c.proofs.OpeningLemmas.{opening_by, opening_refused}
 use Rattle.locale_numbers.specs.declared.BookError.TheVariants.{Memory}
 use Rattle.legumeyet_c.proofs.book.legumeyet_book_open.Goals as goal

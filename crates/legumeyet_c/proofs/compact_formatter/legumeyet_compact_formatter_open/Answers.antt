@@ -4,10 +4,10 @@ use mir.Val.{SFits}
 use Rattle.icu_decimal.specs.CompactTables.{CompactTables}
 use Rattle.icu_decimal.specs.declared.options.GroupingStrategy.{GroupingStrategy}
 use Rattle.locale_numbers.specs.Book.{BookTables}
-use Rattle.legumeyet_c.specs.Choices.{choice_of}
+use Rattle.legumeyet_c_values.specs.Choices.{choice_of}
+use Rattle.legumeyet_c_values.specs.declared.Width.{Width}
 use Rattle.legumeyet_c.specs.Opening.{IsCompactFor, compact_for_width}
 use Rattle.legumeyet_c.specs.Views.{book_open, compact_open}
-use Rattle.legumeyet_c.specs.declared.choices.Width.{Width}
 use Rattle.legumeyet_c.proofs.OpeningLemmas.{opening_chosen}
 use Rattle.legumeyet_c.proofs.compact_formatter.legumeyet_compact_formatter_open.Goals as goal
 

@@ -2,12 +2,13 @@ use Rattle.std.proofs.Common.{rules, w32, ◌∙◌}
 use Rattle.std.proofs.lemmas.Int.{to_z-of_z}
 use mir.Val.{SFits}
 use Rattle.fixed_decimal.specs.SignedText.{ReadsSigned}
-use Rattle.legumeyet_c.specs.Choices.{choices_of}
+use Rattle.legumeyet_c_values.specs.Choices.{choices_of}
+use Rattle.legumeyet_c_values.specs.Numbers.{Gives, IsChangeFault, IsNumberFault}
+use Rattle.legumeyet_c_values.proofs.NumbersLemmas.{number_fault_other, other_fault}
+use Rattle.legumeyet_c_values.proofs.PartsLemmas.{parts_by}
 use Rattle.legumeyet_c.specs.CompactWriting.{IsCompactAnnotated, IsCompactPartsFault}
-use Rattle.legumeyet_c.specs.Numbers.{Gives, IsChangeFault, IsNumberFault}
 use Rattle.legumeyet_c.specs.Views.{compact_open}
-use Rattle.legumeyet_c.proofs.PartsLemmas.{parts_by}
-use Rattle.legumeyet_c.proofs.PuttingLemmas.{number_fault_other, other_fault, value_fault, value_says}
+use Rattle.legumeyet_c.proofs.WritingLemmas.{value_fault, value_says}
 use Rattle.legumeyet_c.proofs.compact_parts.legumeyet_compact_formatter_format_parts.Goals as goal
 
 pub write_parts-requires-clause-other : goal.write_parts-requires-clause-other

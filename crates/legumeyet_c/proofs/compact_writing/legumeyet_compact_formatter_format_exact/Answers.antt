@@ -1,11 +1,13 @@
 use Rattle.std.proofs.Common.{rules, w32, ◌∙◌}
 use Rattle.std.proofs.lemmas.Int.{to_z-of_z}
 use mir.Val.{SFits}
-use Rattle.legumeyet_c.specs.Choices.{choices_of}
+use Rattle.legumeyet_c_values.specs.Choices.{choices_of}
+use Rattle.legumeyet_c_values.specs.Numbers.{GivesCompact, IsChangeFault, IsCompactNumberFault}
+use Rattle.legumeyet_c_values.proofs.NumbersLemmas.{compact_fault_other, other_fault}
+use Rattle.legumeyet_c_values.proofs.PuttingLemmas.{put_by}
 use Rattle.legumeyet_c.specs.CompactWriting.{IsExactFault, IsExactText}
-use Rattle.legumeyet_c.specs.Numbers.{GivesCompact, IsChangeFault, IsCompactNumberFault}
 use Rattle.legumeyet_c.specs.Views.{compact_open}
-use Rattle.legumeyet_c.proofs.PuttingLemmas.{compact_fault_other, other_fault, put_by, value_fault, value_says}
+use Rattle.legumeyet_c.proofs.WritingLemmas.{value_fault, value_says}
 use Rattle.legumeyet_c.proofs.compact_writing.legumeyet_compact_formatter_format_exact.Goals as goal
 
 pub write_behind-requires-clause-other : goal.write_behind-requires-clause-other

@@ -1,11 +1,13 @@
 use Rattle.std.proofs.Common.{rules, w16, w32, w64, ◌∙◌}
 use Rattle.std.proofs.lemmas.Int.{to_z-of_z}
 use mir.Val.{SFits}
-use Rattle.legumeyet_c.specs.Choices.{choices_of}
+use Rattle.legumeyet_c_values.specs.Choices.{choices_of}
+use Rattle.legumeyet_c_values.specs.Numbers.{Gives, IsChangeFault, IsScaled, IsScaledFault}
+use Rattle.legumeyet_c_values.proofs.NumbersLemmas.{other_fault, scaled_fault_other}
+use Rattle.legumeyet_c_values.proofs.PuttingLemmas.{put_by}
 use Rattle.legumeyet_c.specs.DecimalWriting.{HasNoFault, IsDecimalText}
-use Rattle.legumeyet_c.specs.Numbers.{Gives, IsChangeFault, IsScaled, IsScaledFault}
 use Rattle.legumeyet_c.specs.Views.{decimal_open}
-use Rattle.legumeyet_c.proofs.PuttingLemmas.{other_fault, put_by, scaled_fault_other, value_fault, value_says}
+use Rattle.legumeyet_c.proofs.WritingLemmas.{value_fault, value_says}
 use Rattle.legumeyet_c.proofs.decimal_formatter.legumeyet_decimal_formatter_format_i64.Goals as goal
 
 pub write_behind-requires-clause-other : goal.write_behind-requires-clause-other

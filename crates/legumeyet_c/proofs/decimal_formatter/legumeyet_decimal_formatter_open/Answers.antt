@@ -5,7 +5,7 @@ use Rattle.icu_decimal.specs.PlainText.{Tables}
 use Rattle.icu_decimal.specs.declared.options.GroupingStrategy.{GroupingStrategy}
 use Rattle.locale_numbers.specs.Book.{BookTables}
 use Rattle.locale_numbers.specs.TagFormatters.{plain_for}
-use Rattle.legumeyet_c.specs.Choices.{grouping_of}
+use Rattle.legumeyet_c_values.specs.Choices.{grouping_of}
 use Rattle.legumeyet_c.specs.Opening.{IsDecimalFor}
 use Rattle.legumeyet_c.specs.Views.{book_open, decimal_open}
 use Rattle.legumeyet_c.proofs.OpeningLemmas.{opening_chosen}

@@ -2,8 +2,8 @@ use Rattle.std.proofs.Common.{rules, w32, Err, refl, ◌∙◌}
 use Rattle.std.proofs.lemmas.Int.{to_z-of_z}
 use mir.Val.{SFits}
 use Rattle.writeable.proofs.AnnotatedTextLemmas.{text_of_bytes}
-use Rattle.legumeyet_c.specs.declared.call_error.CallError.TheVariants.{UnknownOption}
-use Rattle.legumeyet_c.proofs.PuttingLemmas.{put_by, put_refused}
+use Rattle.legumeyet_c_values.specs.declared.CallError.TheVariants.{UnknownOption}
+use Rattle.legumeyet_c_values.proofs.PuttingLemmas.{put_by, put_refused}
 use Rattle.legumeyet_c.proofs.information.legumeyet_error_text.Goals as goal
 
 pub returns-in-Some : goal.returns-in-Some

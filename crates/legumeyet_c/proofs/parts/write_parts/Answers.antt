@@ -1,8 +1,8 @@
 use Rattle.std.proofs.Common.{sym, subst}
 use Rattle.writeable.specs.AnnotatedText.{AnnotatedText}
+use Rattle.legumeyet_c_values.proofs.PartsLemmas.{parts_by, parts_refused}
 use Rattle.legumeyet_c.specs.Writing.{WritesValue}
-use Rattle.legumeyet_c.proofs.PartsLemmas.{parts_by, parts_refused}
-use Rattle.legumeyet_c.proofs.PuttingLemmas.{value_fault_other}
+use Rattle.legumeyet_c.proofs.WritingLemmas.{value_fault_other}
 use Rattle.legumeyet_c.proofs.parts.write_parts.Goals as goal
 
 pub returns-in-Ok-clause-told : goal.returns-in-Ok-clause-told

@@ -2,8 +2,9 @@ use Rattle.std.proofs.Common.{rules, w32, Err, ◌∙◌}
 use Rattle.std.proofs.lemmas.Int.{to_z-of_z}
 use mir.Val.{SFits}
 use Rattle.writeable.proofs.AnnotatedTextLemmas.{text_of_bytes}
+use Rattle.legumeyet_c_values.proofs.PuttingLemmas.{put_by, put_refused}
 use Rattle.legumeyet_c.specs.Views.{decimal_open}
-use Rattle.legumeyet_c.proofs.PuttingLemmas.{put_by, put_refused, read_fault_other}
+use Rattle.legumeyet_c.proofs.WritingLemmas.{read_fault_other}
 use Rattle.legumeyet_c.proofs.reading.legumeyet_decimal_formatter_read.Goals as goal
 
 pub returns-in-Ok-clause-told : goal.returns-in-Ok-clause-told

@@ -1,5 +1,5 @@
 use Rattle.std.proofs.Common.{rules}
-use Rattle.legumeyet_c.proofs.PuttingLemmas.{closed_put, open_put}
+use Rattle.legumeyet_c.proofs.WritingLemmas.{closed_put, open_put}
 use Rattle.legumeyet_c.proofs.writing.write_behind.Goals as goal
 
 pub returns-in_default-clause-told : goal.returns-in_default-clause-told

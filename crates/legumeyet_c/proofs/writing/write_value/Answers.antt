@@ -1,7 +1,7 @@
 use Rattle.std.proofs.Common.{rules, Some, Result, refl, sym, subst}
+use Rattle.legumeyet_c_values.specs.declared.CallError.{CallError}
+use Rattle.legumeyet_c_values.proofs.PuttingLemmas.{put_by, put_refused}
 use Rattle.legumeyet_c.specs.Writing.{IsValueFault, WritesValue}
-use Rattle.legumeyet_c.specs.declared.call_error.CallError.{CallError}
-use Rattle.legumeyet_c.proofs.PuttingLemmas.{put_by, put_refused}
 use Rattle.legumeyet_c.proofs.writing.write_value.Goals as goal
 
 pub returns-in-Ok : goal.returns-in-Ok

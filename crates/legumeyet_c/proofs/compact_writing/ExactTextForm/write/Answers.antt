@@ -7,7 +7,7 @@ use Rattle.icu_decimal.specs.ExactText.{exact_formatted}
 use Rattle.icu_decimal.specs.Pattern.{InPattern}
 use Rattle.icu_decimal.specs.PlainText.{PlainNumber}
 use Rattle.locale_numbers.proofs.CompactAnswerLemmas.{exact_is, exact_none}
-use Rattle.legumeyet_c.proofs.PuttingLemmas.{put_by, put_refused}
+use Rattle.legumeyet_c_values.proofs.PuttingLemmas.{put_by, put_refused}
 use Rattle.legumeyet_c.proofs.compact_writing.ExactTextForm.write.Goals as goal
 
 pub returns-then-not-exponent_in_range : goal.returns-then-not-exponent_in_range

@@ -3,9 +3,9 @@ use Rattle.fixed_decimal.specs.CompactText.{compact_text_of}
 use Rattle.icu_decimal.specs.CompactTables.{CompactTables}
 use Rattle.icu_decimal.specs.CompactText.{value_shown}
 use Rattle.writeable.proofs.AnnotatedTextLemmas.{text_of_bytes}
+use Rattle.legumeyet_c_values.specs.declared.CallError.TheVariants.{Memory}
+use Rattle.legumeyet_c_values.proofs.PuttingLemmas.{put_by, put_refused}
 use Rattle.legumeyet_c.specs.CompactWriting.{IsShownFault}
-use Rattle.legumeyet_c.specs.declared.call_error.CallError.TheVariants.{Memory}
-use Rattle.legumeyet_c.proofs.PuttingLemmas.{put_by, put_refused}
 use Rattle.legumeyet_c.proofs.compact_writing.ShownTextForm.write.Goals as goal
 
 pub returns-then-not-can_format : goal.returns-then-not-can_format

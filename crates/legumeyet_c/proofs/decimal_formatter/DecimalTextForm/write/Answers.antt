@@ -3,7 +3,7 @@ use Rattle.icu_decimal.specs.Affixes.{WithSign}
 use Rattle.icu_decimal.specs.PlainText.{PlainNumber, Tables, decimal_events, formatted}
 use Rattle.icu_decimal.proofs.TextLemmas.{decimal_is_text}
 use Rattle.writeable.specs.AnnotatedText.{text_of}
-use Rattle.legumeyet_c.proofs.PuttingLemmas.{put_by}
+use Rattle.legumeyet_c_values.proofs.PuttingLemmas.{put_by}
 use Rattle.legumeyet_c.proofs.decimal_formatter.DecimalTextForm.write.Goals as goal
 
 pub returns : goal.returns

@@ -1,0 +1,4 @@
+pub mod ListingLemmas
+pub mod NumbersLemmas
+pub mod PartsLemmas
+pub mod PuttingLemmas

@@ -1,0 +1,170 @@
+// What calls return.
+
+ghost use Rattle.std.specs.Prelude.{◌≡◌, IfSome, IsNone};
+ghost use Rattle.legumeyet_c_values.specs.CallErrors.{answer_of, book_answer, book_text, number_of, text_of};
+ghost use Rattle.legumeyet_c_values.specs.Information.{IsNoError};
+
+use locale_numbers_tables::BookError;
+
+/// Why a call was refused: `Tag` of `e` as a locale tag. The header says when each comes.
+#[derive(Clone, Copy, Drop)]
+pub enum CallError {
+    /// Out of memory.
+    Memory,
+    /// The handle is closed.
+    Closed,
+    /// The text needs more room.
+    TooSmall,
+    /// An option is none of its numbers.
+    UnknownOption,
+    /// The text is no locale tag.
+    Tag,
+    /// The book lacks a table for the tag.
+    Table,
+    /// The text is no decimal number.
+    Number,
+    /// A digit of the number stands beyond the magnitudes -32768 to 32767.
+    Limit,
+    /// What the number is shown as reaches ten to the power 32768.
+    Range,
+    /// The text is not UTF-8.
+    NoUtf8,
+    /// Two numbers may have one text under the symbols.
+    Unreadable,
+    /// No number is written so.
+    NotWritten,
+    /// Numbers of this magnitude have another exponent.
+    Exponent,
+    /// The bytes are no book.
+    Book(BookError),
+}
+
+// The number of a book's error: 100 and its own, or 1 for out of memory.
+fn book_number(error: BookError) -> i32
+    ensures { result ≡ book_answer error }
+{
+    match error {
+        BookError::Json => 101,
+        BookError::Shape => 102,
+        BookError::Tag => 103,
+        BookError::System => 104,
+        BookError::Text => 105,
+        BookError::Digits => 106,
+        BookError::Condition => 107,
+        BookError::Types => 108,
+        BookError::Exponents => 109,
+        BookError::Duplicate => 110,
+        BookError::Cycle => 111,
+        BookError::Memory => 1,
+    }
+}
+
+// What is wrong with a book.
+fn book_text(error: BookError) -> &'static str
+    ensures { result.now ≡ book_text error }
+{
+    match error {
+        BookError::Json => "no book: no JSON",
+        BookError::Shape => "no book: the shape of a book, or of an entry",
+        BookError::Tag => "no book: a locale, or a parent of one",
+        BookError::System => "no book: the name of a numbering system",
+        BookError::Text => "no book: a tab or a line feed in a text",
+        BookError::Digits => "no book: digits that are not ten characters",
+        BookError::Condition => "no book: a condition of a plural category",
+        BookError::Types => "no book: types of patterns that do not rise",
+        BookError::Exponents => "no book: exponents of patterns",
+        BookError::Duplicate => "no book: a key that stands twice",
+        BookError::Cycle => "no book: parents that lead back",
+        BookError::Memory => "out of memory",
+    }
+}
+
+impl CallError {
+    /// The number of the error, as the header has it: 5 of `Tag`.
+    pub fn number(self) -> i32
+        ensures { result ≡ number_of self }
+    {
+        match self {
+            CallError::Memory => 1,
+            CallError::Closed => 2,
+            CallError::TooSmall => 3,
+            CallError::UnknownOption => 4,
+            CallError::Tag => 5,
+            CallError::Table => 6,
+            CallError::Number => 7,
+            CallError::Limit => 8,
+            CallError::Range => 9,
+            CallError::NoUtf8 => 10,
+            CallError::Unreadable => 11,
+            CallError::NotWritten => 12,
+            CallError::Exponent => 13,
+            CallError::Book(error) => book_number(error),
+        }
+    }
+
+    /// What the error means, in English: `no locale tag` of `Tag`.
+    pub fn text(self) -> &'static str
+        ensures { result.now ≡ text_of self }
+    {
+        match self {
+            CallError::Memory => "out of memory",
+            CallError::Closed => "the handle is closed",
+            CallError::TooSmall => "more room is needed",
+            CallError::UnknownOption => "an option that there is not",
+            CallError::Tag => "no locale tag",
+            CallError::Table => "the book lacks a table for the tag",
+            CallError::Number => "no decimal number",
+            CallError::Limit => "a digit beyond the magnitudes -32768 to 32767",
+            CallError::Range => "what is shown reaches ten to the power 32768",
+            CallError::NoUtf8 => "no UTF-8",
+            CallError::Unreadable => "symbols under which two numbers may have one text",
+            CallError::NotWritten => "no number is written so",
+            CallError::Exponent => "an exponent that numbers of this magnitude have not",
+            CallError::Book(error) => book_text(error),
+        }
+    }
+}
+
+/// The number that a call returns: 0 where it was not refused.
+pub fn answer(outcome: Result<(), CallError>) -> i32
+    ensures { result ≡ answer_of outcome }
+{
+    match outcome {
+        Ok(()) => 0,
+        Err(error) => error.number(),
+    }
+}
+
+/// The error that has this number: `Tag` of 5, and none of 14.
+pub fn error_of(number: i32) -> Option<CallError>
+    ensures value { IfSome result (λ error. number ≡ number_of error) }
+    ensures none { IsNone result → IsNoError number }
+{
+    match number {
+        1 => Some(CallError::Memory),
+        2 => Some(CallError::Closed),
+        3 => Some(CallError::TooSmall),
+        4 => Some(CallError::UnknownOption),
+        5 => Some(CallError::Tag),
+        6 => Some(CallError::Table),
+        7 => Some(CallError::Number),
+        8 => Some(CallError::Limit),
+        9 => Some(CallError::Range),
+        10 => Some(CallError::NoUtf8),
+        11 => Some(CallError::Unreadable),
+        12 => Some(CallError::NotWritten),
+        13 => Some(CallError::Exponent),
+        101 => Some(CallError::Book(BookError::Json)),
+        102 => Some(CallError::Book(BookError::Shape)),
+        103 => Some(CallError::Book(BookError::Tag)),
+        104 => Some(CallError::Book(BookError::System)),
+        105 => Some(CallError::Book(BookError::Text)),
+        106 => Some(CallError::Book(BookError::Digits)),
+        107 => Some(CallError::Book(BookError::Condition)),
+        108 => Some(CallError::Book(BookError::Types)),
+        109 => Some(CallError::Book(BookError::Exponents)),
+        110 => Some(CallError::Book(BookError::Duplicate)),
+        111 => Some(CallError::Book(BookError::Cycle)),
+        _ => None,
+    }
+}
