@@ -31,7 +31,8 @@ SHARES = {
     "icu_locale_core_keywords_fields": 260, "fixed_decimal_signed": 180, "fixed_decimal": 200, "icu_locale_core_preference_keywords": 512,
     "icu_locale_core_extensions": 185, "icu_locale_core_locale": 531, "icu_decimal_compact_value": 68, "locale_numbers_requests": 61,
     "icu_locale_core": 150, "icu_decimal_provider": 107, "locale_numbers_parents": 106,
-    "icu_decimal_plurals": 118, "icu_decimal_plain": 327, "icu_decimal_patterns": 343, "icu_decimal_reading": 184, "icu_decimal_formatter": 68,
+    "icu_decimal_plurals": 118, "icu_decimal_grouping": 44, "icu_decimal_plain": 283, "icu_decimal_patterns": 343,
+    "icu_decimal_reading": 184, "icu_decimal_formatter": 68,
     "icu_decimal_compact": 200, "icu_decimal": 81, "locale_numbers_tables": 220, "locale_numbers_book": 140,
     "locale_numbers_requests": 90,
 }

@@ -38,7 +38,7 @@ pub use Rattle.icu_decimal_compact_value.specs.Significand
 pub use Rattle.icu_decimal_compact_value.specs.ShownValue
 pub use Rattle.icu_decimal_plain.specs.Affixes
 pub use Rattle.icu_decimal_compact.specs.FoundTables
-pub use Rattle.icu_decimal_plain.specs.Grouper
+pub use Rattle.icu_decimal_grouping.specs.Grouper
 pub use Rattle.icu_decimal_plain.specs.PartIntervals
 pub use Rattle.icu_decimal_plain.specs.PlainText
 -- What a formatter, a pattern and a value with a sign hold.
@@ -67,7 +67,7 @@ pub use Rattle.icu_decimal_compact_value.specs.ShownLaws
 pub use Rattle.icu_decimal_compact_value.specs.UnderTableLaws
 pub use Rattle.icu_decimal_compact.specs.TableLaws as Laws
 pub use Rattle.icu_decimal_symbols.specs.SameSymbolsLaws
-pub use Rattle.icu_decimal_plain.specs.GroupLaws
+pub use Rattle.icu_decimal_grouping.specs.GroupLaws
 pub use Rattle.icu_decimal_plain.specs.PartLaws
 pub use Rattle.icu_decimal_plain.specs.TextLaws
 pub use Rattle.icu_decimal_compact.specs.FoundLaws

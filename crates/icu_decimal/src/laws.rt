@@ -9,5 +9,6 @@ pub use icu_decimal_reading::laws as reading;
 /// Laws of plain text: groups, texts and parts, and the tables that equal preferences find.
 pub mod text {
     pub use icu_decimal_compact::formatter_laws::same_tables;
-    pub use icu_decimal_plain::laws::{groups_law, parts_law, text_law};
+    pub use icu_decimal_grouping::laws::groups_law;
+    pub use icu_decimal_plain::laws::{parts_law, text_law};
 }

@@ -29,8 +29,9 @@ pub use icu_decimal_compact::{
     AbstractFormatter, CompactDecimalFormatter, DecimalFormatter, FormattedUnsigned,
     FormattedUnsignedCompactDecimal, preferences,
 };
+pub use icu_decimal_grouping::grouper;
 pub use icu_decimal_plain::{
-    DecimalTables, FormattedDecimal, FormattedSign, FormattedUnsignedDecimal, grouper,
+    DecimalTables, FormattedDecimal, FormattedSign, FormattedUnsignedDecimal,
 };
 pub use icu_decimal_symbols::{Cow, options, parts};
 pub use reading::{is_readable, read_plain, read_readable};

@@ -7,8 +7,8 @@ use Rattle.std.specs.Option.{MatchOption, unwrap_or}
 use Rattle.icu_decimal_symbols.specs.declared.grouping_sizes.GroupingSizes.{GroupingSizes}
 use Rattle.icu_decimal_symbols.specs.declared.options.GroupingStrategy.{GroupingStrategy}
 use Rattle.fixed_decimal.specs.Number.{digits_down}
-use Rattle.icu_decimal_plain.specs.Grouper.{group_sizes}
-use Rattle.icu_decimal_plain.proofs.GrouperLemmas.{are_sizes}
+use Rattle.icu_decimal_grouping.specs.Grouper.{group_sizes}
+use Rattle.icu_decimal_grouping.proofs.GrouperLemmas.{are_sizes}
 
 -- of a block that was put the first few
 pub block_part : (chunk after block shown : List ℕ) (at n : ℕ) → n ≤ 16 → at ≤ length chunk

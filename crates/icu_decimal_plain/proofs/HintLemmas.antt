@@ -6,10 +6,10 @@ use Rattle.writeable.specs.AnnotatedText.{Event, text_of}
 use Rattle.writeable.specs.SinkLaws.{text_of_joined}
 use Rattle.fixed_decimal.specs.Number.{fraction_digits, whole_digits}
 use Rattle.icu_decimal_plain.specs.Affixes.{WithSign, events_with_sign, prefix_events, suffix_events}
-use Rattle.icu_decimal_plain.specs.Grouper.{ends_at, group_sizes, marked}
+use Rattle.icu_decimal_grouping.specs.Grouper.{ends_at, group_sizes, marked}
 use Rattle.icu_decimal_plain.specs.PlainText.{PlainNumber, Tables, chained, digit_text, fraction_text, unsigned_events, whole_text}
 use Rattle.icu_decimal_plain.proofs.DigitChunkLemmas.{length_down}
-use Rattle.icu_decimal_plain.proofs.GrouperLemmas.{joined_is_separated}
+use Rattle.icu_decimal_grouping.proofs.GrouperLemmas.{joined_is_separated}
 use Rattle.icu_decimal_plain.proofs.TextLemmas.{unsigned_is_text}
 use Rattle.std.specs.Char.{encode_utf8}
 

@@ -10,7 +10,8 @@ use Rattle.icu_decimal_symbols.specs.declared.options.GroupingStrategy.TheVarian
 use Rattle.icu_decimal_symbols.specs.Symbols.{english_strings}
 use Rattle.icu_decimal_plain.specs.PartIntervals.{decimal_annotated, integer_parts}
 use Rattle.icu_decimal_plain.specs.PlainText.{Tables}
-use Rattle.icu_decimal_plain.proofs.KnownValues.{english, latin_digits, part_at, sizes_of}
+use Rattle.icu_decimal_grouping.proofs.KnownValues.{sizes_of}
+use Rattle.icu_decimal_plain.proofs.KnownValues.{english, latin_digits, part_at}
 
 -- so many tenths, the magnitudes from 3 to -1 shown
 tenths_shown : Sign → ℕ → SignedValue Number

@@ -1,7 +1,6 @@
 pub mod ComparingLemmas
 pub mod DigitChunkLemmas
 pub mod EventPartLemmas
-pub mod GrouperLemmas
 pub mod HintLemmas
 pub mod KnownParts
 pub mod KnownValues
@@ -12,3 +11,5 @@ pub mod RowLemmas
 pub mod SeparatorLemmas
 pub mod ShortRowLemmas
 pub mod TextLemmas
+-- Lemmas on groups, for the crates above.
+pub use Rattle.icu_decimal_grouping.proofs.GrouperLemmas

@@ -1,12 +1,10 @@
 -- Pieces put one behind the other, and digits written by chunks.
-use Rattle.std.proofs.Common.{◌≡◌, ℕ, zero, suc, ◌+◌, ◌-◌, ◌*◌, ◌/◌, ◌%◌, ◌<◌, ◌≤◌, List, [], ◌∷◌, ◌++◌, IsAscii, IsUtf8, cond, drop, get_or, length, map, refl, replicate, set, encode_utf8, length-append, slice_index, slice_index_or, ◌⊎◌, inl, inr, sym, take, ap, ◌∙◌, subst, sum, append_assoc, arith}
-use Rattle.std.proofs.lemmas.Bool.{ne_eqb}
-use Rattle.std.proofs.lemmas.List.{append-nil, drop_all, drop_more, get_or-set_other, get_or-set_same, drop-drop, drop-take, length-replicate, length-take-le, map-append, replicate-append-replicate, take-append-le, take-take, take_all}
+use Rattle.std.proofs.Common.{◌≡◌, ℕ, zero, suc, ◌+◌, ◌<◌, ◌≤◌, List, [], ◌∷◌, ◌++◌, IsAscii, IsUtf8, drop, get_or, length, map, refl, set, encode_utf8, slice_index, slice_index_or, ◌⊎◌, inl, inr, sym, take, ap, ◌∙◌, subst, sum, append_assoc, arith}
+use Rattle.std.proofs.lemmas.List.{drop_all, drop_more, get_or-set_other, get_or-set_same, drop-drop, drop-take, length-take-le, map-append, take-append-le, take-take}
 use Rattle.std.proofs.lemmas.List.Sums.{sum_by-append, sum_by-cons}
 use Rattle.std.proofs.lemmas.List.Concat.{flat_map-append}
 use Rattle.std.proofs.lemmas.List.Edits.{sets, sets-eq}
 use Rattle.std.proofs.Math.Seq.{take-add, take-append-add}
-use Rattle.std.proofs.lemmas.Nat.{div-add-mod'}
 use Rattle.writeable.specs.AnnotatedText.{bytes}
 use Rattle.writeable.proofs.AnnotatedTextLemmas.{bytes_joined, no_bytes}
 use Rattle.std.proofs.lemmas.Str.{IsUtf8-append, IsUtf8-from_ascii, IsUtf8-nil, encode_ascii}
@@ -15,7 +13,6 @@ use Rattle.std.proofs.Math.Nat.{eq-or-lt_of_le}
 use Rattle.fixed_decimal.proofs.DigitsLemmas.{below_drop, below_take}
 use Rattle.icu_decimal_plain.specs.declared.text_pieces.Piece.{Piece}
 use Rattle.icu_decimal_plain.specs.Pieces.{Holds}
-use Rattle.icu_decimal_plain.specs.HeldSizes.{size_if, sizes_held}
 use Rattle.icu_decimal_plain.specs.LaterGroups.{groups_ahead}
 use Rattle.icu_decimal_plain.specs.PlainText.{chained, digit_text}
 
@@ -55,25 +52,6 @@ piece_set xs bytes i n within long few =
     four_set xs i n (get_or bytes 0 0) (get_or bytes 1 0) (get_or bytes 2 0) (get_or bytes 3 0) within few
     ∙ ap (λ four. take i xs ++ take n four) (four_read bytes long)
 
--- a group and those behind it
-pub groups_next : (separator table ns others ds front behind : List ℕ) (n : ℕ) → ns ≡ n ∷ others → front ≡ take n ds → behind ≡ drop n ds
-    → groups_ahead separator (digit_text table) ns ds ≡ separator ++ (chained (map (digit_text table) front) ++ groups_ahead separator (digit_text table) others behind)
-groups_next separator table ns others ds front behind n is taken left_over =
-    ap (λ sizes. groups_ahead separator (digit_text table) sizes ds) is
-    ∙ append_assoc separator (chained (map (digit_text table) (take n ds))) (groups_ahead separator (digit_text table) others (drop n ds))
-    ∙ ap (λ group. separator ++ (chained (map (digit_text table) group) ++ groups_ahead separator (digit_text table) others (drop n ds))) (sym taken)
-    ∙ ap (λ rest. separator ++ (chained (map (digit_text table) front) ++ groups_ahead separator (digit_text table) others rest)) (sym left_over)
-
-pub groups_none : (separator table ns ds : List ℕ) → ns ≡ [] → groups_ahead separator (digit_text table) ns ds ≡ []
-groups_none separator table ns ds none = ap (λ sizes. groups_ahead separator (digit_text table) sizes ds) none
-
--- a group less
-pub sum_next : (ns others : List ℕ) (n : ℕ) → ns ≡ n ∷ others → sum ns ≡ n + sum others
-sum_next ns others n is = ap sum is ∙ sum_by-cons (λ x. x) n others
-
-pub count_next : (ns others : List ℕ) (n : ℕ) → ns ≡ n ∷ others → length ns ≡ 1 + length others
-count_next ns others n is = let more : suc (length others) ≡ 1 + length others = omega arith in ap length is ∙ more
-
 pub ten_at : (ds : List ℕ) (i : ℕ) → i < length ds → AllBelowBase 10 ds → slice_index ds i < 10
 ten_at [] i within tens = absurd (omega (arith, within))
 ten_at (d ∷ ds) zero within tens = tens.0
@@ -111,10 +89,6 @@ table_next pieces table last piece within held next d below =
     (λ is. subst (λ (n : ℕ). Holds (slice_index_or (set pieces last piece) n nothing) (digit_text table n)) (sym is)
     (subst (λ (p : Piece). Holds p (digit_text table last)) (sym (get_or-set_same pieces last piece nothing within)) next))
 
--- groups that fill a chunk
-pub whole_chunk : (size : ℕ) → 48 % size ≡ 0 → 48 / size * size ≡ 48
-whole_chunk size fits = let split = div-add-mod' 48 size in omega (arith, split, fits)
-
 -- the text of digits, one more and those behind it
 pub text_next : (table ds : List ℕ) (i : ℕ) → i < length ds
     → chained (map (digit_text table) (drop i ds)) ≡ digit_text table (slice_index ds i) ++ chained (map (digit_text table) (drop (i + 1) ds))
@@ -142,39 +116,6 @@ ahead_parts separator table (n ∷ ns) ms ds =
     ∙ ap (λ digits. (part (take n (take (sum (n ∷ ns)) ds)) ++ ahead ns digits) ++ ahead ms (drop (sum ns) (drop n ds))) (sym behind)
     ∙ ap (λ digits. (part (take n (take (sum (n ∷ ns)) ds)) ++ ahead ns (drop n (take (sum (n ∷ ns)) ds))) ++ ahead ms digits) past
 
-pub chunk_sum : (ms : List ℕ) (n k : ℕ) → sum (replicate k n ++ ms) ≡ k * n + sum ms
-chunk_sum ms n zero = omega arith
-chunk_sum ms n (suc k) =
-    let rest = chunk_sum ms n k in
-    let next = sum_by-cons (λ x. x) n (replicate k n ++ ms) in
-    omega (arith, rest, next)
-
--- groups that fill a chunk have its digits together
-pub chunk_whole : (size : ℕ) → 48 % size ≡ 0 → sum (sizes_held 0 (48 / size) size 0) ≡ 48
-chunk_whole size fits =
-    let whole = whole_chunk size fits in
-    let all = chunk_sum [] size (48 / size) in
-    omega (arith, whole, all)
-
--- and are no more than they
-pub chunk_few : (size : ℕ) → 48 % size ≡ 0 → 0 < size → length (sizes_held 0 (48 / size) size 0) ≤ 48
-chunk_few zero fits some = absurd (omega (arith, some))
-chunk_few (suc k) fits some =
-    let whole = whole_chunk (suc k) fits in
-    let count = length-append (replicate (48 / suc k) (suc k)) [] in
-    let groups = length-replicate (48 / suc k) (suc k) in
-    omega (arith, whole, count, groups)
-
--- so many of the middle groups, and the others
-pub middles_taken : (first middles middle last groups : ℕ) → first ≤ 0 → groups ≤ middles
-    → sizes_held first middles middle last ≡ replicate groups middle ++ sizes_held first (middles - groups) middle last
-middles_taken (suc first) middles middle last groups none few = absurd (omega (arith, none))
-middles_taken zero middles middle last groups none few =
-    let whole : groups + (middles - groups) ≡ middles = omega (arith, few) in
-    ap (λ n. replicate n middle ++ size_if last) (sym whole)
-    ∙ ap (λ ns. ns ++ size_if last) (sym (replicate-append-replicate groups (middles - groups) middle))
-    ∙ append_assoc (replicate groups middle) (replicate (middles - groups) middle) (size_if last)
-
 -- Texts that are UTF-8.
 
 pub utf8_digits : (table ds : List ℕ) → ((d : ℕ) → d < 10 → IsUtf8 (digit_text table d)) → AllBelowBase 10 ds → IsUtf8 (chained (map (digit_text table) ds))
@@ -189,20 +130,6 @@ utf8_groups separator table (n ∷ ns) ds fine each tens =
     IsUtf8-append (separator ++ chained (map (digit_text table) (take n ds))) (groups_ahead separator (digit_text table) ns (drop n ds))
     (IsUtf8-append separator (chained (map (digit_text table) (take n ds))) fine (utf8_digits table (take n ds) each (below_take n ds tens)))
     (utf8_groups separator table ns (drop n ds) fine each (below_drop n ds tens))
-
--- Digits in blocks.
-
--- three blocks of sixteen are a chunk
-pub three_blocks : (ds second third c0 c1 c2 c3 : List ℕ)
-    → take (0 + 16) c1 ≡ take 0 c0 ++ take 16 ds → take (16 + 16) c2 ≡ take 16 c1 ++ take 16 second → take (32 + 16) c3 ≡ take 32 c2 ++ take 16 third
-    → second ≡ drop 16 ds → third ≡ drop 16 second → length c3 ≡ 48 → c3 ≡ take 48 ds
-three_blocks ds second third c0 c1 c2 c3 one two three two_is three_is long =
-    let later : third ≡ drop 32 ds = three_is ∙ ap (drop 16) two_is ∙ drop-drop 16 16 ds in
-    sym (take_all 48 c3 (omega (arith, long)))
-    ∙ three
-    ∙ ap (λ front. front ++ take 16 third) (two ∙ ap (λ front. front ++ take 16 second) one ∙ ap (λ digits. take 16 ds ++ take 16 digits) two_is ∙ sym (take-add 16 16 ds))
-    ∙ ap (λ digits. take 32 ds ++ take 16 digits) later
-    ∙ sym (take-add 32 16 ds)
 
 -- Bytes that are written.
 
@@ -223,9 +150,6 @@ next_past ns others ds after n next is =
 
 pub no_bytes_ahead : (separator table ns ds : List ℕ) → ns ≡ [] → bytes (groups_ahead separator (digit_text table) ns ds) ≡ []
 no_bytes_ahead separator table ns ds none = ap (λ sizes. bytes (groups_ahead separator (digit_text table) sizes ds)) none ∙ no_bytes
-
-pub no_digits_past : (ns ds : List ℕ) → ns ≡ [] → ds ≡ drop (sum ns) ds
-no_digits_past ns ds none = ap (λ sizes. drop (sum sizes) ds) (sym none)
 
 -- a chunk that is written, and what is behind it
 pub chunk_bytes : (separator table ns taken others ds after chunk text : List ℕ) → ns ≡ taken ++ others → sum taken ≡ 48
@@ -252,52 +176,17 @@ digits_joined : (table front back : List ℕ) → chained (map (digit_text table
 digits_joined table front back =
     ap chained (map-append (digit_text table) front back) ∙ flat_map-append (λ list. list) (map (digit_text table) front) (map (digit_text table) back)
 
--- a size that is not 0 is one
-some_size : (n : ℕ) → 0 < n → size_if n ≡ n ∷ []
-some_size n some = ap (λ b. cond b [] (n ∷ [])) (ne_eqb n 0 (λ is. omega (arith, some, is)))
-
--- digits cut behind each chunk, with nothing between
-run_ahead : (table : List ℕ) (n k r : ℕ) (ds : List ℕ) → groups_ahead [] (digit_text table) (replicate k n ++ size_if r) ds ≡ chained (map (digit_text table) (take (k * n + r) ds))
-run_ahead table n zero zero ds = let none : 0 ≡ 0 * n + 0 = omega arith in ap (λ m. chained (map (digit_text table) (take m ds))) none
-run_ahead table n zero (suc r) ds =
-    let one : suc r ≡ 0 * n + suc r = omega arith in
-    ap (λ sizes. groups_ahead [] (digit_text table) sizes ds) (some_size (suc r) (omega arith))
-    ∙ append-nil (chained (map (digit_text table) (take (suc r) ds))) ∙ ap (λ m. chained (map (digit_text table) (take m ds))) one
-run_ahead table n (suc k) r ds =
-    let whole : n + (k * n + r) ≡ suc k * n + r = omega arith in
-    ap (λ text. chained (map (digit_text table) (take n ds)) ++ text) (run_ahead table n k r (drop n ds))
-    ∙ sym (digits_joined table (take n ds) (take (k * n + r) (drop n ds)))
-    ∙ ap (λ digits. chained (map (digit_text table) digits)) (sym (take-add n (k * n + r) ds))
+-- groups of any sizes, with nothing between
+run_ahead : (table ns ds : List ℕ) → groups_ahead [] (digit_text table) ns ds ≡ chained (map (digit_text table) (take (sum ns) ds))
+run_ahead table [] ds = refl
+run_ahead table (n ∷ ns) ds =
+    let whole : n + sum ns ≡ sum (n ∷ ns) = sym (sum_by-cons (λ x. x) n ns) in
+    ap (λ text. chained (map (digit_text table) (take n ds)) ++ text) (run_ahead table ns (drop n ds))
+    ∙ sym (digits_joined table (take n ds) (take (sum ns) (drop n ds)))
+    ∙ ap (λ digits. chained (map (digit_text table) digits)) (sym (take-add n (sum ns) ds))
     ∙ ap (λ m. chained (map (digit_text table) (take m ds))) whole
 
-pub run_bytes : (table ns ds : List ℕ) (count : ℕ) → ns ≡ replicate (count / 48) 48 ++ size_if (count % 48)
+pub run_bytes : (table ns ds : List ℕ) (count : ℕ) → sum ns ≡ count
     → bytes (groups_ahead [] (digit_text table) ns ds) ≡ bytes (chained (map (digit_text table) (take count ds)))
-run_bytes table ns ds count cut =
-    let whole = div-add-mod' count 48 in
-    ap (λ sizes. bytes (groups_ahead [] (digit_text table) sizes ds)) cut
-    ∙ ap bytes (run_ahead table 48 (count / 48) (count % 48) ds)
-    ∙ ap (λ m. bytes (chained (map (digit_text table) (take m ds)))) whole
-
-sum_if : (n : ℕ) → sum (size_if n) ≡ n
-sum_if zero = refl
-sum_if (suc n) =
-    let one = sum_by-cons (λ x. x) (suc n) [] in
-    let is = ap sum (some_size (suc n) (omega arith)) in
-    omega (arith, one, is)
-
-pub run_past : (ns ds : List ℕ) (count : ℕ) → ns ≡ replicate (count / 48) 48 ++ size_if (count % 48) → drop (sum ns) ds ≡ drop count ds
-run_past ns ds count cut =
-    let whole = div-add-mod' count 48 in
-    let chunks = chunk_sum (size_if (count % 48)) 48 (count / 48) in
-    let rest = sum_if (count % 48) in
-    let all : sum (replicate (count / 48) 48 ++ size_if (count % 48)) ≡ count = omega (arith, whole, chunks, rest) in
-    ap (λ sizes. drop (sum sizes) ds) cut ∙ ap (λ m. drop m ds) all
-
--- all the sizes that the writer holds
-pub held_sum : (first middles middle last : ℕ) → sum (sizes_held first middles middle last) ≡ first + middles * middle + last
-held_sum first middles middle last =
-    let both = sum_by-append (λ x. x) (size_if first) (replicate middles middle ++ size_if last) in
-    let front = sum_if first in
-    let others = chunk_sum (size_if last) middle middles in
-    let behind = sum_if last in
-    omega (arith, both, front, others, behind)
+run_bytes table ns ds count whole =
+    ap bytes (run_ahead table ns ds) ∙ ap (λ m. bytes (chained (map (digit_text table) (take m ds)))) whole

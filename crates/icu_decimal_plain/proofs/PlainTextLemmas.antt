@@ -12,7 +12,7 @@ use Rattle.writeable.specs.AnnotatedText.{Event, bytes, opening, closing}
 use Rattle.writeable.proofs.AnnotatedTextLemmas.{bytes_joined, no_bytes}
 use Rattle.fixed_decimal.specs.Number.{Number, digits_down, fraction_digits, whole_digits}
 use Rattle.icu_decimal_plain.specs.Affixes.{as_part, decimal_part}
-use Rattle.icu_decimal_plain.specs.Grouper.{cut_by, group_sizes, joined}
+use Rattle.icu_decimal_grouping.specs.Grouper.{cut_by, group_sizes, joined}
 use Rattle.icu_decimal_plain.specs.LaterGroups.{groups_ahead, later_events}
 use Rattle.icu_decimal_plain.specs.PlainText.{Tables, chained, digit_events, digit_text, fraction_events, fraction_text, grouped, unsigned_text, whole_events, whole_text}
 

@@ -11,7 +11,7 @@ use Rattle.writeable.specs.PartName.{PartName}
 use Rattle.writeable.proofs.AnnotatedTextLemmas.{bytes_joined, no_bytes, text_of_bytes}
 use Rattle.writeable.proofs.BalancedLemmas.{balanced_append, balanced_none, balanced_text}
 use Rattle.icu_decimal_plain.specs.Affixes.{as_part, decimal_part}
-use Rattle.icu_decimal_plain.specs.Grouper.{cut_by, group_sizes, groups, joined}
+use Rattle.icu_decimal_grouping.specs.Grouper.{cut_by, group_sizes, groups, joined}
 use Rattle.icu_decimal_plain.specs.PartIntervals.{groups_of, groups_text, part_at, separator_at, separator_parts}
 use Rattle.icu_decimal_plain.specs.PartLaws.{SeparatorsStandBetween}
 use Rattle.icu_decimal_plain.specs.PlainText.{Tables, chained, digit_events, digit_text, whole_events}

@@ -9,9 +9,9 @@ use Rattle.writeable.proofs.AnnotatedTextLemmas.{bytes_joined, text_of_bytes, te
 use Rattle.fixed_decimal.specs.Number.{Number, fraction_digits, whole_digits}
 use Rattle.fixed_decimal.specs.SignedValue.{SignedValue}
 use Rattle.icu_decimal_plain.specs.Affixes.{AffixTexts, affixes_of, as_part, decimal_part, prefix_events, suffix_events}
-use Rattle.icu_decimal_plain.specs.Grouper.{cut_by, cut_sizes, ends_at, group_sizes, is_grouped, joined, marked, middle_size}
+use Rattle.icu_decimal_grouping.specs.Grouper.{cut_by, cut_sizes, ends_at, group_sizes, is_grouped, joined, marked, middle_size}
 use Rattle.icu_decimal_plain.specs.PlainText.{PlainNumber, Tables, chained, decimal_events, decimal_text, digit_events, digit_text, formatted, fraction_events, fraction_text, grouped, integer_events, prefix_text, suffix_text, unsigned_events, unsigned_text, whole_events, whole_text}
-use Rattle.icu_decimal_plain.proofs.GrouperLemmas.{has_groups, joined_is_separated}
+use Rattle.icu_decimal_grouping.proofs.GrouperLemmas.{has_groups, joined_is_separated}
 use Rattle.icu_decimal_plain.proofs.PlainTextLemmas.{group_part}
 
 -- opened and closed again

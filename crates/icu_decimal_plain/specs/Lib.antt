@@ -1,9 +1,6 @@
 pub mod Affixes
 pub mod BorrowedTables
-pub mod Grouper
-pub mod GroupLaws
 pub mod HeldAffixes
-pub mod HeldSizes
 pub mod LaterGroups
 pub mod PartIntervals
 pub mod PartLaws
@@ -13,3 +10,5 @@ pub mod Rows
 pub mod SameAffixes
 pub mod SamePlain
 pub mod TextLaws
+-- The groups of digits, for the crates above.
+pub use Rattle.icu_decimal_grouping.specs.Grouper

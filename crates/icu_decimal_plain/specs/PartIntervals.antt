@@ -8,7 +8,7 @@ use Rattle.writeable.specs.PartName.{PartName}
 use Rattle.fixed_decimal.specs.Number.{Number, whole_digits, fraction_digits}
 use Rattle.fixed_decimal.specs.SignedValue.{SignedValue}
 use Rattle.icu_decimal_plain.specs.Affixes.{AffixTexts, affixes_of, decimal_part}
-use Rattle.icu_decimal_plain.specs.Grouper.{groups, joined}
+use Rattle.icu_decimal_grouping.specs.Grouper.{groups, joined}
 use Rattle.icu_decimal_plain.specs.PlainText.{Tables, chained, decimal_text, digit_text, prefix_text, suffix_text, unsigned_text, whole_text}
 
 -- a text that begins at byte n, as a part; an empty one is none

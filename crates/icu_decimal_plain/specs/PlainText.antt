@@ -8,7 +8,7 @@ use Rattle.fixed_decimal.specs.SignedValue.{SignedValue}
 use Rattle.icu_decimal_symbols.specs.declared.options.GroupingStrategy.{GroupingStrategy}
 use Rattle.icu_decimal_symbols.specs.Symbols.{Symbols}
 use Rattle.icu_decimal_plain.specs.Affixes.{AffixTexts, WithSign, affixes_of, as_part, decimal_part, events_with_sign}
-use Rattle.icu_decimal_plain.specs.Grouper.{groups, joined}
+use Rattle.icu_decimal_grouping.specs.Grouper.{groups, joined}
 
 -- what numbers are written with: symbols, the ten characters from zero up, and when separators are written
 pub record Tables : Type 0 where

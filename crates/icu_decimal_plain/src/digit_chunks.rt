@@ -1,43 +1,18 @@
 //! The digits of a number in chunks, and groups that are written by chunks.
 
-ghost use Rattle.std.specs.Prelude.{◌≡◌, ℕ, ◌+◌, ◌<◌, ◌≤◌, ◌++◌, [], drop, false, is_err, length, min, sum, take, IsUtf8, OnOk, OnErr};
+ghost use Rattle.std.specs.Prelude.{◌≡◌, ℕ, ◌+◌, ◌%◌, ◌<◌, ◌≤◌, ◌++◌, [], drop, false, is_err, length, min, sum, take, IsUtf8, OnOk, OnErr};
 ghost use Rattle.std.specs.Int.Digits.{AllBelowBase};
 ghost use Rattle.writeable.specs.AnnotatedText.{bytes};
 ghost use Rattle.writeable.specs.Taking.{HasBegun, IsWriting};
 ghost use Rattle.icu_decimal_plain.specs.PlainText.{digit_text};
 ghost use Rattle.icu_decimal_plain.specs.LaterGroups.{groups_ahead};
 
-use crate::grouper::GroupSizes;
 use crate::piece_tables::DigitTable;
-use crate::text_pieces::{CHUNK, CHUNK_BYTES, Piece, put_groups};
+use crate::text_pieces::{CHUNK_BYTES, Piece, put_groups};
 use fixed_decimal::ShownDigits;
+use icu_decimal_grouping::{CHUNK, GroupSizes};
 use std::iter::ExactSizeIterator;
 use writeable::{Error, Sink};
-
-// Puts the next sixteen digits into a chunk, from a place on.
-fn put_block(digits: &mut ShownDigits<'_>, chunk: &mut [u8; CHUNK], at: usize)
-    requires within { at + 16 ≤ 48 }
-    requires enough { 16 ≤ length digits.old }
-    ensures chunk { take (at + 16) chunk.new ≡ take at chunk.old ++ take 16 digits.old }
-    ensures digits { digits.new ≡ drop 16 digits.old }
-{
-    let mut block = [0; 16];
-    digits.next_block(&mut block);
-    chunk[at..at + 16].copy_from_slice(&block);
-}
-
-// Takes the digits of a chunk.
-fn next_digits(digits: &mut ShownDigits<'_>) -> [u8; CHUNK]
-    requires { 48 ≤ length digits.old }
-    ensures chunk { result ≡ take 48 digits.old }
-    ensures digits { digits.new ≡ drop 48 digits.old }
-{
-    let mut chunk = [0; CHUNK];
-    put_block(digits, &mut chunk, 0);
-    put_block(digits, &mut chunk, 16);
-    put_block(digits, &mut chunk, 32);
-    chunk
-}
 
 // Puts a block of digits into a chunk, from a place on.
 pub(crate) fn set_block<const N: usize>(chunk: &mut [u8; N], at: usize, block: &[u8; 16])
@@ -61,12 +36,15 @@ fn put_next(digits: &mut ShownDigits<'_>, chunk: &mut [u8; CHUNK], at: usize) ->
     count
 }
 
-// Takes the next `count` digits, as a part of a chunk; the bytes behind them mean nothing.
+// Takes the next `count` digits, as a part of a chunk; the bytes behind them mean nothing. Digits are taken sixteen by
+// sixteen, so more may be gone than these, where they are neither all digits nor whole blocks.
 pub(crate) fn few_digits(digits: &mut ShownDigits<'_>, count: usize) -> [u8; CHUNK]
     requires few { count ≤ 48 }
     requires enough { count ≤ length digits.old }
+    ensures long { length result ≡ 48 }
     ensures chunk { take count result ≡ take count digits.old }
     ensures digits { length digits.old ≤ count → digits.new ≡ [] }
+    ensures blocks { count % 16 ≡ 0 → digits.new ≡ drop count digits.old }
 {
     let mut chunk = [0; CHUNK];
     let mut at = 0;
@@ -112,7 +90,7 @@ pub(crate) fn write_chunks<S: Sink>(
         let Some(mut groups) = sizes.next_chunk() else {
             return Ok(());
         };
-        let chunk = next_digits(digits);
+        let chunk = few_digits(digits, CHUNK);
         let len = put_groups(&mut waiting, 0, piece, &chunk, &mut groups, table);
         write_waiting(&waiting, len, sink)?;
     }

@@ -1,16 +1,7 @@
-//! Laws, beside the clauses of the calls: groups are cut from the right, the text of a number and its parts.
+//! Laws, beside the clauses of the calls: the text of a number and its parts.
 
-ghost use Rattle.icu_decimal_plain.specs.GroupLaws.{GroupsAreCut, GroupsAreSeparated};
 ghost use Rattle.icu_decimal_plain.specs.PartLaws.{DecimalHasParts, SeparatorsStandBetween, UnitHasParts, UnsignedHasParts};
 ghost use Rattle.icu_decimal_plain.specs.TextLaws.{DecimalIsText, UnsignedIsText};
-
-/// A law: digits in several groups are cut from the right, and the groups joined are the digits with a separator after
-/// each one at which `grouper::check` says so. With the sizes 3, 2, 1 the digits `1234567` are the groups `12`, `34`,
-/// `567`, and joined `12,34,567`.
-pub fn groups_law()
-    ensures sizes { GroupsAreCut }
-    ensures separated { GroupsAreSeparated }
-{}
 
 /// A law: the text that the events of a number write is the text of its definition, with a sign and without: of -1234.5
 /// in English `-1,234.5`, and of 1234.5 `1,234.5`.

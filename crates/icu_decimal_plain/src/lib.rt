@@ -1,15 +1,13 @@
-//! How a number is written: its text with its parts, the places of grouping separators, the affixes of its sign.
+//! How a number is written: its text with its parts, the affixes of its sign.
 //!
-//! With the sizes 3, 2, 1 the number 100000 is written `1,00,000`: a separator follows the digits at the magnitudes 5
-//! and 3. With a minus sign it is `-1,00,000`. The rules are in docs/plain-text.md.
+//! With the sizes 3, 2, 1 the number 100000 is written `1,00,000`, and with a minus sign `-1,00,000`. The rules are in
+//! docs/plain-text.md.
 //!
 //! ```rust
-//! use icu_decimal_plain::grouper::check;
 //! use icu_decimal_plain::{DecimalTables, FormattedSign};
 //!
 //! let tables = DecimalTables::new(&symbols, &digits, GroupingStrategy::Auto);
 //! tables.format(&number).write_to(&mut sink)?;                            // -1,234.5
-//! let follows = check(5, 3, GroupingStrategy::Auto, sizes);               // true
 //! let negative = FormattedSign::new(Sign::Negative, &symbols, "5");       // -5
 //! ```
 #![tactic(auto)]
@@ -18,7 +16,6 @@ mod comparing;
 mod digit_chunks;
 mod formatted_sign;
 mod formatted_unsigned_decimal;
-pub mod grouper;
 pub mod laws;
 mod piece_tables;
 mod rows;

@@ -10,12 +10,12 @@ ghost use Rattle.icu_decimal_plain.specs.PlainText.{chained, fraction_text, unsi
 ghost use Rattle.icu_decimal_plain.specs.Rows.{IsRow, row_text};
 
 use crate::digit_chunks::set_block;
-use crate::grouper::GroupSizes;
 use crate::rows::{put_row, put_threes};
 use crate::tables::DecimalTables;
 use crate::text_pieces::{Piece, put_piece};
 use crate::writing::{fraction_len, highest};
 use fixed_decimal::{ShownDigits, UnsignedDecimal};
+use icu_decimal_grouping::GroupSizes;
 
 // How many digits are taken at once.
 const BLOCK: u16 = 16;

@@ -9,12 +9,12 @@ ghost use Rattle.icu_decimal_plain.specs.Pieces.{Holds};
 ghost use Rattle.icu_decimal_plain.specs.PlainText.{chained, digit_text, fraction_text, unsigned_text, whole_text};
 
 use crate::digit_chunks::few_digits;
-use crate::grouper::GroupSizes;
 use crate::piece_tables::DigitTable;
 use crate::tables::DecimalTables;
 use crate::text_pieces::{Piece, put_digits, put_groups, put_piece};
 use crate::writing::{digits_shown, fraction_len, highest};
 use fixed_decimal::{ShownDigits, UnsignedDecimal};
+use icu_decimal_grouping::GroupSizes;
 use std::marker::Model;
 
 // A number that shows more digits is not put together first.

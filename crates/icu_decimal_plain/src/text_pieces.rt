@@ -6,14 +6,11 @@ ghost use Rattle.icu_decimal_plain.specs.PlainText.{chained, digit_text};
 ghost use Rattle.icu_decimal_plain.specs.LaterGroups.{groups_ahead};
 ghost use Rattle.icu_decimal_plain.specs.Pieces.{Holds, HoldTable};
 
-use crate::grouper::GroupSizes;
 use crate::piece_tables::DigitTable;
 use crate::rows::{put_row, put_threes};
+use icu_decimal_grouping::GroupSizes;
 
-// How many digits are put together at once. Groups of one, two, three and four digits fill it.
-pub(crate) const CHUNK: usize = 48;
-
-// The bytes that they may have, with a separator before each.
+// The bytes that the digits of a chunk may have, with a separator before each.
 pub(crate) const CHUNK_BYTES: usize = 384;
 
 // A text of at most four bytes, in a word of four.

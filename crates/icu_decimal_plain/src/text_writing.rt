@@ -10,14 +10,13 @@ ghost use Rattle.icu_decimal_plain.specs.PlainText.{chained, digit_text, fractio
 ghost use Rattle.icu_decimal_plain.specs.LaterGroups.{groups_ahead};
 
 use crate::digit_chunks::{write_chunks, write_last, write_waiting};
-use crate::grouper::GroupSizes;
 use crate::piece_tables::DigitTable;
 use crate::short_rows::{SHORT, put_short};
 use crate::short_text::ShortText;
 use crate::tables::DecimalTables;
-use crate::text_pieces::CHUNK;
 use crate::writing::{fraction_len, highest, write_digits, write_fraction_digits};
 use fixed_decimal::{ShownDigits, UnsignedDecimal};
+use icu_decimal_grouping::{CHUNK, GroupSizes};
 use std::iter::ExactSizeIterator;
 use writeable::{Error, Sink};
 
@@ -62,33 +61,8 @@ fn write_few<S: Sink>(
     Ok(())
 }
 
-// Writes groups, each with the separator before it: by one call of the sink where they are the last and have a chunk of
-// digits at most, and else one by one.
-fn write_later<S: Sink>(
-    separator: &str,
-    digits: &mut ShownDigits<'_>,
-    sizes: &mut GroupSizes,
-    table: &DigitTable<'_>,
-    sink: &mut S,
-) -> Result<(), Error>
-    requires fine { S.refused sink.old ≡ false }
-    requires tens { AllBelowBase 10 digits.old }
-    ensures digits { OnOk result (digits.new ≡ drop (sum sizes.old) digits.old) }
-    ensures ok { OnOk result (S.takes sink.old (bytes (groups_ahead separator.now (digit_text table.now.chars.now) sizes.old digits.old)) sink.new) }
-    ensures refused { S.refused sink.new ≡ is_err result }
-    ensures begun { OnErr result (HasBegun S.takes S.lacks_room sink.old (bytes (groups_ahead separator.now (digit_text table.now.chars.now) sizes.old digits.old)) sink.new) }
-{
-    let left = digits.len();
-    if left > CHUNK || left + sizes.groups() > 2 * CHUNK || left != sizes.digits() {
-        return write_few(separator, digits, sizes, table, sink);
-    }
-    if separator.len() > 4 {
-        return write_few(separator, digits, sizes, table, sink);
-    }
-    write_last(separator, digits, sizes, table, sink)
-}
-
-// Writes groups, each with the separator before it.
+// Writes groups, each with the separator before it: under a separator of four bytes at most by chunks, as long as they
+// fill one, then by one call of the sink where those left have a chunk of digits at most, and else one by one.
 fn write_groups<S: Sink>(
     separator: &str,
     digits: &mut ShownDigits<'_>,
@@ -103,10 +77,17 @@ fn write_groups<S: Sink>(
     ensures refused { S.refused sink.new ≡ is_err result }
     ensures begun { OnErr result (HasBegun S.takes S.lacks_room sink.old (bytes (groups_ahead separator.now (digit_text table.now.chars.now) sizes.old digits.old)) sink.new) }
 {
-    if separator.len() <= 4 && digits.len() >= CHUNK {
+    if separator.len() > 4 {
+        return write_few(separator, digits, sizes, table, sink);
+    }
+    if digits.len() >= CHUNK {
         write_chunks(separator, digits, sizes, table, sink)?;
     }
-    write_later(separator, digits, sizes, table, sink)
+    let left = digits.len();
+    if left > CHUNK || left + sizes.groups() > 2 * CHUNK || left != sizes.digits() {
+        return write_few(separator, digits, sizes, table, sink);
+    }
+    write_last(separator, digits, sizes, table, sink)
 }
 
 // Writes digits without groups.

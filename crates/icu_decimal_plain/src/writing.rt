@@ -11,12 +11,12 @@ ghost use Rattle.icu_decimal_plain.specs.PlainText.{chained, digit_events, digit
 ghost use Rattle.icu_decimal_plain.specs.BorrowedTables.{borrowed_tables};
 ghost use Rattle.icu_decimal_plain.specs.LaterGroups.{later_events};
 
-use crate::grouper::GroupSizes;
 use crate::piece_tables::DigitTable;
 use crate::short_text::ShortText;
 use crate::tables::DecimalTables;
 use crate::text_writing::write_run;
 use fixed_decimal::{ShownDigits, UnsignedDecimal};
+use icu_decimal_grouping::GroupSizes;
 use icu_decimal_symbols::parts;
 use writeable::{Error, Part, Sink};
 

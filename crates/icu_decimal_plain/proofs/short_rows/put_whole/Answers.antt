@@ -3,7 +3,7 @@ use Rattle.std.proofs.lemmas.Str.{IsUtf8-append, IsUtf8-had}
 use Rattle.std.specs.Int.Digits.{AllBelowBase}
 use Rattle.fixed_decimal.proofs.DigitsLemmas.{below_drop, below_take}
 use Rattle.icu_decimal_plain.specs.BorrowedTables.{borrowed_tables}
-use Rattle.icu_decimal_plain.specs.Grouper.{group_sizes}
+use Rattle.icu_decimal_grouping.specs.Grouper.{group_sizes}
 use Rattle.icu_decimal_plain.proofs.DigitChunkLemmas.{length_down, part_shown, rest_shown, sizes_split}
 use Rattle.icu_decimal_plain.proofs.PieceLemmas.{utf8_digits, utf8_groups}
 use Rattle.icu_decimal_plain.proofs.PlainTextLemmas.{grouped_text, tens_down}

@@ -3,7 +3,7 @@ use Rattle.std.specs.Int.Digits.{AllBelowBase}
 use Rattle.std.proofs.lemmas.Result.{on_ok_weaker}
 use Rattle.writeable.specs.Taking.{begun_first, on_err}
 use Rattle.fixed_decimal.proofs.DigitsLemmas.{below_drop}
-use Rattle.icu_decimal_plain.specs.Grouper.{group_sizes}
+use Rattle.icu_decimal_grouping.specs.Grouper.{group_sizes}
 use Rattle.icu_decimal_plain.specs.BorrowedTables.{borrowed_tables}
 use Rattle.icu_decimal_plain.proofs.PlainTextLemmas.{tens_down, text_groups}
 use Rattle.icu_decimal_plain.proofs.text_writing.write_whole_text.Goals as goal

@@ -1,7 +1,7 @@
 use Rattle.std.proofs.Common.{◌≡◌, ◌+◌, ◌-◌, ◌++◌, ◌∙◌, ap, append_assoc, arith, drop, length, length-drop, map, refl, subst, sym, take}
 use Rattle.std.specs.Int.Digits.{AllBelowBase}
 use Rattle.fixed_decimal.proofs.DigitsLemmas.{below_drop, below_take}
-use Rattle.icu_decimal_plain.specs.Grouper.{group_sizes}
+use Rattle.icu_decimal_grouping.specs.Grouper.{group_sizes}
 use Rattle.icu_decimal_plain.specs.BorrowedTables.{borrowed_tables}
 use Rattle.icu_decimal_plain.specs.LaterGroups.{groups_ahead}
 use Rattle.icu_decimal_plain.specs.PlainText.{chained, digit_text}

@@ -1,7 +1,7 @@
 use Rattle.std.proofs.Common.{◌-◌, ◌/◌, ◌++◌, ◌∙◌, ap, append-nil, arith, replicate, sym}
-use Rattle.icu_decimal_plain.specs.HeldSizes.{sizes_held}
-use Rattle.icu_decimal_plain.proofs.PieceLemmas.{chunk_few, chunk_whole, middles_taken}
-use Rattle.icu_decimal_plain.proofs.grouper.GroupSizes.next_chunk.Goals as goal
+use Rattle.icu_decimal_grouping.specs.HeldSizes.{sizes_held}
+use Rattle.icu_decimal_grouping.proofs.HeldSizesLemmas.{chunk_few, chunk_whole, middles_taken}
+use Rattle.icu_decimal_grouping.proofs.group_sizes.GroupSizes.next_chunk.Goals as goal
 
 pub returns-clause-taken : goal.returns-clause-taken
 returns-clause-taken c =

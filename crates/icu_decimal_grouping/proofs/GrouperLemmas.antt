@@ -9,8 +9,8 @@ use Rattle.std.specs.List.{sum}
 use Rattle.icu_decimal_symbols.specs.declared.grouping_sizes.GroupingSizes.{GroupingSizes}
 use Rattle.icu_decimal_symbols.specs.declared.options.GroupingStrategy.{GroupingStrategy}
 use Rattle.icu_decimal_symbols.specs.declared.options.GroupingStrategy.TheVariants.{Auto, Never, Always, Min2}
-use Rattle.icu_decimal_plain.specs.GroupLaws.{GroupsAreCut, GroupsAreSeparated, IsCutFromTheRight}
-use Rattle.icu_decimal_plain.specs.Grouper.{least_front, may_group, middle_size, is_grouped, cut_sizes, group_sizes, cut_by, groups, joined, ends_at, marked, separates}
+use Rattle.icu_decimal_grouping.specs.GroupLaws.{GroupsAreCut, GroupsAreSeparated, IsCutFromTheRight}
+use Rattle.icu_decimal_grouping.specs.Grouper.{least_front, may_group, middle_size, is_grouped, cut_sizes, group_sizes, cut_by, groups, joined, ends_at, marked, separates}
 
 -- each size is above 0
 abbrev pub AllAbove : List ℕ → Type 0

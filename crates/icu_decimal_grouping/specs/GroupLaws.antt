@@ -4,7 +4,7 @@
 use Rattle.std.specs.Prelude.{◌≡◌, ℕ, ◌+◌, ◌*◌, ◌<◌, ◌≤◌, true, List, [], ◌∷◌, ◌++◌, length, replicate}
 use Rattle.icu_decimal_symbols.specs.declared.grouping_sizes.GroupingSizes.{GroupingSizes}
 use Rattle.icu_decimal_symbols.specs.declared.options.GroupingStrategy.{GroupingStrategy}
-use Rattle.icu_decimal_plain.specs.Grouper.{group_sizes, groups, is_grouped, joined, marked, middle_size, separates}
+use Rattle.icu_decimal_grouping.specs.Grouper.{group_sizes, groups, is_grouped, joined, marked, middle_size, separates}
 
 -- sizes of d digits cut from the right: the last is p, each before it q, the first from one to q
 pub record IsCutFromTheRight (p q d : ℕ) (sizes : List ℕ) : Type 0 where

@@ -1,6 +1,6 @@
 -- The places of grouping separators: the integer digits as a list of groups, cut from the right.
 -- After UTS 35, part 3 (numbers), grouping of number patterns; docs/plain-text.md, "Groups".
--- Cited by `grouper::check` and by the law of groups.
+-- Cited by `grouper::check`, by `GroupSizes::of` and by the law of groups.
 use Rattle.std.specs.Prelude.{ℕ, ◌+◌, ◌-◌, ◌*◌, ◌/◌, ◌%◌, max, Bool, true, false, cond, not, ◌&&◌, ◌||◌, ◌==◌, nat_le, List, [], ◌∷◌, ◌++◌, length, take, drop, replicate, sum, flat_map, ℤ, pos, negsuc}
 use Rattle.icu_decimal_symbols.specs.declared.grouping_sizes.GroupingSizes.{GroupingSizes}
 use Rattle.icu_decimal_symbols.specs.declared.options.GroupingStrategy.{GroupingStrategy}

@@ -1,6 +1,6 @@
--- The sizes of groups as the writer holds them: the first, a count of middle ones, the last; none where a size is 0.
+-- The sizes of groups as they are held: the first, a count of middle ones, the last; none where a size is 0.
 -- Defined in docs/plain-text.md, "Groups".
--- Cited by the view of the sizes that a writer goes over, and by no public clause.
+-- Cited by the view of `GroupSizes` and by its `chunks`.
 use Rattle.std.specs.Prelude.{ℕ, ◌==◌, cond, List, [], ◌∷◌, ◌++◌, replicate}
 
 -- one size, or none where it is 0

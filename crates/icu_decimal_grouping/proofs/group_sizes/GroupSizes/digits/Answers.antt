@@ -1,6 +1,6 @@
 use Rattle.std.proofs.Common.{◌∙◌, ap, sum, sym}
-use Rattle.icu_decimal_plain.proofs.PieceLemmas.{held_sum}
-use Rattle.icu_decimal_plain.proofs.grouper.GroupSizes.digits.Goals as goal
+use Rattle.icu_decimal_grouping.proofs.HeldSizesLemmas.{held_sum}
+use Rattle.icu_decimal_grouping.proofs.group_sizes.GroupSizes.digits.Goals as goal
 
 pub returns : goal.returns
 returns c =

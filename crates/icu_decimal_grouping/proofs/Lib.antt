@@ -1,0 +1,3 @@
+pub mod GrouperLemmas
+pub mod HeldSizesLemmas
+pub mod KnownValues

@@ -1,0 +1,3 @@
+pub mod Grouper
+pub mod GroupLaws
+pub mod HeldSizes
