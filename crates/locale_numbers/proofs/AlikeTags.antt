@@ -20,8 +20,8 @@ use Rattle.icu_locale_core.proofs.NormalTags.{read_again}
 use Rattle.icu_decimal.specs.declared.options.GroupingStrategy.{GroupingStrategy}
 use Rattle.locale_numbers_book.specs.Book.{BookTables}
 use Rattle.locale_numbers_book.specs.Tables.{chain_in, symbols_under, digits_under, rules_under}
-use Rattle.locale_numbers.specs.NumberReading.{reading_of}
-use Rattle.locale_numbers.specs.ReadAnswer.{read_with}
+use Rattle.locale_numbers_answers.specs.NumberReading.{reading_of}
+use Rattle.locale_numbers_answers.specs.ReadAnswer.{read_with}
 use Rattle.locale_numbers_requests.specs.Request.{Asked, tab, fields, form_named, grouping_named, sign_named, takes, request_by, request_in, request_of}
 use Rattle.locale_numbers_requests.specs.Cutting.{is_separator}
 use Rattle.locale_numbers_requests.specs.RoundingField.{rounding_named}
@@ -31,7 +31,7 @@ use Rattle.locale_numbers_requests.specs.declared.Form.{Form}
 use Rattle.locale_numbers_requests.specs.declared.Form.TheVariants.{Plain, Compact, Exact, Read}
 use Rattle.locale_numbers_requests.specs.declared.PatternLength.{PatternLength}
 use Rattle.locale_numbers.specs.CompactAnswer.{compact_with, found_compact, patterns_under}
-use Rattle.locale_numbers.specs.CompactReading.{compact_reading_of}
+use Rattle.locale_numbers_answers.specs.CompactReading.{compact_reading_of}
 use Rattle.locale_numbers_book.specs.Wanted.{wanted_of}
 use Rattle.locale_numbers.specs.Answer.{found_in, answer_with, answer_to, exact_to, answer_tagged, answer_asked}
 use Rattle.locale_numbers.proofs.FoundCompactLemmas.{compact_alike}

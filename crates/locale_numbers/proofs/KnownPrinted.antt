@@ -16,7 +16,7 @@ use Rattle.locale_numbers_requests.specs.declared.Form.TheVariants.{Compact}
 use Rattle.locale_numbers_requests.specs.declared.PatternLength.TheVariants.{Short}
 use Rattle.locale_numbers_requests.specs.declared.RoundingAsked.TheVariants.{Unrounded}
 use Rattle.locale_numbers_requests.specs.declared.SignAsked.TheVariants.{Keep}
-use Rattle.locale_numbers.proofs.KnownCompactAnswers.{english, zero_of}
+use Rattle.locale_numbers_answers.proofs.KnownCompactAnswers.{english, zero_of}
 
 abbrev en : DataLocaleMeaning
 en = record { language = codes "en"; script = None; region = None; variant = None; subdivision = None }

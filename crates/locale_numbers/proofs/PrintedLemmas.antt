@@ -17,17 +17,17 @@ use Rattle.icu_decimal.specs.ShownValue.{magnitude}
 use Rattle.locale_numbers_book.specs.Book.{BookTables}
 use Rattle.locale_numbers.specs.Answer.{answer_asked, answer_in, answer_tagged, answer_to, exact_to, refused, written}
 use Rattle.locale_numbers.specs.CompactAnswer.{can_be_shown, compact_answer, compact_with, exact_written, text_and_value}
-use Rattle.locale_numbers.specs.CompactReading.{compact_number, compact_reading_of}
-use Rattle.locale_numbers.specs.NumberReading.{reading_of}
+use Rattle.locale_numbers_answers.specs.CompactReading.{compact_number, compact_reading_of}
+use Rattle.locale_numbers_answers.specs.NumberReading.{reading_of}
 use Rattle.locale_numbers.specs.Printed.{FindsCompact, HasNoTab, Prints, PrintsSize, exact_request, number_shown, size_of}
 use Rattle.locale_numbers.specs.PrintedLaws.{PrintedIsAnswered, PrintedIsWrittenAgain}
 use Rattle.locale_numbers_requests.specs.Request.{Asked, tab}
 use Rattle.locale_numbers_requests.specs.declared.Refusal.TheVariants as refusal
 use Rattle.locale_numbers_requests.specs.declared.PatternLength.{PatternLength}
 use Rattle.locale_numbers_requests.specs.declared.SignAsked.TheVariants.{Keep}
-use Rattle.locale_numbers.proofs.CompactReadingLemmas.{below_shown, below_test, reads_compact}
+use Rattle.locale_numbers_answers.proofs.CompactReadingLemmas.{below_shown, below_test, reads_compact}
 use Rattle.locale_numbers.proofs.LastTabLemmas.{printed_has_no_tab, split_last}
-use Rattle.locale_numbers.proofs.NumberBounds.{changed_is_decimal, reading_is_decimal}
+use Rattle.locale_numbers_answers.proofs.NumberBounds.{changed_is_decimal, reading_is_decimal}
 use Rattle.locale_numbers.proofs.ReadingTrips.{one_text, refused_no}
 
 -- ---- what is printed

@@ -11,7 +11,7 @@ use Rattle.icu_decimal.specs.UnderTableLaws.{ShownValueShowsItself, TableKeepsOr
 use Rattle.icu_decimal.specs.declared.error.DataError.{DataError}
 use Rattle.icu_locale_core.specs.TagPreferences.{Preferences}
 use Rattle.locale_numbers_book.specs.Book.{BookTables}
-use Rattle.locale_numbers.specs.Changing.{changed}
+use Rattle.locale_numbers_answers.specs.Changing.{changed}
 use Rattle.locale_numbers.specs.Printed.{FindsCompact, PrintsSize, number_shown}
 use Rattle.locale_numbers.specs.PrintedLaws.{PrintedIsNear, PrintedKeepsOrder, PrintedPrintsItself, ZeroIsPrintedForZero}
 use Rattle.locale_numbers_requests.specs.Request.{Asked}

@@ -24,12 +24,12 @@ use Rattle.icu_locale_core.specs.TagPreferences.{Preferences}
 use Rattle.locale_numbers_book.specs.Book.{BookTables}
 use Rattle.locale_numbers_book.specs.Tables.{chain_in, digits_under, rules_under, symbols_under}
 use Rattle.locale_numbers.specs.Answer.{answer_asked, answer_in, answer_tagged, answer_to, answer_with, exact_to, found_in, refused, written}
-use Rattle.locale_numbers.specs.Changing.{changed, signed_as}
+use Rattle.locale_numbers_answers.specs.Changing.{changed, signed_as}
 use Rattle.locale_numbers.specs.CompactAnswer.{compact_with, exact_with, found_compact, patterns_under}
-use Rattle.locale_numbers.specs.CompactReading.{CompactReading, compact_beyond, compact_nothing, compact_number, compact_reading_of}
+use Rattle.locale_numbers_answers.specs.CompactReading.{CompactReading, compact_beyond, compact_nothing, compact_number, compact_reading_of}
 use Rattle.locale_numbers.specs.Laws.{AutoIsAnsweredAsAlways, FindsTables, ReadIsWrittenAgain, RoundedIsWrittenAgain, WrittenReadsBack, grouped_by, plain_request, reading_request}
-use Rattle.locale_numbers.specs.NumberReading.{Reading, beyond, nothing, number, reading_of}
-use Rattle.locale_numbers.specs.ReadAnswer.{read_answer, read_with}
+use Rattle.locale_numbers_answers.specs.NumberReading.{Reading, beyond, nothing, number, reading_of}
+use Rattle.locale_numbers_answers.specs.ReadAnswer.{read_answer, read_with}
 use Rattle.locale_numbers_requests.specs.Request.{Asked}
 use Rattle.locale_numbers_book.specs.Wanted.{wanted_of}
 use Rattle.locale_numbers_requests.specs.declared.Refusal.{Refusal}
@@ -41,8 +41,8 @@ use Rattle.locale_numbers_requests.specs.declared.RoundingAsked.{RoundingAsked}
 use Rattle.locale_numbers_requests.specs.declared.RoundingAsked.TheVariants.{Unrounded}
 use Rattle.locale_numbers_requests.specs.declared.SignAsked.{SignAsked}
 use Rattle.locale_numbers_requests.specs.declared.SignAsked.TheVariants.{Keep}
-use Rattle.locale_numbers.proofs.NumberBounds.{changed_again, changed_is_decimal, reading_is_decimal}
-use Rattle.locale_numbers.proofs.NumberReadingLemmas.{signed_number}
+use Rattle.locale_numbers_answers.proofs.NumberBounds.{changed_again, changed_is_decimal, reading_is_decimal}
+use Rattle.locale_numbers_answers.proofs.NumberReadingLemmas.{signed_number}
 
 -- ---- answers apart
 

@@ -16,8 +16,8 @@ use Rattle.locale_numbers_cache.specs.Cached.{most, used}
 use Rattle.locale_numbers_cache.specs.Recent.{misses}
 use Rattle.locale_numbers.specs.Answer.{answer_with, found_in, written}
 use Rattle.locale_numbers.specs.CompactAnswer.{compact_answer, compact_with, found_compact}
-use Rattle.locale_numbers.specs.CompactReading.{CompactReading, compact_beyond, compact_nothing, compact_number, compact_reading_of}
-use Rattle.locale_numbers.specs.NumberReading.{Reading, number, beyond, nothing, reading_of}
+use Rattle.locale_numbers_answers.specs.CompactReading.{CompactReading, compact_beyond, compact_nothing, compact_number, compact_reading_of}
+use Rattle.locale_numbers_answers.specs.NumberReading.{Reading, number, beyond, nothing, reading_of}
 use Rattle.locale_numbers_requests.specs.Request.{Asked, request_of}
 use Rattle.locale_numbers_book.specs.Wanted.{wanted_of}
 use Rattle.locale_numbers_requests.specs.declared.Form.{Form}

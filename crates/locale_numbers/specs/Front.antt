@@ -8,10 +8,11 @@ use Rattle.fixed_decimal.specs.Number.{Number}
 use Rattle.fixed_decimal.specs.SignedValue.{SignedValue}
 use Rattle.locale_numbers_book.specs.Book.{BookTables}
 use Rattle.locale_numbers.specs.Answer.{answer_in, found_in, refused}
-use Rattle.locale_numbers.specs.Changing.{MayGrowRead, ReadsMore}
+pub use Rattle.locale_numbers_answers.specs.AnswerLine.{if_text}
+use Rattle.locale_numbers_answers.specs.Changing.{MayGrowRead, ReadsMore}
 use Rattle.locale_numbers.specs.FormatterKeys.{key_in, key_with, kind_of}
-use Rattle.locale_numbers.specs.NumberReading.{reading_of}
-use Rattle.locale_numbers.specs.ReadAnswer.{HasManyDigitsWith}
+use Rattle.locale_numbers_answers.specs.NumberReading.{reading_of}
+use Rattle.locale_numbers_answers.specs.ReadAnswer.{HasManyDigitsWith}
 use Rattle.locale_numbers_requests.specs.Request.{Asked, request_of, with_text}
 use Rattle.locale_numbers_book.specs.Wanted.{wanted_of}
 use Rattle.locale_numbers.specs.declared.formatter_key.FormatterKey.{FormatterKey}
@@ -58,10 +59,6 @@ answer_keyed book front (Some key) text = answer_in front.form book key.preferen
 abbrev pub answer_front : BookTables → Option Front → List ℕ → List ℕ
 answer_front book None text = refused refusal.Shape
 answer_front book (Some front) text = answer_keyed book front front.key text
-
--- this answer to a text, where it is UTF-8
-abbrev pub if_text : List ℕ → List ℕ → List ℕ
-if_text text answer = if is_utf8 text then answer else refused refusal.Shape
 
 -- the answer to what stands behind a front
 abbrev pub answer_behind : BookTables → Option Front → List ℕ → List ℕ

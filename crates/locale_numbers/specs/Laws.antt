@@ -1,15 +1,11 @@
 -- Laws over the definitions alone, for readers of the clauses that cite them.
 -- Defined in docs/requests.md, "Answer line", and docs/numbers.md, "The text" and "Rounding".
 -- Cited by the functions of `laws`.
-use Rattle.std.specs.Prelude.{◌≡◌, ◌<◌, ◌↔◌, Bool, List, ℕ, ℤ, ◌∷◌, ◌++◌, Result, true, Some, Ok}
+use Rattle.std.specs.Prelude.{◌≡◌, ◌↔◌, Bool, List, ℕ, ◌∷◌, ◌++◌, Result, true, Some, Ok}
 use Rattle.std.specs.Str.{IsUtf8}
-use Rattle.fixed_decimal.specs.CompactText.{IsBeyondCompact, IsNoCompactText, ReadsCompact}
-use Rattle.fixed_decimal.specs.Number.{Number, place}
-use Rattle.fixed_decimal.specs.SignedRounding.{RoundsSigned}
+use Rattle.fixed_decimal.specs.Number.{Number}
 use Rattle.fixed_decimal.specs.SignedValue.{SignedValue}
-use Rattle.fixed_decimal.specs.declared.RoundingIncrement.{RoundingIncrement}
-use Rattle.fixed_decimal.specs.declared.SignedRoundingMode.{SignedRoundingMode}
-use Rattle.fixed_decimal.specs.SignedText.{ReadsSigned, IsBeyondSigned, IsNoSignedText, signed_text_of}
+use Rattle.fixed_decimal.specs.SignedText.{signed_text_of}
 use Rattle.fixed_decimal.specs.TextLaws.{IsDecimal}
 use Rattle.icu_decimal.specs.PlainText.{Tables, decimal_text}
 use Rattle.icu_decimal.specs.Readable.{is_readable_by}
@@ -22,45 +18,15 @@ use Rattle.icu_locale_core.specs.Meaning.{TagMeaning, MeansTag}
 use Rattle.icu_locale_core.specs.NormalText.{normal_text}
 use Rattle.icu_locale_core.specs.TagPreferences.{Preferences, least_of, keyword_piece, keyword_subdivision, numbering_key, subdivision_key}
 use Rattle.locale_numbers_book.specs.Book.{BookTables}
-use Rattle.locale_numbers.specs.CompactReading.{CompactReading, compact_beyond, compact_nothing, compact_number, compact_reading_of}
-use Rattle.locale_numbers.specs.NumberReading.{Reading, number, beyond, nothing, reading_of}
+pub use Rattle.locale_numbers_answers.specs.Laws.{IsReading, HasOneReading, IsCompactReading, HasOneCompactReading, HasOneRounding, IsAtMagnitude}
 use Rattle.locale_numbers_requests.specs.Request.{tab, Asked}
-use Rattle.locale_numbers.specs.Rounded.{rounded}
 use Rattle.locale_numbers_book.specs.Wanted.{wanted_of}
 use Rattle.locale_numbers.specs.Answer.{written, found_in, answer_asked, answer_of}
 use Rattle.locale_numbers.specs.declared.formatter_key.FormatterKey.{FormatterKey}
 use Rattle.locale_numbers_requests.specs.declared.Form.TheVariants.{Plain, Read}
 use Rattle.locale_numbers_requests.specs.declared.SignAsked.TheVariants.{Keep}
 use Rattle.locale_numbers_requests.specs.declared.RoundingAsked.{RoundingAsked}
-use Rattle.locale_numbers_requests.specs.declared.RoundingAsked.TheVariants.{Unrounded, At}
-
--- ---- numbers
-
--- the text spells the number, or one beyond the limits, or none
-abbrev pub IsReading : List ℕ → Reading → Type 0
-IsReading text (number value) = ReadsSigned text value
-IsReading text beyond = IsBeyondSigned text
-IsReading text nothing = IsNoSignedText text
-
--- each text has one reading, and the function answers it
-abbrev pub HasOneReading : Type 0
-HasOneReading = (text : List ℕ) (reading : Reading) → IsReading text reading ↔ (reading ≡ reading_of text)
-
--- the same of a text of a compact number
-abbrev pub IsCompactReading : List ℕ → CompactReading → Type 0
-IsCompactReading text (compact_number value) = ReadsCompact text value
-IsCompactReading text compact_beyond = IsBeyondCompact text
-IsCompactReading text compact_nothing = IsNoCompactText text
-
-abbrev pub HasOneCompactReading : Type 0
-HasOneCompactReading = (text : List ℕ) (reading : CompactReading) → IsCompactReading text reading ↔ (reading ≡ compact_reading_of text)
-
--- ---- roundings
-
--- a rounding of a number names one number, and the function answers it
-abbrev pub HasOneRounding : Type 0
-HasOneRounding = (mode : SignedRoundingMode) (increment : RoundingIncrement) (position : ℤ) (old new : SignedValue Number)
-    → RoundsSigned mode increment (place position) old new ↔ (new ≡ rounded mode increment (place position) old)
+use Rattle.locale_numbers_requests.specs.declared.RoundingAsked.TheVariants.{Unrounded}
 
 -- ---- tags
 
@@ -129,11 +95,6 @@ abbrev pub WrittenReadsBack : Type 0
 WrittenReadsBack = (book : BookTables) (asked : Asked) (tables : Tables) (value : SignedValue Number)
     → FindsTables book asked tables → is_readable_by tables ≡ true → IsDecimal value → IsUtf8 (decimal_text tables value)
     → answer_asked book (Some (reading_request asked (decimal_text tables value))) ≡ written (signed_text_of value)
-
--- the position of a rounding is one of the magnitudes -32768 to 32767, as that of every field is
-abbrev pub IsAtMagnitude : RoundingAsked → Type 0
-IsAtMagnitude Unrounded = Unit {0}
-IsAtMagnitude (At position mode increment) = place position < 65536
 
 -- under readable symbols a plain answer, read back and written again with the same rounding and its own sign, is the same text
 abbrev pub RoundedIsWrittenAgain : Type 0

@@ -1,8 +1,5 @@
--- What a reader must believe: request lines and their answers.
-pub mod Changing
-pub mod AnswerLine
+-- What a reader must believe: the answers to request lines.
 pub mod CompactAnswer
-pub mod ReadAnswer
 pub mod Answer
 -- Keys of formatters, and how many are made.
 pub mod FormatterKeys
@@ -10,14 +7,8 @@ pub mod FormatterKeys
 pub mod Words
 pub mod Fault
 pub mod Program
--- What the answers go by, which a law makes needless to believe.
-pub mod NumberReading
-pub mod CompactReading
-pub mod Rounded
 -- What private steps follow.
 pub mod Front
-pub mod AnswerSink
-pub mod AnswerSinkLaws
 -- Statements of laws.
 pub mod SameKeys
 pub mod Laws
@@ -44,6 +35,16 @@ pub use Rattle.locale_numbers_requests.specs.Digits
 pub use Rattle.locale_numbers_requests.specs.Refusal
 pub use Rattle.locale_numbers_requests.specs.Request
 pub use Rattle.locale_numbers_requests.specs.RoundingField
+-- Of the inner crates: what is answered with tables that are there, and what the answers go by.
+pub use Rattle.locale_numbers_answers.specs.AnswerLine
+pub use Rattle.locale_numbers_answers.specs.AnswerSink
+pub use Rattle.locale_numbers_answers.specs.AnswerSinkLaws
+pub use Rattle.locale_numbers_answers.specs.Changing
+pub use Rattle.locale_numbers_answers.specs.CompactReading
+pub use Rattle.locale_numbers_answers.specs.Laws as AnswerLaws
+pub use Rattle.locale_numbers_answers.specs.NumberReading
+pub use Rattle.locale_numbers_answers.specs.ReadAnswer
+pub use Rattle.locale_numbers_answers.specs.Rounded
 -- Of the inner crates: lines, readers and writers.
 pub use Rattle.locale_numbers_lines.specs.ByteIo
 pub use Rattle.locale_numbers_lines.specs.Laws as LineLaws

@@ -15,11 +15,11 @@ use Rattle.icu_locale_core.specs.TagPreferences.{Preferences}
 use Rattle.locale_numbers_book.specs.Book.{BookTables}
 use Rattle.locale_numbers_book.specs.Laws.{IsSoundTable}
 use Rattle.locale_numbers.specs.Answer.{answer_asked, written}
-use Rattle.locale_numbers.specs.Changing.{changed}
+use Rattle.locale_numbers_answers.specs.Changing.{changed}
 use Rattle.locale_numbers.specs.CompactAnswer.{found_compact}
-use Rattle.locale_numbers.specs.CompactReading.{compact_number, compact_reading_of}
+use Rattle.locale_numbers_answers.specs.CompactReading.{compact_number, compact_reading_of}
 use Rattle.locale_numbers.specs.Laws.{IsAtMagnitude}
-use Rattle.locale_numbers.specs.NumberReading.{number, reading_of}
+use Rattle.locale_numbers_answers.specs.NumberReading.{number, reading_of}
 use Rattle.locale_numbers_requests.specs.Request.{Asked, tab}
 use Rattle.locale_numbers_book.specs.Wanted.{wanted_of}
 use Rattle.locale_numbers_requests.specs.declared.Form.TheVariants.{Compact, Exact}

@@ -2,11 +2,10 @@
 ghost use Rattle.std.specs.Prelude.{◌≡◌, ◌∷◌, ◌++◌, List, Option, IfOk, IfSome, IsOk, IsTrue, OnOk, OnErr, string_bytes};
 ghost use Rattle.locale_numbers_lines.specs.Growth.{Grows};
 ghost use Rattle.locale_numbers.specs.Answer.{answer_of};
-ghost use Rattle.locale_numbers.specs.AnswerSink.{HasRoom};
+ghost use Rattle.locale_numbers_answers.specs.AnswerSink.{HasRoom};
 ghost use Rattle.locale_numbers.specs.Front.{FitsForm, HasKeyThat, MayTakeBehind, answer_behind, key_behind};
 ghost use Rattle.locale_numbers.specs.declared.formatter_key.FormatterKey.{FormatterKey};
 
-use crate::answer_line::{write_refusal, write_refusal_or_shape};
 use crate::exact_answer::answer_exact;
 use crate::formatters::Formatters;
 use crate::front::{Front, cut_text, read_front};
@@ -14,6 +13,7 @@ use crate::kept_formatter::MadeFormatter;
 use crate::number_answer::answer_number;
 use crate::read_answer::answer_read;
 use fixed_decimal::Decimal;
+use locale_numbers_answers::{write_refusal, write_refusal_or_shape};
 use locale_numbers_book::Book;
 use locale_numbers_requests::{Form, Refusal, as_text};
 use std::alloc::{AllocError, Global};

@@ -1,63 +1,23 @@
 //! The exact forms: a significand and an exponent, as they are given.
-ghost use Rattle.std.specs.Prelude.{◌≡◌, ◌∷◌, ◌++◌, List, Option, Some, IfOk, IsOk, OnOk, OnErr, IsErrOf, string_bytes};
+ghost use Rattle.std.specs.Prelude.{◌≡◌, ◌∷◌, ◌++◌, List, Option, Some, IsOk, OnOk, OnErr, string_bytes};
 ghost use Rattle.fixed_decimal.specs.CompactText.{ReadsLongCompact};
-ghost use Rattle.icu_decimal.specs.HeldCompact.{compact_tables_of};
 ghost use Rattle.locale_numbers_lines.specs.Growth.{Grows};
 ghost use Rattle.locale_numbers.specs.Answer.{exact_to};
-ghost use Rattle.locale_numbers.specs.AnswerSink.{HasRoom};
-ghost use Rattle.locale_numbers.specs.CompactAnswer.{exact_answer, exact_with, found_compact};
-ghost use Rattle.locale_numbers.specs.CompactReading.{compact_beyond, compact_nothing, compact_number, compact_reading_of};
+ghost use Rattle.locale_numbers_answers.specs.AnswerSink.{HasRoom};
+ghost use Rattle.locale_numbers.specs.CompactAnswer.{exact_with, found_compact};
+ghost use Rattle.locale_numbers_answers.specs.CompactReading.{compact_reading_of};
 ghost use Rattle.locale_numbers.specs.FormatterKeys.{key_exact};
 ghost use Rattle.locale_numbers.specs.declared.formatter_key.FormatterKey.{FormatterKey};
 ghost use Rattle.locale_numbers.specs.declared.formatter_key.Kind.{Kind};
 
-use crate::answer_line::{write_ok, write_refusal};
-use crate::changing::choose_sign;
 use crate::formatter_key::FormatterKey;
 use crate::formatters::Formatters;
 use crate::kept_formatter::KeptFormatter;
-use fixed_decimal::{CompactDecimal, Decimal, ParseError};
-use icu_decimal::CompactDecimalFormatter;
+use fixed_decimal::{Decimal, ParseError};
+use locale_numbers_answers::{choose_sign, read_compact, write_exact_answer, write_refusal};
 use locale_numbers_cache::Hashed;
 use locale_numbers_requests::{PatternLength, Refusal, SignAsked};
 use std::alloc::{AllocError, Global};
-
-// The compact number that a text says.
-fn read_compact(alloc: Global, text: &str) -> Result<CompactDecimal, ParseError>
-    ensures value { IfOk result (λ value. compact_reading_of text.now ≡ compact_number value) }
-    ensures limit { IsErrOf result ParseError.Limit → compact_reading_of text.now ≡ compact_beyond }
-    ensures syntax { IsErrOf result ParseError.Syntax → compact_reading_of text.now ≡ compact_nothing }
-
-    // A text that says no number of more than eight digits is never told as out of memory.
-    ensures memory { IsErrOf result ParseError.Memory → ReadsLongCompact text.now }
-{
-    CompactDecimal::try_from_str(alloc, text)
-}
-
-// Writes a significand with its exponent, as a compact formatter writes both, behind what `out` holds; or the word
-// `range`, where their magnitude is beyond that of a decimal; or the word `exponent`, where the formatter has another
-// exponent for it.
-fn write_exact_answer(
-    formatter: &CompactDecimalFormatter<'_>,
-    significand: &Decimal,
-    exponent: u8,
-    out: &mut String,
-) -> Result<(), AllocError>
-    ensures text { OnOk result (string_bytes out.new
-        ≡ string_bytes out.old ++ exact_answer (compact_tables_of formatter.now) (record { significand = significand.now; exponent = exponent })) }
-    ensures err { OnErr result (Grows (string_bytes out.old) (string_bytes out.new)) }
-
-    // Where there is room for the answer, it does not allocate.
-    ensures room { HasRoom out.old (exact_answer (compact_tables_of formatter.now) (record { significand = significand.now; exponent = exponent })) → IsOk result }
-{
-    if !formatter.exponent_in_range(significand, exponent) {
-        return write_refusal(out, Refusal::Range);
-    }
-    match formatter.format_with_exponent(significand, exponent) {
-        Ok(text) => write_ok(out, &text),
-        Err(_) => write_refusal(out, Refusal::Exponent),
-    }
-}
 
 // Writes a significand with its exponent, as the formatter of a key writes both, behind what `out` holds; or the word
 // `table`, where it has none.

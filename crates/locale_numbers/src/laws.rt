@@ -3,7 +3,7 @@
 ghost use Rattle.locale_numbers.specs.Answer.{found_in};
 ghost use Rattle.locale_numbers.specs.CompactAnswer.{found_compact};
 ghost use Rattle.locale_numbers.specs.FormatterKeys.{same_keys};
-ghost use Rattle.locale_numbers.specs.Laws.{HasOneReading, HasOneCompactReading, HasOneRounding, AlikeTagsAreAnsweredAlike, NormalTextIsAnsweredAlike, AutoIsAnsweredAsAlways, AreTexts, ReadIsWrittenAgain, RoundedIsWrittenAgain, TellsKeys, WrittenReadsBack};
+ghost use Rattle.locale_numbers.specs.Laws.{AlikeTagsAreAnsweredAlike, NormalTextIsAnsweredAlike, AutoIsAnsweredAsAlways, AreTexts, ReadIsWrittenAgain, RoundedIsWrittenAgain, TellsKeys, WrittenReadsBack};
 ghost use Rattle.locale_numbers.specs.PrintedLaws.{FoundTablesAreSound, IsSoundWhereFound, PrintedIsAnswered, PrintedIsNear, PrintedIsWrittenAgain, PrintedKeepsOrder, PrintedPrintsItself, ZeroIsPrintedForZero};
 ghost use Rattle.locale_numbers_requests.specs.declared.PatternLength.TheVariants.{Short, Long};
 
@@ -19,6 +19,9 @@ use icu_decimal::laws::reading::{
 use icu_decimal::laws::shown::{exact_forms_of_shown_values, tables_show_values};
 use icu_decimal::options::GroupingStrategy;
 use icu_decimal::{DecimalFormatterPreferences, is_readable};
+pub use locale_numbers_answers::laws::{
+    compact_texts_have_one_reading, roundings_have_one_end, texts_have_one_reading,
+};
 use locale_numbers_book::laws::tables_are_sound;
 pub use locale_numbers_book::laws::{data_locales_are_read, tags_are_read};
 use locale_numbers_cache::laws::equal_keys_are_one;
@@ -27,24 +30,6 @@ pub use locale_numbers_lines::laws::{
     each_input_splits, lines_are_the_pieces, outputs_join, whole_lines_are_the_pieces,
 };
 use locale_numbers_requests::PatternLength;
-
-/// Each text spells one number, or one beyond the limits, or none: what the relations of `fixed_decimal` say of a text
-/// is what the answer to a line goes by. `-12.30` spells -12.30, `1e32768` one beyond the limits, and `5.` none.
-pub fn texts_have_one_reading()
-    ensures { HasOneReading }
-{}
-
-/// The same of texts of compact numbers, which exact forms are asked with: `-1.20c6` spells -1.20 with the exponent 6,
-/// `1c256` one beyond the limits, and `1c0` none.
-pub fn compact_texts_have_one_reading()
-    ensures { HasOneCompactReading }
-{}
-
-/// Each rounding of a number has one end: what the relation of `fixed_decimal` names is what the answer to a line goes
-/// by. By `-2,half-trunc,25` the end of -7.235 is -7.25.
-pub fn roundings_have_one_end()
-    ensures { HasOneRounding }
-{}
 
 /// Of a tag its language, script, region and first variant count, and its `sd` and `nu` where they read: nothing else
 /// in a tag changes an answer, neither `rg` nor any other keyword, attribute, extension, private subtag or later

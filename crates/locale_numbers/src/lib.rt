@@ -13,11 +13,7 @@
 
 #![tactic(auto)]
 
-mod answer_line;
-mod answer_sink;
 mod answering;
-mod changing;
-mod compact_answer;
 mod exact_answer;
 mod fault;
 mod formatter_key;

@@ -1,59 +1,26 @@
 // The forms that write a number.
-ghost use Rattle.std.specs.Prelude.{◌≡◌, true, ◌∷◌, ◌++◌, List, Option, Some, IsOk, IfOk, IsTrue, OnOk, OnErr, IsErrOf, string_bytes};
-ghost use Rattle.std.specs.Str.{is_utf8};
-ghost use Rattle.fixed_decimal.specs.Number.{Number};
-ghost use Rattle.icu_decimal.specs.HeldTables.{tables_of};
-ghost use Rattle.icu_decimal.specs.PlainText.{decimal_text};
+ghost use Rattle.std.specs.Prelude.{◌≡◌, ◌∷◌, ◌++◌, List, Option, Some, IsOk, IsTrue, OnOk, OnErr, string_bytes};
 ghost use Rattle.locale_numbers_lines.specs.Growth.{Grows};
-ghost use Rattle.locale_numbers.specs.Answer.{written, answer_to};
-ghost use Rattle.locale_numbers.specs.AnswerSink.{HasRoom};
-ghost use Rattle.locale_numbers.specs.Changing.{MayGrowRead, ReadsMore};
+ghost use Rattle.locale_numbers.specs.Answer.{answer_to};
+ghost use Rattle.locale_numbers_answers.specs.AnswerSink.{HasRoom};
+ghost use Rattle.locale_numbers_answers.specs.Changing.{MayGrowRead, ReadsMore};
 ghost use Rattle.locale_numbers.specs.FormatterKeys.{answer_by, answer_of_kind, key_text};
 ghost use Rattle.locale_numbers.specs.Front.{if_text, key_if_text};
-ghost use Rattle.locale_numbers.specs.NumberReading.{number, beyond, nothing, reading_of};
+ghost use Rattle.locale_numbers_answers.specs.NumberReading.{reading_of};
 ghost use Rattle.locale_numbers.specs.declared.formatter_key.FormatterKey.{FormatterKey};
 
-use crate::answer_line::{write_ok, write_refusal, write_refusal_or_shape};
-use crate::changing::change;
-use crate::compact_answer::write_compact_answer;
 use crate::formatter_key::FormatterKey;
 use crate::formatters::Formatters;
 use crate::held::hold;
 use crate::kept_formatter::KeptFormatter;
 use fixed_decimal::{Decimal, ParseError};
-use icu_decimal::DecimalFormatter;
+use locale_numbers_answers::{
+    change, read_number, write_compact_answer, write_plain_answer, write_refusal,
+    write_refusal_or_shape,
+};
 use locale_numbers_cache::Hashed;
 use locale_numbers_requests::{Refusal, RoundingAsked, SignAsked};
 use std::alloc::AllocError;
-
-// Reads the number that a text says in place of the one that is there.
-fn read_number(value: &mut Decimal, text: &[u8]) -> Result<(), ParseError>
-    ensures value { OnOk result (reading_of text.now ≡ number value.new) }
-    ensures limit { IsErrOf result ParseError.Limit → reading_of text.now ≡ beyond }
-    ensures text { OnOk result (is_utf8 text.now ≡ true) }
-    ensures limit_text { IsErrOf result ParseError.Limit → is_utf8 text.now ≡ true }
-    ensures syntax { IsErrOf result ParseError.Syntax → reading_of text.now ≡ nothing }
-
-    // Only a text that says a number of more than eight digits, and of more than the one that is there, is told as out
-    // of memory.
-    ensures memory { IsErrOf result ParseError.Memory → ReadsMore text.now value.old }
-{
-    value.assign_from_utf8(text)
-}
-
-// Writes the answer that is a number, as a plain formatter writes it, behind what `out` holds.
-fn write_plain_answer(
-    formatter: &DecimalFormatter<'_>,
-    value: &Decimal,
-    out: &mut String,
-) -> Result<(), AllocError>
-    ensures text { OnOk result (string_bytes out.new
-        ≡ string_bytes out.old ++ written (decimal_text (tables_of formatter.now) value.now)) }
-    ensures err { OnErr result (Grows (string_bytes out.old) (string_bytes out.new)) }
-    ensures room { HasRoom out.old (written (decimal_text (tables_of formatter.now) value.now)) → IsOk result }
-{
-    write_ok(out, &formatter.format(value))
-}
 
 // Writes the answer to a number, by a formatter of either kind, behind what `out` holds.
 fn write_answer_of_formatter(

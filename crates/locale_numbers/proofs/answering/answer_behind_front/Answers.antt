@@ -1,5 +1,5 @@
 use Rattle.std.proofs.Common.{subst, inl, inr}
-use Rattle.locale_numbers.specs.AnswerSink.{HasRoom}
+use Rattle.locale_numbers_answers.specs.AnswerSink.{HasRoom}
 use Rattle.locale_numbers.proofs.FrontMemory.{answer_exact, answer_number, exact_may_take_behind, number_may_take_behind}
 use Rattle.locale_numbers.proofs.answering.answer_behind_front.Goals as goal
 

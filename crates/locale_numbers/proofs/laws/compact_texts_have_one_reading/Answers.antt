@@ -1,5 +1,0 @@
-use Rattle.locale_numbers.proofs.CompactReadingLemmas.{one_compact_reading}
-use Rattle.locale_numbers.proofs.laws.compact_texts_have_one_reading.Goals as goal
-
-pub returns : goal.returns
-returns c = one_compact_reading

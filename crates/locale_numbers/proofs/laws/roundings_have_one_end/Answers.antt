@@ -1,5 +1,0 @@
-use Rattle.locale_numbers.proofs.RoundedLemmas.{one_rounding}
-use Rattle.locale_numbers.proofs.laws.roundings_have_one_end.Goals as goal
-
-pub returns : goal.returns
-returns c = one_rounding

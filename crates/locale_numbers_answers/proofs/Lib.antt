@@ -1,0 +1,14 @@
+pub mod AnswerLineLemmas
+pub mod CompactAnswerLemmas
+pub mod CompactReadingLemmas
+pub mod ExponentLemmas
+pub mod KnownCompactAnswers
+mod KnownValues
+pub mod LawsLemmas
+pub mod NumberBounds
+pub mod NumberReadingLemmas
+pub mod PartsLemmas
+pub mod ReadingLemmas
+pub mod RoundedLemmas
+pub mod TextLemmas
+pub mod ValueLemmas

@@ -1,0 +1,15 @@
+-- What a reader must believe: what a request makes of its number, and what is answered with tables that are there.
+pub mod Changing
+pub mod AnswerLine
+pub mod NumberAnswer
+pub mod CompactAnswer
+pub mod ReadAnswer
+-- What the answers go by, which a law makes needless to believe.
+pub mod NumberReading
+pub mod CompactReading
+pub mod Rounded
+-- What private steps follow.
+pub mod AnswerSink
+pub mod AnswerSinkLaws
+-- Statements of laws.
+pub mod Laws
