@@ -26,10 +26,11 @@ JOBS_OF_ANOTHER = 2
 # The seconds that each took in a whole build on four processors, beside other work.
 SHARES = {
     "icu_locale_core_grammar": 26, "tinystr_words": 38, "writeable": 80, "icu_decimal_chains": 13,
-    "locale_numbers_lines": 95, "locale_numbers_cache": 51, "tinystr": 54, "fixed_decimal_digit_words": 20, "fixed_decimal_digits": 130,
-    "fixed_decimal_unsigned": 120, "icu_locale_core_subtags": 45, "icu_locale_core_subtag_lists": 69, "icu_locale_core_langid": 266,
+    "locale_numbers_lines": 95, "locale_numbers_cache": 51, "tinystr": 54,
+    "fixed_decimal_digit_words": 20, "fixed_decimal_digits": 130, "fixed_decimal_unsigned": 120,
+    "icu_locale_core_subtags": 45, "icu_locale_core_subtag_lists": 69, "icu_locale_core_langid": 266,
     "icu_locale_core_keywords_fields": 260, "fixed_decimal_signed": 180, "fixed_decimal": 200, "icu_locale_core_preference_keywords": 512,
-    "icu_locale_core_extensions": 185, "icu_locale_core_locale": 531, "icu_decimal_compact_value": 68, "locale_numbers_requests": 61,
+    "icu_locale_core_extensions": 185, "icu_locale_core_locale": 531, "icu_decimal_compact_value": 68,
     "icu_locale_core": 150, "icu_decimal_provider": 107, "locale_numbers_parents": 106,
     "icu_decimal_plurals": 118, "icu_decimal_grouping": 44, "icu_decimal_plain": 283, "icu_decimal_patterns": 343,
     "icu_decimal_reading": 184, "icu_decimal_formatter": 68,
