@@ -52,7 +52,7 @@ def check_together(said):
     """Refuses options that do not go together."""
     given = [name for name in ACTIONS if said.has(name)]
     if given and (len(said.options) > 1 or said.others):
-        raise Fault(f"--{given[0]} stands alone", USAGE)
+        raise Fault(f"--{given[0]} takes no other word", USAGE)
     if said.has("world") and said.has("book"):
         raise Fault("--world and --book name two books: give one of them", USAGE)
     if said.has("tag") and not said.others:
@@ -61,7 +61,7 @@ def check_together(said):
     if lost and not said.has("tag"):
         raise Fault(f"--{lost[0]} is for numbers as arguments: give --tag TAG", USAGE)
     if len(said.others) > 1 and not said.has("tag") and (said.has("world") or said.has("book")):
-        raise Fault("behind --world or --book stands a CAPACITY and no more", USAGE)
+        raise Fault("--world or --book takes one CAPACITY behind it and no more", USAGE)
 
 
 def is_option(word, said):
