@@ -10,15 +10,15 @@ use Rattle.writeable.proofs.LawsLemmas.{closed_inside, intervals_append}
 use Rattle.writeable.proofs.EndsLemmas.{strays, unclosed, unclosed_before, end_of_none, end_of_some, end_of_closed, length-open_from}
 
 -- balanced events, by counts
-record IsEven (es : List Event) : Type 0 where
+pub record IsEven (es : List Event) : Type 0 where
   none_open : unclosed es ≡ 0
   own : strays es ≡ 0
 
-own_closings : (closings : ℕ) (end : Option ℕ) → (0 < closings → (m : ℕ) × (end ≡ Some m)) → end ≡ None → closings ≡ 0
+pub own_closings : (closings : ℕ) (end : Option ℕ) → (0 < closings → (m : ℕ) × (end ≡ Some m)) → end ≡ None → closings ≡ 0
 own_closings zero end some none = refl
 own_closings (suc closings) end some none = let found = some (omega arith) in let clash : Some found.0 ≡ None = sym found.1 ∙ none in cc
 
-even_from : (es : List Event) → IsBalanced es → IsEven es
+pub even_from : (es : List Event) → IsBalanced es → IsEven es
 even_from es balanced = record {
   none_open = sym (length-open_from 0 0 es) ∙ ap length balanced.closed;
   own = own_closings (strays es) (end_of 0 0 es) (end_of_some 0 0 es) balanced.own;

@@ -73,7 +73,7 @@ joining first second whole =
     ∙ ap (λ rest. intervals_from 0 first ++ rest) (intervals_later 0 (length (text_of first)) second) in
     λ i. record { text = text_of_joined first second i; parts = parts i }
 
-intervals_bytes_alone : (n : ℕ) (text : List ℕ) → intervals_from n (bytes text) ≡ []
+pub intervals_bytes_alone : (n : ℕ) (text : List ℕ) → intervals_from n (bytes text) ≡ []
 unfolding bytes
 intervals_bytes_alone n [] = refl
 intervals_bytes_alone n (b ∷ text) = intervals_bytes_alone (n + 1) text
