@@ -1,6 +1,6 @@
 -- The number that a list of digits spells.
 use Rattle.std.proofs.Common.{◌≡◌, ℕ, zero, suc, ◌+◌, ◌-◌, ◌*◌, ◌/◌, ◌%◌, ◌^◌, ◌<◌, ◌≤◌, List, [], ◌∷◌, ◌++◌, length, get_or, take, drop, sym, ap, ◌∙◌, subst, arith, length-drop}
-use Rattle.std.proofs.Math.Nat.{pow-suc, mul-le-mul_right}
+use Rattle.std.proofs.Math.Nat.{pow-suc, mul-le-mul_right, add_assoc}
 use Rattle.std.specs.Int.Digits.{number_from_digits, number_from_digits_after, AllBelowBase}
 use Rattle.std.proofs.lemmas.Int.Digits.{number_lt, number_after_append, number_more}
 use Rattle.std.proofs.lemmas.Nat.{div-mul-add, mod-mul-add}
@@ -10,16 +10,13 @@ use Rattle.fixed_decimal_digit_words.proofs.TenLemmas.{tens_positive}
 pub spread : (n d t u : ℕ) → u ≡ t * 10 → (n * 10 + d) * t ≡ n * u + (0 * 10 + d) * t
 spread n d t u e = omega (arith, ap (λ x. n * x) e)
 
-joined : (a b c : ℕ) → a + b + c ≡ a + (b + c)
-joined a b c = omega arith
-
 -- digits behind a number move it up by their count
 pub number_from : (n : ℕ) (ds : List ℕ) → number_from_digits_after 10 n ds ≡ n * 10 ^ length ds + number_from_digits 10 ds
 number_from n [] = omega arith
 number_from n (d ∷ ds) =
     number_from (n * 10 + d) ds
     ∙ ap (λ x. x + number_from_digits 10 ds) (spread n d (10 ^ length ds) (10 ^ suc (length ds)) (pow-suc 10 (length ds)))
-    ∙ joined (n * 10 ^ suc (length ds)) ((0 * 10 + d) * 10 ^ length ds) (number_from_digits 10 ds)
+    ∙ add_assoc (n * 10 ^ suc (length ds)) ((0 * 10 + d) * 10 ^ length ds) (number_from_digits 10 ds)
     ∙ ap (λ x. n * 10 ^ suc (length ds) + x) (sym (number_from (0 * 10 + d) ds))
 
 pub number_joined : (xs ys : List ℕ) → number_from_digits 10 (xs ++ ys) ≡ number_from_digits 10 xs * 10 ^ length ys + number_from_digits 10 ys

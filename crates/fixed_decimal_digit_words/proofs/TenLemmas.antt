@@ -15,21 +15,25 @@ tens_split i j k h = ap (λ n. 10 ^ n) (sym h) ∙ pow-add 10 i j
 pub tens_next : (k : ℕ) → 10 ^ (k + 1) ≡ 10 ^ k * 10
 tens_next k = let e : k + 1 ≡ suc k = omega arith in ap (λ n. 10 ^ n) e ∙ pow-suc 10 k
 
+-- a zero behind a number, at a place, is the number at the next place
+pub zero_behind : (n t u : ℕ) → u ≡ t * 10 → (n * 10 + 0) * t ≡ n * u
+zero_behind n t u e = omega (arith, ap (λ x. n * x) e)
+
 -- a count below ten to a power has no digit at that place or above
 pub digit_above : (n k p : ℕ) → n < 10 ^ k → k ≤ p → n / 10 ^ p % 10 ≡ 0
 digit_above n k p h le =
     let e : n < 10 ^ p = let up = tens_apart k p le in omega arith in
     ap (λ q. q % 10) (div-eq_of_lt e) ∙ zero-mod 10
 
-regroup : (n a b : ℕ) → n * (a * 10 * b) ≡ (n * a * 10) * b
-regroup n a b = omega arith
+pub tens_regrouped : (n a b : ℕ) → n * (a * 10 * b) ≡ (n * a * 10) * b
+tens_regrouped n a b = omega arith
 
 -- a multiple of a power of ten has a zero at each place below
 pub digit_under : (n e p : ℕ) → p < e → (n * 10 ^ e) / 10 ^ p % 10 ≡ 0
 digit_under n e p h =
     let split : (e - p - 1) + 1 + p ≡ e = omega arith in
     let power : 10 ^ e ≡ 10 ^ (e - p - 1) * 10 * 10 ^ p = tens_split (e - p - 1 + 1) p e split ∙ ap (λ t. t * 10 ^ p) (tens_next (e - p - 1)) in
-    let whole : n * 10 ^ e ≡ (n * 10 ^ (e - p - 1) * 10) * 10 ^ p = ap (λ t. n * t) power ∙ (regroup n (10 ^ (e - p - 1)) (10 ^ p)) in
+    let whole : n * 10 ^ e ≡ (n * 10 ^ (e - p - 1) * 10) * 10 ^ p = ap (λ t. n * t) power ∙ (tens_regrouped n (10 ^ (e - p - 1)) (10 ^ p)) in
     ap (λ t. t / 10 ^ p % 10) whole ∙ ap (λ q. q % 10) (mul-div_cancel (n * 10 ^ (e - p - 1) * 10) (tens_positive p)) ∙ mul-mod_left (n * 10 ^ (e - p - 1)) 10
 
 pub mod_below_power : (n e p : ℕ) → p ≤ e → (n * 10 ^ e) % 10 ^ p ≡ 0

@@ -4,7 +4,7 @@ use Rattle.std.specs.Int.Digits.{number_from_digits, AllBelowBase}
 use Rattle.std.proofs.lemmas.Int.Digits.{number_more, number_push}
 use Rattle.std.proofs.lemmas.Nat.{mod-mul-add}
 use Rattle.std.proofs.lemmas.List.{length-take-le}
-use Rattle.fixed_decimal_digit_words.proofs.TenLemmas.{tens_next}
+use Rattle.fixed_decimal_digit_words.proofs.TenLemmas.{tens_next, zero_behind}
 use Rattle.fixed_decimal_digit_words.proofs.DigitsLemmas.{below_take, below_at, below_push}
 
 -- a front is the front without its last digit, and that digit
@@ -13,14 +13,11 @@ front_more ds n p l =
     let e : n - 1 + 1 ≡ n = omega arith in
     ap (λ k. number_from_digits 10 (take k ds)) (sym e) ∙ number_more 10 ds (n - 1) (omega arith)
 
-by_product : (b t u : ℕ) → u ≡ t * 10 → (b * 10 + 0) * t ≡ b * u
-by_product b t u f = omega (arith, ap (λ x. b * x) f)
-
 carried : (n : ℕ) → n * 10 + 9 + 1 ≡ (n + 1) * 10 + 0
 carried n = omega arith
 
 shifted : (a b t u v w : ℕ) → a ≡ b * 10 + 0 → u ≡ t * 10 → v ≡ a * t → v ≡ b * u
-shifted a b t u v w e f h = h ∙ ap (λ x. x * t) e ∙ by_product b t u f
+shifted a b t u v w e f h = h ∙ ap (λ x. x * t) e ∙ zero_behind b t u f
 
 pub zeros_more : (value : ℕ) (ds : List ℕ) (n long : ℕ) → 0 < n → n ≤ length ds → n ≤ long → get_or ds (n - 1) 0 ≡ 0
     → value ≡ number_from_digits 10 (take n ds) * 10 ^ (long - n) → value ≡ number_from_digits 10 (take (n - 1) ds) * 10 ^ (long - (n - 1))

@@ -7,7 +7,7 @@ use Rattle.std.specs.declared.cmp.Ordering.TheVariants.{Less, Equal, Greater}
 use Rattle.fixed_decimal_digits.specs.CountDigits.{digit}
 use Rattle.fixed_decimal_digits.specs.DigitList.{count_of, IsTrimmed}
 use Rattle.fixed_decimal_digits.specs.RoundingSteps.{Compares}
-use Rattle.fixed_decimal_digit_words.proofs.TenLemmas.{tens_positive, tens_split, tens_next, mod_below_power, remainder_more, tens_apart}
+use Rattle.fixed_decimal_digit_words.proofs.TenLemmas.{tens_positive, tens_split, tens_next, tens_regrouped, mod_below_power, remainder_more, tens_apart}
 use Rattle.fixed_decimal_digits.proofs.CountLemmas.{count_none, count_reaches}
 use Rattle.std.proofs.lemmas.Bool.{cases_lt}
 
@@ -17,9 +17,6 @@ pair_plain n = sym (remainder_more n 10 (omega arith))
 pub pair_of : (count p : ℕ) → digit count (p + 1) * 10 + digit count p ≡ count / 10 ^ p % 100
 pair_of count p =
     ap (λ t. count / t % 10 * 10 + digit count p) (tens_next p) ∙ ap (λ n. n % 10 * 10 + digit count p) (sym (div-div-eq-div-mul count (10 ^ p) 10)) ∙ pair_plain (count / 10 ^ p)
-
-regroup : (c t u : ℕ) → c * (t * 10 * u) ≡ (c * t * 10) * u
-regroup c t u = omega arith
 
 -- a digit below the place is a part below it
 pub below_some : (ds : List ℕ) (top place : ℕ) → IsTrimmed ds top → 0 < length ds → top + 1 < place + length ds → 0 < count_of ds top % 10 ^ place
@@ -32,7 +29,7 @@ below_some ds top place h p l =
           let c = number * 10 ^ e / 10 ^ place in
           let whole : c * 10 ^ place ≡ number * 10 ^ e = omega (arith, div-add-mod' (number * 10 ^ e) (10 ^ place)) in
           let power : 10 ^ place ≡ 10 ^ (place - e - 1) * 10 * 10 ^ e = tens_split (place - e - 1 + 1) e place (omega arith) ∙ ap (λ t. t * 10 ^ e) (tens_next (place - e - 1)) in
-          let shape : c * 10 ^ (place - e - 1) * 10 * 10 ^ e ≡ number * 10 ^ e = sym (ap (λ t. c * t) power ∙ regroup c (10 ^ (place - e - 1)) (10 ^ e)) ∙ whole in
+          let shape : c * 10 ^ (place - e - 1) * 10 * 10 ^ e ≡ number * 10 ^ e = sym (ap (λ t. c * t) power ∙ tens_regrouped c (10 ^ (place - e - 1)) (10 ^ e)) ∙ whole in
           let same : c * 10 ^ (place - e - 1) * 10 ≡ number = eq_of_mul-eq-mul_right (10 ^ e) (tens_positive e) (c * 10 ^ (place - e - 1) * 10) number shape in
           let last : number % 10 ≡ 0 = ap (λ n. n % 10) (sym same) ∙ mul-mod_left (c * 10 ^ (place - e - 1)) 10 in
           let some : 0 < number % 10 = h.last p in

@@ -1,6 +1,6 @@
 -- A mantissa: its two parts one behind the other, and its zeros at the end.
 use Rattle.std.proofs.Common.{◌≡◌, ℕ, zero, suc, ◌+◌, ◌-◌, ◌*◌, ◌%◌, ◌^◌, ◌<◌, ◌≤◌, ◌==◌, min, max, List, [], ◌∷◌, ◌++◌, length, refl, sym, ap, ◌∙◌, arith}
-use Rattle.std.proofs.Math.Nat.{pow-suc, zero-mul, mul_assoc, mul-pos, add-mul-mod_self_right}
+use Rattle.std.proofs.Math.Nat.{pow-suc, zero-mul, add_assoc, mul_assoc, mul-pos, add-mul-mod_self_right}
 use Rattle.std.proofs.lemmas.List.{append-nil}
 use Rattle.std.specs.Char.{digit_value}
 use Rattle.std.specs.Str.Parse.{digits_value_after}
@@ -14,15 +14,12 @@ pub spelled_after : (xs ys : List ℕ) (n : ℕ) → digits_value_after 10 (digi
 spelled_after [] ys n = refl
 spelled_after (x ∷ xs) ys n = spelled_after xs ys (n * 10 + digit_value x)
 
-joined : (a b c : ℕ) → a + b + c ≡ a + (b + c)
-joined a b c = omega arith
-
 pub spelled_from : (n : ℕ) (xs : List ℕ) → digits_value_after 10 n xs ≡ n * 10 ^ length xs + spelled xs
 spelled_from n [] = omega arith
 spelled_from n (x ∷ xs) =
     spelled_from (n * 10 + digit_value x) xs
     ∙ ap (λ k. k + spelled xs) (spread n (digit_value x) (10 ^ length xs) (10 ^ suc (length xs)) (pow-suc 10 (length xs)))
-    ∙ joined (n * 10 ^ suc (length xs)) ((0 * 10 + digit_value x) * 10 ^ length xs) (spelled xs)
+    ∙ add_assoc (n * 10 ^ suc (length xs)) ((0 * 10 + digit_value x) * 10 ^ length xs) (spelled xs)
     ∙ ap (λ k. n * 10 ^ suc (length xs) + k) (sym (spelled_from (0 * 10 + digit_value x) xs))
 
 pub spelled_joined : (xs ys : List ℕ) → spelled (xs ++ ys) ≡ spelled xs * 10 ^ length ys + spelled ys

@@ -6,7 +6,7 @@ use Rattle.std.proofs.lemmas.Bool.Decides.{nat_tests}
 use Rattle.std.specs.Char.{digit_value}
 use Rattle.std.specs.Str.Parse.{digits_value_after}
 use Rattle.fixed_decimal_unsigned.specs.NumberText.{AreDigits, spelled}
-use Rattle.fixed_decimal_digits.proofs.TenLemmas.{tens_next}
+use Rattle.fixed_decimal_digits.proofs.TenLemmas.{tens_next, zero_behind}
 use Rattle.fixed_decimal_digits.proofs.WordLemmas.{digits_joined}
 pub use Rattle.fixed_decimal_digits.proofs.DigitTextLemmas.{digits_at, digits_behind}
 
@@ -30,14 +30,11 @@ pub digits_back : (front : List ℕ) (c : ℕ) → AreDigits (front ++ (c ∷ []
 digits_back [] c h = h.0
 digits_back (d ∷ ds) c h = digits_back ds c h.1
 
-regroup : (n u t : ℕ) → t ≡ u * 10 → (n * 10 + 0) * u ≡ n * t
-regroup n u t h = omega (arith, ap (λ x. n * x) h)
-
 -- a zero at the end is a power of ten
 pub value_front : (front : List ℕ) (c k n : ℕ) → c ≡ 48 → n ≡ spelled (front ++ (c ∷ [])) * 10 ^ k → n ≡ spelled front * 10 ^ (k + 1)
 value_front front c k n e h =
     h ∙ ap (λ x. x * 10 ^ k) (digits_value_push 10 front c ∙ ap (λ x. spelled front * 10 + digit_value x) e)
-    ∙ regroup (spelled front) (10 ^ k) (10 ^ (k + 1)) (tens_next k)
+    ∙ zero_behind (spelled front) (10 ^ k) (10 ^ (k + 1)) (tens_next k)
 
 digit_positive : (c : ℕ) → digit_value c < 10 → (c ≡ 48 → ⊥) → 0 < digit_value c
 digit_positive c h ne = grind (arith, nat_tests)
