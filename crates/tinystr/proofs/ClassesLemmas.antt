@@ -1,5 +1,6 @@
 -- Classes of texts: a class on case holds exactly of the fixed points of the case change, and a class of letters in
 -- one case is both.
+use mathlib.Core.List.{head-eq_of_cons-eq, tail-eq_of_cons-eq}
 use Rattle.std.proofs.Common.{◌≡◌, ℕ, Bool, true, false, ◌&&◌, List, [], ◌∷◌, refl, ap, arith, ◌∙◌, ◌↔◌, IsTrue}
 use Rattle.std.specs.List.{list_all}
 use Rattle.std.specs.Char.{is_ascii_alphabetic, is_ascii_uppercase, is_ascii_lowercase, to_ascii_uppercase, to_ascii_lowercase}
@@ -20,12 +21,6 @@ upper_stays b h = grind (arith, nat_tests)
 upper_is_fixed : (b : ℕ) → to_ascii_uppercase b ≡ b → is_not_lowercase b ≡ true
 upper_is_fixed b h = grind (arith, nat_tests)
 
-heads : (a b : ℕ) (more bs : List ℕ) → a ∷ more ≡ b ∷ bs → a ≡ b
-heads a b more bs e = cc
-
-tails : (a b : ℕ) (more bs : List ℕ) → a ∷ more ≡ b ∷ bs → more ≡ bs
-tails a b more bs e = cc
-
 lower_keeps : (text : List ℕ) → list_all is_not_uppercase text ≡ true → lowercase text ≡ text
 lower_keeps [] h = refl
 lower_keeps (b ∷ bs) h =
@@ -38,8 +33,8 @@ lower_kept : (text : List ℕ) → lowercase text ≡ text → list_all is_not_u
 lower_kept [] e = refl
 lower_kept (b ∷ bs) e =
     and_from (is_not_uppercase b) (list_all is_not_uppercase bs)
-    (lower_is_fixed b (heads (to_ascii_lowercase b) b (lowercase bs) bs e))
-    (lower_kept bs (tails (to_ascii_lowercase b) b (lowercase bs) bs e))
+    (lower_is_fixed b (head-eq_of_cons-eq e))
+    (lower_kept bs (tail-eq_of_cons-eq e))
 
 upper_keeps : (text : List ℕ) → list_all is_not_lowercase text ≡ true → uppercase text ≡ text
 upper_keeps [] h = refl
@@ -53,8 +48,8 @@ upper_kept : (text : List ℕ) → uppercase text ≡ text → list_all is_not_l
 upper_kept [] e = refl
 upper_kept (b ∷ bs) e =
     and_from (is_not_lowercase b) (list_all is_not_lowercase bs)
-    (upper_is_fixed b (heads (to_ascii_uppercase b) b (uppercase bs) bs e))
-    (upper_kept bs (tails (to_ascii_uppercase b) b (uppercase bs) bs e))
+    (upper_is_fixed b (head-eq_of_cons-eq e))
+    (upper_kept bs (tail-eq_of_cons-eq e))
 
 pub lowercase_fixed : (text : List ℕ) → IsTrue (list_all is_not_uppercase text) ↔ (lowercase text ≡ text)
 lowercase_fixed text = (lower_keeps text, lower_kept text)
@@ -74,8 +69,8 @@ title_kept : (text : List ℕ) → titlecase text ≡ text → is_in_class is_no
 title_kept [] e = refl
 title_kept (b ∷ bs) e =
     and_from (is_not_lowercase b) (list_all is_not_uppercase bs)
-    (upper_is_fixed b (heads (to_ascii_uppercase b) b (lowercase bs) bs e))
-    (lower_kept bs (tails (to_ascii_uppercase b) b (lowercase bs) bs e))
+    (upper_is_fixed b (head-eq_of_cons-eq e))
+    (lower_kept bs (tail-eq_of_cons-eq e))
 
 pub titlecase_fixed : (text : List ℕ) → IsTrue (is_in_class is_not_lowercase is_not_uppercase text) ↔ (titlecase text ≡ text)
 titlecase_fixed text = (title_keeps text, title_kept text)

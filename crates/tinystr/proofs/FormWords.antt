@@ -2,10 +2,12 @@
 use Rattle.std.proofs.Common.{◌≡◌, ℕ, suc, zero, ◌-◌, Bool, true, false, ◌&&◌, ◌||◌, List, [], ◌∷◌, ◌++◌, length, replicate, nat_eq, refl, sym, ap, subst, arith, ◌∙◌}
 use Rattle.std.specs.List.{list_all}
 use Rattle.std.specs.Str.{IsAscii}
+use Rattle.std.proofs.Math.Bool.{and-true}
 use Rattle.std.proofs.lemmas.Bool.{and_parts}
 use Rattle.std.proofs.lemmas.Bool.Decides.{nat_tests}
 use Rattle.std.proofs.lemmas.List.Folds.{list_all-append}
 use Rattle.tinystr_words.specs.Words.{are_nuls, nuls_last, text_bytes, or_nul}
+use Rattle.tinystr_words.proofs.CutLaws.{all_nuls, nuls_counted}
 use Rattle.tinystr.specs.SmallText.{NUL, is_text_byte, IsForm, padded, text_of}
 use Rattle.tinystr.specs.Classes.{is_in_class}
 use Rattle.tinystr.proofs.WordLemmas.{IsAscii-padded}
@@ -21,10 +23,6 @@ nuls (suc k) = nuls k
 nuls_end : (k : ℕ) → nuls_last (replicate k NUL) ≡ true
 nuls_end zero = refl
 nuls_end (suc k) = nuls k
-
-nuls_counted : (k : ℕ) → text_bytes (replicate k NUL) ≡ 0
-nuls_counted zero = refl
-nuls_counted (suc k) = nuls_counted k
 
 nuls_behind : (text : List ℕ) (k : ℕ) → list_all is_text_byte text ≡ true → nuls_last (text ++ replicate k NUL) ≡ true
 nuls_behind [] k ascii = nuls_end k
@@ -45,16 +43,8 @@ unfolding padded
 form_text_bytes n bytes form = ap text_bytes form.rest ∙ counted (text_of bytes) (n - length (text_of bytes)) form.small.ascii
 
 -- ---- a test of every byte
-all_nuls : (p : ℕ → Bool) → p 0 ≡ true → (k : ℕ) → list_all p (replicate k NUL) ≡ true
-all_nuls p some zero = refl
-all_nuls p some (suc k) = rw some (all_nuls p some k)
-
-and_true : (b : Bool) → (b && true) ≡ b
-and_true true = refl
-and_true false = refl
-
 all_behind : (p : ℕ → Bool) → p 0 ≡ true → (text : List ℕ) (k : ℕ) → list_all p (text ++ replicate k NUL) ≡ list_all p text
-all_behind p some text k = list_all-append p text (replicate k NUL) ∙ ap (λ t. list_all p text && t) (all_nuls p some k) ∙ and_true (list_all p text)
+all_behind p some text k = list_all-append p text (replicate k NUL) ∙ ap (λ t. list_all p text && t) (all_nuls p some k) ∙ and-true (list_all p text)
 
 pub all_padded : (p : ℕ → Bool) → p 0 ≡ true → (n : ℕ) (text : List ℕ) → list_all p (padded n text) ≡ list_all p text
 unfolding padded

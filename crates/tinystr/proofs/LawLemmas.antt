@@ -1,4 +1,5 @@
 -- The laws of `specs/Laws.antt`.
+use mathlib.Core.List.{head-eq_of_cons-eq, tail-eq_of_cons-eq}
 use Rattle.std.proofs.Common.{◌≡◌, ℕ, suc, zero, ◌<◌, ◌≤◌, Bool, true, false, ◌⊎◌, inl, inr, List, [], ◌∷◌, ◌++◌, take, map, refl, sym, ap, subst, arith, ◌∙◌}
 use Rattle.std.specs.Prelude.{replicate, nat_eq}
 use Rattle.std.specs.Bool.{Decides}
@@ -50,12 +51,6 @@ record LiesIn (front : List ℕ) (unit : ℕ) (other : List ℕ) : Type 0 where
   rest : List ℕ
   whole : other ≡ front ++ unit ∷ rest
 
-heads : (a b : ℕ) (more bs : List ℕ) → a ∷ more ≡ b ∷ bs → a ≡ b
-heads a b more bs e = cc
-
-tails : (a b : ℕ) (more bs : List ℕ) → a ∷ more ≡ b ∷ bs → more ≡ bs
-tails a b more bs e = cc
-
 further : (a b : ℕ) (front : List ℕ) (unit : ℕ) (other : List ℕ) → a ≡ b → LiesIn front unit other → LiesIn (a ∷ front) unit (b ∷ other)
 further a b front unit other e lies = record {
   rest = lies.rest;
@@ -64,14 +59,14 @@ further a b front unit other e lies = record {
 
 two_places : (one other : List ℕ) (u v : ℕ) (more rest : List ℕ) → one ++ u ∷ more ≡ other ++ v ∷ rest
     → (u ≡ v) ⊎ (LiesIn one u other ⊎ LiesIn other v one)
-two_places [] [] u v more rest e = inl (heads u v more rest e)
+two_places [] [] u v more rest e = inl (head-eq_of_cons-eq e)
 two_places [] (b ∷ bs) u v more rest e =
-    inr (inl (record { rest = bs; whole = ap (λ x. x ∷ bs) (sym (heads u b more (bs ++ v ∷ rest) e)) }))
+    inr (inl (record { rest = bs; whole = ap (λ x. x ∷ bs) (sym (head-eq_of_cons-eq e)) }))
 two_places (a ∷ front) [] u v more rest e =
-    inr (inr (record { rest = front; whole = ap (λ x. x ∷ front) (heads a v (front ++ u ∷ more) rest e) }))
+    inr (inr (record { rest = front; whole = ap (λ x. x ∷ front) (head-eq_of_cons-eq e) }))
 two_places (a ∷ front) (b ∷ bs) u v more rest e =
-    let same = heads a b (front ++ u ∷ more) (bs ++ v ∷ rest) e in
-    elim (two_places front bs u v more rest (tails a b (front ++ u ∷ more) (bs ++ v ∷ rest) e)) [
+    let same = head-eq_of_cons-eq e in
+    elim (two_places front bs u v more rest (tail-eq_of_cons-eq e)) [
       | inl equal ↦ inl equal
       | inr sides ↦ elim sides [
         | inl lies ↦ inr (inl (further a b front u bs same lies))

@@ -1,11 +1,12 @@
 -- Bytes written one at a time over the first of a list, each a function of a unit; and that a lossy text is a text.
-use Rattle.std.proofs.Common.{◌≡◌, ℕ, ◌+◌, ◌<◌, true, List, [], ◌∷◌, ◌++◌, length, take, drop, get_or, set, map, min, refl, sym, ap, arith, ◌∙◌}
+use Rattle.std.proofs.Common.{◌≡◌, ℕ, ◌+◌, ◌<◌, true, List, [], ◌∷◌, ◌++◌, length, take, drop, get_or, set, map, min, replicate, refl, sym, ap, arith, ◌∙◌}
 use Rattle.std.specs.List.{list_all}
 use Rattle.std.proofs.lemmas.Bool.{and_from}
 use Rattle.std.proofs.lemmas.Bool.Decides.{nat_tests}
 use Rattle.std.proofs.lemmas.List.{append_assoc, drop_more, set_at, map_more, map-id, length-map, length-take, length-take-le, take_min}
-use Rattle.tinystr.specs.SmallText.{is_text_byte, IsSmall}
+use Rattle.tinystr.specs.SmallText.{NUL, is_text_byte, IsSmall, padded}
 use Rattle.tinystr.specs.Lossy.{kept_or_replacement}
+use Rattle.tinystr.proofs.SmallTextLemmas.{front_gives_form}
 
 pub put_more : (f : ℕ → ℕ) (units old bytes : List ℕ) (i : ℕ) → i < length units → i < length old
     → bytes ≡ map f (take i units) ++ drop i old → set bytes i (f (get_or units i 0)) ≡ map f (take (i + 1) units) ++ drop (i + 1) old
@@ -38,6 +39,14 @@ IsSmall-lossy n replacement units good = record {
 -- the least of the length and n units are the first n
 pub first_units : (n m : ℕ) (units : List ℕ) → m ≡ min (length units) n → take m units ≡ take n units
 first_units n m units e = let other : m ≡ min n (length units) = omega arith in ap (λ k. take k units) other ∙ take_min n units
+
+-- what is written is the lossy text over the first NULs
+pub lossy_written : (n m r : ℕ) (units bytes : List ℕ) → take m units ≡ take n units
+    → bytes ≡ map (kept_or_replacement r) (take m units) ++ drop (length (take m units)) (replicate n NUL)
+    → bytes ≡ padded n (map (kept_or_replacement r) (take n units))
+lossy_written n m r units bytes same e =
+    front_gives_form n (map (kept_or_replacement r) (take n units)) bytes
+    (rw (length-map (take n units) (kept_or_replacement r)) (rw same at e))
 
 -- the same where each unit is written as it is
 pub put_same : (units old bytes : List ℕ) (i : ℕ) → i < length units → i < length old

@@ -1,4 +1,5 @@
 -- N bytes: those with no fault but NULs at the end are the form of their text, and those with a fault are none.
+use mathlib.Core.List.{head-eq_of_cons-eq, tail-eq_of_cons-eq}
 use Rattle.std.proofs.Common.{◌≡◌, ℕ, suc, zero, ◌+◌, ◌-◌, ◌<◌, ◌≤◌, Bool, true, false, inl, inr, List, [], ◌∷◌, ◌++◌, length, replicate, refl, sym, ap, arith, ◌∙◌}
 use Rattle.std.specs.List.{list_all}
 use Rattle.std.specs.Int.{is_in_range}
@@ -61,12 +62,6 @@ nuls_are_nul (suc k) = nuls_are_nul k
 text_byte_and_nul : (unit : ℕ) → is_text_byte unit ≡ true → is_nul unit ≡ true → ⊥
 text_byte_and_nul unit is nul = grind (arith, nat_tests)
 
-heads : (a b : ℕ) (more bs : List ℕ) → a ∷ more ≡ b ∷ bs → a ≡ b
-heads a b more bs e = cc
-
-tails : (a b : ℕ) (more bs : List ℕ) → a ∷ more ≡ b ∷ bs → more ≡ bs
-tails a b more bs e = cc
-
 nul_is_no_text_byte : (b : ℕ) → is_text_byte b ≡ true → b ≡ NUL → ⊥
 nul_is_no_text_byte b is e = grind (arith, nat_tests)
 
@@ -80,12 +75,12 @@ no_text_behind [] front k nuls unit rest one two is e =
     text_byte_and_nul unit is (all_at is_nul (front ++ replicate (suc nuls) NUL) unit rest all)
 no_text_behind (b ∷ bs) [] k nuls unit rest one two is e =
     let both = and_parts (is_text_byte b) (list_all is_text_byte bs) one in
-    nul_is_no_text_byte b both.0 (heads b NUL (bs ++ replicate k NUL) (replicate nuls NUL ++ unit ∷ rest) e)
+    nul_is_no_text_byte b both.0 (head-eq_of_cons-eq e)
 no_text_behind (b ∷ bs) (d ∷ ds) k nuls unit rest one two is e =
     let both = and_parts (is_text_byte b) (list_all is_text_byte bs) one in
     let other = and_parts (is_text_byte d) (list_all is_text_byte ds) two in
     no_text_behind bs ds k nuls unit rest both.1 other.1 is
-    (tails b d (bs ++ replicate k NUL) (ds ++ (replicate (suc nuls) NUL ++ unit ∷ rest)) e)
+    (tail-eq_of_cons-eq e)
 
 -- what is a text and NULs has no fault but NULs at the end
 pub clean_refuses_high : (k : ℕ) (units : List ℕ) → IsClean k units → StopsAtNonAscii units → ⊥

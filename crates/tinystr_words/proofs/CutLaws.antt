@@ -2,6 +2,7 @@
 use Rattle.std.proofs.Common.{◌≡◌, ℕ, zero, suc, ◌+◌, ◌-◌, ◌^◌, ◌≤◌, ◌<◌, Bool, true, false, ◌&&◌, take-add, List, [], ◌∷◌, ◌++◌, length, map, take, drop, get_or, replicate, refl, sym, ap, arith, ◌∙◌}
 use Rattle.std.specs.List.{list_all}
 use Rattle.std.specs.Str.{IsAscii}
+use Rattle.std.proofs.Math.Bool.{and-true}
 use Rattle.std.proofs.lemmas.List.{append_assoc, drop-drop, drop-replicate, length-drop, length-take, length-append, length-replicate, map-append, length-map, take_at, drop_at}
 use Rattle.std.proofs.lemmas.List.Folds.{list_all-append}
 use Rattle.tinystr_words.specs.Words.{word_bytes, word_of, filled, are_nuls, nuls_last, text_bytes}
@@ -41,20 +42,16 @@ unfolding filled
 length-filled bs short = omega (arith, length-append bs (replicate (8 - length bs) NUL), length-replicate {A = ℕ})
 
 -- ---- a test
-all_nuls : (p : ℕ → Bool) → p 0 ≡ true → (k : ℕ) → list_all p (replicate k NUL) ≡ true
+pub all_nuls : (p : ℕ → Bool) → p 0 ≡ true → (k : ℕ) → list_all p (replicate k NUL) ≡ true
 all_nuls p some zero = refl
 all_nuls p some (suc k) = rw some (all_nuls p some k)
-
-and_true : (b : Bool) → (b && true) ≡ b
-and_true true = refl
-and_true false = refl
 
 all_filled : (p : ℕ → Bool) → p 0 ≡ true → (bs : List ℕ) → list_all p (filled bs) ≡ list_all p bs
 unfolding filled
 all_filled p some bs =
     list_all-append p bs (replicate (8 - length bs) NUL)
     ∙ ap (λ t. list_all p bs && t) (all_nuls p some (8 - length bs))
-    ∙ and_true (list_all p bs)
+    ∙ and-true (list_all p bs)
 
 pub all_cut : (p : ℕ → Bool) → p 0 ≡ true → (all front rest : List ℕ) → all ≡ front ++ rest
     → list_all p all ≡ (list_all p (filled front) && list_all p rest)
@@ -62,7 +59,7 @@ all_cut p some all front rest e =
     ap (list_all p) e ∙ list_all-append p front rest ∙ ap (λ t. t && list_all p rest) (sym (all_filled p some front))
 
 -- ---- a length
-nuls_counted : (k : ℕ) → text_bytes (replicate k NUL) ≡ 0
+pub nuls_counted : (k : ℕ) → text_bytes (replicate k NUL) ≡ 0
 nuls_counted zero = refl
 nuls_counted (suc k) = nuls_counted k
 
