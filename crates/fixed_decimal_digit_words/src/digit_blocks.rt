@@ -1,4 +1,5 @@
-// Blocks of digits, two to a byte: the bytes of a text, the text of bytes, and the digits that lie in them.
+//! Blocks of digits, two to a byte: the bytes of a text, the text of bytes, and the digits that lie in them.
+
 ghost use Rattle.std.specs.Prelude.{◌≡◌, ◌/◌, ◌%◌, ◌≤◌, length, map, take, drop};
 ghost use Rattle.std.specs.Char.{digit_value};
 ghost use Rattle.fixed_decimal_digit_words.specs.DigitText.{AreDigits, character};

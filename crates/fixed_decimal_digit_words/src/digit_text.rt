@@ -1,4 +1,5 @@
-// Digits in texts: that of a character, and those that a text begins with.
+//! Digits in texts: that of a character, and those that a text begins with.
+
 ghost use Rattle.std.specs.Prelude.{◌≡◌, ◌<◌, ◌≤◌, length, take, IsTrue};
 ghost use Rattle.std.specs.Char.{digit_value};
 ghost use Rattle.fixed_decimal_digit_words.specs.DigitText.{AreDigits};

@@ -1,4 +1,5 @@
-// Words of digits: sixteen at most, four bits each, the highest first.
+//! Words of digits: sixteen at most, four bits each, the highest first.
+
 ghost use Rattle.std.specs.Prelude.{◌≡◌, ◌-◌, ◌%◌, ◌^◌, ◌<◌, ◌≤◌, length, take};
 ghost use Rattle.std.specs.Int.Digits.{number_from_digits, AllBelowBase};
 ghost use Rattle.std.specs.Str.Parse.{digits_value_after};

@@ -1,4 +1,5 @@
-// Whole numbers: the zeros at their end.
+//! Whole numbers: the zeros at their end.
+
 ghost use Rattle.std.specs.Prelude.{◌≡◌, ◌*◌, ◌%◌, ◌^◌, ◌<◌};
 
 /// A number without the zeros that it ends in, and how many these are: 25 and 1 of 250. The condition is that it is not

@@ -1,4 +1,5 @@
-// Equality of counts.
+//! Equality of counts.
+
 ghost use Rattle.std.specs.Prelude.{◌≡◌};
 ghost use Rattle.std.specs.Bool.{Decides};
 ghost use Rattle.fixed_decimal_digits.specs.DigitList.{count_of, IsTrimmed};

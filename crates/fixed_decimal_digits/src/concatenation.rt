@@ -1,4 +1,5 @@
-// Digits behind other digits, with zeros between them.
+//! Digits behind other digits, with zeros between them.
+
 ghost use Rattle.std.specs.Prelude.{◌≡◌, ◌+◌, ◌<◌, ◌≤◌, ◌++◌, length, replicate, OnOk, OnErr, IfSome};
 
 use crate::digits::Digits;

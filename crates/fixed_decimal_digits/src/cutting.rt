@@ -1,4 +1,5 @@
-// Digits cut away from the front.
+//! Digits cut away from the front.
+
 ghost use Rattle.std.specs.Prelude.{◌≡◌, ◌+◌, ◌%◌, ◌^◌, ◌<◌, ◌≤◌, length, slice_index, drop};
 ghost use Rattle.std.specs.Int.Digits.{number_from_digits};
 ghost use Rattle.fixed_decimal_digits.specs.DigitList.{count_of, IsTrimmed};

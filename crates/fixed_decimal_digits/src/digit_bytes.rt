@@ -1,4 +1,5 @@
-// Changes of the bytes that hold two digits each.
+//! Changes of the bytes that hold two digits each.
+
 ghost use Rattle.std.specs.Prelude.{◌≡◌, ◌+◌, ◌<◌, ◌≤◌, ◌++◌, length, slice_set, take, drop};
 ghost use Rattle.fixed_decimal_digit_words.specs.DigitWord.{word_bytes};
 ghost use Rattle.fixed_decimal_digit_words.specs.Packed.{shifted};

@@ -1,4 +1,5 @@
-// The first digits of a list, kept.
+//! The first digits of a list, kept.
+
 ghost use Rattle.std.specs.Prelude.{◌≡◌, ◌+◌, ◌-◌, ◌%◌, ◌<◌, ◌≤◌, [], ◌∷◌, ◌++◌, length, slice_index, take};
 
 use crate::digit_bytes::set_byte;

@@ -1,4 +1,5 @@
-// Some of the digits of a list, one after another, or sixteen at once.
+//! Some of the digits of a list, one after another, or sixteen at once.
+
 ghost use Rattle.std.specs.Prelude.{◌≡◌, ◌+◌, ◌^◌, ◌<◌, ◌≤◌, length, min, take, drop};
 ghost use Rattle.std.specs.Iterator.{YieldsFirst, item_count};
 

@@ -1,5 +1,5 @@
-// The digits of a number: only this file, `digit_changes.rt`, `digit_fronts.rt` and `digit_run.rt` know how they lie in
-// memory.
+//! The digits of a number. Only this file, `digit_changes`, `digit_fronts` and `digit_run` know how they lie in memory.
+
 ghost use Rattle.std.specs.Prelude.{◌≡◌, ◌==◌, ◌+◌, ◌%◌, ◌<◌, ◌≤◌, ◌↔◌, [], length, slice_index, take, drop, map, IsTrue, IfOk, OnErr};
 ghost use Rattle.std.specs.Bool.{Decides};
 ghost use Rattle.fixed_decimal_digit_words.specs.DigitText.{character};

@@ -1,4 +1,5 @@
-// The digits of a whole number.
+//! The digits of a whole number.
+
 ghost use Rattle.std.specs.Prelude.{◌≡◌, ◌^◌, ◌<◌, ◌≤◌, [], length, slice_index, OnOk, OnErr};
 ghost use Rattle.std.specs.Int.Digits.{number_from_digits, AllBelowBase};
 

@@ -1,3 +1,5 @@
+//! Which multiples a rounding looks at, and which of them it takes: modes by size, and increments.
+
 ghost use Rattle.std.specs.Prelude.{◌≡◌};
 ghost use Rattle.fixed_decimal_digits.specs.Rounding.{increment_number};
 

@@ -1,4 +1,5 @@
-// The loops over digits that a rounding makes, each turn counted.
+//! The loops over digits that a rounding makes, each turn counted.
+
 ghost use Rattle.std.specs.Prelude.{◌≡◌, ℕ, ◌+◌, ◌-◌, ◌*◌, ◌/◌, ◌%◌, ◌^◌, ◌<◌, ◌≤◌, cond, length, slice_index, take};
 ghost use Rattle.std.specs.Int.Digits.{number_from_digits, AllBelowBase};
 

@@ -1,4 +1,5 @@
-// Rounding the digits of a number: the two digits at the place, and what they become.
+//! Rounding the digits of a number: the two digits at the place, and what they become.
+
 ghost use Rattle.std.specs.Prelude.{◌≡◌, ◌≢◌, ℕ, ◌+◌, ◌-◌, ◌*◌, ◌/◌, ◌%◌, ◌^◌, ◌<◌, ◌≤◌, length, slice_index, IfSome, IfNone, IfOk, OnErr, IsOk, IsTrue, cond, true, false, ◌⊎◌};
 ghost use Rattle.std.specs.Bool.{MatchBool};
 ghost use Rattle.std.specs.Int.Digits.{number_from_digits, AllBelowBase};

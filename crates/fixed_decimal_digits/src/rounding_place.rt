@@ -1,4 +1,5 @@
-// Rounding the digits of a number to a multiple of what a place counts.
+//! Rounding the digits of a number to a multiple of what a place counts.
+
 ghost use Rattle.std.specs.Prelude.{◌≡◌, ℕ, ◌+◌, ◌-◌, ◌*◌, ◌/◌, ◌%◌, ◌^◌, ◌<◌, ◌≤◌, cond, length, take};
 ghost use Rattle.std.specs.Int.Digits.{number_from_digits};
 ghost use Rattle.fixed_decimal_digits.specs.DigitList.{count_of, IsTrimmed};

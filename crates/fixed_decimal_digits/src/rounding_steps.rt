@@ -1,4 +1,5 @@
-// What a rounding looks at: digits by place, the part below a place, and the choice between two multiples.
+//! What a rounding looks at: digits by place, the part below a place, and the choice between two multiples.
+
 ghost use Rattle.std.specs.Prelude.{◌≡◌, ℕ, ◌+◌, ◌-◌, ◌*◌, ◌/◌, ◌%◌, ◌^◌, ◌<◌, ◌≤◌, ◌↔◌, length, IsTrue, slice_index};
 ghost use Rattle.std.specs.Int.Digits.{number_from_digits, AllBelowBase};
 ghost use Rattle.fixed_decimal_digits.specs.CountDigits.{digit};

@@ -1,3 +1,5 @@
+//! The count of the turns that the loops over digits make, which only proofs read.
+
 ghost use Rattle.std.specs.Prelude.{◌≡◌, ◌+◌, ◌<◌};
 
 use std::marker::Model;

@@ -1,3 +1,5 @@
+//! Numbers put one behind the other: `12` and `0.3` give `12.3`.
+
 ghost use Rattle.std.specs.Prelude.{◌≡◌, ◌↔◌, OnOk, OnErr, IfOk, IfErr};
 ghost use Rattle.fixed_decimal_unsigned.specs.Concatenation.{Overlaps, Concatenates, MayWantMemory, handed_back};
 

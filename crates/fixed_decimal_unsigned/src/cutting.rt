@@ -1,3 +1,5 @@
+//! A number without its digits from a magnitude up.
+
 ghost use Rattle.fixed_decimal_unsigned.specs.Number.{place};
 ghost use Rattle.fixed_decimal_unsigned.specs.Shifts.{Cuts};
 

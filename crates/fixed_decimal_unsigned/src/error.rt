@@ -1,3 +1,5 @@
+//! Why a text is not read as a number, and why a number is not put behind another.
+
 ghost use Rattle.std.specs.Prelude.{◌≡◌};
 ghost use Rattle.fixed_decimal_unsigned.specs.declared.error.ParseError.TheVariants.{Memory};
 ghost use Rattle.fixed_decimal_unsigned.specs.ErrorNumbers.{parse_error_number, concatenate_error_number};

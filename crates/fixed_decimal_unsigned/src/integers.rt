@@ -1,3 +1,5 @@
+//! Numbers made from the unsigned integers of each width.
+
 ghost use Rattle.std.specs.Prelude.{◌<◌, ◌^◌, IfOk, OnErr, IsOk};
 ghost use Rattle.fixed_decimal_unsigned.specs.Integers.{IsInteger};
 ghost use Rattle.fixed_decimal_unsigned.specs.Range.{IsLong};

@@ -1,4 +1,5 @@
-// Laws on texts and numbers. No call is made: each clause is the law.
+//! Laws on texts and numbers. No call is made: each clause is the law.
+
 ghost use Rattle.fixed_decimal_unsigned.specs.Laws.{TextsReadOnce, PrintedTextsReadBack, EqualTextsAreEqualNumbers, EqualityIsIdentity, EqualityIsThatOfTexts};
 
 /// A text spells at most one number, and is not both within the limits and beyond them: `12.30` spells only 12.3, shown

@@ -1,3 +1,5 @@
+//! The magnitudes of the first and of the last digit that is not zero.
+
 ghost use Rattle.std.specs.Prelude.{◌≡◌, ◌<◌, pos};
 ghost use Rattle.fixed_decimal_unsigned.specs.NonzeroPlaces.{IsFirstPlace, IsLastPlace};
 ghost use Rattle.fixed_decimal_unsigned.specs.Number.{place};

@@ -1,3 +1,5 @@
+//! Rounding to a multiple of an increment at a position, its turns counted.
+
 ghost use Rattle.std.specs.Prelude.{◌≡◌, ◌≢◌, ℕ, ◌+◌, ◌*◌, ◌^◌, ◌<◌, ◌≤◌, OnOk, OnErr, IsOk};
 ghost use Rattle.fixed_decimal_unsigned.specs.Number.{place};
 ghost use Rattle.fixed_decimal_unsigned.specs.Range.{Rounds, HoldsDigits, MayGrowAt};

@@ -1,3 +1,5 @@
+//! The calls that round a number: by mode and increment, by mode, to the nearest, away from zero or towards it.
+
 ghost use Rattle.std.specs.Prelude.{◌≡◌, ◌≢◌, ◌*◌, ◌^◌, ◌<◌, OnOk, OnErr, IfOk, IfErr, IsOk};
 ghost use Rattle.fixed_decimal_unsigned.specs.Number.{place};
 ghost use Rattle.fixed_decimal_unsigned.specs.Range.{Rounds, MayGrowAt};

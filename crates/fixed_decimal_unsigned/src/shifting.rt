@@ -1,3 +1,5 @@
+//! A number times a power of ten, the digits shown with it.
+
 ghost use Rattle.std.specs.Prelude.{◌≡◌, ◌+◌, ◌-◌, ◌<◌, ◌≤◌, length, IsTrue, ◌⊎◌, false};
 ghost use Rattle.fixed_decimal_unsigned.specs.Shifts.{rise, fall, Shifts, plain_zero};
 

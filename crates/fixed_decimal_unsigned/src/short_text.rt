@@ -1,4 +1,5 @@
-// Reading a text of sixteen characters at most: its digits are folded into a word as they are looked at.
+//! Reading a text of sixteen characters at most: its digits are folded into a word as they are looked at.
+
 ghost use Rattle.std.specs.Prelude.{ℕ, ◌≡◌, ◌+◌, ◌^◌, ◌<◌, ◌≤◌, length, IfOk, IfSome, OnErr};
 ghost use Rattle.std.specs.Int.Digits.{number_from_digits, AllBelowBase};
 ghost use Rattle.fixed_decimal_digits.specs.DigitList.{count_of};

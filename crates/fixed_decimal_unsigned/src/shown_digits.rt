@@ -1,3 +1,5 @@
+//! The digits that are shown on each side of the point.
+
 ghost use Rattle.std.specs.Prelude.{◌≡◌};
 ghost use Rattle.fixed_decimal_unsigned.specs.Number.{fraction_digits, whole_digits};
 

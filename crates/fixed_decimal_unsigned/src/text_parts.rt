@@ -1,4 +1,5 @@
-// A text taken apart: digits, a fraction, an exponent.
+//! A text taken apart: digits, a fraction, an exponent.
+
 ghost use Rattle.std.specs.Prelude.{◌≡◌, false, ◌++◌, [], IfSome, IfNone, IsTrue, ◌↔◌};
 ghost use Rattle.fixed_decimal_unsigned.specs.NumberText.{AreDigits, behind_point, SpellsExponent, Spells, IsNoText, minus_if};
 ghost use Rattle.fixed_decimal_unsigned.specs.TextParts.{StartsNoDigit, StartsNoPoint, IsNoFraction, IsNoExponent, StartsNoMinus, IsMark};

@@ -1,3 +1,5 @@
+//! Zeros at both ends of a number, removed or shown up to a position.
+
 ghost use Rattle.std.specs.Prelude.{◌≡◌, ◌+◌, ◌-◌, ◌≤◌, min, length};
 ghost use Rattle.fixed_decimal_unsigned.specs.Number.{place};
 ghost use Rattle.fixed_decimal_unsigned.specs.Shifts.{TrimsStart, TrimsEnd, TrimsWhole, PadsStart, PadsEnd};

@@ -1,3 +1,5 @@
+//! Decimal numbers without a sign: the type, zero and one, copies, single digits and the range shown.
+
 ghost use Rattle.std.specs.Prelude.{◌≡◌, ◌==◌, ◌<◌, IfOk, OnErr, false};
 ghost use Rattle.std.specs.Range.{range_inclusive_start, range_inclusive_end, range_inclusive_exhausted};
 ghost use Rattle.fixed_decimal_unsigned.specs.Number.{place, digit, IsNumber};

@@ -1,3 +1,5 @@
+//! The text of a number, written in pieces of up to sixty-four characters.
+
 ghost use Rattle.std.specs.Prelude.{◌≡◌, ℕ, ◌+◌, ◌-◌, ◌<◌, ◌≤◌, ◌++◌, codes, false, is_err, length, map, take, IfSome, OnOk, OnErr, Some};
 ghost use Rattle.std.specs.Str.{IsAscii};
 ghost use Rattle.writeable.specs.AnnotatedText.{bytes};

@@ -1,3 +1,5 @@
+//! Why a row is not answered by what its call returns, and what answers it then.
+
 use std::alloc::{AllocError, AllocFailed};
 
 /// Why a row has no answer.

@@ -1,3 +1,5 @@
+//! The byte order of a text against given bytes, found while the text is written.
+
 ghost use Rattle.std.specs.Prelude.{◌≡◌, ℕ, List, [], ◌∷◌, false, IsTrue};
 ghost use Rattle.std.specs.declared.cmp.Ordering.TheVariants.{Equal};
 ghost use Rattle.writeable.specs.AnnotatedText.{text_of};

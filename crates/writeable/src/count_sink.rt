@@ -1,3 +1,5 @@
+//! The bytes of a text, counted as they are written and not kept.
+
 ghost use Rattle.std.specs.Prelude.{◌≡◌, false, OnOk, OnErr, is_err};
 ghost use Rattle.writeable.specs.AnnotatedText.{bytes};
 ghost use Rattle.writeable.specs.HeldCount.{Counts, PassesLimit};

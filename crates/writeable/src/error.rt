@@ -1,3 +1,5 @@
+//! The one error of a sink: it had no room for all that it was given.
+
 ghost use Rattle.std.specs.Prelude.{◌≡◌, codes, Some};
 ghost use Rattle.writeable.specs.Numbers.{refused_number};
 

@@ -1,3 +1,5 @@
+//! `Display` of values that are `Writeable`: their texts, without the parts.
+
 ghost use Rattle.std.specs.Prelude.{Some};
 ghost use Rattle.std.specs.Fmt.{DisplaysOnOk};
 ghost use Rattle.writeable.specs.AnnotatedText.{text_of};

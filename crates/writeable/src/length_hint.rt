@@ -1,3 +1,5 @@
+//! Bounds on the length of a text, known before it is written.
+
 ghost use Rattle.std.specs.Prelude.{◌≡◌, ℕ, ◌+◌, None, Some};
 ghost use Rattle.writeable.specs.LengthHint.{IsWithinHint};
 

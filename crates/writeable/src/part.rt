@@ -1,3 +1,5 @@
+//! The names of the parts of a text.
+
 /// A name for an interval of a text, as `decimal`, `integer` for the digits before the point.
 ///
 /// After ICU4X's `writeable::Part`.

@@ -1,3 +1,5 @@
+//! Writing into another sink without the parts.
+
 use crate::error::Error;
 use crate::part::Part;
 use crate::sink::Sink;

@@ -1,3 +1,5 @@
+//! A text and the intervals of its parts, held in memory.
+
 ghost use Rattle.std.specs.Prelude.{◌≡◌, ◌≢◌, ◌≤◌, false, [], map, insert, vec_len, cond, is_ok, if◌then◌else◌, ◌==◌, OnOk, OnErr};
 ghost use Rattle.writeable.specs.HeldParts.{held_after};
 ghost use Rattle.writeable.specs.PartText.{part_texts};

@@ -1,3 +1,5 @@
+//! What takes a text with parts, piece by piece, and may refuse to go on.
+
 ghost use Rattle.std.specs.Prelude.{◌≡◌, Bool, false, List, [], ◌∷◌, ◌++◌, OnOk, OnErr, is_err, encode_utf8};
 
 use crate::error::Error;

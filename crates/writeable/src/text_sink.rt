@@ -1,3 +1,5 @@
+//! A text held in memory, its parts left out.
+
 ghost use Rattle.std.specs.Prelude.{◌≡◌, ◌++◌, false, [], IfOk, IsOk, OnOk, OnErr};
 ghost use Rattle.std.specs.String.{string_bytes};
 

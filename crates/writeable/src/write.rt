@@ -1,3 +1,5 @@
+//! Values that can be written: as a text with parts, as a text without them, or into a new string.
+
 ghost use Rattle.std.specs.Prelude.{◌≡◌, false, List, [], length, OnOk, OnErr, IfOk, IsOk, is_err};
 
 use crate::error::Error;

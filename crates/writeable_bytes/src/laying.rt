@@ -1,4 +1,4 @@
-// A text laid over bytes.
+//! A text laid over bytes.
 
 ghost use Rattle.std.specs.Prelude.{◌≡◌};
 ghost use Rattle.writeable_bytes.specs.Laid.{laid_from};
