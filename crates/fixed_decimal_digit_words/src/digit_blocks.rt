@@ -7,10 +7,10 @@ ghost use Rattle.fixed_decimal_digit_words.specs.Packed.{halves, packed};
 
 use crate::digit_text::digit_of;
 
-/// The bytes that hold the digits of a text, an even count of them and at most sixty-four, with zeros behind: 0x90, 0x57
-/// and thirty zeros of `9057`.
+/// The bytes that hold the digits of a text, two to a byte, with zeros behind: 0x90, 0x57 and thirty zeros of `9057`.
 ///
-/// The condition is that each character is a digit. It does not allocate.
+/// The condition is that each character is a digit, and that they are an even count, at most sixty-four. It does not
+/// allocate.
 #[tactic(auto, using(crate::proofs::DigitTextLemmas::digits_at, crate::proofs::BlockLemmas::byte_more))]
 pub fn bytes_of_block(text: &[u8]) -> [u8; 32]
     requires text_digits { AreDigits text.now }
