@@ -1,3 +1,5 @@
+//! Consuming calls that keep the sign: powers of ten, zeros at both ends, digits cut away, numbers put behind others.
+
 ghost use Rattle.std.specs.Prelude.{◌≡◌, ◌↔◌, IfOk, IfErr};
 ghost use Rattle.fixed_decimal_unsigned.specs.Concatenation.{Concatenates, Overlaps, MayWantMemory, handed_back};
 ghost use Rattle.fixed_decimal_unsigned.specs.Number.{place};

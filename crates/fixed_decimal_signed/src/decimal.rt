@@ -1,3 +1,5 @@
+//! Decimals: made of a sign and an absolute value, copied, and read from texts.
+
 ghost use Rattle.std.specs.Prelude.{◌≡◌, ◌++◌, IfOk, IsErrOf, OnErr, OnOk};
 ghost use Rattle.fixed_decimal_unsigned.specs.Number.{IsNumber};
 ghost use Rattle.fixed_decimal_unsigned.specs.Range.{IsLong};

@@ -1,3 +1,5 @@
+//! Which multiple a rounding takes, by size or by order.
+
 ghost use Rattle.std.specs.Prelude.{◌≡◌};
 ghost use Rattle.fixed_decimal_signed.specs.SignedRounding.{size_mode};
 

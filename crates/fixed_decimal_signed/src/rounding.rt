@@ -1,3 +1,5 @@
+//! The calls that round a decimal, whose sign decides what upwards and downwards are by size.
+
 ghost use Rattle.std.specs.Prelude.{◌≡◌, ◌≢◌, ℕ, ◌+◌, ◌*◌, ◌^◌, ◌<◌, ◌≤◌, OnOk, OnErr, IfOk, IfErr, IsOk};
 ghost use Rattle.fixed_decimal_unsigned.specs.Number.{place};
 ghost use Rattle.fixed_decimal_unsigned.specs.Range.{HoldsDigits, MayGrowAt};

@@ -1,3 +1,5 @@
+//! The sign of a number as it is written, and the choice of the sign that is shown.
+
 /// The sign of a number as it is written: `Negative` of `-12.3`.
 #[derive(Clone, Copy, Debug, Drop, PartialEq, Eq)]
 pub enum Sign {

@@ -1,3 +1,5 @@
+//! The sign that a choice shows, of a number that may be zero.
+
 ghost use Rattle.std.specs.Prelude.{◌≡◌, ◌==◌};
 ghost use Rattle.fixed_decimal_signed.specs.SignChoice.{chosen_sign, with_plus, without_plus};
 

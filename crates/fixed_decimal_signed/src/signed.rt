@@ -1,3 +1,5 @@
+//! Values of any type with a sign, on which the calls of the value itself can be made too.
+
 ghost use Rattle.std.specs.Prelude.{◌≡◌};
 ghost use Rattle.std.specs.Borrow.{Lends, sem};
 ghost use Rattle.fixed_decimal_signed.specs.contracts.signed.Signed.{the_row};

@@ -1,3 +1,5 @@
+//! The text of a decimal: its sign, and the absolute value behind it.
+
 ghost use Rattle.std.specs.Prelude.{◌≡◌, ◌≤◌, ◌++◌, false, is_err, length, map, OnOk, OnErr};
 ghost use Rattle.writeable.specs.AnnotatedText.{bytes};
 ghost use Rattle.writeable.specs.Taking.{HasBegun};
