@@ -1,3 +1,5 @@
+//! What one step of a run does to a decimal, and why a run fails.
+
 ghost use Rattle.std.specs.Prelude.{◌≡◌};
 
 use fixed_decimal_signed::{RoundingIncrement, Sign, SignDisplay, SignedRoundingMode};

@@ -1,3 +1,5 @@
+//! A run: a decimal is read, calls are made on it in turn, and its text is written.
+
 ghost use Rattle.std.specs.Prelude.{◌≡◌, ◌≢◌, ◌↔◌, IsTrue, false, IfOk, IfErr, IsErrOf, OnOk, OnErr, ◌⊎◌};
 ghost use Rattle.writeable.specs.AnnotatedText.{bytes};
 ghost use Rattle.writeable.specs.Taking.{HasBegun};

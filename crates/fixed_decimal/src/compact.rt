@@ -1,3 +1,5 @@
+//! Decimals with an exponent of at most 255 behind the mark `c`: `1.2c6`.
+
 ghost use Rattle.std.specs.Prelude.{◌≡◌, ◌<◌, ◌≤◌, ◌++◌, ◌↔◌, codes, false, is_err, length, map, IsTrue, IfOk, IfSome, IfNone, IsErrOf, OnOk, OnErr};
 ghost use Rattle.std.specs.Int.Digits.{digits_of};
 ghost use Rattle.writeable.specs.AnnotatedText.{bytes};

@@ -1,3 +1,5 @@
+//! The error of a number that does not fit the type that it was to become.
+
 ghost use Rattle.std.specs.Prelude.{◌≡◌};
 ghost use Rattle.fixed_decimal.specs.RefusalNumbers.{limit_error_number};
 

@@ -1,4 +1,5 @@
-// A text taken apart at the letter that marks its exponent.
+//! A text taken apart at the letter that marks its exponent.
+
 ghost use Rattle.std.specs.Prelude.{◌≡◌, ◌++◌, IsTrue, ◌↔◌};
 ghost use Rattle.fixed_decimal.specs.PlainText.{MarksExponent, HasNoMark};
 ghost use Rattle.fixed_decimal.specs.PlainParts.{StartsWithMark};

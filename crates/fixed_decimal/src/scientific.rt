@@ -1,3 +1,5 @@
+//! Decimals with a whole number as their exponent, behind the mark `e`: `1.2e-06`.
+
 ghost use Rattle.std.specs.Prelude.{◌≡◌, ◌⊎◌, ◌++◌, codes, false, is_err, length, IfOk, IfSome, IfNone, IsErrOf, OnOk, OnErr};
 ghost use Rattle.writeable.specs.AnnotatedText.{bytes};
 ghost use Rattle.writeable.specs.Taking.{HasBegun};
