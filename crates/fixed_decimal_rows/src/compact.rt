@@ -1,3 +1,5 @@
+//! What a row can ask of a compact number.
+
 use crate::number::{Number, parsed, told};
 use crate::step::Step;
 use fixed_decimal::{CompactDecimal, Decimal, ParseError};

@@ -1,3 +1,5 @@
+//! What a row can ask of a number with a sign.
+
 use crate::concatenation::{self, Concatenate};
 use crate::number::{Number, parsed};
 use crate::rounding::{Passed, Rounding};

@@ -1,3 +1,5 @@
+//! The answer of a row of calls on a number, whatever its type.
+
 use crate::step::{Step, long_text};
 use fixed_decimal::ParseError;
 use rows::{Stop, number_of, put, put_in_room, put_last_written, put_written, unescaped};

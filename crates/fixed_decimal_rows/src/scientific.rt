@@ -1,3 +1,5 @@
+//! What a row can ask of a scientific number.
+
 use crate::number::{Number, parsed};
 use crate::step::Step;
 use fixed_decimal::{Decimal, FixedInteger, ParseError, ScientificDecimal};

@@ -1,3 +1,5 @@
+//! The calls of a row, one by one, and the long texts that a row abbreviates.
+
 use rows::{Stop, filled, number_of, split_word};
 use std::alloc::{AllocError, Global};
 

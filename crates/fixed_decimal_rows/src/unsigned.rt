@@ -1,3 +1,5 @@
+//! What a row can ask of a number without a sign.
+
 use crate::concatenation::{self, Concatenate};
 use crate::number::Number;
 use crate::rounding::{Passed, Rounding};

@@ -1,3 +1,5 @@
+//! What a row can ask of a whole number.
+
 use crate::integers;
 use crate::number::{Number, parsed};
 use crate::step::Step;
