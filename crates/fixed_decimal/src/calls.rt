@@ -78,8 +78,13 @@ pub fn run_calls<S: Sink>(
     ensures parse { IsErrOf result CallsError.Parse ↔ ReadsNothing start.now }
     ensures write { IsTrue (S.refused sink.new) ↔ IsErrOf result CallsError.Write }
     ensures memory { IsErrOf result CallsError.Memory → ReadsLongSigned start.now ⊎ RunsLong start.now calls.now }
-    ensures text { OnOk result ((v : SignedValue Number) × (RunsFrom start.now calls.now v × S.takes sink.old (bytes (signed_text_of v)) sink.new)) }
-    ensures begun { IsErrOf result CallsError.Write → (v : SignedValue Number) × (RunsFrom start.now calls.now v × HasBegun S.takes S.lacks_room sink.old (bytes (signed_text_of v)) sink.new) }
+    ensures text { OnOk result
+        ((v : SignedValue Number)
+        × (RunsFrom start.now calls.now v × S.takes sink.old (bytes (signed_text_of v)) sink.new)) }
+    ensures begun { IsErrOf result CallsError.Write
+        → (v : SignedValue Number)
+        × (RunsFrom start.now calls.now v
+        × HasBegun S.takes S.lacks_room sink.old (bytes (signed_text_of v)) sink.new) }
     ensures same { IfErr result (λ e. e ≢ CallsError.Write → sink.new ≡ sink.old) }
 {
     let mut decimal = match read_start(alloc, start) {

@@ -181,7 +181,8 @@ fn write_number<S: Sink>(number: u8, sink: &mut S) -> Result<(), Error>
     requires { S.refused sink.old ≡ false }
     ensures ok { OnOk result (S.takes sink.old (bytes (map character (digits_of 10 number))) sink.new) }
     ensures refused { S.refused sink.new ≡ is_err result }
-    ensures begun { OnErr result (HasBegun S.takes S.lacks_room sink.old (bytes (map character (digits_of 10 number))) sink.new) }
+    ensures begun { OnErr result
+        (HasBegun S.takes S.lacks_room sink.old (bytes (map character (digits_of 10 number))) sink.new) }
 {
     if number == 0 {
         return Ok(());
@@ -193,9 +194,12 @@ fn write_number<S: Sink>(number: u8, sink: &mut S) -> Result<(), Error>
 // Writes the mark and an exponent.
 fn write_mark<S: Sink>(exponent: u8, sink: &mut S) -> Result<(), Error>
     requires { S.refused sink.old ≡ false }
-    ensures ok { OnOk result (S.takes sink.old (bytes (codes "c") ++ bytes (map character (digits_of 10 exponent))) sink.new) }
+    ensures ok { OnOk result
+        (S.takes sink.old (bytes (codes "c") ++ bytes (map character (digits_of 10 exponent))) sink.new) }
     ensures refused { S.refused sink.new ≡ is_err result }
-    ensures begun { OnErr result (HasBegun S.takes S.lacks_room sink.old (bytes (codes "c") ++ bytes (map character (digits_of 10 exponent))) sink.new) }
+    ensures begun { OnErr result
+        (HasBegun S.takes S.lacks_room sink.old (bytes (codes "c") ++ bytes (map character (digits_of 10 exponent)))
+        sink.new) }
 {
     sink.write_str("c")?;
     write_number(exponent, sink)
@@ -205,9 +209,12 @@ fn write_mark<S: Sink>(exponent: u8, sink: &mut S) -> Result<(), Error>
 #[tactic(auto, using(crate::proofs::CompactWritingLemmas::exponent_events, crate::proofs::CompactWritingLemmas::no_exponent_events))]
 fn write_exponent<S: Sink>(exponent: u8, sink: &mut S) -> Result<(), Error>
     requires { S.refused sink.old ≡ false }
-    ensures ok { OnOk result (S.takes sink.old (bytes (behind_compact_mark (map character (digits_of 10 exponent)))) sink.new) }
+    ensures ok { OnOk result
+        (S.takes sink.old (bytes (behind_compact_mark (map character (digits_of 10 exponent)))) sink.new) }
     ensures refused { S.refused sink.new ≡ is_err result }
-    ensures begun { OnErr result (HasBegun S.takes S.lacks_room sink.old (bytes (behind_compact_mark (map character (digits_of 10 exponent)))) sink.new) }
+    ensures begun { OnErr result
+        (HasBegun S.takes S.lacks_room sink.old (bytes (behind_compact_mark (map character (digits_of 10 exponent))))
+        sink.new) }
 {
     if exponent == 0 {
         return Ok(());
@@ -218,9 +225,15 @@ fn write_exponent<S: Sink>(exponent: u8, sink: &mut S) -> Result<(), Error>
 // Writes a compact decimal, one part behind the other.
 fn write_parts<S: Sink>(compact: &CompactDecimal, sink: &mut S) -> Result<(), Error>
     requires { S.refused sink.old ≡ false }
-    ensures ok { OnOk result (S.takes sink.old (bytes (signed_text_of compact.now.significand) ++ bytes (behind_compact_mark (map character (digits_of 10 compact.now.exponent)))) sink.new) }
+    ensures ok { OnOk result
+        (S.takes sink.old
+        (bytes (signed_text_of compact.now.significand)
+        ++ bytes (behind_compact_mark (map character (digits_of 10 compact.now.exponent)))) sink.new) }
     ensures refused { S.refused sink.new ≡ is_err result }
-    ensures begun { OnErr result (HasBegun S.takes S.lacks_room sink.old (bytes (signed_text_of compact.now.significand) ++ bytes (behind_compact_mark (map character (digits_of 10 compact.now.exponent)))) sink.new) }
+    ensures begun { OnErr result
+        (HasBegun S.takes S.lacks_room sink.old
+        (bytes (signed_text_of compact.now.significand)
+        ++ bytes (behind_compact_mark (map character (digits_of 10 compact.now.exponent)))) sink.new) }
 {
     compact.significand.write_to(sink)?;
     write_exponent(compact.exponent, sink)

@@ -119,7 +119,8 @@ impl ScientificDecimal {
     /// `AllocError`: out of memory, only there.
     pub fn try_clone(&self) -> Result<ScientificDecimal, AllocError>
         ensures value { IfOk result (λ v. v ≡ self.now) }
-        ensures room { OnErr result (IsLong self.now.significand.absolute.count ⊎ IsLong self.now.exponent.absolute.count) }
+        ensures room { OnErr result
+            (IsLong self.now.significand.absolute.count ⊎ IsLong self.now.exponent.absolute.count) }
         ensures number { IsScientific self.now }
     {
         self.exponent.is_whole_number();
@@ -134,7 +135,8 @@ fn write_exponent<S: Sink>(exponent: &FixedInteger, sink: &mut S) -> Result<(), 
     requires { S.refused sink.old ≡ false }
     ensures ok { OnOk result (S.takes sink.old (bytes (codes "e") ++ bytes (signed_text_of exponent.now)) sink.new) }
     ensures refused { S.refused sink.new ≡ is_err result }
-    ensures begun { OnErr result (HasBegun S.takes S.lacks_room sink.old (bytes (codes "e") ++ bytes (signed_text_of exponent.now)) sink.new) }
+    ensures begun { OnErr result
+        (HasBegun S.takes S.lacks_room sink.old (bytes (codes "e") ++ bytes (signed_text_of exponent.now)) sink.new) }
 {
     sink.write_str("e")?;
     exponent.write_to(sink)
@@ -143,9 +145,15 @@ fn write_exponent<S: Sink>(exponent: &FixedInteger, sink: &mut S) -> Result<(), 
 // Writes a scientific decimal, one part behind the other.
 fn write_parts<S: Sink>(scientific: &ScientificDecimal, sink: &mut S) -> Result<(), Error>
     requires { S.refused sink.old ≡ false }
-    ensures ok { OnOk result (S.takes sink.old (bytes (signed_text_of scientific.now.significand) ++ (bytes (codes "e") ++ bytes (signed_text_of scientific.now.exponent))) sink.new) }
+    ensures ok { OnOk result
+        (S.takes sink.old
+        (bytes (signed_text_of scientific.now.significand)
+        ++ (bytes (codes "e") ++ bytes (signed_text_of scientific.now.exponent))) sink.new) }
     ensures refused { S.refused sink.new ≡ is_err result }
-    ensures begun { OnErr result (HasBegun S.takes S.lacks_room sink.old (bytes (signed_text_of scientific.now.significand) ++ (bytes (codes "e") ++ bytes (signed_text_of scientific.now.exponent))) sink.new) }
+    ensures begun { OnErr result
+        (HasBegun S.takes S.lacks_room sink.old
+        (bytes (signed_text_of scientific.now.significand)
+        ++ (bytes (codes "e") ++ bytes (signed_text_of scientific.now.exponent))) sink.new) }
 {
     scientific.significand.write_to(sink)?;
     write_exponent(&scientific.exponent, sink)

@@ -14,7 +14,8 @@ fn first_other(digits: &Digits, from: usize) -> usize
     ensures from { from ≤ result }
     ensures within { result < length digits.now.items }
     ensures found { result + 1 < length digits.now.items → 0 < slice_index digits.now.items result }
-    ensures value { number_from_digits 10 (drop from digits.now.items) ≡ number_from_digits 10 (drop result digits.now.items) }
+    ensures value { number_from_digits 10 (drop from digits.now.items)
+        ≡ number_from_digits 10 (drop result digits.now.items) }
 {
     let last = digits.len() - 1;
     let mut index = from;

@@ -52,7 +52,8 @@ impl Digits {
         requires within { len ≤ length self.old.items }
         requires odd { len % 2 ≡ 1 }
         requires ten { slice_index self.old.items (len - 1) + more < 10 }
-        ensures items { self.new.items ≡ take (len - 1) self.old.items ++ (slice_index self.old.items (len - 1) + more) ∷ [] }
+        ensures items { self.new.items
+            ≡ take (len - 1) self.old.items ++ (slice_index self.old.items (len - 1) + more) ∷ [] }
         ensures capacity { self.new.capacity ≡ self.old.capacity }
     {
         let last = (len - 1) / 2;
@@ -68,7 +69,8 @@ impl Digits {
         requires within { len ≤ length self.old.items }
         requires even { len % 2 ≡ 0 }
         requires ten { slice_index self.old.items (len - 1) + more < 10 }
-        ensures items { self.new.items ≡ take (len - 1) self.old.items ++ (slice_index self.old.items (len - 1) + more) ∷ [] }
+        ensures items { self.new.items
+            ≡ take (len - 1) self.old.items ++ (slice_index self.old.items (len - 1) + more) ∷ [] }
         ensures capacity { self.new.capacity ≡ self.old.capacity }
     {
         let last = (len - 1) / 2;
@@ -83,7 +85,8 @@ impl Digits {
         requires some { 0 < len }
         requires within { len ≤ length self.old.items }
         requires ten { slice_index self.old.items (len - 1) + more < 10 }
-        ensures items { self.new.items ≡ take (len - 1) self.old.items ++ (slice_index self.old.items (len - 1) + more) ∷ [] }
+        ensures items { self.new.items
+            ≡ take (len - 1) self.old.items ++ (slice_index self.old.items (len - 1) + more) ∷ [] }
         ensures capacity { self.new.capacity ≡ self.old.capacity }
     {
         if len % 2 == 0 {

@@ -102,7 +102,8 @@ impl Digits {
     pub(crate) fn are_both(&self, index: usize, digit: u8) -> bool
         requires within { index + 1 < length self.now.items }
         requires ten { digit < 10 }
-        ensures { IsTrue result ↔ ((slice_index self.now.items index ≡ digit) × (slice_index self.now.items (index + 1) ≡ digit)) }
+        ensures { IsTrue result
+            ↔ ((slice_index self.now.items index ≡ digit) × (slice_index self.now.items (index + 1) ≡ digit)) }
     {
         let _count = self.len();
         if index % 2 == 0 {

@@ -16,7 +16,8 @@ pub fn count_before_zeros<L: Ledger>(digits: &Digits, from: usize, turns: &mut T
     ensures within { result ≤ from }
     ensures some { 0 < from → 0 < result }
     ensures last { 0 < result → 0 < number_from_digits 10 (take result digits.now.items) % 10 }
-    ensures value { number_from_digits 10 (take from digits.now.items) ≡ number_from_digits 10 (take result digits.now.items) * 10 ^ (from - result) }
+    ensures value { number_from_digits 10 (take from digits.now.items)
+        ≡ number_from_digits 10 (take result digits.now.items) * 10 ^ (from - result) }
     ensures turns { turns.new + result ≡ turns.old + from }
 {
     let mut count = from;
@@ -35,7 +36,8 @@ pub fn drop_zeros<L: Ledger>(digits: &mut Digits, turns: &mut Turns<L>)
     ensures tens { AllBelowBase 10 digits.new.items }
     ensures first { 0 < length digits.new.items → 0 < slice_index digits.new.items 0 }
     ensures last { 0 < length digits.new.items → 0 < number_from_digits 10 digits.new.items % 10 }
-    ensures value { number_from_digits 10 digits.old.items ≡ number_from_digits 10 digits.new.items * 10 ^ (length digits.old.items - length digits.new.items) }
+    ensures value { number_from_digits 10 digits.old.items
+        ≡ number_from_digits 10 digits.new.items * 10 ^ (length digits.old.items - length digits.new.items) }
     ensures length { length digits.new.items ≤ length digits.old.items }
     ensures some { 0 < length digits.old.items → 0 < length digits.new.items }
     ensures capacity { digits.new.capacity ≡ digits.old.capacity }
@@ -51,7 +53,8 @@ pub fn drop_zeros<L: Ledger>(digits: &mut Digits, turns: &mut Turns<L>)
 fn count_before_nine_pairs<L: Ledger>(digits: &Digits, from: usize, turns: &mut Turns<L>) -> usize
     requires from { from ≤ length digits.now.items }
     ensures within { result ≤ from }
-    ensures value { number_from_digits 10 (take from digits.now.items) + 1 ≡ (number_from_digits 10 (take result digits.now.items) + 1) * 10 ^ (from - result) }
+    ensures value { number_from_digits 10 (take from digits.now.items) + 1
+        ≡ (number_from_digits 10 (take result digits.now.items) + 1) * 10 ^ (from - result) }
     ensures turns { turns.new + result ≡ turns.old + from }
 {
     let mut count = from;
@@ -68,7 +71,8 @@ fn count_before_nine_pairs<L: Ledger>(digits: &Digits, from: usize, turns: &mut 
 fn count_before_many_nines<L: Ledger>(digits: &Digits, from: usize, turns: &mut Turns<L>) -> usize
     requires from { from ≤ length digits.now.items }
     ensures within { result ≤ from }
-    ensures value { number_from_digits 10 (take from digits.now.items) + 1 ≡ (number_from_digits 10 (take result digits.now.items) + 1) * 10 ^ (from - result) }
+    ensures value { number_from_digits 10 (take from digits.now.items) + 1
+        ≡ (number_from_digits 10 (take result digits.now.items) + 1) * 10 ^ (from - result) }
     ensures last { 0 < result → ¬ (slice_index digits.now.items (result - 1) ≡ 9) }
     ensures turns { 0 < result → turns.new + result ≡ turns.old + from + 1 }
     ensures all { result ≡ 0 → turns.new ≡ turns.old + from }
@@ -88,7 +92,8 @@ fn count_before_many_nines<L: Ledger>(digits: &Digits, from: usize, turns: &mut 
 pub fn count_before_nines<L: Ledger>(digits: &Digits, from: usize, turns: &mut Turns<L>) -> usize
     requires from { from ≤ length digits.now.items }
     ensures within { result ≤ from }
-    ensures value { number_from_digits 10 (take from digits.now.items) + 1 ≡ (number_from_digits 10 (take result digits.now.items) + 1) * 10 ^ (from - result) }
+    ensures value { number_from_digits 10 (take from digits.now.items) + 1
+        ≡ (number_from_digits 10 (take result digits.now.items) + 1) * 10 ^ (from - result) }
     ensures last { 0 < result → ¬ (slice_index digits.now.items (result - 1) ≡ 9) }
     ensures turns { 0 < result → turns.new + result ≡ turns.old + from + 1 }
     ensures all { result ≡ 0 → turns.new ≡ turns.old + from }
@@ -108,7 +113,9 @@ pub fn add_one<L: Ledger>(digits: &mut Digits, turns: &mut Turns<L>) -> bool
     ensures tens { AllBelowBase 10 digits.new.items }
     ensures first { 0 < slice_index digits.new.items 0 }
     ensures last { 0 < number_from_digits 10 digits.new.items % 10 }
-    ensures value { number_from_digits 10 digits.old.items + 1 ≡ number_from_digits 10 digits.new.items * 10 ^ (length digits.old.items + cond result 1 0 - length digits.new.items) }
+    ensures value { number_from_digits 10 digits.old.items + 1
+        ≡ number_from_digits 10 digits.new.items * 10 ^
+        (length digits.old.items + cond result 1 0 - length digits.new.items) }
     ensures length { length digits.new.items ≤ length digits.old.items + cond result 1 0 }
     ensures some { 0 < length digits.new.items }
     ensures turns { turns.new ≤ turns.old + length digits.old.items }

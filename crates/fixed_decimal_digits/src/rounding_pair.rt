@@ -29,11 +29,16 @@ fn rounded_pair(
     requires trimmed { IsTrimmed digits.now.items top }
     requires place { place < 65536 }
     requires top { top < 65536 }
-    ensures exact { IfNone result (IsRounded mode (increment_number increment * 10 ^ place) (count_of digits.now.items top) (count_of digits.now.items top)) }
-    ensures value { IfSome result (λ v. IsRounded mode (increment_number increment * 10 ^ place) (count_of digits.now.items top) ((count_of digits.now.items top / 10 ^ place / 100 * 100 + v) * 10 ^ place)) }
+    ensures exact { IfNone result
+        (IsRounded mode (increment_number increment * 10 ^ place) (count_of digits.now.items top)
+        (count_of digits.now.items top)) }
+    ensures value { IfSome result
+        (λ v. IsRounded mode (increment_number increment * 10 ^ place) (count_of digits.now.items top)
+        ((count_of digits.now.items top / 10 ^ place / 100 * 100 + v) * 10 ^ place)) }
     ensures hundred { IfSome result (λ v. v ≤ 100) }
     ensures deep { IfSome result (λ _. top < place + length digits.now.items + 1) }
-    ensures deeper { IfSome result (λ _. increment ≢ RoundingIncrement.MultiplesOf25 → top < place + length digits.now.items) }
+    ensures deeper { IfSome result
+        (λ _. increment ≢ RoundingIncrement.MultiplesOf25 → top < place + length digits.now.items) }
 {
     let step = increment.step();
     let pair = pair_at(digits, top, place);
@@ -123,7 +128,8 @@ fn append_pair<L: Ledger>(digits: &mut Digits, pair: u8, turns: &mut Turns<L>) -
     ensures tens { AllBelowBase 10 digits.new.items }
     ensures first { 0 < length digits.new.items → 0 < slice_index digits.new.items 0 }
     ensures last { 0 < length digits.new.items → 0 < number_from_digits 10 digits.new.items % 10 }
-    ensures value { number_from_digits 10 digits.old.items * 100 + pair ≡ number_from_digits 10 digits.new.items * 10 ^ result }
+    ensures value { number_from_digits 10 digits.old.items * 100 + pair
+        ≡ number_from_digits 10 digits.new.items * 10 ^ result }
     ensures length { length digits.new.items + result ≤ length digits.old.items + 3 }
     ensures turns { turns.new ≤ turns.old + length digits.old.items }
 {
@@ -155,12 +161,15 @@ fn round_by_pair<L: Ledger>(
     requires place { place < 65536 }
     requires top { top < 65536 }
     ensures trimmed { IfOk result (λ t. IsTrimmed digits.new.items t) }
-    ensures value { IfOk result (λ t. IsRounded mode (increment_number increment * 10 ^ place) (count_of digits.old.items top) (count_of digits.new.items t)) }
+    ensures value { IfOk result
+        (λ t. IsRounded mode (increment_number increment * 10 ^ place) (count_of digits.old.items top)
+        (count_of digits.new.items t)) }
     ensures same { OnErr result (digits.new ≡ digits.old) }
     ensures succeeds { increment ≢ RoundingIncrement.MultiplesOf25 → IsOk result }
     ensures room { OnErr result (place + 8 ≤ top) }
     ensures last { OnErr result (place + length digits.old.items ≡ top) }
-    ensures odd { OnErr result (TakesOdd mode (increment_number increment * 10 ^ place) (count_of digits.old.items top)) }
+    ensures odd { OnErr result
+        (TakesOdd mode (increment_number increment * 10 ^ place) (count_of digits.old.items top)) }
     ensures turns { turns.new ≤ turns.old + length digits.old.items }
 {
     let Some(pair) = rounded_pair(digits, top, place, mode, increment) else {
@@ -192,12 +201,15 @@ pub fn round_digits<L: Ledger>(
     requires place { place < 65536 }
     requires top { top < 65536 }
     ensures trimmed { IfOk result (λ t. IsTrimmed digits.new.items t) }
-    ensures value { IfOk result (λ t. IsRounded mode (increment_number increment * 10 ^ place) (count_of digits.old.items top) (count_of digits.new.items t)) }
+    ensures value { IfOk result
+        (λ t. IsRounded mode (increment_number increment * 10 ^ place) (count_of digits.old.items top)
+        (count_of digits.new.items t)) }
     ensures same { OnErr result (digits.new ≡ digits.old) }
     ensures succeeds { increment ≢ RoundingIncrement.MultiplesOf25 → IsOk result }
     ensures room { OnErr result (place + 8 ≤ top) }
     ensures last { OnErr result (place + length digits.old.items ≡ top) }
-    ensures odd { OnErr result (TakesOdd mode (increment_number increment * 10 ^ place) (count_of digits.old.items top)) }
+    ensures odd { OnErr result
+        (TakesOdd mode (increment_number increment * 10 ^ place) (count_of digits.old.items top)) }
     ensures turns { turns.new ≤ turns.old + length digits.old.items }
 {
     if increment == RoundingIncrement::MultiplesOf1 {

@@ -61,7 +61,8 @@ fn takes_next(
     requires top { top < 65536 }
     requires kept { kept ≡ top + 1 - place }
     requires rest { kept < length digits.now.items }
-    ensures { IsRounded mode (10 ^ place) (count_of digits.now.items top) ((count_of digits.now.items top / 10 ^ place + cond result 1 0) * 10 ^ place) }
+    ensures { IsRounded mode (10 ^ place) (count_of digits.now.items top)
+        ((count_of digits.now.items top / 10 ^ place + cond result 1 0) * 10 ^ place) }
 {
     let half = compare_behind(digits, top, place, kept);
     let is_odd = is_odd_tie(digits, top, place, half);
@@ -106,7 +107,8 @@ fn round_up<L: Ledger>(
     requires kept { kept ≡ top + 1 - place }
     requires rest { kept < length digits.old.items }
     ensures trimmed { IsTrimmed digits.new.items result }
-    ensures value { count_of digits.new.items result ≡ (number_from_digits 10 (take kept digits.old.items) + 1) * 10 ^ place }
+    ensures value { count_of digits.new.items result
+        ≡ (number_from_digits 10 (take kept digits.old.items) + 1) * 10 ^ place }
     ensures turns { turns.new ≤ turns.old + length digits.old.items }
 {
     let count = count_before_nines(digits, kept, turns);

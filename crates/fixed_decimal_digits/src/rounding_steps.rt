@@ -81,7 +81,8 @@ pub fn compare_below(digits: &Digits, top: u32, place: u32) -> Ordering
 pub fn compare_half(over: u8, step: u8, below: Ordering, has_rest: bool) -> Ordering
     requires over { over < step }
     requires step { step < 100 }
-    ensures { (part unit : ℕ) → part < unit → Compares below (2 * part) unit → (IsTrue has_rest ↔ (0 < part)) → Compares result (2 * (over * unit + part)) (step * unit) }
+    ensures { (part unit : ℕ) → part < unit → Compares below (2 * part) unit → (IsTrue has_rest ↔ (0 < part))
+        → Compares result (2 * (over * unit + part)) (step * unit) }
 {
     let twice = 2 * over;
     if twice + 1 == step {

@@ -28,10 +28,13 @@ impl Signed<UnsignedDecimal> {
     ) -> Result<(), AllocError>
         ensures succeeds { increment ≢ RoundingIncrement.MultiplesOf25 → IsOk result }
         ensures room { OnErr result (MayGrowAt (place position) self.old.absolute.count) }
-        ensures odd { OnErr result (TakesOdd (size_mode self.old.sign mode) (increment_number increment * 10 ^ place position) self.old.absolute.count) }
+        ensures odd { OnErr result
+            (TakesOdd (size_mode self.old.sign mode) (increment_number increment * 10 ^ place position)
+            self.old.absolute.count) }
         ensures value { OnOk result (RoundsSigned mode increment (place position) self.old self.new) }
         ensures same { OnErr result (self.new ≡ self.old) }
-        ensures turns { (low digits : ℕ) → HoldsDigits self.old.absolute.count low digits → turns.new ≤ turns.old + digits + 2 }
+        ensures turns { (low digits : ℕ) → HoldsDigits self.old.absolute.count low digits
+            → turns.new ≤ turns.old + digits + 2 }
     {
         let by_size = mode.by_size(self.sign);
         self.absolute
@@ -51,7 +54,9 @@ impl Signed<UnsignedDecimal> {
     ) -> Result<(), AllocError>
         ensures succeeds { increment ≢ RoundingIncrement.MultiplesOf25 → IsOk result }
         ensures room { OnErr result (MayGrowAt (place position) self.old.absolute.count) }
-        ensures odd { OnErr result (TakesOdd (size_mode self.old.sign mode) (increment_number increment * 10 ^ place position) self.old.absolute.count) }
+        ensures odd { OnErr result
+            (TakesOdd (size_mode self.old.sign mode) (increment_number increment * 10 ^ place position)
+            self.old.absolute.count) }
         ensures value { OnOk result (RoundsSigned mode increment (place position) self.old self.new) }
         ensures same { OnErr result (self.new ≡ self.old) }
     {
@@ -70,7 +75,8 @@ impl Signed<UnsignedDecimal> {
 
     /// Rounds at a position to the nearest multiple, a tie to the even one: `2.5` at 0 is `2`. It does not allocate.
     pub fn round(&mut self, position: i16)
-        ensures { RoundsSigned (SignedRoundingMode.Unsigned UnsignedRoundingMode.HalfEven) RoundingIncrement.MultiplesOf1 (place position) self.old self.new }
+        ensures { RoundsSigned (SignedRoundingMode.Unsigned UnsignedRoundingMode.HalfEven)
+            RoundingIncrement.MultiplesOf1 (place position) self.old self.new }
     {
         self.round_with_mode(
             position,
@@ -80,7 +86,8 @@ impl Signed<UnsignedDecimal> {
 
     /// Rounds at a position away from zero: `-7.3` at 0 is `-8`. It does not allocate.
     pub fn expand(&mut self, position: i16)
-        ensures { RoundsSigned (SignedRoundingMode.Unsigned UnsignedRoundingMode.Expand) RoundingIncrement.MultiplesOf1 (place position) self.old self.new }
+        ensures { RoundsSigned (SignedRoundingMode.Unsigned UnsignedRoundingMode.Expand) RoundingIncrement.MultiplesOf1
+            (place position) self.old self.new }
     {
         self.round_with_mode(
             position,
@@ -90,7 +97,8 @@ impl Signed<UnsignedDecimal> {
 
     /// Rounds at a position towards zero: `-7.3` at 0 is `-7`. It does not allocate.
     pub fn trunc(&mut self, position: i16)
-        ensures { RoundsSigned (SignedRoundingMode.Unsigned UnsignedRoundingMode.Trunc) RoundingIncrement.MultiplesOf1 (place position) self.old self.new }
+        ensures { RoundsSigned (SignedRoundingMode.Unsigned UnsignedRoundingMode.Trunc) RoundingIncrement.MultiplesOf1
+            (place position) self.old self.new }
     {
         self.round_with_mode(
             position,
@@ -100,14 +108,16 @@ impl Signed<UnsignedDecimal> {
 
     /// Rounds at a position upwards: `-7.3` at 0 is `-7`, and `7.3` is `8`. It does not allocate.
     pub fn ceil(&mut self, position: i16)
-        ensures { RoundsSigned SignedRoundingMode.Ceil RoundingIncrement.MultiplesOf1 (place position) self.old self.new }
+        ensures { RoundsSigned SignedRoundingMode.Ceil RoundingIncrement.MultiplesOf1 (place position) self.old
+            self.new }
     {
         self.round_with_mode(position, SignedRoundingMode::Ceil);
     }
 
     /// Rounds at a position downwards: `-7.3` at 0 is `-8`, and `7.3` is `7`. It does not allocate.
     pub fn floor(&mut self, position: i16)
-        ensures { RoundsSigned SignedRoundingMode.Floor RoundingIncrement.MultiplesOf1 (place position) self.old self.new }
+        ensures { RoundsSigned SignedRoundingMode.Floor RoundingIncrement.MultiplesOf1 (place position) self.old
+            self.new }
     {
         self.round_with_mode(position, SignedRoundingMode::Floor);
     }
@@ -123,7 +133,9 @@ impl Signed<UnsignedDecimal> {
     ) -> Result<Decimal, AllocFailed<Decimal>>
         ensures succeeds { increment ≢ RoundingIncrement.MultiplesOf25 → IsOk result }
         ensures room { OnErr result (MayGrowAt (place position) self.absolute.count) }
-        ensures odd { OnErr result (TakesOdd (size_mode self.sign mode) (increment_number increment * 10 ^ place position) self.absolute.count) }
+        ensures odd { OnErr result
+            (TakesOdd (size_mode self.sign mode) (increment_number increment * 10 ^ place position)
+            self.absolute.count) }
         ensures value { IfOk result (λ v. RoundsSigned mode increment (place position) self v) }
         ensures same { IfErr result (λ e. e.value ≡ self) }
     {
@@ -144,7 +156,8 @@ impl Signed<UnsignedDecimal> {
     /// The number rounded at a position to the nearest multiple, a tie to the even one: `2.5` at 0 gives `2`. It does
     /// not allocate.
     pub fn rounded(mut self, position: i16) -> Decimal
-        ensures { RoundsSigned (SignedRoundingMode.Unsigned UnsignedRoundingMode.HalfEven) RoundingIncrement.MultiplesOf1 (place position) self result }
+        ensures { RoundsSigned (SignedRoundingMode.Unsigned UnsignedRoundingMode.HalfEven)
+            RoundingIncrement.MultiplesOf1 (place position) self result }
     {
         self.round(position);
         self
@@ -152,7 +165,8 @@ impl Signed<UnsignedDecimal> {
 
     /// The number rounded at a position away from zero: `-7.3` at 0 gives `-8`. It does not allocate.
     pub fn expanded(mut self, position: i16) -> Decimal
-        ensures { RoundsSigned (SignedRoundingMode.Unsigned UnsignedRoundingMode.Expand) RoundingIncrement.MultiplesOf1 (place position) self result }
+        ensures { RoundsSigned (SignedRoundingMode.Unsigned UnsignedRoundingMode.Expand) RoundingIncrement.MultiplesOf1
+            (place position) self result }
     {
         self.expand(position);
         self
@@ -160,7 +174,8 @@ impl Signed<UnsignedDecimal> {
 
     /// The number rounded at a position towards zero: `-7.3` at 0 gives `-7`. It does not allocate.
     pub fn trunced(mut self, position: i16) -> Decimal
-        ensures { RoundsSigned (SignedRoundingMode.Unsigned UnsignedRoundingMode.Trunc) RoundingIncrement.MultiplesOf1 (place position) self result }
+        ensures { RoundsSigned (SignedRoundingMode.Unsigned UnsignedRoundingMode.Trunc) RoundingIncrement.MultiplesOf1
+            (place position) self result }
     {
         self.trunc(position);
         self

@@ -56,14 +56,21 @@ fn shown_sign(display: SignDisplay, sign: Sign, is_zero: bool) -> Sign
 impl Signed<UnsignedDecimal> {
     /// Sets the sign that the choice shows: with `Always`, `1729` becomes `+1729`. It does not allocate.
     pub fn apply_sign_display(&mut self, sign_display: SignDisplay)
-        ensures { self.new ≡ record { sign = chosen_sign sign_display self.old.sign (self.old.absolute.count == 0); absolute = self.old.absolute } }
+        ensures { self.new
+            ≡ record {
+              sign = chosen_sign sign_display self.old.sign (self.old.absolute.count == 0);
+              absolute =
+                  self.old.absolute;
+            } }
     {
         self.sign = shown_sign(sign_display, self.sign, self.absolute.is_zero());
     }
 
     /// The number with the sign that the choice shows: with `Always`, `1729` gives `+1729`. It does not allocate.
     pub fn with_sign_display(mut self, sign_display: SignDisplay) -> Decimal
-        ensures { result ≡ record { sign = chosen_sign sign_display self.sign (self.absolute.count == 0); absolute = self.absolute } }
+        ensures { result
+            ≡ record
+            { sign = chosen_sign sign_display self.sign (self.absolute.count == 0); absolute = self.absolute } }
     {
         self.apply_sign_display(sign_display);
         self

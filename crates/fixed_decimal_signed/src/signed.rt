@@ -64,7 +64,8 @@ impl<T> DerefMut for Signed<T> {
     ghost deref_mut_gives = { λ s t. t ≡ s.absolute };
 
     fn deref_mut(&mut self) -> &mut T
-        ensures* writes_back { sem 𝓛 (Lends (the_row T.row) T.row self.entry result (λ w. record { sign = self.old.sign; absolute = w })) }
+        ensures* writes_back { sem 𝓛
+            (Lends (the_row T.row) T.row self.entry result (λ w. record { sign = self.old.sign; absolute = w })) }
         ensures value { result.now ≡ self.old.absolute }
     {
         &mut self.absolute

@@ -38,9 +38,17 @@ fn write_sign<S: Sink>(sign: Sign, sink: &mut S) -> Result<(), Error>
 // Writes a decimal, one part behind the other.
 fn write_parts<S: Sink>(decimal: &Decimal, sink: &mut S) -> Result<(), Error>
     requires { S.refused sink.old ≡ false }
-    ensures ok { OnOk result (S.takes sink.old (bytes (sign_text decimal.now.sign) ++ (bytes (map character (whole_digits decimal.now.absolute)) ++ bytes (behind_point (map character (fraction_digits decimal.now.absolute))))) sink.new) }
+    ensures ok { OnOk result
+        (S.takes sink.old
+        (bytes (sign_text decimal.now.sign)
+        ++ (bytes (map character (whole_digits decimal.now.absolute))
+        ++ bytes (behind_point (map character (fraction_digits decimal.now.absolute))))) sink.new) }
     ensures refused { S.refused sink.new ≡ is_err result }
-    ensures begun { OnErr result (HasBegun S.takes S.lacks_room sink.old (bytes (sign_text decimal.now.sign) ++ (bytes (map character (whole_digits decimal.now.absolute)) ++ bytes (behind_point (map character (fraction_digits decimal.now.absolute))))) sink.new) }
+    ensures begun { OnErr result
+        (HasBegun S.takes S.lacks_room sink.old
+        (bytes (sign_text decimal.now.sign)
+        ++ (bytes (map character (whole_digits decimal.now.absolute))
+        ++ bytes (behind_point (map character (fraction_digits decimal.now.absolute))))) sink.new) }
 {
     write_sign(decimal.sign, sink)?;
     decimal.absolute.write_to(sink)

@@ -111,7 +111,9 @@ fn without_mantissa_zeros<'a>(integer: &'a [u8], fraction: &'a [u8]) -> (&'a [u8
     ensures fraction_digits { AreDigits result.1.now }
     ensures integer_length { length result.0.now ≤ length integer.now }
     ensures fraction_length { length result.1.now ≤ length fraction.now }
-    ensures value { spelled (integer.now ++ fraction.now) ≡ spelled (result.0.now ++ result.1.now) * 10 ^ (length integer.now + length fraction.now - (length result.0.now + length result.1.now)) }
+    ensures value { spelled (integer.now ++ fraction.now)
+        ≡ spelled (result.0.now ++ result.1.now) * 10 ^
+        (length integer.now + length fraction.now - (length result.0.now + length result.1.now)) }
     ensures last { 0 < length result.0.now + length result.1.now → 0 < spelled (result.0.now ++ result.1.now) % 10 }
 {
     let kept = without_end_zeros(fraction);
@@ -133,7 +135,8 @@ fn without_leading_zeros<'a>(integer: &'a [u8], fraction: &'a [u8]) -> (&'a [u8]
     ensures fraction_length { length result.1.now ≤ length fraction.now }
     ensures value { spelled (integer.now ++ fraction.now) ≡ spelled (result.0.now ++ result.1.now) }
     ensures integer_first { 0 < length result.0.now → 0 < digit_value (slice_index result.0.now 0) }
-    ensures fraction_first { length result.0.now ≡ 0 → 0 < length result.1.now → 0 < digit_value (slice_index result.1.now 0) }
+    ensures fraction_first { length result.0.now ≡ 0 → 0 < length result.1.now
+        → 0 < digit_value (slice_index result.1.now 0) }
 {
     let kept = without_front_zeros(integer);
     if kept.is_empty() {
@@ -191,7 +194,8 @@ pub fn places_of(digits: &Digits, zeros: usize, ends: Ends) -> Places
     requires last { 0 < length digits.now.items → 0 < number_from_digits 10 digits.now.items % 10 }
     requires room { ends.last + zeros + length digits.now.items ≤ ends.first + 1 }
     ensures stored { IsStored digits.now.items result.top result.low result.high }
-    ensures count { count_of digits.now.items result.top ≡ number_from_digits 10 digits.now.items * 10 ^ (ends.last + zeros) }
+    ensures count { count_of digits.now.items result.top
+        ≡ number_from_digits 10 digits.now.items * 10 ^ (ends.last + zeros) }
     ensures low { result.low ≡ min 32768 ends.last }
     ensures high { result.high ≡ max 32768 ends.first }
 {
@@ -241,13 +245,16 @@ fn read_parts(digits: &mut Digits, parts: &TextParts<'_>) -> Result<Places, Pars
     requires some { 0 < length parts.now.integer.now + length parts.now.fraction.now }
     ensures within { OnOk result (IsWithin (parts_of parts.now)) }
     ensures stored { IfOk result (λ p. IsStored digits.new.items p.top p.low p.high) }
-    ensures value { IfOk result (λ p. record { count = count_of digits.new.items p.top; low = p.low; high = p.high } ≡ number_of (parts_of parts.now)) }
+    ensures value { IfOk result
+        (λ p. record { count = count_of digits.new.items p.top; low = p.low; high = p.high }
+        ≡ number_of (parts_of parts.now)) }
     ensures err { OnErr result (digits.new ≡ digits.old) }
     ensures limit { IsErrOf result ParseError.Limit → ¬ (IsWithin (parts_of parts.now)) }
     ensures syntax { ¬ (IsErrOf result ParseError.Syntax) }
     ensures memory_within { IsErrOf result ParseError.Memory → IsWithin (parts_of parts.now) }
     ensures memory { IsErrOf result ParseError.Memory → IsLong (number_of (parts_of parts.now)).count }
-    ensures kept { IsErrOf result ParseError.Memory → (low : ℕ) → ¬ (HoldsDigits (number_of (parts_of parts.now)).count low (length digits.old.items)) }
+    ensures kept { IsErrOf result ParseError.Memory → (low : ℕ)
+        → ¬ (HoldsDigits (number_of (parts_of parts.now)).count low (length digits.old.items)) }
 {
     let (integer, fraction) = without_mantissa_zeros(parts.integer, parts.fraction);
     let (up, down) = moves_of(is_none(integer, fraction), parts.negative, parts.exponent);
@@ -262,12 +269,14 @@ fn read_parts(digits: &mut Digits, parts: &TextParts<'_>) -> Result<Places, Pars
 // Replaces the digits by those of a text, and returns their places.
 fn read_text(digits: &mut Digits, text: &[u8]) -> Result<Places, ParseError>
     ensures stored { IfOk result (λ p. IsStored digits.new.items p.top p.low p.high) }
-    ensures value { IfOk result (λ p. Reads text.now (record { count = count_of digits.new.items p.top; low = p.low; high = p.high })) }
+    ensures value { IfOk result
+        (λ p. Reads text.now (record { count = count_of digits.new.items p.top; low = p.low; high = p.high })) }
     ensures err { OnErr result (digits.new ≡ digits.old) }
     ensures syntax { IsErrOf result ParseError.Syntax → IsNoText text.now }
     ensures limit { IsErrOf result ParseError.Limit → IsBeyond text.now }
     ensures memory { IsErrOf result ParseError.Memory → ReadsLong text.now }
-    ensures kept { IsErrOf result ParseError.Memory → (other low : ℕ) → HoldsDigits other low (length digits.old.items) → ReadsLonger text.now other }
+    ensures kept { IsErrOf result ParseError.Memory → (other low : ℕ) → HoldsDigits other low (length digits.old.items)
+        → ReadsLonger text.now other }
 {
     if let Some(short) = ShortText::of(text) {
         return match read_short(digits, short) {

@@ -66,7 +66,8 @@ impl UnsignedDecimal {
 
     /// Rounds at a position to the nearest multiple, a tie to the even one: `2.5` at 0 is `2`. It does not allocate.
     pub fn round(&mut self, position: i16)
-        ensures { Rounds UnsignedRoundingMode.HalfEven RoundingIncrement.MultiplesOf1 (place position) self.old self.new }
+        ensures { Rounds UnsignedRoundingMode.HalfEven RoundingIncrement.MultiplesOf1 (place position) self.old
+            self.new }
     {
         self.round_with_mode(position, UnsignedRoundingMode::HalfEven);
     }

@@ -61,10 +61,20 @@ pub fn read_short(digits: &mut Digits, short: ShortText) -> Result<Places, Alloc
     requires fits { short.word < 16 ^ (short.above + short.below) }
     requires tens { AllBelowBase 10 (word_digits short.word (short.above + short.below)) }
     ensures stored { IfOk result (λ p. IsStored digits.new.items p.top p.low p.high) }
-    ensures value { IfOk result (λ p. record { count = count_of digits.new.items p.top; low = p.low; high = p.high } ≡ number_at (number_from_digits 10 (word_digits short.word (short.above + short.below))) short.above short.below 0 0) }
+    ensures value { IfOk result
+        (λ p. record { count = count_of digits.new.items p.top; low = p.low; high = p.high }
+        ≡ number_at (number_from_digits 10 (word_digits short.word (short.above + short.below))) short.above
+        short.below 0 0) }
     ensures err { OnErr result (digits.new ≡ digits.old) }
-    ensures memory { OnErr result (IsLong (number_at (number_from_digits 10 (word_digits short.word (short.above + short.below))) short.above short.below 0 0).count) }
-    ensures kept { OnErr result ((low : ℕ) → ¬ (HoldsDigits (number_at (number_from_digits 10 (word_digits short.word (short.above + short.below))) short.above short.below 0 0).count low (length digits.old.items))) }
+    ensures memory { OnErr result
+        (IsLong
+        (number_at (number_from_digits 10 (word_digits short.word (short.above + short.below))) short.above
+        short.below 0 0).count) }
+    ensures kept { OnErr result
+        ((low : ℕ)
+        → ¬ (HoldsDigits
+        (number_at (number_from_digits 10 (word_digits short.word (short.above + short.below))) short.above
+        short.below 0 0).count low (length digits.old.items))) }
 {
     let cut = cut_word(short.word);
     let _room = digits.len();

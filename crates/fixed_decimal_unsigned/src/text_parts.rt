@@ -36,7 +36,8 @@ fn split_digits(text: &[u8]) -> (&[u8], &[u8])
 // The digits behind a point that the text begins with, none where it begins with no point, and the rest.
 fn split_fraction(text: &[u8]) -> Option<(&[u8], &[u8])>
     requires { StartsNoDigit text.now }
-    ensures some { IfSome result (λ r. (text.now ≡ behind_point r.0.now ++ r.1.now) × AreDigits r.0.now × StartsNoDigit r.1.now) }
+    ensures some { IfSome result
+        (λ r. (text.now ≡ behind_point r.0.now ++ r.1.now) × AreDigits r.0.now × StartsNoDigit r.1.now) }
     ensures point { IfSome result (λ r. r.0.now ≡ [] → StartsNoPoint r.1.now) }
     ensures none { IfNone result (IsNoFraction text.now) }
 {

@@ -31,7 +31,8 @@ fn character_at(number: &UnsignedDecimal, place: u16) -> u8
 fn spell(number: &UnsignedDecimal, base: u16, size: u16, piece: &mut [u8; 64], from: u16)
     requires room { from + size ≤ 64 }
     requires places { base + size ≤ 65536 }
-    ensures { take (from + size) piece.new ≡ take from piece.old ++ map character (digits_down number.now.count base size) }
+    ensures { take (from + size) piece.new
+        ≡ take from piece.old ++ map character (digits_down number.now.count base size) }
 {
     let mut done = 0;
     while done < size {
@@ -123,9 +124,12 @@ fn write_piece<S: Sink>(
     requires fine { S.refused sink.old ≡ false }
     requires few { size ≤ 64 }
     requires places { base + size ≤ 65536 }
-    ensures ok { OnOk result (S.takes sink.old (bytes (map character (digits_down number.now.count base size))) sink.new) }
+    ensures ok { OnOk result
+        (S.takes sink.old (bytes (map character (digits_down number.now.count base size))) sink.new) }
     ensures refused { S.refused sink.new ≡ is_err result }
-    ensures begun { OnErr result (HasBegun S.takes S.lacks_room sink.old (bytes (map character (digits_down number.now.count base size))) sink.new) }
+    ensures begun { OnErr result
+        (HasBegun S.takes S.lacks_room sink.old (bytes (map character (digits_down number.now.count base size)))
+        sink.new) }
 {
     let piece = piece_of(number, base, size);
     sink.write_str(ascii_text(&piece[..size as usize]))
@@ -140,9 +144,12 @@ fn write_digits<S: Sink>(
 ) -> Result<(), Error>
     requires fine { S.refused sink.old ≡ false }
     requires places { base + count ≤ 65536 }
-    ensures ok { OnOk result (S.takes sink.old (bytes (map character (digits_down number.now.count base count))) sink.new) }
+    ensures ok { OnOk result
+        (S.takes sink.old (bytes (map character (digits_down number.now.count base count))) sink.new) }
     ensures refused { S.refused sink.new ≡ is_err result }
-    ensures begun { OnErr result (HasBegun S.takes S.lacks_room sink.old (bytes (map character (digits_down number.now.count base count))) sink.new) }
+    ensures begun { OnErr result
+        (HasBegun S.takes S.lacks_room sink.old (bytes (map character (digits_down number.now.count base count)))
+        sink.new) }
 {
     let mut left = count;
     while left > 0 {
@@ -162,9 +169,13 @@ fn write_point<S: Sink>(
 ) -> Result<(), Error>
     requires fine { S.refused sink.old ≡ false }
     requires places { base + count ≤ 65536 }
-    ensures ok { OnOk result (S.takes sink.old (bytes (codes ".") ++ bytes (map character (digits_down number.now.count base count))) sink.new) }
+    ensures ok { OnOk result
+        (S.takes sink.old (bytes (codes ".") ++ bytes (map character (digits_down number.now.count base count)))
+        sink.new) }
     ensures refused { S.refused sink.new ≡ is_err result }
-    ensures begun { OnErr result (HasBegun S.takes S.lacks_room sink.old (bytes (codes ".") ++ bytes (map character (digits_down number.now.count base count))) sink.new) }
+    ensures begun { OnErr result
+        (HasBegun S.takes S.lacks_room sink.old
+        (bytes (codes ".") ++ bytes (map character (digits_down number.now.count base count))) sink.new) }
 {
     sink.write_str(".")?;
     write_digits(number, base, count, sink)
@@ -174,9 +185,12 @@ fn write_point<S: Sink>(
 #[tactic(auto, using(crate::proofs::WritingLemmas::fraction_events, crate::proofs::WritingLemmas::no_fraction_events))]
 fn write_fraction<S: Sink>(number: &UnsignedDecimal, sink: &mut S) -> Result<(), Error>
     requires fine { S.refused sink.old ≡ false }
-    ensures ok { OnOk result (S.takes sink.old (bytes (behind_point (map character (fraction_digits number.now)))) sink.new) }
+    ensures ok { OnOk result
+        (S.takes sink.old (bytes (behind_point (map character (fraction_digits number.now)))) sink.new) }
     ensures refused { S.refused sink.new ≡ is_err result }
-    ensures begun { OnErr result (HasBegun S.takes S.lacks_room sink.old (bytes (behind_point (map character (fraction_digits number.now)))) sink.new) }
+    ensures begun { OnErr result
+        (HasBegun S.takes S.lacks_room sink.old (bytes (behind_point (map character (fraction_digits number.now))))
+        sink.new) }
 {
     if number.low >= ONES {
         return Ok(());
@@ -189,7 +203,8 @@ fn write_whole<S: Sink>(number: &UnsignedDecimal, sink: &mut S) -> Result<(), Er
     requires fine { S.refused sink.old ≡ false }
     ensures ok { OnOk result (S.takes sink.old (bytes (map character (whole_digits number.now))) sink.new) }
     ensures refused { S.refused sink.new ≡ is_err result }
-    ensures begun { OnErr result (HasBegun S.takes S.lacks_room sink.old (bytes (map character (whole_digits number.now))) sink.new) }
+    ensures begun { OnErr result
+        (HasBegun S.takes S.lacks_room sink.old (bytes (map character (whole_digits number.now))) sink.new) }
 {
     write_digits(number, ONES, number.high - (ONES - 1), sink)
 }
@@ -240,7 +255,11 @@ impl Writeable for UnsignedDecimal {
 
     #[tactic(auto, using(crate::proofs::WritingLemmas::events_length))]
     fn writeable_length_hint(&self) -> LengthHint
-        ensures within { IsWithinHint result (length (written (bytes (map character (whole_digits self.now)) ++ bytes (behind_point (map character (fraction_digits self.now)))))) }
+        ensures within { IsWithinHint result
+            (length
+            (written
+            (bytes (map character (whole_digits self.now))
+            ++ bytes (behind_point (map character (fraction_digits self.now)))))) }
         ensures low { result.low ≡ length (text_of self.now) }
         ensures high { result.high ≡ Some (length (text_of self.now)) }
     {

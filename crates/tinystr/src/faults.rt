@@ -8,7 +8,8 @@ use crate::ParseError;
 
 /// Whether NULs are at the end of units with no other fault.
 pub(crate) fn check_bytes(units: &[u8], max: usize) -> Result<bool, ParseError>
-    ensures { MatchResult result (λ nul. (length units.now ≤ max) × IsFaultless nul units.now) (λ e. IsFault false max units.now e) }
+    ensures { MatchResult result (λ nul. (length units.now ≤ max) × IsFaultless nul units.now)
+        (λ e. IsFault false max units.now e) }
 {
     if units.len() > max {
         return Err(ParseError::TooLong {

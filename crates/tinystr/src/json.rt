@@ -26,7 +26,8 @@ impl<const N: usize> TinyAsciiStr<N> {
     pub fn from_json(value: &Value) -> Result<Self, UleError>
         ensures value { (text : List ℕ) → as_str (view value.now) ≡ Some text → IsSmall N text → result ≡ Ok text }
         ensures no_text { as_str (view value.now) ≡ None → result ≡ Err (UleError.Length 0) }
-        ensures refused { (text : List ℕ) → as_str (view value.now) ≡ Some text → ¬ (IsSmall N text) → result ≡ Err UleError.Parse }
+        ensures refused { (text : List ℕ) → as_str (view value.now) ≡ Some text → ¬ (IsSmall N text)
+            → result ≡ Err UleError.Parse }
     {
         match value.as_str() {
             None => Err(UleError::Length(0)),
@@ -43,9 +44,11 @@ impl<const N: usize> UnvalidatedTinyAsciiStr<N> {
     ///
     /// A value that is no text is `Length(0)`; a text of more than N bytes is `Parse`. It does not allocate.
     pub fn from_json(value: &Value) -> Result<Self, UleError>
-        ensures value { (text : List ℕ) → as_str (view value.now) ≡ Some text → length text ≤ N → result ≡ Ok (padded N text) }
+        ensures value { (text : List ℕ) → as_str (view value.now) ≡ Some text → length text ≤ N
+            → result ≡ Ok (padded N text) }
         ensures no_text { as_str (view value.now) ≡ None → result ≡ Err (UleError.Length 0) }
-        ensures refused { (text : List ℕ) → as_str (view value.now) ≡ Some text → N < length text → result ≡ Err UleError.Parse }
+        ensures refused { (text : List ℕ) → as_str (view value.now) ≡ Some text → N < length text
+            → result ≡ Err UleError.Parse }
     {
         match value.as_str() {
             None => Err(UleError::Length(0)),

@@ -11,7 +11,8 @@ use crate::bytes::lossy_byte;
 
 /// Whether NULs are at the end of UTF-16 units with no other fault.
 pub(crate) fn check_utf16(units: &[u16], max: usize) -> Result<bool, ParseError>
-    ensures { MatchResult result (λ nul. (length units.now ≤ max) × IsFaultless nul units.now) (λ e. IsFault false max units.now e) }
+    ensures { MatchResult result (λ nul. (length units.now ≤ max) × IsFaultless nul units.now)
+        (λ e. IsFault false max units.now e) }
 {
     if units.len() > max {
         return Err(ParseError::TooLong {

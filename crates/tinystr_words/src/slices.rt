@@ -113,7 +113,8 @@ fn change_at<C: WordChange>(bytes: &mut [u8], from: usize, count: usize)
     requires within { from + count ≤ length bytes.old }
     requires short { count ≤ 8 }
     requires ascii { IsAscii (take count (drop from bytes.old)) }
-    ensures { bytes.new ≡ take from bytes.old ++ (map C.change (take count (drop from bytes.old)) ++ drop (from + count) bytes.old) }
+    ensures { bytes.new
+        ≡ take from bytes.old ++ (map C.change (take count (drop from bytes.old)) ++ drop (from + count) bytes.old) }
 {
     let word = changed_word::<C>(word_at(&bytes[from..from + count]), count);
     put_at(bytes, from, &word.to_le_bytes()[..count]);

@@ -19,8 +19,11 @@ pub fn write_to_slice<T: Writeable>(value: &T, out: &mut [u8]) -> Result<usize, 
     ensures succeeds { IsOk result ↔ (length (text_of (T.events value.now)) ≤ length out.old) }
     ensures needed { IfErr result (λ error. error.needed ≡ min (length (text_of (T.events value.now))) usize.MAX) }
     ensures value { IfOk result (λ written. written ≡ length (text_of (T.events value.now))) }
-    ensures text { OnOk result (out.new ≡ text_of (T.events value.now) ++ drop (length (text_of (T.events value.now))) out.old) }
-    ensures err { OnErr result (length (text_of (T.events value.now)) < 2 ^ 64 → out.new ≡ take (length out.old) (text_of (T.events value.now))) }
+    ensures text { OnOk result
+        (out.new ≡ text_of (T.events value.now) ++ drop (length (text_of (T.events value.now))) out.old) }
+    ensures err { OnErr result
+        (length (text_of (T.events value.now)) < 2 ^ 64
+        → out.new ≡ take (length out.old) (text_of (T.events value.now))) }
 {
     let room = out.len();
     match text_length(value, out) {
@@ -59,7 +62,9 @@ pub fn copy_to_slice(text: &[u8], out: &mut [u8]) -> Result<usize, TooSmall>
 
 // Lays the text of a value over bytes, and returns its length, where a `usize` holds that.
 fn text_length<T: Writeable>(value: &T, out: &mut [u8]) -> Option<usize>
-    ensures { MatchOption result (2 ^ 64 ≤ length (text_of (T.events value.now))) (λ n. (n ≡ length (text_of (T.events value.now))) × (out.new ≡ laid_from 0 (text_of (T.events value.now)) out.old)) }
+    ensures { MatchOption result (2 ^ 64 ≤ length (text_of (T.events value.now)))
+        (λ n. (n ≡ length (text_of (T.events value.now)))
+        × (out.new ≡ laid_from 0 (text_of (T.events value.now)) out.old)) }
 {
     let mut sink = BytesSink::new(out);
     match value.write_text(&mut sink) {

@@ -145,7 +145,8 @@ impl<const M: usize> Aligned<M> {
     /// allocate.
     pub fn is_ascii_alphabetic_titlecase(&self) -> bool
         ensures value { result ≡ is_in_class is_ascii_uppercase is_ascii_lowercase self.now }
-        ensures both { result ≡ (list_all is_ascii_alphabetic self.now && is_in_class is_not_lowercase is_not_uppercase self.now) }
+        ensures both { result
+            ≡ (list_all is_ascii_alphabetic self.now && is_in_class is_not_lowercase is_not_uppercase self.now) }
     {
         self.text().is_ascii_alphabetic_titlecase()
     }
