@@ -12,7 +12,7 @@ ghost use Rattle.tinystr.specs.Case.{titlecase};
 use crate::AsciiByte;
 use tinystr_words::{Lowercase, Uppercase, put_at, short_word};
 
-/// How many bytes the text of a form has.
+// How many bytes the text of a form has.
 pub(crate) fn text_len(bytes: &[u8]) -> usize
     requires { IsForm (length bytes.now) bytes.now }
     ensures value { result ≡ length (text_of bytes.now) }
@@ -21,7 +21,7 @@ pub(crate) fn text_len(bytes: &[u8]) -> usize
     tinystr_words::text_len(bytes)
 }
 
-/// The form of a text that fits. Up to eight bytes it goes by one word, which is never written and read again.
+// The form of a text that fits. Up to eight bytes it goes by one word, which is never written and read again.
 pub(crate) fn form_of<const N: usize>(text: &[u8]) -> [u8; N]
     requires { IsSmall N text.now }
     ensures { result ≡ padded N text.now }
@@ -35,7 +35,7 @@ pub(crate) fn form_of<const N: usize>(text: &[u8]) -> [u8; N]
     bytes
 }
 
-/// Whether the first byte is no lower-case letter, and the rest are no upper-case ones.
+// Whether the first byte is no lower-case letter, and the rest are no upper-case ones.
 pub(crate) fn is_title(bytes: &[u8]) -> bool
     requires { IsAscii bytes.now }
     ensures { result ≡ is_in_class is_not_lowercase is_not_uppercase bytes.now }
@@ -47,7 +47,7 @@ pub(crate) fn is_title(bytes: &[u8]) -> bool
     }
 }
 
-/// Whether the first byte is an upper-case letter, and the rest are lower-case ones; each may be NUL.
+// Whether the first byte is an upper-case letter, and the rest are lower-case ones; each may be NUL.
 pub(crate) fn is_title_of_letters(bytes: &[u8]) -> bool
     requires { IsAscii bytes.now }
     ensures { result ≡ is_in_class (or_nul is_ascii_uppercase) (or_nul is_ascii_lowercase) bytes.now }
@@ -60,7 +60,7 @@ pub(crate) fn is_title_of_letters(bytes: &[u8]) -> bool
     }
 }
 
-/// Puts the first byte in upper case and the rest in lower case.
+// Puts the first byte in upper case and the rest in lower case.
 pub(crate) fn make_title(bytes: &mut [u8])
     requires { IsAscii bytes.old }
     ensures { bytes.new ≡ titlecase bytes.old }
@@ -68,7 +68,7 @@ pub(crate) fn make_title(bytes: &mut [u8])
     tinystr_words::make_title(bytes);
 }
 
-/// The unit as a byte, or the replacement where it may not be in a text.
+// The unit as a byte, or the replacement where it may not be in a text.
 pub(crate) fn lossy_byte(unit: u16, replacement: u8) -> u8
     ensures { result ≡ kept_or_replacement replacement unit }
 {
@@ -79,7 +79,7 @@ pub(crate) fn lossy_byte(unit: u16, replacement: u8) -> u8
     }
 }
 
-/// Writes bytes over the first ones, each that may not be in a text replaced.
+// Writes bytes over the first ones, each that may not be in a text replaced.
 pub(crate) fn put_lossy(bytes: &mut [u8], units: &[u8], replacement: u8)
     requires { length units.now ≤ length bytes.old }
     ensures { bytes.new ≡ map (kept_or_replacement replacement) units.now ++ drop (length units.now) bytes.old }
@@ -89,7 +89,7 @@ pub(crate) fn put_lossy(bytes: &mut [u8], units: &[u8], replacement: u8)
     }
 }
 
-/// Writes ASCII bytes over the first ones.
+// Writes ASCII bytes over the first ones.
 pub(crate) fn put_ascii(bytes: &mut [u8], src: &[AsciiByte])
     requires { length src.now ≤ length bytes.old }
     ensures { bytes.new ≡ src.now ++ drop (length src.now) bytes.old }

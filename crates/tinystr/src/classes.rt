@@ -11,14 +11,14 @@ use crate::bytes::{is_title, is_title_of_letters};
 use tinystr_words::{Digits, Letters, LettersAndDigits, Lowercase, Uppercase, WordClass};
 
 impl<const N: usize> TinyAsciiStr<N> {
-    /// Whether every character is in the class.
+    // Whether every character is in the class.
     fn all<C: WordClass>(&self) -> bool
         ensures { result ≡ list_all C.test self.now }
     {
         tinystr_words::all::<C>(self.all_bytes())
     }
 
-    /// Whether no character is in the class.
+    // Whether no character is in the class.
     fn none<C: WordClass>(&self) -> bool
         ensures { result ≡ list_all (λ b. not (C.test b)) self.now }
     {

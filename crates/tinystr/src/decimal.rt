@@ -25,7 +25,7 @@ impl<const N: usize> TinyAsciiStr<N> {
     }
 }
 
-/// Writes the digits of a number at the end of the ten bytes, and returns where they begin.
+// Writes the digits of a number at the end of the ten bytes, and returns where they begin.
 fn put_digits(digits: &mut [u8; 10], number: u32) -> usize
     ensures start { result ≤ 10 }
     ensures text { IsDecimalText number (drop result digits.new) }

@@ -6,7 +6,7 @@ ghost use Rattle.tinystr.specs.Faults.{IsFault, IsFaultless};
 
 use crate::ParseError;
 
-/// Whether NULs are at the end of units with no other fault.
+// Whether NULs are at the end of units with no other fault.
 pub(crate) fn check_bytes(units: &[u8], max: usize) -> Result<bool, ParseError>
     ensures { MatchResult result (λ nul. (length units.now ≤ max) × IsFaultless nul units.now)
         (λ e. IsFault false max units.now e) }
@@ -31,7 +31,7 @@ pub(crate) fn check_bytes(units: &[u8], max: usize) -> Result<bool, ParseError>
     Ok(nul_seen)
 }
 
-/// Whether units are a text of at most `max`, where a NUL at the end is a fault too.
+// Whether units are a text of at most `max`, where a NUL at the end is a fault too.
 pub(crate) fn check_text(units: &[u8], max: usize) -> Result<(), ParseError>
     ensures { MatchResult result (λ _. IsSmall max units.now) (λ e. IsFault true max units.now e) }
 {
@@ -42,7 +42,7 @@ pub(crate) fn check_text(units: &[u8], max: usize) -> Result<(), ParseError>
     }
 }
 
-/// Whether the bytes are the form of a text at their own count.
+// Whether the bytes are the form of a text at their own count.
 pub(crate) fn is_form(bytes: &[u8]) -> bool
     ensures { IsTrue result ↔ IsForm (length bytes.now) bytes.now }
 {

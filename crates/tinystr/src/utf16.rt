@@ -9,7 +9,7 @@ ghost use Rattle.tinystr.specs.Faults.{IsFault, IsFaultless};
 use crate::ParseError;
 use crate::bytes::lossy_byte;
 
-/// Whether NULs are at the end of UTF-16 units with no other fault.
+// Whether NULs are at the end of UTF-16 units with no other fault.
 pub(crate) fn check_utf16(units: &[u16], max: usize) -> Result<bool, ParseError>
     ensures { MatchResult result (λ nul. (length units.now ≤ max) × IsFaultless nul units.now)
         (λ e. IsFault false max units.now e) }
@@ -34,7 +34,7 @@ pub(crate) fn check_utf16(units: &[u16], max: usize) -> Result<bool, ParseError>
     Ok(nul_seen)
 }
 
-/// Whether UTF-16 units are a text of at most `max`, where a NUL at the end is a fault too.
+// Whether UTF-16 units are a text of at most `max`, where a NUL at the end is a fault too.
 pub(crate) fn check_utf16_text(units: &[u16], max: usize) -> Result<(), ParseError>
     ensures { MatchResult result (λ _. IsSmall max units.now) (λ e. IsFault true max units.now e) }
 {
@@ -45,7 +45,7 @@ pub(crate) fn check_utf16_text(units: &[u16], max: usize) -> Result<(), ParseErr
     }
 }
 
-/// Writes UTF-16 units that are a text over the first bytes.
+// Writes UTF-16 units that are a text over the first bytes.
 pub(crate) fn narrow(bytes: &mut [u8], units: &[u16])
     requires fits { length units.now ≤ length bytes.old }
     requires text { list_all is_text_byte units.now ≡ true }
@@ -56,7 +56,7 @@ pub(crate) fn narrow(bytes: &mut [u8], units: &[u16])
     }
 }
 
-/// Writes UTF-16 units over the first bytes, each that may not be in a text replaced.
+// Writes UTF-16 units over the first bytes, each that may not be in a text replaced.
 pub(crate) fn put_lossy_utf16(bytes: &mut [u8], units: &[u16], replacement: u8)
     requires { length units.now ≤ length bytes.old }
     ensures { bytes.new ≡ map (kept_or_replacement replacement) units.now ++ drop (length units.now) bytes.old }

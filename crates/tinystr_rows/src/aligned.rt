@@ -53,7 +53,7 @@ fn answer<const M: usize>(call: &str, word: &Aligned<M>, out: &mut String) -> Re
     }
 }
 
-/// The nine answers, in the order of `classes`.
+// The nine answers, in the order of `classes`.
 fn answers<const M: usize>(word: &Aligned<M>) -> [bool; 9] {
     [
         word.is_ascii_alphabetic(),

@@ -72,14 +72,14 @@ fn argument_of<'a>(alloc: Global, word: &'a str) -> Result<Argument<'a>, Stop> {
     }
 }
 
-/// The units below 256 as bytes.
+// The units below 256 as bytes.
 fn bytes_of(alloc: Global, units: &[u16]) -> Result<Vec<u8>, AllocError> {
     let mut bytes = Vec::new(alloc);
     let pushed = push_bytes(&mut bytes, units);
     filled(bytes, pushed)
 }
 
-/// Puts the units below 256 to the bytes.
+// Puts the units below 256 to the bytes.
 fn push_bytes(bytes: &mut Vec<u8>, units: &[u16]) -> Result<(), AllocError> {
     for unit in units {
         if let Ok(byte) = u8::try_from(*unit) {

@@ -4,7 +4,7 @@ use crate::writing::put_ascii_bytes;
 use rows::{Stop, number_of};
 use tinystr::AsciiByte as Byte;
 
-/// The constants below 32, by fours.
+// The constants below 32, by fours.
 const CONTROLS: [[Byte; 4]; 8] = [
     [Byte::B0, Byte::B1, Byte::B2, Byte::B3],
     [Byte::B4, Byte::B5, Byte::B6, Byte::B7],
@@ -16,7 +16,7 @@ const CONTROLS: [[Byte; 4]; 8] = [
     [Byte::B28, Byte::B29, Byte::B30, Byte::B31],
 ];
 
-/// Those from 32 on, below 64.
+// Those from 32 on, below 64.
 const SIGNS: [[Byte; 4]; 8] = [
     [Byte::B32, Byte::B33, Byte::B34, Byte::B35],
     [Byte::B36, Byte::B37, Byte::B38, Byte::B39],
@@ -28,7 +28,7 @@ const SIGNS: [[Byte; 4]; 8] = [
     [Byte::B60, Byte::B61, Byte::B62, Byte::B63],
 ];
 
-/// Those from 64 on, below 96.
+// Those from 64 on, below 96.
 const CAPITALS: [[Byte; 4]; 8] = [
     [Byte::B64, Byte::B65, Byte::B66, Byte::B67],
     [Byte::B68, Byte::B69, Byte::B70, Byte::B71],
@@ -40,7 +40,7 @@ const CAPITALS: [[Byte; 4]; 8] = [
     [Byte::B92, Byte::B93, Byte::B94, Byte::B95],
 ];
 
-/// Those from 96 on.
+// Those from 96 on.
 const SMALL: [[Byte; 4]; 8] = [
     [Byte::B96, Byte::B97, Byte::B98, Byte::B99],
     [Byte::B100, Byte::B101, Byte::B102, Byte::B103],

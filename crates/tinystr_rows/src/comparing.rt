@@ -59,7 +59,7 @@ fn hash_of<T: Hash>(value: &T) -> u64 {
     hasher.finish()
 }
 
-/// Writes the texts in the order of a set.
+// Writes the texts in the order of a set.
 fn put_set(texts: &[Argument<'_>], out: &mut String) -> Result<(), Stop> {
     let mut set = BTreeSet::new(*out.allocator());
     let put = match insert_all(&mut set, texts) {
@@ -77,7 +77,7 @@ fn insert_all(set: &mut BTreeSet<TinyStr4>, texts: &[Argument<'_>]) -> Result<()
     Ok(())
 }
 
-/// Writes the texts of a set in their order, a comma behind each.
+// Writes the texts of a set in their order, a comma behind each.
 fn put_all(set: &BTreeSet<TinyStr4>, out: &mut String) -> Result<(), Stop> {
     for text in set.iter() {
         out.push_str(text.as_str())?;

@@ -21,7 +21,7 @@ pub fn answer(error: &str, counts: &[&str], out: &mut String) -> Result<(), Stop
     }
 }
 
-/// The answer of an error that holds no count.
+// The answer of an error that holds no count.
 fn answer_plain(error: &str, out: &mut String) -> Result<(), Stop> {
     match error {
         "ParseError::ContainsNull" => {

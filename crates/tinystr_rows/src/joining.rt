@@ -35,7 +35,7 @@ fn answer_at<const N: usize>(
     }
 }
 
-/// Writes the text at another capacity, which is 0 to 16.
+// Writes the text at another capacity, which is 0 to 16.
 fn put_resized<const N: usize>(
     text: &Argument<'_>,
     capacity: &str,
@@ -76,7 +76,7 @@ fn resized<const N: usize, const M: usize>(
     put_bytes(out, text.resize::<M>().as_utf8())
 }
 
-/// Writes both texts joined at a capacity, which is 1, 5 or 8.
+// Writes both texts joined at a capacity, which is 1, 5 or 8.
 fn put_joined<const N: usize>(
     front: &Argument<'_>,
     rest: &Argument<'_>,

@@ -26,7 +26,7 @@ pub fn answer<const N: usize>(
     }
 }
 
-/// Writes the text that the JSON form of a small text holds.
+// Writes the text that the JSON form of a small text holds.
 fn put_json<const N: usize>(small: TinyAsciiStr<N>, out: &mut String) -> Result<(), Stop> {
     let value = small.to_json(*out.allocator())?;
     let put = put_text(&value, out);

@@ -39,7 +39,7 @@ fn answer_words(alloc: Global, words: &[&str], out: &mut String) -> Result<(), S
     }
 }
 
-/// The answer of a call at a capacity, which is 0 to 16.
+// The answer of a call at a capacity, which is 0 to 16.
 fn answer_call(
     module: &str,
     name: &str,
@@ -72,7 +72,7 @@ fn answer_call(
     }
 }
 
-/// The answer of a call of one module of `tinystr`.
+// The answer of a call of one module of `tinystr`.
 fn answer_at<const N: usize>(
     module: &str,
     call: &str,

@@ -57,7 +57,7 @@ fn answer_text<const N: usize>(
     }
 }
 
-/// A case change: the text, or all bytes of the value.
+// A case change: the text, or all bytes of the value.
 fn answer_case<const N: usize>(
     call: &str,
     text: TinyAsciiStr<N>,

@@ -23,7 +23,7 @@ pub fn answer<const N: usize>(
     }
 }
 
-/// The answer of a call that takes bytes.
+// The answer of a call that takes bytes.
 fn answer_bytes<const N: usize>(
     call: &str,
     argument: &Argument<'_>,
@@ -51,7 +51,7 @@ fn value_of<const N: usize>(argument: &Argument<'_>) -> Result<UnvalidatedTinyAs
     Ok(UnvalidatedTinyAsciiStr::<N>::from_utf8_unchecked(bytes))
 }
 
-/// The answer of a call that takes a text.
+// The answer of a call that takes a text.
 fn answer_text<const N: usize>(
     call: &str,
     argument: &Argument<'_>,

@@ -5,19 +5,19 @@ ghost use Rattle.std.specs.Int.{is_in_range};
 ghost use Rattle.std.specs.Str.{IsAscii};
 ghost use Rattle.tinystr_words.specs.Words.{word_bytes, flags};
 
-/// A 1 in each byte.
+// A 1 in each byte.
 const ONES: u64 = 0x0101_0101_0101_0101;
 
-/// The high bit of each byte.
+// The high bit of each byte.
 const HIGH: u64 = 0x8080_8080_8080_8080;
 
-/// A 2 in each byte.
+// A 2 in each byte.
 const TWOS: u64 = 0x0202_0202_0202_0202;
 
-/// The lowest bit of each byte but the first: the high bits, one place up.
+// The lowest bit of each byte but the first: the high bits, one place up.
 const NEXT: u64 = 0x0101_0101_0101_0100;
 
-/// The flags of the bytes that are at least `low`.
+// The flags of the bytes that are at least `low`.
 pub(crate) fn flags_from(word: u64, low: u8) -> u64
     requires low { low ≤ 128 }
     requires ascii { IsAscii (word_bytes word) }
@@ -26,7 +26,7 @@ pub(crate) fn flags_from(word: u64, low: u8) -> u64
     (word + u64::from(128 - low) * ONES) & HIGH
 }
 
-/// The flags of the bytes from `low` to `high`.
+// The flags of the bytes from `low` to `high`.
 pub(crate) fn flags_within(word: u64, low: u8, high: u8) -> u64
     requires order { low ≤ high }
     requires high { high < 128 }
@@ -36,10 +36,10 @@ pub(crate) fn flags_within(word: u64, low: u8, high: u8) -> u64
     flags_from(word, low) ^ flags_from(word, high + 1)
 }
 
-/// Twice the flags of the bytes that are at least `low`, in a word of at most seven bytes.
-///
-/// It sums the doubled word. A word of a few bytes is put together by a sum, and the compiler would
-/// make that sum anew for each bound, but doubles it once.
+// Twice the flags of the bytes that are at least `low`, in a word of at most seven bytes.
+//
+// It sums the doubled word. A word of a few bytes is put together by a sum, and the compiler would
+// make that sum anew for each bound, but doubles it once.
 pub(crate) fn twice_from(word: u64, low: u8) -> u64
     requires low { low ≤ 128 }
     requires fits { 2 ≤ low }
@@ -50,7 +50,7 @@ pub(crate) fn twice_from(word: u64, low: u8) -> u64
     (word + word + u64::from(128 - low) * TWOS) & NEXT
 }
 
-/// Twice the flags of the bytes from `low` to `high`, in a word of at most seven bytes.
+// Twice the flags of the bytes from `low` to `high`, in a word of at most seven bytes.
 pub(crate) fn twice_within(word: u64, low: u8, high: u8) -> u64
     requires order { low ≤ high }
     requires fits { 2 ≤ low }

@@ -92,9 +92,9 @@ pub fn are_same(one: &[u8], other: &[u8]) -> bool
     same
 }
 
-/// The word with each byte changed, of which the bytes from `count` on are NULs that fill it up.
-///
-/// Four and eight bytes are read at once; a word of another count is put together.
+// The word with each byte changed, of which the bytes from `count` on are NULs that fill it up.
+//
+// Four and eight bytes are read at once; a word of another count is put together.
 pub(crate) fn changed_word<C: WordChange>(word: u64, count: usize) -> u64
     requires short { count ≤ 8 }
     requires part { count < 8 → word < 2 ^ 56 }
@@ -108,7 +108,7 @@ pub(crate) fn changed_word<C: WordChange>(word: u64, count: usize) -> u64
     }
 }
 
-/// Changes at most eight bytes from a place on.
+// Changes at most eight bytes from a place on.
 fn change_at<C: WordChange>(bytes: &mut [u8], from: usize, count: usize)
     requires within { from + count ≤ length bytes.old }
     requires short { count ≤ 8 }

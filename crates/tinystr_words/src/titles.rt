@@ -9,13 +9,13 @@ use crate::changes::ToLowercase;
 use crate::slices::{change, changed_word, put_at};
 use crate::words::word_at;
 
-/// The case bit of the first byte of a word.
+// The case bit of the first byte of a word.
 const FIRST_CASE: u64 = 32;
 
-/// The word of at most eight bytes in title case, filled up with NULs.
-///
-/// All bytes are put in lower case while the first has its case bit turned, and then it is turned
-/// back.
+// The word of at most eight bytes in title case, filled up with NULs.
+//
+// All bytes are put in lower case while the first has its case bit turned, and then it is turned
+// back.
 fn title_word(bytes: &[u8]) -> u64
     requires short { length bytes.now ≤ 8 }
     requires ascii { IsAscii bytes.now }

@@ -14,7 +14,7 @@ pub fn word_len(word: u64) -> usize
     8 - word.leading_zeros() as usize / 8
 }
 
-/// The word of at most eight bytes, filled up with NULs.
+// The word of at most eight bytes, filled up with NULs.
 pub(crate) fn word_at(bytes: &[u8]) -> u64
     requires { length bytes.now ≤ 8 }
     ensures { word_bytes result ≡ filled bytes.now }

@@ -40,7 +40,7 @@ impl<const M: usize> Model for Aligned<M> {
 }
 
 impl<const M: usize> Aligned<M> {
-    /// The text of a word that is a form.
+    // The text of a word that is a form.
     pub(crate) fn of_word(word: u64) -> Self
         requires form { IsForm 8 (word_bytes word) }
         requires small { IsSmall M (text_of (word_bytes word)) }
@@ -49,7 +49,7 @@ impl<const M: usize> Aligned<M> {
         Aligned { word }
     }
 
-    /// The text as a value that owns its bytes.
+    // The text as a value that owns its bytes.
     fn text(&self) -> TinyAsciiStr<8>
         ensures value { result ≡ self.now }
         ensures small { IsSmall M self.now }
@@ -57,14 +57,14 @@ impl<const M: usize> Aligned<M> {
         TinyAsciiStr::<8>::from_utf8_unchecked(self.word.to_le_bytes())
     }
 
-    /// Whether every character is in the class.
+    // Whether every character is in the class.
     fn all<C: WordClass>(&self) -> bool
         ensures { result ≡ list_all C.test self.now }
     {
         is_all::<C>(self.word)
     }
 
-    /// Whether no character is in the class.
+    // Whether no character is in the class.
     fn none<C: WordClass>(&self) -> bool
         ensures { result ≡ list_all (λ b. not (C.test b)) self.now }
     {
@@ -173,7 +173,7 @@ impl<const M: usize> Aligned<M> {
     }
 }
 
-/// The form of a text of at most M bytes, as ASCII bytes.
+// The form of a text of at most M bytes, as ASCII bytes.
 fn ascii_bytes<const M: usize>(text: TinyAsciiStr<8>) -> [AsciiByte; M]
     requires { IsSmall M text }
     ensures { result ≡ padded M text }

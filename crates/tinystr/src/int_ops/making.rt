@@ -8,7 +8,7 @@ use super::aligned::{Aligned4, Aligned8};
 use crate::AsciiByte;
 use crate::bytes::put_ascii;
 
-/// The word of a form of at most 8 bytes.
+// The word of a form of at most 8 bytes.
 fn word_of<const N: usize>(src: &[AsciiByte; N]) -> u64
     requires fits { N ≤ 8 }
     requires form { IsForm N src.now }
