@@ -1,6 +1,7 @@
 -- The stages of each kind of extension are a right reader, and so among all kinds.
 use Rattle.std.proofs.Common.{◌≡◌, Bool, true, false, not, ◌&&◌, List, [], ◌∷◌, ◌++◌, Option, None, Some, option_map, codes, sym, refl, ap, ◌∙◌, subst}
 use Rattle.std.specs.Prelude.{if◌then◌else◌, is_none}
+use Rattle.std.proofs.Math.Bool.{and-false}
 use Rattle.icu_locale_core_grammar.specs.Subtags.{Text, is_single, is_language, is_script, is_region, is_variant, is_attribute, is_key, is_field_key, is_other_piece, is_unicode, is_transform, is_other, lower}
 use Rattle.icu_locale_core_grammar.specs.Collections.{contains_text, insert_text}
 use Rattle.icu_locale_core_grammar.specs.LanguagePart.{LanguageId, MeansInner}
@@ -46,18 +47,14 @@ other_reader = record { found = other_found; only = other_only; goes_on = λ s. 
 attribute_refused : (set : List Text) (p : Text) → is_attribute p ≡ false → attributes_after set p ≡ None
 attribute_refused set p e = ap (λ b. if b then Some (insert_text (lower p) set) else None) e
 
-none_with : (b : Bool) → (b && false) ≡ false
-none_with true = refl
-none_with false = refl
-
 language_refused : (s : Option LanguageId) (p : Text) → is_language p ≡ false → is_script p ≡ false → is_region p ≡ false → is_variant p ≡ false → language_after s p ≡ None
 unfolding with_piece
 language_refused None p l e f g = ap (λ b. if b then Some (Some (only_language p)) else None) l
 language_refused (Some id) p l e f g =
     ap (λ b. option_map Some (if b then Some (with_script id p) else (if fits_region id p then Some (with_region id p) else (if fits_variant id p then Some (with_variant id p) else None))))
-    (ap (λ b. (is_none id.script && (is_none id.region && has_none id.variants)) && b) e ∙ none_with (is_none id.script && (is_none id.region && has_none id.variants)))
+    (ap (λ b. (is_none id.script && (is_none id.region && has_none id.variants)) && b) e ∙ and-false (is_none id.script && (is_none id.region && has_none id.variants)))
     ∙ ap (λ b. option_map Some (if b then Some (with_region id p) else (if fits_variant id p then Some (with_variant id p) else None)))
-    (ap (λ b. (is_none id.region && has_none id.variants) && b) f ∙ none_with (is_none id.region && has_none id.variants))
+    (ap (λ b. (is_none id.region && has_none id.variants) && b) f ∙ and-false (is_none id.region && has_none id.variants))
     ∙ ap (λ b. option_map Some (if b then Some (with_variant id p) else None)) (ap (λ b. b && not (contains_text (lower p) id.variants)) g)
 
 pub language_closed : (s : Option LanguageId) (p : Text) → is_single p ≡ true → language_after s p ≡ None

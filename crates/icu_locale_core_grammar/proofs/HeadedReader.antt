@@ -2,6 +2,7 @@
 use Rattle.std.proofs.Common.{◌≡◌, Bool, true, false, not, ◌&&◌, List, [], ◌∷◌, ◌++◌, Option, None, Some, map, fold, flat_map, option_map, codes, sym, refl, ap, ◌∙◌, subst, append_assoc, append-nil}
 use Rattle.std.specs.Prelude.{if◌then◌else◌}
 use Rattle.std.specs.List.{AllByRecursion}
+use Rattle.std.proofs.Math.Bool.{and-false}
 use Rattle.icu_locale_core_grammar.specs.Subtags.{Text, is_single, is_value, lower}
 use Rattle.icu_locale_core_grammar.specs.Collections.{Entry, Each, put_first, map_of}
 use Rattle.icu_locale_core_grammar.specs.Extensions.{spelled_entry, entry_meaning, has_enough, IsEntry, Headed, MeansHeaded}
@@ -151,13 +152,9 @@ module _ {S H : Type 0} (step : S → Text → Option S) (ends : S → Option H)
   no_entry None p f = refl
   no_entry (Some h) p f = ap (λ b. if b then Some (InEntry h [] (lower p, []) (not needs)) else None) f
 
-  none_with : (b : Bool) → (b && false) ≡ false
-  none_with true = refl
-  none_with false = refl
-
   pub headed_closed : (s : HeadedStage S H) (p : Text) → is_single p ≡ true → headed_after step ends is_key needs s p ≡ None
   unfolding headed_after
   headed_closed (InHead s) p g = ap (λ o. after_head step ends is_key needs o (ends s) p) (closed s p g) ∙ no_entry (ends s) p (no_key p g)
   headed_closed (InEntry h es e full) p g =
       ap (λ b. if b then Some (InEntry h es (with_value e p) true) else (if full && is_key p then Some (InEntry h (put_first e es) (lower p, []) (not needs)) else None)) (single_no_value p g)
-      ∙ ap (λ b. if b then Some (InEntry h (put_first e es) (lower p, []) (not needs)) else None) (ap (λ b. full && b) (no_key p g) ∙ none_with full)
+      ∙ ap (λ b. if b then Some (InEntry h (put_first e es) (lower p, []) (not needs)) else None) (ap (λ b. full && b) (no_key p g) ∙ and-false full)

@@ -5,6 +5,7 @@ use Rattle.std.specs.List.{IsDistinct}
 use Rattle.std.specs.Ordering.{match_ordering}
 use Rattle.std.specs.declared.cmp.Ordering.{Ordering}
 use Rattle.std.specs.declared.cmp.Ordering.TheVariants.{Less, Equal, Greater}
+use Rattle.std.proofs.Math.Bool.{and-false}
 use Rattle.std.proofs.lemmas.List.{map-append}
 use Rattle.std.proofs.lemmas.Bool.{and_parts, not-true}
 use Rattle.icu_locale_core_grammar.specs.Subtags.{Text, is_language, is_script, is_region, is_variant, lower, title, upper}
@@ -148,14 +149,10 @@ variant_steps : (id : LanguageId) (p : Text) → is_variant p ≡ true → conta
 unfolding with_piece
 variant_steps id p e new =
     ap (λ b. option_map Some (if b then Some (with_script id p) else (if fits_region id p then Some (with_region id p) else (if fits_variant id p then Some (with_variant id p) else None))))
-    (ap (λ b. (is_none id.script && (is_none id.region && has_none id.variants)) && b) (variant_no_script p e) ∙ none_with (is_none id.script && (is_none id.region && has_none id.variants)))
+    (ap (λ b. (is_none id.script && (is_none id.region && has_none id.variants)) && b) (variant_no_script p e) ∙ and-false (is_none id.script && (is_none id.region && has_none id.variants)))
     ∙ ap (λ b. option_map Some (if b then Some (with_region id p) else (if fits_variant id p then Some (with_variant id p) else None)))
-    (ap (λ b. (is_none id.region && has_none id.variants) && b) (variant_no_region p e) ∙ none_with (is_none id.region && has_none id.variants))
+    (ap (λ b. (is_none id.region && has_none id.variants) && b) (variant_no_region p e) ∙ and-false (is_none id.region && has_none id.variants))
     ∙ ap (λ b. option_map Some (if b then Some (with_variant id p) else None)) (ap (λ b. b && not (contains_text (lower p) id.variants)) e ∙ ap not new)
-  where
-    none_with : (b : Bool) → (b && false) ≡ false
-    none_with true = refl
-    none_with false = refl
 
 abbrev id_of : Text → Option Text → Option Text → List Text → LanguageId
 id_of language script region variants = record { language = language; script = script; region = region; variants = variants }
@@ -169,12 +166,8 @@ region_runs : (language : Text) (script region : Option Text) → IfSome region 
     → run language_after (Some (Some (id_of language script None []))) (option_to_list region) ≡ Some (Some (id_of language script (option_map upper region) []))
 region_runs language script None is = refl
 region_runs language script (Some p) is =
-    let no_script : fits_script (id_of language script None []) p ≡ false = ap (λ b. (is_none script && true) && b) (region_no_script p is) ∙ none_with (is_none script && true) in
+    let no_script : fits_script (id_of language script None []) p ≡ false = ap (λ b. (is_none script && true) && b) (region_no_script p is) ∙ and-false (is_none script && true) in
     run_begun language_after (Some (id_of language script None [])) (Some (id_of language script (Some (upper p)) [])) _ p [] (region_steps (id_of language script None []) p no_script is) refl
-  where
-    none_with : (b : Bool) → (b && false) ≡ false
-    none_with true = refl
-    none_with false = refl
 
 variants_run : (language : Text) (script region : Option Text) (before vs : List Text) → Each is_variant vs → AreApart (map lower (before ++ vs))
     → run language_after (Some (Some (id_of language script region (set_of (map lower before))))) vs ≡ Some (Some (id_of language script region (set_of (map lower (before ++ vs)))))

@@ -25,7 +25,7 @@ use Rattle.icu_locale_core_grammar.proofs.BodyReaders.{language_closed}
 
 -- ---- at most one variant
 
-abbrev IsShort : Option LanguageId → Type 0
+abbrev pub IsShort : Option LanguageId → Type 0
 IsShort None = Unit {0}
 IsShort (Some id) = has_short id.variants ≡ true
 

@@ -18,16 +18,12 @@ use Rattle.icu_locale_core_grammar.proofs.ListLemmas.{mapped_some}
 use Rattle.icu_locale_core_grammar.proofs.Runs.{first_step, stops_at_piece, stops_at_end}
 use Rattle.icu_locale_core_grammar.proofs.LanguageReader.{language_reader}
 use Rattle.icu_locale_core_grammar.proofs.LanguageFaults.{language_named}
-use Rattle.icu_locale_core_grammar.proofs.SingleReader.{step_there}
+use Rattle.icu_locale_core_grammar.proofs.SingleReader.{IsShort, step_there}
 use Rattle.icu_locale_core_grammar.proofs.CallerLemmas.{read_whole, none_left}
 use Rattle.icu_locale_core_langid.proofs.SteppingLemmas.{TookBy}
 use Rattle.icu_locale_core_langid.specs.OneVariant.{MeansOneVariant, kept_one, one_variant_after}
 
 -- ---- a second variant does not go again
-
-abbrev IsShort : Option LanguageId → Type 0
-IsShort None = Unit {0}
-IsShort (Some id) = has_short id.variants ≡ true
 
 long_stays : (t : Text) (us : List Text) → has_short us ≡ false → has_short (insert_text t us) ≡ false
 long_stays t [] e = cc

@@ -55,9 +55,6 @@ not_numeric_written = refl
 
 -- ---- one piece
 
-pub thai_digits : one_piece (codes "thai" ∷ []) ≡ Some (codes "thai")
-thai_digits = refl
-
 pub two_systems : one_piece (codes "thai" ∷ codes "latn" ∷ []) ≡ None
 two_systems = refl
 
