@@ -1,10 +1,11 @@
 -- `==`, part by part, holds exactly of equal values.
-use Rattle.std.proofs.Common.{◌≡◌, Bool, ◌&&◌, Option, None, Some, refl, ap, Decides}
+use Rattle.std.proofs.Common.{◌≡◌, Bool, Option, None, Some, refl, ap, Decides}
 use Rattle.std.specs.Option.{option_eq}
 use Rattle.std.specs.Cmp.Lexicographic.{bytes_decides}
 use Rattle.std.proofs.lemmas.Bool.Decides.{Decides-and, Decides-like}
 use Rattle.icu_locale_core_grammar.specs.Subtags.{Text, same_text}
 use Rattle.icu_locale_core_grammar.specs.TagPreferences.{Subdivision, LocalePreferencesMeaning, DataLocaleMeaning}
+pub use Rattle.icu_locale_core_grammar.specs.SamePreferences.{same_subdivision, same_data, same_locale}
 
 -- an option is tested as what it holds is
 pub options_decide : {A : Type 0} (same : A → A → Bool) → ((a b : A) → Decides (same a b) (a ≡ b)) → (s t : Option A) → Decides (option_eq same s t) (s ≡ t)
@@ -15,9 +16,6 @@ options_decide same each (Some s) (Some t) = (λ e. ap Some ((each s t).0 e), λ
 
 pub texts_decide : (s t : Option Text) → Decides (option_eq same_text s t) (s ≡ t)
 texts_decide = options_decide same_text bytes_decides
-
-abbrev same_subdivision : Subdivision → Subdivision → Bool
-same_subdivision a b = same_text a.region b.region && same_text a.suffix b.suffix
 
 subdivision_decides : (a b : Subdivision) → Decides (same_subdivision a b) (a ≡ b)
 subdivision_decides a b = Decides-like (same_subdivision a b)
@@ -30,11 +28,6 @@ subdivisions_decide = options_decide same_subdivision subdivision_decides
 
 -- ---- data locales
 
-abbrev pub same_data : DataLocaleMeaning → DataLocaleMeaning → Bool
-same_data a b =
-    same_text a.language b.language
-    && (option_eq same_text a.script b.script && (option_eq same_text a.region b.region && (option_eq same_text a.variant b.variant && option_eq same_subdivision a.subdivision b.subdivision)))
-
 pub same_data_locales : (a b : DataLocaleMeaning) → Decides (same_data a b) (a ≡ b)
 same_data_locales a b = Decides-like (same_data a b)
     (λ h i. record { language = h.0 i; script = h.1.0 i; region = h.1.1.0 i; variant = h.1.1.1.0 i; subdivision = h.1.1.1.1 i })
@@ -45,11 +38,6 @@ same_data_locales a b = Decides-like (same_data a b)
     (Decides-and _ _ (texts_decide a.variant b.variant) (subdivisions_decide a.subdivision b.subdivision)))))
 
 -- ---- preferences
-
-abbrev pub same_locale : LocalePreferencesMeaning → LocalePreferencesMeaning → Bool
-same_locale a b =
-    same_text a.language b.language
-    && (option_eq same_text a.script b.script && (option_eq same_text a.region b.region && (option_eq same_text a.variant b.variant && (option_eq same_subdivision a.subdivision b.subdivision && option_eq same_subdivision a.region_override b.region_override))))
 
 pub same_locale_preferences : (a b : LocalePreferencesMeaning) → Decides (same_locale a b) (a ≡ b)
 same_locale_preferences a b = Decides-like (same_locale a b)

@@ -11,6 +11,7 @@ pub mod WellFormed
 pub mod PartReaders
 pub mod PartialReading
 pub mod TagPreferences
+pub mod SamePreferences
 pub mod DataTags
 pub mod SingleVariant
 pub mod TagOrder
