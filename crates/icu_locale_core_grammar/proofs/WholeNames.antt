@@ -69,7 +69,7 @@ module _ {L I E B V : Type 0} (step_front : L → Text → Option L) (start : L)
   ends = whole_ends front_ends body_ends put none
 
   abbrev Meant : List Text → Whole I E → Type 0
-  Meant = MeansWhole MeansFront MeansBody put none is_x is_own
+  Meant = MeansWhole (record { means_front = MeansFront; means_body = MeansBody; put = put; none = none; begins_private = is_x; is_private_piece = is_own })
 
   abbrev Blocks : List Text → I → List Text → E → List Text → Type 0
   Blocks = InBlocks step_front start front_ends MeansFront step_body body_ends opens MeansBody put none is_x is_own sound

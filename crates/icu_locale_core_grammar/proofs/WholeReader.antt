@@ -28,7 +28,7 @@ module _ {L I E B V : Type 0} (step_front : L → Text → Option L) (start : L)
   next = next_part step_front front_ends step_body body_ends opens put none is_x is_own
 
   abbrev Meant : List Text → Whole I E → Type 0
-  Meant = MeansWhole MeansFront MeansBody put none is_x is_own
+  Meant = MeansWhole (record { means_front = MeansFront; means_body = MeansBody; put = put; none = none; begins_private = is_x; is_private_piece = is_own })
 
   -- ---- one step
 

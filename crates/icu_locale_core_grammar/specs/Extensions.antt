@@ -67,10 +67,10 @@ pub record IsBlock {V : Type 0} (MeansBody : Text → List Text → V → Type 0
 abbrev pub blocks_meaning : {V E : Type 0} → (Text → V → E → E) → E → List (Block V) → E
 blocks_meaning put none bs = fold (λ e b. put (block_key b) b.value e) none bs
 
--- a private part, or none: `x` and at least one piece, which mean `own`
+-- a private part, or none: `x` and at least one piece, which mean themselves in lower case
 abbrev pub IsPrivatePart : (Text → Bool) → (Text → Bool) → List Text → List Text → Type 0
-IsPrivatePart is_x is_own [] own = own ≡ []
-IsPrivatePart is_x is_own (x ∷ ps) own = (is_x x ≡ true) × (ps ≢ []) × Each is_own ps × (map lower ps ≡ own)
+IsPrivatePart is_x is_piece [] subtags = subtags ≡ []
+IsPrivatePart is_x is_piece (x ∷ ps) subtags = (is_x x ≡ true) × (ps ≢ []) × Each is_piece ps × (map lower ps ≡ subtags)
 
 -- the meaning of a whole tag: of its language part, its extensions and its private part
 pub record Whole (I E : Type 0) : Type 0 where
@@ -78,15 +78,24 @@ pub record Whole (I E : Type 0) : Type 0 where
   pub extensions : E
   pub private_use : List Text
 
+-- what the parts of a whole mean: its front; the body behind a singleton; one more body put to those before, or to none;
+-- and which piece begins the private part, which may stand in it
+pub record PartRules (I V E : Type 0) : Type 1 where
+  pub means_front : List Text → I → Type 0
+  pub means_body : Text → List Text → V → Type 0
+  pub put : Text → V → E → E
+  pub none : E
+  pub begins_private : Text → Bool
+  pub is_private_piece : Text → Bool
+
 -- these pieces are a front, blocks with singletons that differ, and a private part or none, and they mean `m`
-pub record MeansWhole {I V E : Type 0} (MeansFront : List Text → I → Type 0) (MeansBody : Text → List Text → V → Type 0)
-    (put : Text → V → E → E) (none : E) (is_x is_own : Text → Bool) (ps : List Text) (m : Whole I E) : Type 0 where
+pub record MeansWhole {I V E : Type 0} (rules : PartRules I V E) (ps : List Text) (m : Whole I E) : Type 0 where
   pub front : List Text
   pub blocks : List (Block V)
   pub last : List Text
   pub parts : front ++ (flat_map spelled_block blocks ++ last) ≡ ps
-  pub meant : MeansFront front m.language
-  pub each : AllByRecursion (IsBlock MeansBody) blocks
+  pub meant : rules.means_front front m.language
+  pub each : AllByRecursion (IsBlock rules.means_body) blocks
   pub apart : AreApart (map block_key blocks)
-  pub together : blocks_meaning put none blocks ≡ m.extensions
-  pub private : IsPrivatePart is_x is_own last m.private_use
+  pub together : blocks_meaning rules.put rules.none blocks ≡ m.extensions
+  pub private : IsPrivatePart rules.begins_private rules.is_private_piece last m.private_use

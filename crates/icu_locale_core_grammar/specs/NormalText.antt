@@ -1,14 +1,14 @@
 -- The normal text of a meaning: parts in normal case, sets and maps in byte order, extensions by singleton, `x` last.
 -- UTS 35, section 3.2.1, "Canonical Unicode Locale Identifiers"; docs/tags.md, "Normal text".
 -- Cited by all that writes a tag or a part of one, and by the laws on the round trip.
-use Rattle.std.specs.Prelude.{ℕ, Bool, true, false, List, [], ◌∷◌, ◌++◌, Option, None, Some, map, take, drop, option_to_list, flat_map, if◌then◌else◌}
+use Rattle.std.specs.Prelude.{ℕ, Bool, List, [], ◌∷◌, ◌++◌, Option, None, Some, map, take, drop, option_to_list, flat_map, if◌then◌else◌}
 use Rattle.std.specs.List.{position_or_len}
 use Rattle.std.specs.Ordering.{is_lt}
 use Rattle.icu_locale_core_grammar.specs.Subtags.{Text, lower, true_text, transform_text, unicode_text, private_text}
 use Rattle.icu_locale_core_grammar.specs.Collections.{Entry, text_cmp}
 use Rattle.icu_locale_core_grammar.specs.LanguagePart.{LanguageId}
 use Rattle.icu_locale_core_grammar.specs.Extensions.{Block, spelled_block, spelled_entry, has_enough}
-use Rattle.icu_locale_core_grammar.specs.Meaning.{Part, unicode, transform, other, UnicodeMeaning, TransformMeaning, ExtensionMeanings, TagMeaning}
+use Rattle.icu_locale_core_grammar.specs.Meaning.{Part, unicode, transform, other, UnicodeMeaning, TransformMeaning, keyword_needs_value, field_needs_value, ExtensionMeanings, TagMeaning}
 use Rattle.icu_locale_core_grammar.specs.Pieces.{joined_text}
 
 -- the pieces of a language part
@@ -29,10 +29,10 @@ entry_pieces needs es = flat_map spelled_entry (map (shown_entry needs) es)
 
 -- the pieces behind `u`, and behind `t`
 abbrev pub unicode_pieces : UnicodeMeaning → List Text
-unicode_pieces u = u.head ++ entry_pieces false u.entries
+unicode_pieces u = u.head ++ entry_pieces keyword_needs_value u.entries
 
 abbrev pub transform_pieces : TransformMeaning → List Text
-transform_pieces t = inner_pieces t.head ++ entry_pieces true t.entries
+transform_pieces t = inner_pieces t.head ++ entry_pieces field_needs_value t.entries
 
 -- the block with these pieces, or none where there are no pieces
 abbrev pub one_block : Text → List Text → Part → List (Block Part)

@@ -1,7 +1,7 @@
 -- What holds of the parts of a tag: each is read right, means one thing, and reads back as it is printed.
 -- Defined in docs/tags.md, "Laws".
--- Cited by the functions of the module of laws on parts.
-use Rattle.std.specs.Prelude.{◌≡◌, ◌≢◌, ◌↔◌, false, true, List, [], ◌∷◌, None, Some, ◌⊎◌}
+-- Cited by the functions of the module of laws on parts. It uses many modules, since a law on each part of a tag names the definitions of that part.
+use Rattle.std.specs.Prelude.{◌≡◌, ◌≢◌, ◌↔◌, List, [], ◌∷◌, None, Some, ◌⊎◌}
 use Rattle.std.specs.List.{AllByRecursion}
 use Rattle.icu_locale_core_grammar.specs.declared.error.ParseError.{ParseError}
 use Rattle.icu_locale_core_grammar.specs.declared.error.ParseError.TheVariants.{InvalidLanguage}
@@ -9,7 +9,7 @@ use Rattle.icu_locale_core_grammar.specs.Subtags.{Text, is_plain, is_key, is_fie
 use Rattle.icu_locale_core_grammar.specs.Pieces.{pieces, joined_text}
 use Rattle.icu_locale_core_grammar.specs.Collections.{Entry, Each, Rises}
 use Rattle.icu_locale_core_grammar.specs.LanguagePart.{LanguageId, MeansLanguage}
-use Rattle.icu_locale_core_grammar.specs.Meaning.{MeansAttributes, UnicodeMeaning, MeansUnicode, TransformMeaning, MeansTransform, MeansOther, MeansTag}
+use Rattle.icu_locale_core_grammar.specs.Meaning.{MeansAttributes, keyword_needs_value, field_needs_value, UnicodeMeaning, MeansUnicode, TransformMeaning, MeansTransform, MeansOther, MeansTag}
 use Rattle.icu_locale_core_grammar.specs.FaultyPiece.{IsAccepted, HasFault}
 use Rattle.icu_locale_core_grammar.specs.NormalText.{language_pieces, entry_pieces, unicode_pieces, transform_pieces, normal_text}
 use Rattle.icu_locale_core_grammar.specs.WellFormed.{AreLower, IsNormalLanguage, IsNormalValue, AreNormalEntries, IsNormalUnicode, IsNormalTransform}
@@ -58,19 +58,19 @@ abbrev pub TransformReadsBack : Type 0
 TransformReadsBack = (t : TransformMeaning) → IsNormalTransform t → transform_pieces t ≢ [] → IsExtension is_transform MeansTransform (transform_text ∷ transform_pieces t) t
 
 abbrev pub PrivateReadsBack : Type 0
-PrivateReadsBack = (own : List Text) → AreLower is_private_piece own → own ≢ [] → IsExtension is_private MeansOwn (private_text ∷ own) own
+PrivateReadsBack = (subtags : List Text) → AreLower is_private_piece subtags → subtags ≢ [] → IsExtension is_private MeansOwn (private_text ∷ subtags) subtags
 
 abbrev pub OtherReadsBack : Type 0
-OtherReadsBack = (own : List Text) → AreLower is_other_piece own → MeansOther own own
+OtherReadsBack = (subtags : List Text) → AreLower is_other_piece subtags → MeansOther subtags subtags
 
 abbrev pub AttributesReadBack : Type 0
 AttributesReadBack = (set : List Text) → AreLower is_attribute set → Rises set → MeansAttributes set set
 
 abbrev pub KeywordsReadBack : Type 0
-KeywordsReadBack = (es : List Entry) → AreNormalEntries is_key es → MeansKeywords (entry_pieces false es) es
+KeywordsReadBack = (es : List Entry) → AreNormalEntries is_key es → MeansKeywords (entry_pieces keyword_needs_value es) es
 
 abbrev pub FieldsReadBack : Type 0
-FieldsReadBack = (es : List Entry) → AreNormalEntries is_field_key es → MeansFields (entry_pieces true es) es
+FieldsReadBack = (es : List Entry) → AreNormalEntries is_field_key es → MeansFields (entry_pieces field_needs_value es) es
 
 abbrev pub ValueReadsBack : Type 0
 ValueReadsBack = (vs : List Text) → AllByRecursion IsNormalValue vs → MeansValue vs vs

@@ -1,13 +1,13 @@
 -- What the readers of a part of a tag accept: an extension with its singleton, keywords, fields, attributes, a value.
 -- UTS 35, sections 3.6 and 3.7; docs/tags.md, "Parts read alone".
 -- Cited by the readers of these parts, and by the laws on them.
-use Rattle.std.specs.Prelude.{◌≡◌, ◌≢◌, Bool, true, false, List, [], ◌∷◌, ◌++◌, Option, None, Some, map, flat_map, if◌then◌else◌}
+use Rattle.std.specs.Prelude.{◌≡◌, ◌≢◌, Bool, true, List, [], ◌∷◌, ◌++◌, Option, None, Some, map, flat_map, if◌then◌else◌}
 use Rattle.std.specs.List.{AllByRecursion}
 use Rattle.icu_locale_core_grammar.specs.Subtags.{Text, is_value, is_true, is_key, is_field_key, is_private_piece, is_unicode, is_transform, is_private, is_other, lower}
 use Rattle.icu_locale_core_grammar.specs.Pieces.{pieces}
 use Rattle.icu_locale_core_grammar.specs.Collections.{Entry, Each, map_of}
 use Rattle.icu_locale_core_grammar.specs.Extensions.{spelled_entry, value_meaning, entry_meaning, IsEntry, Headed}
-use Rattle.icu_locale_core_grammar.specs.Meaning.{MeansAttributes, UnicodeMeaning, MeansUnicode, TransformMeaning, MeansTransform, MeansOther}
+use Rattle.icu_locale_core_grammar.specs.Meaning.{MeansAttributes, keyword_needs_value, field_needs_value, UnicodeMeaning, MeansUnicode, TransformMeaning, MeansTransform, MeansOther}
 use Rattle.icu_locale_core_grammar.specs.Stepping.{HeadedStage, headed_after, headed_ends}
 
 -- ---- extensions, with their singleton
@@ -21,10 +21,10 @@ pub record IsExtension {M : Type 0} (opening : Text → Bool) (Means : List Text
   pub filled : body ≢ []
   pub meant : Means body m
 
--- the pieces of the private part
-pub record MeansOwn (ps : List Text) (own : List Text) : Type 0 where
+-- the pieces of the private part, which mean themselves in lower case
+pub record MeansOwn (ps : List Text) (subtags : List Text) : Type 0 where
   pub each : Each is_private_piece ps
-  pub meant : map lower ps ≡ own
+  pub meant : map lower ps ≡ subtags
 
 abbrev pub ReadsUnicode : Text → UnicodeMeaning → Type 0
 ReadsUnicode text u = IsExtension is_unicode MeansUnicode (pieces text) u
@@ -33,7 +33,7 @@ abbrev pub ReadsTransform : Text → TransformMeaning → Type 0
 ReadsTransform text t = IsExtension is_transform MeansTransform (pieces text) t
 
 abbrev pub ReadsPrivate : Text → List Text → Type 0
-ReadsPrivate text own = IsExtension is_private MeansOwn (pieces text) own
+ReadsPrivate text subtags = IsExtension is_private MeansOwn (pieces text) subtags
 
 -- any other extension: its singleton in lower case, and its pieces
 pub record ReadsOther (text : Text) (o : Entry) : Type 0 where
@@ -55,10 +55,10 @@ pub record MeansEntries (test : Text → Bool) (needs : Bool) (ps : List Text) (
   pub keyed : map_of (map entry_meaning entries) ≡ es
 
 abbrev pub MeansKeywords : List Text → List Entry → Type 0
-MeansKeywords ps es = MeansEntries is_key false ps es
+MeansKeywords ps es = MeansEntries is_key keyword_needs_value ps es
 
 abbrev pub MeansFields : List Text → List Entry → Type 0
-MeansFields ps es = MeansEntries is_field_key true ps es
+MeansFields ps es = MeansEntries is_field_key field_needs_value ps es
 
 -- these pieces are a value, and `vs` is what it means
 pub record MeansValue (ps : List Text) (vs : List Text) : Type 0 where

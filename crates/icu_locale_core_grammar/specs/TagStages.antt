@@ -7,7 +7,7 @@ use Rattle.icu_locale_core_grammar.specs.declared.error.ParseError.TheVariants.{
 use Rattle.icu_locale_core_grammar.specs.Subtags.{Text, is_language, is_script, is_region, is_variant, is_attribute, is_key, is_field_key, is_other_piece, is_private_piece, is_unicode, is_transform, is_other, is_private, lower, title, upper}
 use Rattle.icu_locale_core_grammar.specs.Collections.{contains_text, insert_text}
 use Rattle.icu_locale_core_grammar.specs.LanguagePart.{LanguageId}
-use Rattle.icu_locale_core_grammar.specs.Meaning.{Part, ExtensionMeanings, TagMeaning, UnicodeMeaning, TransformMeaning, put_part, no_extensions}
+use Rattle.icu_locale_core_grammar.specs.Meaning.{Part, ExtensionMeanings, TagMeaning, UnicodeMeaning, TransformMeaning, keyword_needs_value, field_needs_value, put_part, no_extensions}
 use Rattle.icu_locale_core_grammar.specs.Stepping.{HeadedStage, InHead, headed_after, headed_ends, WholeStage, InFront, opened, next_part, whole_after, whole_ends, stage_fault}
 
 -- ---- the language part
@@ -73,7 +73,7 @@ abbrev pub UnicodeStage : Type 0
 UnicodeStage = HeadedStage (List Text) (List Text)
 
 abbrev pub unicode_after : UnicodeStage → Text → Option UnicodeStage
-unicode_after s p = headed_after attributes_after attributes_end is_key false s p
+unicode_after s p = headed_after attributes_after attributes_end is_key keyword_needs_value s p
 
 abbrev pub unicode_ends : UnicodeStage → Option UnicodeMeaning
 unicode_ends s = headed_ends attributes_end s
@@ -82,7 +82,7 @@ abbrev pub TransformStage : Type 0
 TransformStage = HeadedStage (Option LanguageId) (Option LanguageId)
 
 abbrev pub transform_after : TransformStage → Text → Option TransformStage
-transform_after s p = headed_after language_after inner_ends is_field_key true s p
+transform_after s p = headed_after language_after inner_ends is_field_key field_needs_value s p
 
 abbrev pub transform_ends : TransformStage → Option TransformMeaning
 transform_ends s = headed_ends inner_ends s
