@@ -1,5 +1,5 @@
 -- The stages of each kind of extension are a right reader, and so among all kinds.
-use Rattle.std.proofs.Common.{◌≡◌, Bool, true, false, not, ◌&&◌, List, [], ◌∷◌, ◌++◌, Option, None, Some, option_map, codes, sym, refl, ap, ◌∙◌, subst}
+use Rattle.std.proofs.Common.{◌≡◌, true, false, not, ◌&&◌, List, [], ◌∷◌, ◌++◌, Option, None, Some, option_map, codes, sym, refl, ap, ◌∙◌, subst}
 use Rattle.std.specs.Prelude.{if◌then◌else◌, is_none}
 use Rattle.std.proofs.Math.Bool.{and-false}
 use Rattle.icu_locale_core_grammar.specs.Subtags.{Text, is_single, is_language, is_script, is_region, is_variant, is_attribute, is_key, is_field_key, is_other_piece, is_unicode, is_transform, is_other, lower}

@@ -1,11 +1,11 @@
 -- The definitions of parts read alone, of data locales and of joined preferences, at known texts.
-use Rattle.std.proofs.Common.{◌≡◌, ◌≢◌, ℕ, ◌≤◌, List, [], ◌∷◌, None, Some, Ok, inl, inr, length, refl, ap, codes, arith}
+use Rattle.std.proofs.Common.{◌≡◌, ◌≢◌, ℕ, ◌≤◌, List, [], ◌∷◌, None, Some, Ok, inl, inr, refl, ap, codes, arith}
 use Rattle.icu_locale_core_grammar.specs.declared.error.ParseError.TheVariants.{InvalidSubtag, InvalidExtension}
 use Rattle.icu_locale_core_grammar.specs.Subtags.{Text}
 use Rattle.icu_locale_core_grammar.specs.Pieces.{pieces}
 use Rattle.icu_locale_core_grammar.specs.Meaning.{TagMeaning, no_transform}
 use Rattle.icu_locale_core_grammar.specs.PartReaders.{ReadsPrivate, ReadsOther, ReadsAttributes}
-use Rattle.icu_locale_core_grammar.specs.TagPreferences.{LocalePreferencesMeaning, DataLocaleMeaning, data_meaning, language_priority, locale_preferences_of}
+use Rattle.icu_locale_core_grammar.specs.TagPreferences.{LocalePreferencesMeaning, DataLocaleMeaning, data_meaning}
 use Rattle.icu_locale_core_grammar.specs.PreferenceChanges.{joined_preferences}
 use Rattle.icu_locale_core_grammar.specs.DataTags.{MeansDataLocale, HasDataFault}
 use Rattle.icu_locale_core_grammar.specs.Stepping.{headed_after, whole_after}

@@ -1,6 +1,6 @@
 -- What holds of the grammar, the stages and the normal text, over every list of pieces and every meaning.
 -- Defined in docs/tags.md, "Laws".
--- Cited by the functions of the module of laws.
+-- Cited by the functions of the module of laws. It uses many modules, since a law on whole tags names grammar, stages and normal text.
 use Rattle.std.specs.Prelude.{◌≡◌, ◌↔◌, List, Option, None, Some, ◌⊎◌, map, MatchResult}
 use Rattle.icu_locale_core_grammar.specs.declared.error.ParseError.{ParseError}
 use Rattle.icu_locale_core_grammar.specs.Subtags.{Text, is_plain, lower}
