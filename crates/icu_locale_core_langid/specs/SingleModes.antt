@@ -1,13 +1,14 @@
 -- What each mode reads of a list of pieces as at most one variant and at most one keyword, and its faults.
 -- Defined in docs/tags.md, "One variant and one keyword" and "Modes".
 -- Cited by the readers of at most one variant that are given a mode, and by the laws on them.
-use Rattle.std.specs.Prelude.{◌≡◌, List, Option, None}
+use Rattle.std.specs.Prelude.{◌≡◌, Bool, List, Option, None}
 use Rattle.icu_locale_core_grammar.specs.declared.error.ParseError.{ParseError}
 use Rattle.icu_locale_core_grammar.specs.declared.error.ParseError.TheVariants.{InvalidLanguage}
 use Rattle.icu_locale_core_grammar.specs.Subtags.{Text}
 use Rattle.icu_locale_core_grammar.specs.LanguagePart.{LanguageId}
 use Rattle.icu_locale_core_grammar.specs.FaultyPiece.{HasFault}
 use Rattle.icu_locale_core_grammar.specs.PartialReading.{ReadsFront}
+use Rattle.icu_locale_core_grammar.specs.TagStages.{has_none}
 use Rattle.icu_locale_core_grammar.specs.SingleVariant.{SingleMeaning, MeansSingle, HasSingleFault}
 use Rattle.icu_locale_core_langid.specs.OneVariant.{MeansOneVariant, one_variant}
 use Rattle.icu_locale_core_langid.specs.declared.modes.ParserMode.{ParserMode}
@@ -34,6 +35,14 @@ abbrev pub MeansSingleInMode : ParserMode → List Text → SingleMeaning → Ty
 MeansSingleInMode LanguageIdentifier ps m = MeansOneVariant ps (language_of m) × (m.keyword ≡ None)
 MeansSingleInMode Locale ps m = MeansSingle ps m
 MeansSingleInMode Partial ps m = ((rest : List Text) × ReadsFront MeansOneVariant ps (language_of m) rest) × (m.keyword ≡ None)
+
+-- the pieces are read as these four parts, and as a keyword or none
+abbrev pub MeansPartsInMode : ParserMode → List Text → Text × Option Text × Option Text × Option Text → Type 0
+MeansPartsInMode mode ps parts = (keyword : Option (Text × Option Text)) × MeansSingleInMode mode ps (with_keyword parts keyword)
+
+-- a front of the pieces is read as `id`, and `whole` tells whether it is all of them
+abbrev pub ReadsFrontOrAll : List Text → LanguageId → Bool → Type 0
+ReadsFrontOrAll ps id whole = (rest : List Text) × ReadsFront MeansOneVariant ps id rest × (whole ≡ has_none rest)
 
 -- the pieces have this fault
 abbrev pub HasSingleFaultInMode : ParserMode → List Text → ParseError → Type 0

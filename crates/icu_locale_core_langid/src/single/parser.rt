@@ -1,14 +1,12 @@
 //! Reading tags of at most one variant and one keyword.
 
-ghost use Rattle.std.specs.Prelude.{◌≡◌, ℕ, List, Option, Some, None, MatchResult};
+ghost use Rattle.std.specs.Prelude.{◌≡◌, Some, None, MatchResult};
 ghost use Rattle.icu_locale_core_grammar.specs.declared.error.ParseError.{ParseError};
 ghost use Rattle.icu_locale_core_grammar.specs.Pieces.{pieces};
 ghost use Rattle.icu_locale_core_grammar.specs.FaultyPiece.{HasFault};
-ghost use Rattle.icu_locale_core_grammar.specs.PartialReading.{ReadsFront};
 ghost use Rattle.icu_locale_core_grammar.specs.SingleVariant.{MeansSingle, HasSingleFault};
-ghost use Rattle.icu_locale_core_grammar.specs.TagStages.{has_none};
 ghost use Rattle.icu_locale_core_langid.specs.OneVariant.{MeansOneVariant, parts_id};
-ghost use Rattle.icu_locale_core_langid.specs.SingleModes.{single, with_keyword, MeansSingleInMode, HasSingleFaultInMode};
+ghost use Rattle.icu_locale_core_langid.specs.SingleModes.{single, MeansSingleInMode, MeansPartsInMode, ReadsFrontOrAll, HasSingleFaultInMode};
 
 use crate::modes::ParserMode;
 use crate::one_variant::{OneVariantParts, one_variant_step};
@@ -43,7 +41,7 @@ fn front_of(
 
 // The longest front that is a language part of at most one variant, and whether it is all.
 fn read_front(from: SubtagIterator<'_>) -> Result<(OneVariantParts, bool), ParseError>
-    ensures { MatchResult result (λ front. (rest : List (List ℕ)) × ReadsFront MeansOneVariant from.entry (parts_id front.0) rest × (front.1 ≡ has_none rest)) (λ e. HasFault MeansOneVariant from.entry e × (e ≡ ParseError.InvalidLanguage)) }
+    ensures { MatchResult result (λ front. ReadsFrontOrAll from.entry (parts_id front.0) front.1) (λ e. HasFault MeansOneVariant from.entry e × (e ≡ ParseError.InvalidLanguage)) }
 {
     let mut parts: Option<OneVariantParts> = None;
     for piece in from {
@@ -119,7 +117,7 @@ pub fn parse_language_identifier_with_single_variant(
     code_units: &[u8],
     mode: ParserMode,
 ) -> Result<(Language, Option<Script>, Option<Region>, Option<Variant>), ParseError>
-    ensures { MatchResult result (λ parts. (keyword : Option (List ℕ × Option (List ℕ))) × MeansSingleInMode mode (pieces code_units.now) (with_keyword parts keyword)) (λ e. HasSingleFaultInMode mode (pieces code_units.now) e) }
+    ensures { MatchResult result (MeansPartsInMode mode (pieces code_units.now)) (λ e. HasSingleFaultInMode mode (pieces code_units.now) e) }
 {
     let (language, script, region, variant, _) =
         parse_locale_with_single_variant_single_keyword_unicode_keyword_extension(
