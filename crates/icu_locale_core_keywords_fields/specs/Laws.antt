@@ -1,10 +1,11 @@
 -- What holds of changed maps, of written texts and of comparisons, without a word on how they are computed.
 -- Defined in docs/tags.md, "Laws".
 -- Cited by the functions of the module of laws.
-use Rattle.std.specs.Prelude.{◌≡◌, ◌↔◌, Bool, true, false, List, None, Some, if◌then◌else◌}
+use Rattle.std.specs.Prelude.{◌≡◌, ◌↔◌, Bool, true, List, None, Some, if◌then◌else◌}
 use Rattle.std.specs.List.{AllByRecursion}
 use Rattle.icu_locale_core_grammar.specs.Subtags.{Text, is_key, is_field_key, same_text}
 use Rattle.icu_locale_core_grammar.specs.Collections.{Entry, keys_of, Rises, value_at, first_there}
+use Rattle.icu_locale_core_grammar.specs.Meaning.{keyword_needs_value, field_needs_value}
 use Rattle.icu_locale_core_grammar.specs.WellFormed.{IsNormalValue, AreNormalEntries}
 use Rattle.icu_locale_core_grammar.specs.PartReaders.{ReadsValue, ReadsKeywords, ReadsFields}
 use Rattle.icu_locale_core_keywords_fields.specs.EntryChanges.{set_entry, without_key, joined_maps}
@@ -32,11 +33,11 @@ pub record ValuesReadBack : Type 0 where
 
 pub record KeywordsReadBack : Type 0 where
   pub normal : (text : Text) (es : List Entry) → ReadsKeywords text es → AreNormalEntries is_key es
-  pub back : (es : List Entry) → AreNormalEntries is_key es → ReadsKeywords (entries_text false es) es
+  pub back : (es : List Entry) → AreNormalEntries is_key es → ReadsKeywords (entries_text keyword_needs_value es) es
 
 pub record FieldsReadBack : Type 0 where
   pub normal : (text : Text) (es : List Entry) → ReadsFields text es → AreNormalEntries is_field_key es
-  pub back : (es : List Entry) → AreNormalEntries is_field_key es → ReadsFields (entries_text true es) es
+  pub back : (es : List Entry) → AreNormalEntries is_field_key es → ReadsFields (entries_text field_needs_value es) es
 
 -- `==` tells whether two values, or two maps, are one
 pub record EqualityTells : Type 0 where
