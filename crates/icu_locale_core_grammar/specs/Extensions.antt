@@ -78,13 +78,15 @@ pub record Whole (I E : Type 0) : Type 0 where
   pub extensions : E
   pub private_use : List Text
 
--- what the parts of a whole mean: its front; the body behind a singleton; one more body put to those before, or to none;
--- and which piece begins the private part, which may stand in it
+-- what the parts of a whole are, and what they mean
 pub record PartRules (I V E : Type 0) : Type 1 where
   pub means_front : List Text → I → Type 0
+  -- of the pieces behind this singleton
   pub means_body : Text → List Text → V → Type 0
+  -- the values of the blocks with one more, by its key; and where there is no block
   pub put : Text → V → E → E
   pub none : E
+  -- the first piece of the private part, and each piece behind it
   pub begins_private : Text → Bool
   pub is_private_piece : Text → Bool
 
