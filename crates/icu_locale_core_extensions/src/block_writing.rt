@@ -119,8 +119,8 @@ pub(crate) fn write_alone<B: Block, S: Sink>(block: &B, sink: &mut S) -> Result<
 #[tactic(auto, using(writeable::proofs::AnnotatedTextLemmas::text_of_bytes))]
 pub(crate) fn length_hint<B: Block>(block: &B) -> LengthHint
     ensures within { IsWithinHint result (length (text_of (bytes (block_text (B.first block.now) (B.behind block.now) (B.part block.now))))) }
-    ensures low { length (block_text (B.first block.now) (B.behind block.now) (B.part block.now)) < 2 ^ 64 → result.low ≡ length (block_text (B.first block.now) (B.behind block.now) (B.part block.now)) }
-    ensures high { length (block_text (B.first block.now) (B.behind block.now) (B.part block.now)) < 2 ^ 64 → result.high ≡ Some (length (block_text (B.first block.now) (B.behind block.now) (B.part block.now))) }
+    ensures low { let size = length (block_text (B.first block.now) (B.behind block.now) (B.part block.now)) in size < 2 ^ 64 → result.low ≡ size }
+    ensures high { let size = length (block_text (B.first block.now) (B.behind block.now) (B.part block.now)) in size < 2 ^ 64 → result.high ≡ Some size }
 {
     let mut sink = CountSink::new();
     match write_alone(block, &mut sink) {
