@@ -1,6 +1,6 @@
 -- The laws of `==` and of `hash` of extensions.
 -- Defined in docs/tags.md, "Extensions as values".
--- Cited by `PartialEq`, `Eq` and `Hash` of `Unicode`, `Transform`, `Other` and `Extensions`, whose laws it proves.
+-- Cited by `PartialEq`, `Eq` and `Hash` of `Unicode`, `Transform`, `Other` and `Extensions`, whose laws it proves. It uses many modules, since an extension is the same where each of its parts is.
 use Rattle.std.proofs.Common.{◌≡◌, true, ◌&&◌, ◌++◌, Option, None, Some, refl, ap, subst, Decides}
 use Rattle.std.specs.Cmp.{IsEquivalence, on_equiv, and_equiv}
 use Rattle.std.specs.Cmp.Lexicographic.{pointwise, bytes_decides, pointwise_decides, nat_list_eq_equiv, lists_equiv, options_equiv}

@@ -1,9 +1,8 @@
 -- The comparisons of values and of maps are an equality and a total order, equal exactly where the lists are one.
 -- Defined in docs/tags.md, "Keywords and fields as values".
 -- Cited by the comparisons of values and of maps, whose laws they are.
-use Rattle.std.proofs.Common.{◌≡◌, true, ◌&&◌, List, Some, refl, ap, ◌∙◌}
+use Rattle.std.proofs.Common.{◌≡◌, true, ◌&&◌, List, Some, refl, ap, ◌∙◌, Decides}
 use Rattle.std.proofs.lemmas.Bool.{and_parts, and_from}
-use Rattle.std.specs.Bool.{Decides}
 use Rattle.std.specs.Cmp.{IsEquivalence, IsPartialOrder, IsTotalOrder, on_equiv, and_equiv, po}
 use Rattle.std.specs.Cmp.Lexicographic.{pointwise_decides, bytes_decides, lists_equiv, lists_ties, nat_list_eq_equiv, texts_ties}
 use Rattle.std.specs.Ordering.{eq_by_cmp, is_eq, ordering_then}

@@ -1,6 +1,6 @@
 -- The rules of this crate are rules: each class is one of short words, and its normal case leaves it.
 -- Defined in docs/tags.md, "Subtags as values".
--- Cited by the impls of `SubtagRule`, whose laws they are.
+-- Cited by the impls of `SubtagRule`, whose laws they are. It uses many modules, since each rule needs the lemmas on its own class and on its case.
 use Rattle.std.proofs.Common.{◌≡◌, ℕ, ◌<◌, ◌≤◌, Bool, true, ◌&&◌, ◌⊎◌, inl, inr, [], ◌∷◌, length, eqb, leb, refl, ◌∙◌, arith, lit<}
 use Rattle.std.specs.List.{list_all}
 use Rattle.std.specs.Char.{is_ascii_alphabetic, is_ascii_alphanumeric, is_ascii_digit}
