@@ -100,7 +100,7 @@ module _ (d : DataLocaleMeaning) (n : IsNormalData d) where
       transform = record { language = tt; fields = record { each = tt; rises = rises_none } };
       others = record { each = tt; rises = rises_none };
     };
-    own = tt;
+    private_use = tt;
   }
 
   means_itself : is_true_subdivision d.subdivision ≡ false → MeansDataLocale (pieces (data_text d)) d

@@ -118,5 +118,5 @@ pub meaning_normal : (ps : List Text) (m : TagMeaning) → MeansTag ps m → IsN
 meaning_normal ps m a = record {
   language = language_normal a.front m.language a.meant;
   extensions = subst AreNormalExtensions a.together (blocks_normal a.blocks no_extensions a.each none_normal);
-  own = own_normal a.last m.private_use a.private;
+  private_use = own_normal a.last m.private_use a.private;
 }

@@ -24,7 +24,7 @@ normal_means m n = record {
   each = blocks_are m.extensions n.extensions;
   apart = apart_from_rising (map block_key (blocks_of m.extensions)) (blocks_rise m.extensions n.extensions);
   together = blocks_mean m.extensions n.extensions;
-  private = private_means m.private_use n.own;
+  private = private_means m.private_use n.private_use;
 }
 
 -- the text of the normal pieces, cut again

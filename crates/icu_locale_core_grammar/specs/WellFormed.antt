@@ -63,4 +63,4 @@ pub record AreNormalExtensions (e : ExtensionMeanings) : Type 0 where
 pub record IsNormalTag (m : TagMeaning) : Type 0 where
   pub language : IsNormalLanguage m.language
   pub extensions : AreNormalExtensions m.extensions
-  pub own : AreLower is_private_piece m.private_use
+  pub private_use : AreLower is_private_piece m.private_use
