@@ -6,6 +6,7 @@ pub mod KnownValues
 pub mod LawLemmas
 -- Lemmas on the grammar, for the crates above.
 pub use Rattle.icu_locale_core_grammar.proofs.CallerLemmas
+pub use Rattle.icu_locale_core_grammar.proofs.CaseLemmas
 pub use Rattle.icu_locale_core_grammar.proofs.DataFaults
 pub use Rattle.icu_locale_core_grammar.proofs.FaultyPieceLemmas
 pub use Rattle.icu_locale_core_grammar.proofs.NormalTags

@@ -11,6 +11,7 @@ pub use Rattle.icu_locale_core_grammar.specs.WellFormed
 pub use Rattle.icu_locale_core_grammar.specs.PartReaders
 pub use Rattle.icu_locale_core_grammar.specs.PartialReading
 pub use Rattle.icu_locale_core_grammar.specs.TagPreferences
+pub use Rattle.icu_locale_core_grammar.specs.SamePreferences
 pub use Rattle.icu_locale_core_grammar.specs.DataTags
 pub use Rattle.icu_locale_core_grammar.specs.TagOrder
 pub use Rattle.icu_locale_core_grammar.specs.PreferenceChanges
