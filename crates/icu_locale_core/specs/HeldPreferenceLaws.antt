@@ -1,6 +1,6 @@
 -- What holds of preferences and of data locales, beside the clauses of their calls.
 -- Defined in docs/tags.md, "Preferences" and "Data locales".
--- Cited by the functions of the module of laws.
+-- Cited by the functions of the module of laws. It uses many modules, since a preference is read, printed and held by a tag.
 use Rattle.std.specs.Prelude.{◌≡◌, false, IfSome}
 use Rattle.icu_locale_core_grammar.specs.declared.error.ParseError.{ParseError}
 use Rattle.icu_locale_core_grammar.specs.Subtags.{Text, is_language, is_script, is_region, is_variant, lower, title, upper}
