@@ -32,7 +32,9 @@ fn stated_in<P: PreferenceKey>(keywords: &Keywords) -> Option<P>
 
 // Whether the key is there, and its value states no preference.
 pub(crate) fn fails_in<P: PreferenceKey + Copy>(keywords: &Keywords) -> bool
-    ensures { result ≡ (is_some (value_at P.keyword keywords.now) && is_none (option_and_then P.stated (value_at P.keyword keywords.now))) }
+    ensures { result
+        ≡ (is_some (value_at P.keyword keywords.now)
+        && is_none (option_and_then P.stated (value_at P.keyword keywords.now))) }
 {
     keywords.contains_key(&key_of::<P>()) && stated_in::<P>(keywords).is_none()
 }

@@ -111,7 +111,8 @@ impl LocalePreferences {
     /// does not allocate.
     #[tactic(auto, using(crate::proofs::KeywordLemmas::subdivision_stated))]
     pub fn from_locale_strict(locale: &Locale) -> Result<Self, PreferencesParseError>
-        ensures { MatchResult result (λ p. (fails_strictly locale.now ≡ false) × (p ≡ locale_preferences_of locale.now)) (λ e. (fails_strictly locale.now ≡ true) × (e ≡ PreferencesParseError.InvalidKeywordValue)) }
+        ensures { MatchResult result (λ p. (fails_strictly locale.now ≡ false) × (p ≡ locale_preferences_of locale.now))
+            (λ e. (fails_strictly locale.now ≡ true) × (e ≡ PreferencesParseError.InvalidKeywordValue)) }
     {
         let keywords = &locale.extensions.unicode.keywords;
         if fails_in::<RegionalSubdivision>(keywords) || fails_in::<RegionOverride>(keywords) {

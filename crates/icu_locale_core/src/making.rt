@@ -53,7 +53,9 @@ fn keywords_of(
     region_override: Option<SubdivisionId>,
     subdivision: Option<SubdivisionId>,
 ) -> Result<Keywords, AllocError>
-    ensures value { IfOk result (λ keywords. keywords ≡ map held_entry (keyword_of override_key region_override ++ keyword_of subdivision_key subdivision)) }
+    ensures value { IfOk result
+        (λ keywords. keywords
+        ≡ map held_entry (keyword_of override_key region_override ++ keyword_of subdivision_key subdivision)) }
     ensures succeeds { region_override ≡ None → subdivision ≡ None → IsOk result }
 {
     let mut keywords = Keywords::new(alloc);

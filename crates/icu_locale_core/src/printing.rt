@@ -19,7 +19,8 @@ fn write_keyword<S: Sink>(subdivision: SubdivisionId, sink: &mut S) -> Result<()
     requires { S.refused sink.old ≡ false }
     ensures ok { OnOk result (S.takes sink.old (bytes keyword_head ++ bytes (subdivision_text subdivision)) sink.new) }
     ensures refused { S.refused sink.new ≡ is_err result }
-    ensures begun { OnErr result (HasBegun S.takes S.lacks_room sink.old (bytes keyword_head ++ bytes (subdivision_text subdivision)) sink.new) }
+    ensures begun { OnErr result
+        (HasBegun S.takes S.lacks_room sink.old (bytes keyword_head ++ bytes (subdivision_text subdivision)) sink.new) }
 {
     sink.write_str("-u-sd-")?;
     subdivision.write_to(sink)
@@ -31,7 +32,8 @@ fn write_subdivision<S: Sink>(subdivision: Option<SubdivisionId>, sink: &mut S) 
     requires { S.refused sink.old ≡ false }
     ensures ok { OnOk result (S.takes sink.old (bytes (subdivision_tail subdivision)) sink.new) }
     ensures refused { S.refused sink.new ≡ is_err result }
-    ensures begun { OnErr result (HasBegun S.takes S.lacks_room sink.old (bytes (subdivision_tail subdivision)) sink.new) }
+    ensures begun { OnErr result
+        (HasBegun S.takes S.lacks_room sink.old (bytes (subdivision_tail subdivision)) sink.new) }
 {
     match subdivision {
         Some(subdivision) => write_keyword(subdivision, sink),

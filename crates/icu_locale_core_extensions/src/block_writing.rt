@@ -10,7 +10,7 @@ ghost use Rattle.icu_locale_core_extensions.specs.ExtensionText.{block_text, own
 
 use writeable::{CountSink, Error, LengthHint, Sink};
 
-/// An extension that prints its singleton and the pieces behind it, and nothing where there is no piece.
+// An extension that prints its singleton and the pieces behind it, and nothing where there is no piece.
 pub(crate) trait Block {
     ghost use Rattle.std.specs.Prelude.{◌≡◌, false, List, is_err, flat_map, OnOk, OnErr};
     ghost use Rattle.writeable.specs.AnnotatedText.{bytes};
@@ -48,9 +48,12 @@ pub(crate) trait Block {
 // Writes the singleton and the pieces.
 fn write_filled<B: Block, S: Sink>(block: &B, sink: &mut S) -> Result<(), Error>
     requires { S.refused sink.old ≡ false }
-    ensures ok { OnOk result (S.takes sink.old (bytes (B.first block.now) ++ bytes (flat_map hyphened (B.behind block.now))) sink.new) }
+    ensures ok { OnOk result
+        (S.takes sink.old (bytes (B.first block.now) ++ bytes (flat_map hyphened (B.behind block.now))) sink.new) }
     ensures refused { S.refused sink.new ≡ is_err result }
-    ensures begun { OnErr result (HasBegun S.takes S.lacks_room sink.old (bytes (B.first block.now) ++ bytes (flat_map hyphened (B.behind block.now))) sink.new) }
+    ensures begun { OnErr result
+        (HasBegun S.takes S.lacks_room sink.old
+        (bytes (B.first block.now) ++ bytes (flat_map hyphened (B.behind block.now))) sink.new) }
 {
     sink.write_str(block.singleton())?;
     block.write_pieces(sink)
@@ -59,9 +62,15 @@ fn write_filled<B: Block, S: Sink>(block: &B, sink: &mut S) -> Result<(), Error>
 // Writes a hyphen, the singleton and the pieces.
 fn write_behind<B: Block, S: Sink>(block: &B, sink: &mut S) -> Result<(), Error>
     requires { S.refused sink.old ≡ false }
-    ensures ok { OnOk result (S.takes sink.old (bytes (hyphen ∷ []) ++ (bytes (B.first block.now) ++ bytes (flat_map hyphened (B.behind block.now)))) sink.new) }
+    ensures ok { OnOk result
+        (S.takes sink.old
+        (bytes (hyphen ∷ []) ++ (bytes (B.first block.now) ++ bytes (flat_map hyphened (B.behind block.now))))
+        sink.new) }
     ensures refused { S.refused sink.new ≡ is_err result }
-    ensures begun { OnErr result (HasBegun S.takes S.lacks_room sink.old (bytes (hyphen ∷ []) ++ (bytes (B.first block.now) ++ bytes (flat_map hyphened (B.behind block.now)))) sink.new) }
+    ensures begun { OnErr result
+        (HasBegun S.takes S.lacks_room sink.old
+        (bytes (hyphen ∷ []) ++ (bytes (B.first block.now) ++ bytes (flat_map hyphened (B.behind block.now))))
+        sink.new) }
 {
     sink.write_char('-')?;
     write_filled(block, sink)
@@ -71,9 +80,12 @@ fn write_behind<B: Block, S: Sink>(block: &B, sink: &mut S) -> Result<(), Error>
 #[tactic(auto, using(crate::proofs::BlockLemmas::beginning_events, crate::proofs::BlockLemmas::hyphened_events))]
 fn write_shown<B: Block, S: Sink>(block: &B, begins: bool, sink: &mut S) -> Result<(), Error>
     requires { S.refused sink.old ≡ false }
-    ensures ok { OnOk result (S.takes sink.old (bytes (placed begins (B.first block.now ∷ B.behind block.now))) sink.new) }
+    ensures ok { OnOk result
+        (S.takes sink.old (bytes (placed begins (B.first block.now ∷ B.behind block.now))) sink.new) }
     ensures refused { S.refused sink.new ≡ is_err result }
-    ensures begun { OnErr result (HasBegun S.takes S.lacks_room sink.old (bytes (placed begins (B.first block.now ∷ B.behind block.now))) sink.new) }
+    ensures begun { OnErr result
+        (HasBegun S.takes S.lacks_room sink.old (bytes (placed begins (B.first block.now ∷ B.behind block.now)))
+        sink.new) }
 {
     if begins {
         write_filled(block, sink)
@@ -82,9 +94,9 @@ fn write_shown<B: Block, S: Sink>(block: &B, begins: bool, sink: &mut S) -> Resu
     }
 }
 
-/// Writes the text, with a hyphen before it unless it begins a text; nothing where there is no piece.
-///
-/// It returns whether what comes next still begins the text.
+// Writes the text, with a hyphen before it unless it begins a text; nothing where there is no piece.
+//
+// It returns whether what comes next still begins the text.
 #[tactic(auto, using(crate::proofs::BlockLemmas::shown, crate::proofs::BlockLemmas::unshown))]
 pub(crate) fn write_placed<B: Block, S: Sink>(
     block: &B,
@@ -92,10 +104,16 @@ pub(crate) fn write_placed<B: Block, S: Sink>(
     sink: &mut S,
 ) -> Result<bool, Error>
     requires { S.refused sink.old ≡ false }
-    ensures ok { OnOk result (S.takes sink.old (bytes (placed begins (own_pieces (B.first block.now) (B.behind block.now) (B.part block.now)))) sink.new) }
-    ensures still { IfOk result (λ still. still ≡ (begins && has_none (own_pieces (B.first block.now) (B.behind block.now) (B.part block.now)))) }
+    ensures ok { OnOk result
+        (S.takes sink.old
+        (bytes (placed begins (own_pieces (B.first block.now) (B.behind block.now) (B.part block.now)))) sink.new) }
+    ensures still { IfOk result
+        (λ still. still
+        ≡ (begins && has_none (own_pieces (B.first block.now) (B.behind block.now) (B.part block.now)))) }
     ensures refused { S.refused sink.new ≡ is_err result }
-    ensures begun { OnErr result (HasBegun S.takes S.lacks_room sink.old (bytes (placed begins (own_pieces (B.first block.now) (B.behind block.now) (B.part block.now)))) sink.new) }
+    ensures begun { OnErr result
+        (HasBegun S.takes S.lacks_room sink.old
+        (bytes (placed begins (own_pieces (B.first block.now) (B.behind block.now) (B.part block.now)))) sink.new) }
 {
     if block.has_no_piece() {
         return Ok(begins);
@@ -104,23 +122,29 @@ pub(crate) fn write_placed<B: Block, S: Sink>(
     Ok(false)
 }
 
-/// Writes the text; nothing where there is no piece.
+// Writes the text; nothing where there is no piece.
 pub(crate) fn write_alone<B: Block, S: Sink>(block: &B, sink: &mut S) -> Result<(), Error>
     requires { S.refused sink.old ≡ false }
-    ensures ok { OnOk result (S.takes sink.old (bytes (block_text (B.first block.now) (B.behind block.now) (B.part block.now))) sink.new) }
+    ensures ok { OnOk result
+        (S.takes sink.old (bytes (block_text (B.first block.now) (B.behind block.now) (B.part block.now))) sink.new) }
     ensures refused { S.refused sink.new ≡ is_err result }
-    ensures begun { OnErr result (HasBegun S.takes S.lacks_room sink.old (bytes (block_text (B.first block.now) (B.behind block.now) (B.part block.now))) sink.new) }
+    ensures begun { OnErr result
+        (HasBegun S.takes S.lacks_room sink.old
+        (bytes (block_text (B.first block.now) (B.behind block.now) (B.part block.now))) sink.new) }
 {
     write_placed(block, true, sink)?;
     Ok(())
 }
 
-/// How long the text is: exact where a `usize` holds it.
+// How long the text is: exact where a `usize` holds it.
 #[tactic(auto, using(writeable::proofs::AnnotatedTextLemmas::text_of_bytes))]
 pub(crate) fn length_hint<B: Block>(block: &B) -> LengthHint
-    ensures within { IsWithinHint result (length (text_of (bytes (block_text (B.first block.now) (B.behind block.now) (B.part block.now))))) }
-    ensures low { let size = length (block_text (B.first block.now) (B.behind block.now) (B.part block.now)) in size < 2 ^ 64 → result.low ≡ size }
-    ensures high { let size = length (block_text (B.first block.now) (B.behind block.now) (B.part block.now)) in size < 2 ^ 64 → result.high ≡ Some size }
+    ensures within { IsWithinHint result
+        (length (text_of (bytes (block_text (B.first block.now) (B.behind block.now) (B.part block.now))))) }
+    ensures low { let size = length (block_text (B.first block.now) (B.behind block.now) (B.part block.now)) in
+        size < 2 ^ 64 → result.low ≡ size }
+    ensures high { let size = length (block_text (B.first block.now) (B.behind block.now) (B.part block.now)) in
+        size < 2 ^ 64 → result.high ≡ Some size }
 {
     let mut sink = CountSink::new();
     match write_alone(block, &mut sink) {

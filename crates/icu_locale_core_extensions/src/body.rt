@@ -95,7 +95,8 @@ pub fn body_after(
 pub fn body_finish(alloc: Global, stage: BodyStage) -> Result<Option<Part>, AllocError>
     ensures part { IfOk result (λ part. option_map part_view part ≡ body_ends (body_view stage)) }
     ensures key { IfOk result (λ part. IfSome part (HasKey (body_key stage))) }
-    ensures kind { body_keeps (body_view stage) ≡ false → IfOk result (λ part. IfSome part (λ p. is_other_part p ≡ false)) }
+    ensures kind { body_keeps (body_view stage) ≡ false
+        → IfOk result (λ part. IfSome part (λ p. is_other_part p ≡ false)) }
     ensures room { body_keeps (body_view stage) ≡ false → IsOk result }
 {
     match stage {

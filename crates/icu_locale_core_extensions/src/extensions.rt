@@ -117,7 +117,8 @@ impl Extensions {
 
 /// Adds an extension that was read. `AllocError`: out of memory; then nothing is added. `u` and `t` do not allocate.
 pub fn put_part(extensions: &mut Extensions, part: Part) -> Result<(), AllocError>
-    ensures ok { OnOk result ((key : List ℕ) → HasKey key part → extensions.new ≡ put_extension key part extensions.old) }
+    ensures ok { OnOk result
+        ((key : List ℕ) → HasKey key part → extensions.new ≡ put_extension key part extensions.old) }
     ensures err { OnErr result (extensions.new ≡ extensions.old) }
     ensures room { is_other_part part ≡ false → IsOk result }
 {

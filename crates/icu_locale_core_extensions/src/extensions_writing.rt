@@ -31,10 +31,13 @@ fn before_transform(others: &[Other]) -> usize
 // Writes the extensions one after another, each as `write_placed` does.
 fn write_others<S: Sink>(others: &[Other], mut begins: bool, sink: &mut S) -> Result<bool, Error>
     requires { S.refused sink.old ≡ false }
-    ensures ok { OnOk result (S.takes sink.old (bytes (placed begins (block_pieces (other_blocks others.now)))) sink.new) }
+    ensures ok { OnOk result
+        (S.takes sink.old (bytes (placed begins (block_pieces (other_blocks others.now)))) sink.new) }
     ensures still { IfOk result (λ still. still ≡ (begins && has_none (block_pieces (other_blocks others.now)))) }
     ensures refused { S.refused sink.new ≡ is_err result }
-    ensures begun { OnErr result (HasBegun S.takes S.lacks_room sink.old (bytes (placed begins (block_pieces (other_blocks others.now)))) sink.new) }
+    ensures begun { OnErr result
+        (HasBegun S.takes S.lacks_room sink.old (bytes (placed begins (block_pieces (other_blocks others.now))))
+        sink.new) }
 {
     for other in others {
         begins = write_placed(other, begins, sink)?;
@@ -53,7 +56,8 @@ fn write_in_order<S: Sink>(
     requires { S.refused sink.old ≡ false }
     ensures ok { OnOk result (S.takes sink.old (ordered_events begins first.now extensions.now last.now) sink.new) }
     ensures refused { S.refused sink.new ≡ is_err result }
-    ensures begun { OnErr result (HasBegun S.takes S.lacks_room sink.old (ordered_events begins first.now extensions.now last.now) sink.new) }
+    ensures begun { OnErr result
+        (HasBegun S.takes S.lacks_room sink.old (ordered_events begins first.now extensions.now last.now) sink.new) }
 {
     let begins = write_others(first, begins, sink)?;
     let begins = write_placed(&extensions.transform, begins, sink)?;
@@ -77,7 +81,8 @@ pub fn write_extensions<S: Sink>(
     requires { S.refused sink.old ≡ false }
     ensures ok { OnOk result (S.takes sink.old (bytes (placed begins (extensions_pieces extensions.now))) sink.new) }
     ensures refused { S.refused sink.new ≡ is_err result }
-    ensures begun { OnErr result (HasBegun S.takes S.lacks_room sink.old (bytes (placed begins (extensions_pieces extensions.now))) sink.new) }
+    ensures begun { OnErr result
+        (HasBegun S.takes S.lacks_room sink.old (bytes (placed begins (extensions_pieces extensions.now))) sink.new) }
 {
     let others = extensions.other.as_slice();
     let (first, last) = others.split_at(before_transform(others));
@@ -105,7 +110,8 @@ impl Writeable for Extensions {
     fn writeable_length_hint(&self) -> LengthHint
         ensures within { IsWithinHint result (length (text_of (bytes (extensions_alone self.now)))) }
         ensures low { length (extensions_alone self.now) < 2 ^ 64 → result.low ≡ length (extensions_alone self.now) }
-        ensures high { length (extensions_alone self.now) < 2 ^ 64 → result.high ≡ Some (length (extensions_alone self.now)) }
+        ensures high { length (extensions_alone self.now) < 2 ^ 64
+            → result.high ≡ Some (length (extensions_alone self.now)) }
     {
         let mut sink = CountSink::new();
         match write_extensions(self, true, &mut sink) {

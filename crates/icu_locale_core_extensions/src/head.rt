@@ -56,7 +56,7 @@ impl HeadReader for LanguageHead {
     }
 }
 
-/// The language part that was read, if there is one. It does not allocate.
+// The language part that was read, if there is one. It does not allocate.
 pub(crate) fn settled_language(stage: Option<LanguageStage>) -> Option<LanguageIdentifier>
     ensures { result ≡ stage }
 {

@@ -17,8 +17,8 @@ use icu_locale_core_keywords_fields::{
 use icu_locale_core_subtags::Step;
 use std::alloc::Global;
 
-/// The head and the entries behind this singleton in lower case, where the text is an extension of them; `begun` is the
-/// head before its first piece. The errors are those of `Unicode::try_from_str`.
+// The head and the entries behind this singleton in lower case, where the text is an extension of them; `begun` is the
+// head before its first piece. The errors are those of `Unicode::try_from_str`.
 pub(crate) fn read_headed<R: HeadReader, K: EntryKind>(
     alloc: Global,
     code_units: &[u8],
@@ -27,9 +27,13 @@ pub(crate) fn read_headed<R: HeadReader, K: EntryKind>(
 ) -> Result<(R::Stage, EntriesOf<K>), ParseError>
 where
     R::Stage: Drop,
-    ensures value { IfOk result (λ read. ReadsHeaded (letter ∷ []) R.step K.accepts K.needs begun (pieces code_units.now) (record { head = read.0; entries = read.1 })) }
-    ensures fault { IfErr result (IsRefused (ReadsHeaded (letter ∷ []) R.step K.accepts K.needs begun (pieces code_units.now))) }
-    ensures room { grows_behind (spells (letter ∷ [])) (headed_may_grow R.step R.grows K.accepts K.needs begun) (pieces code_units.now) ≡ false → ¬ (IsErrOf result ParseError.Memory) }
+    ensures value { IfOk result
+        (λ read. ReadsHeaded (letter ∷ []) R.step K.accepts K.needs begun (pieces code_units.now)
+        (record { head = read.0; entries = read.1 })) }
+    ensures fault { IfErr result
+        (IsRefused (ReadsHeaded (letter ∷ []) R.step K.accepts K.needs begun (pieces code_units.now))) }
+    ensures room { grows_behind (spells (letter ∷ [])) (headed_may_grow R.step R.grows K.accepts K.needs begun)
+        (pieces code_units.now) ≡ false → ¬ (IsErrOf result ParseError.Memory) }
 {
     let Some(body) = body_behind(code_units, letter) else {
         return Err(ParseError::InvalidExtension);

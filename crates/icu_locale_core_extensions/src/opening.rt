@@ -9,7 +9,8 @@ use icu_locale_core_subtags::{SubtagIterator, is_letter};
 
 // The pieces behind the singleton, where the text begins with it and has any.
 pub(crate) fn body_behind<'a>(code_units: &'a [u8], letter: u8) -> Option<SubtagIterator<'a>>
-    ensures { MatchOption result ((body : List (List ℕ)) → Opens (letter ∷ []) (pieces code_units.now) body → ⊥) (λ body. Opens (letter ∷ []) (pieces code_units.now) body) }
+    ensures { MatchOption result ((body : List (List ℕ)) → Opens (letter ∷ []) (pieces code_units.now) body → ⊥)
+        (λ body. Opens (letter ∷ []) (pieces code_units.now) body) }
 {
     let (body, first) = SubtagIterator::new(code_units).next_const();
     let first = first?;
@@ -22,7 +23,9 @@ pub(crate) fn body_behind<'a>(code_units: &'a [u8], letter: u8) -> Option<Subtag
 
 // The singleton that has no rule of its own and the pieces behind it, where the text begins with one and has any.
 pub(crate) fn other_behind<'a>(code_units: &'a [u8]) -> Option<(OtherSingleton, SubtagIterator<'a>)>
-    ensures { MatchOption result ((singleton : List ℕ) (body : List (List ℕ)) → OpensOther (pieces code_units.now) singleton body → ⊥) (λ r. OpensOther (pieces code_units.now) r.0 r.1) }
+    ensures { MatchOption result
+        ((singleton : List ℕ) (body : List (List ℕ)) → OpensOther (pieces code_units.now) singleton body → ⊥)
+        (λ r. OpensOther (pieces code_units.now) r.0 r.1) }
 {
     let (body, first) = SubtagIterator::new(code_units).next_const();
     let first = first?;

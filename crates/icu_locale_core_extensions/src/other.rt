@@ -158,7 +158,8 @@ impl Other {
     pub fn try_from_str(alloc: Global, s: &str) -> Result<Self, ParseError>
         ensures value { IfOk result (ReadsOther s.now) }
         ensures fault { IfErr result (IsRefused (ReadsOther s.now)) }
-        ensures room { begins_behind is_other is_other_piece (pieces s.now) ≡ false → ¬ (IsErrOf result ParseError.Memory) }
+        ensures room { begins_behind is_other is_other_piece (pieces s.now) ≡ false
+            → ¬ (IsErrOf result ParseError.Memory) }
     {
         Self::try_from_utf8(alloc, s.as_bytes())
     }
@@ -168,7 +169,8 @@ impl Other {
     pub fn try_from_utf8(alloc: Global, code_units: &[u8]) -> Result<Self, ParseError>
         ensures value { IfOk result (ReadsOther code_units.now) }
         ensures fault { IfErr result (IsRefused (ReadsOther code_units.now)) }
-        ensures room { begins_behind is_other is_other_piece (pieces code_units.now) ≡ false → ¬ (IsErrOf result ParseError.Memory) }
+        ensures room { begins_behind is_other is_other_piece (pieces code_units.now) ≡ false
+            → ¬ (IsErrOf result ParseError.Memory) }
     {
         match other_behind(code_units) {
             Some(opened) => read_body(alloc, opened.0, opened.1),
@@ -197,7 +199,8 @@ pub(crate) fn other_after(mut other: Other, piece: &[u8]) -> Result<Step<Other>,
 
 // The index at which an extension of this singleton belongs in a list of extensions; `None` where one is there already.
 fn place_of(others: &[Other], singleton: &OtherSingleton) -> Option<usize>
-    ensures { MatchOption result (IsThere singleton.now others.now) (λ place. IsPlaceOf singleton.now others.now place) }
+    ensures { MatchOption result (IsThere singleton.now others.now)
+        (λ place. IsPlaceOf singleton.now others.now place) }
 {
     for (index, held) in others.iter().enumerate() {
         match singleton.cmp(&held.singleton) {

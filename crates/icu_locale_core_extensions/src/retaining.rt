@@ -11,7 +11,8 @@ use crate::other::Other;
 // Keeps those at whose types the closure returns true.
 fn retain_others<F: FnMut(ExtensionType) -> bool + Drop>(others: &mut Vec<Other>, mut keep: F)
     requires { F.IsAlwaysCallable keep }
-    ensures { IsRetained (λ p singleton b q. F.step p (other_type singleton) b q) keep others.old.items others.new.items }
+    ensures { IsRetained (λ p singleton b q. F.step p (other_type singleton) b q) keep others.old.items
+        others.new.items }
 {
     let mut place = 0;
     while place < others.len() {

@@ -12,7 +12,7 @@ use tinystr::TinyAsciiStr;
 /// One letter or digit that is not `t`, `u` or `x`, in lower case.
 pub struct OtherRule;
 
-/// The singleton of an extension that has no rule of its own: `a`.
+// The singleton of an extension that has no rule of its own: `a`.
 pub(crate) type OtherSingleton = SubtagOf<OtherRule, 1>;
 
 impl SubtagRule<1> for OtherRule {

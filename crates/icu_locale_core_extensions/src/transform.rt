@@ -96,7 +96,8 @@ impl Transform {
     pub fn try_from_str(alloc: Global, s: &str) -> Result<Self, ParseError>
         ensures value { IfOk result (ReadsTransform s.now) }
         ensures fault { IfErr result (IsRefused (ReadsTransform s.now)) }
-        ensures room { grows_behind is_transform transform_may_grow (pieces s.now) ≡ false → ¬ (IsErrOf result ParseError.Memory) }
+        ensures room { grows_behind is_transform transform_may_grow (pieces s.now) ≡ false
+            → ¬ (IsErrOf result ParseError.Memory) }
     {
         Self::try_from_utf8(alloc, s.as_bytes())
     }
@@ -106,7 +107,8 @@ impl Transform {
     pub fn try_from_utf8(alloc: Global, code_units: &[u8]) -> Result<Self, ParseError>
         ensures value { IfOk result (ReadsTransform code_units.now) }
         ensures fault { IfErr result (IsRefused (ReadsTransform code_units.now)) }
-        ensures room { grows_behind is_transform transform_may_grow (pieces code_units.now) ≡ false → ¬ (IsErrOf result ParseError.Memory) }
+        ensures room { grows_behind is_transform transform_may_grow (pieces code_units.now) ≡ false
+            → ¬ (IsErrOf result ParseError.Memory) }
     {
         match read_headed::<LanguageHead, KeyRule>(alloc, code_units, b't', None) {
             Ok((lang, fields)) => Ok(Transform {

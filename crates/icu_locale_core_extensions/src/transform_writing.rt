@@ -19,7 +19,8 @@ fn write_language<S: Sink>(lang: &Option<LanguageIdentifier>, sink: &mut S) -> R
     requires { S.refused sink.old ≡ false }
     ensures ok { OnOk result (S.takes sink.old (bytes (flat_map hyphened (inner_pieces lang.now))) sink.new) }
     ensures refused { S.refused sink.new ≡ is_err result }
-    ensures begun { OnErr result (HasBegun S.takes S.lacks_room sink.old (bytes (flat_map hyphened (inner_pieces lang.now))) sink.new) }
+    ensures begun { OnErr result
+        (HasBegun S.takes S.lacks_room sink.old (bytes (flat_map hyphened (inner_pieces lang.now))) sink.new) }
 {
     match lang {
         Some(lang) => lang.write_inner_to(sink),
@@ -30,9 +31,15 @@ fn write_language<S: Sink>(lang: &Option<LanguageIdentifier>, sink: &mut S) -> R
 // Writes the language part and the fields, each piece with a hyphen before it.
 fn write_tail<S: Sink>(transform: &Transform, sink: &mut S) -> Result<(), Error>
     requires { S.refused sink.old ≡ false }
-    ensures ok { OnOk result (S.takes sink.old (bytes (flat_map hyphened (inner_pieces transform.now.head)) ++ bytes (hyphened_entries true transform.now.entries)) sink.new) }
+    ensures ok { OnOk result
+        (S.takes sink.old
+        (bytes (flat_map hyphened (inner_pieces transform.now.head))
+        ++ bytes (hyphened_entries true transform.now.entries)) sink.new) }
     ensures refused { S.refused sink.new ≡ is_err result }
-    ensures begun { OnErr result (HasBegun S.takes S.lacks_room sink.old (bytes (flat_map hyphened (inner_pieces transform.now.head)) ++ bytes (hyphened_entries true transform.now.entries)) sink.new) }
+    ensures begun { OnErr result
+        (HasBegun S.takes S.lacks_room sink.old
+        (bytes (flat_map hyphened (inner_pieces transform.now.head))
+        ++ bytes (hyphened_entries true transform.now.entries)) sink.new) }
 {
     write_language(&transform.lang, sink)?;
     transform.fields.write_hyphened(sink)
@@ -81,7 +88,8 @@ impl Writeable for Transform {
     fn writeable_length_hint(&self) -> LengthHint
         ensures within { IsWithinHint result (length (text_of (bytes (transform_alone self.now)))) }
         ensures low { length (transform_alone self.now) < 2 ^ 64 → result.low ≡ length (transform_alone self.now) }
-        ensures high { length (transform_alone self.now) < 2 ^ 64 → result.high ≡ Some (length (transform_alone self.now)) }
+        ensures high { length (transform_alone self.now) < 2 ^ 64
+            → result.high ≡ Some (length (transform_alone self.now)) }
     {
         length_hint(self)
     }

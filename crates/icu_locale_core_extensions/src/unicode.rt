@@ -109,7 +109,8 @@ impl Unicode {
     pub fn try_from_str(alloc: Global, s: &str) -> Result<Self, ParseError>
         ensures value { IfOk result (ReadsUnicode s.now) }
         ensures fault { IfErr result (IsRefused (ReadsUnicode s.now)) }
-        ensures room { grows_behind is_unicode unicode_may_grow (pieces s.now) ≡ false → ¬ (IsErrOf result ParseError.Memory) }
+        ensures room { grows_behind is_unicode unicode_may_grow (pieces s.now) ≡ false
+            → ¬ (IsErrOf result ParseError.Memory) }
     {
         Self::try_from_utf8(alloc, s.as_bytes())
     }
@@ -119,7 +120,8 @@ impl Unicode {
     pub fn try_from_utf8(alloc: Global, code_units: &[u8]) -> Result<Self, ParseError>
         ensures value { IfOk result (ReadsUnicode code_units.now) }
         ensures fault { IfErr result (IsRefused (ReadsUnicode code_units.now)) }
-        ensures room { grows_behind is_unicode unicode_may_grow (pieces code_units.now) ≡ false → ¬ (IsErrOf result ParseError.Memory) }
+        ensures room { grows_behind is_unicode unicode_may_grow (pieces code_units.now) ≡ false
+            → ¬ (IsErrOf result ParseError.Memory) }
     {
         let attributes = GrowingSet::new(alloc);
         match read_headed::<AttributesHead, KeyRule>(alloc, code_units, b'u', attributes) {

@@ -15,9 +15,15 @@ use writeable::{Error, LengthHint, Sink, Writeable, display};
 // Writes the attributes and the keywords, each piece with a hyphen before it.
 fn write_tail<S: Sink>(unicode: &Unicode, sink: &mut S) -> Result<(), Error>
     requires { S.refused sink.old ≡ false }
-    ensures ok { OnOk result (S.takes sink.old (bytes (flat_map hyphened unicode.now.head) ++ bytes (hyphened_entries false unicode.now.entries)) sink.new) }
+    ensures ok { OnOk result
+        (S.takes sink.old
+        (bytes (flat_map hyphened unicode.now.head) ++ bytes (hyphened_entries false unicode.now.entries))
+        sink.new) }
     ensures refused { S.refused sink.new ≡ is_err result }
-    ensures begun { OnErr result (HasBegun S.takes S.lacks_room sink.old (bytes (flat_map hyphened unicode.now.head) ++ bytes (hyphened_entries false unicode.now.entries)) sink.new) }
+    ensures begun { OnErr result
+        (HasBegun S.takes S.lacks_room sink.old
+        (bytes (flat_map hyphened unicode.now.head) ++ bytes (hyphened_entries false unicode.now.entries))
+        sink.new) }
 {
     write_pieces(unicode.attributes.as_slice(), sink)?;
     unicode.keywords.write_hyphened(sink)

@@ -26,7 +26,8 @@ pub fn printed_rows()
     // a digit is a singleton too, and comes before the letters
     ensures digit_singletons { IsPrinted (codes "und-a-foo-1-bar") (codes "und-1-bar-a-foo") }
     // `t` and `u` come before the first other singleton above `t`
-    ensures extensions_around_transform { IsPrinted (codes "en-z-foo-u-nu-t-it-s-bar") (codes "en-s-bar-t-it-u-nu-z-foo") }
+    ensures extensions_around_transform { IsPrinted (codes "en-z-foo-u-nu-t-it-s-bar")
+        (codes "en-s-bar-t-it-u-nu-z-foo") }
     // the first of equal keys is kept even where its value is empty
     ensures key_stands_where_empty { IsPrinted (codes "en-u-nu-nu-thai") (codes "en-u-nu") }
     // `true` is left out anywhere in a value
@@ -34,7 +35,8 @@ pub fn printed_rows()
     // an attribute may be `true`, and attributes are a set
     ensures true_is_an_attribute { IsPrinted (codes "en-u-true-foo-TRUE") (codes "en-u-foo-true") }
     // attributes come in order, before keywords by key
-    ensures attributes_before_keys { IsPrinted (codes "en-u-foo-bar-nu-latn-ca-hebrew") (codes "en-u-bar-foo-ca-hebrew-nu-latn") }
+    ensures attributes_before_keys { IsPrinted (codes "en-u-foo-bar-nu-latn-ca-hebrew")
+        (codes "en-u-bar-foo-ca-hebrew-nu-latn") }
     // a key may begin with a digit
     ensures key_with_digit { IsPrinted (codes "en-u-1a-foo") (codes "en-u-1a-foo") }
     // fields come in order of their keys, and the first of equal keys is kept
@@ -130,7 +132,8 @@ pub fn refused_rows()
 /// Texts that are language identifiers, and their texts.
 pub fn language_rows()
     // each part in its own case
-    ensures case_by_place { IsShown MeansLanguage language_text (codes "EN-lATN-us-FONIPA-1996") (codes "en-Latn-US-1996-fonipa") }
+    ensures case_by_place { IsShown MeansLanguage language_text (codes "EN-lATN-us-FONIPA-1996")
+        (codes "en-Latn-US-1996-fonipa") }
     // a region without a script
     ensures region_alone { IsShown MeansLanguage language_text (codes "de-at") (codes "de-AT") }
     // only a language
@@ -152,7 +155,8 @@ pub fn language_refused_rows()
 /// Tags of one variant and one keyword, and their texts.
 pub fn single_rows()
     // one variant, one keyword, one piece
-    ensures one_of_each { IsShown MeansSingle single_text (codes "EN-latn-us-FONIPA-u-NU-Latn") (codes "en-Latn-US-fonipa-u-nu-latn") }
+    ensures one_of_each { IsShown MeansSingle single_text (codes "EN-latn-us-FONIPA-u-NU-Latn")
+        (codes "en-Latn-US-fonipa-u-nu-latn") }
     // a keyword without a value
     ensures key_alone { IsShown MeansSingle single_text (codes "en-u-nu") (codes "en-u-nu") }
     // `true` is left out
@@ -192,9 +196,11 @@ pub fn single_refused_rows()
 /// Tags, and the locale that data is asked for, where the language comes first.
 pub fn language_first_rows()
     // `sd` and `rg` read
-    ensures subdivision_and_override { IsShown MeansTag language_first_text (codes "en-US-u-rg-gbeng-sd-ustx") (codes "en-US-u-sd-ustx") }
+    ensures subdivision_and_override { IsShown MeansTag language_first_text (codes "en-US-u-rg-gbeng-sd-ustx")
+        (codes "en-US-u-sd-ustx") }
     // the region in `sd` changes nothing
-    ensures subdivision_of_elsewhere { IsShown MeansTag language_first_text (codes "en-US-u-sd-gbeng") (codes "en-US-u-sd-gbeng") }
+    ensures subdivision_of_elsewhere { IsShown MeansTag language_first_text (codes "en-US-u-sd-gbeng")
+        (codes "en-US-u-sd-gbeng") }
     // a suffix of one character reads
     ensures override_with_one_letter { IsShown MeansTag language_first_text (codes "en-US-u-rg-gbr") (codes "en-US") }
     // the first variant in byte order
@@ -206,22 +212,28 @@ pub fn language_first_rows()
     // the first of equal keys is kept even where it does not read
     ensures first_key_does_not_read { IsShown MeansTag language_first_text (codes "en-u-rg-rg-gbeng") (codes "en") }
     // nothing else is asked for
-    ensures all_else_left_out { IsShown MeansTag language_first_text (codes "en-u-foo-ca-hebrew-nu-thai-t-de-x-bar") (codes "en") }
+    ensures all_else_left_out { IsShown MeansTag language_first_text (codes "en-u-foo-ca-hebrew-nu-thai-t-de-x-bar")
+        (codes "en") }
     // a letter and digits are no region
-    ensures digits_and_letters_do_not_read { IsShown MeansTag language_first_text (codes "en-u-sd-u12abc") (codes "en") }
+    ensures digits_and_letters_do_not_read { IsShown MeansTag language_first_text (codes "en-u-sd-u12abc")
+        (codes "en") }
 
     // of two subdivisions the first is kept
-    ensures first_subdivision { IsShown MeansTag language_first_text (codes "en-u-sd-ustx-sd-gbeng") (codes "en-u-sd-ustx") }
+    ensures first_subdivision { IsShown MeansTag language_first_text (codes "en-u-sd-ustx-sd-gbeng")
+        (codes "en-u-sd-ustx") }
 {}
 
 /// Tags, and the locale that data is asked for, where the region comes first.
 pub fn region_first_rows()
     // `sd` and `rg` read
-    ensures subdivision_and_override { IsShown MeansTag region_first_text (codes "en-US-u-rg-gbeng-sd-ustx") (codes "en-GB-u-sd-gbeng") }
+    ensures subdivision_and_override { IsShown MeansTag region_first_text (codes "en-US-u-rg-gbeng-sd-ustx")
+        (codes "en-GB-u-sd-gbeng") }
     // the region in `sd` changes nothing
-    ensures subdivision_of_elsewhere { IsShown MeansTag region_first_text (codes "en-US-u-sd-gbeng") (codes "en-US-u-sd-gbeng") }
+    ensures subdivision_of_elsewhere { IsShown MeansTag region_first_text (codes "en-US-u-sd-gbeng")
+        (codes "en-US-u-sd-gbeng") }
     // a suffix of one character reads
-    ensures override_with_one_letter { IsShown MeansTag region_first_text (codes "en-US-u-rg-gbr") (codes "en-GB-u-sd-gbr") }
+    ensures override_with_one_letter { IsShown MeansTag region_first_text (codes "en-US-u-rg-gbr")
+        (codes "en-GB-u-sd-gbr") }
     // the first variant in byte order
     ensures least_variant { IsShown MeansTag region_first_text (codes "de-fonipa-1996") (codes "de-1996") }
     // a value of two pieces does not read
@@ -231,10 +243,12 @@ pub fn region_first_rows()
     // the first of equal keys is kept even where it does not read
     ensures first_key_does_not_read { IsShown MeansTag region_first_text (codes "en-u-rg-rg-gbeng") (codes "en") }
     // nothing else is asked for
-    ensures all_else_left_out { IsShown MeansTag region_first_text (codes "en-u-foo-ca-hebrew-nu-thai-t-de-x-bar") (codes "en") }
+    ensures all_else_left_out { IsShown MeansTag region_first_text (codes "en-u-foo-ca-hebrew-nu-thai-t-de-x-bar")
+        (codes "en") }
     // a letter and digits are no region
     ensures digits_and_letters_do_not_read { IsShown MeansTag region_first_text (codes "en-u-sd-u12abc") (codes "en") }
 
     // of two subdivisions the first is kept
-    ensures first_subdivision { IsShown MeansTag region_first_text (codes "en-u-sd-ustx-sd-gbeng") (codes "en-u-sd-ustx") }
+    ensures first_subdivision { IsShown MeansTag region_first_text (codes "en-u-sd-ustx-sd-gbeng")
+        (codes "en-u-sd-ustx") }
 {}

@@ -22,9 +22,13 @@ impl<K: EntryKind> ValueOf<K> {
         alloc: Global,
         iter: I,
     ) -> Result<Self, AllocError>
-        requires { (it : I.IntoIter) → I.into_iter_gives iter it → I.IntoIter.can_next it × IsFinite (I.IntoIter.remaining it) }
-        ensures succeeds { ((it : I.IntoIter) → I.into_iter_gives iter it → AlwaysYields I.IntoIter.next_gives (λ x. x) it []) → IsOk result }
-        ensures value { IfOk result (λ v. (it : I.IntoIter) × (subtags : List (List ℕ)) × I.into_iter_gives iter it × Drains I.IntoIter.next_gives it subtags × (v ≡ without_true subtags)) }
+        requires { (it : I.IntoIter) → I.into_iter_gives iter it
+            → I.IntoIter.can_next it × IsFinite (I.IntoIter.remaining it) }
+        ensures succeeds { ((it : I.IntoIter) → I.into_iter_gives iter it
+            → AlwaysYields I.IntoIter.next_gives (λ x. x) it []) → IsOk result }
+        ensures value { IfOk result
+            (λ v. (it : I.IntoIter) × (subtags : List (List ℕ)) × I.into_iter_gives iter it
+            × Drains I.IntoIter.next_gives it subtags × (v ≡ without_true subtags)) }
     {
         let mut value = Self::new_empty(alloc);
         for subtag in iter {
@@ -65,9 +69,13 @@ impl<K: EntryKind> EntriesOf<K> {
         alloc: Global,
         iter: I,
     ) -> Result<Self, AllocError>
-        requires { (it : I.IntoIter) → I.into_iter_gives iter it → I.IntoIter.can_next it × IsFinite (I.IntoIter.remaining it) }
-        ensures succeeds { ((it : I.IntoIter) → I.into_iter_gives iter it → AlwaysYields I.IntoIter.next_gives (λ x. x) it []) → IsOk result }
-        ensures value { IfOk result (λ m. (it : I.IntoIter) × (entries : List Entry) × I.into_iter_gives iter it × Drains I.IntoIter.next_gives it entries × (m ≡ map_of entries)) }
+        requires { (it : I.IntoIter) → I.into_iter_gives iter it
+            → I.IntoIter.can_next it × IsFinite (I.IntoIter.remaining it) }
+        ensures succeeds { ((it : I.IntoIter) → I.into_iter_gives iter it
+            → AlwaysYields I.IntoIter.next_gives (λ x. x) it []) → IsOk result }
+        ensures value { IfOk result
+            (λ m. (it : I.IntoIter) × (entries : List Entry) × I.into_iter_gives iter it
+            × Drains I.IntoIter.next_gives it entries × (m ≡ map_of entries)) }
     {
         let mut map = Self::new(alloc);
         for (key, value) in iter {

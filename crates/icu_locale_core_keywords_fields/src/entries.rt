@@ -60,7 +60,7 @@ impl<K: EntryKind> EntriesOf<K> {
         Ok(map)
     }
 
-    /// The entries, in byte order of their keys.
+    // The entries, in byte order of their keys.
     pub(crate) fn as_slice(&self) -> &[(SubtagOf<K, 2>, ValueOf<K>)]
         ensures value { result.now ≡ self.now }
         ensures rises { Rises (keys_of result.now) }
@@ -68,14 +68,15 @@ impl<K: EntryKind> EntriesOf<K> {
         self.entries.as_slice()
     }
 
-    /// The place of the key, or the place where it belongs.
+    // The place of the key, or the place where it belongs.
     pub(crate) fn place_of(&self, key: &SubtagOf<K, 2>) -> Result<usize, usize>
-        ensures { MatchResult result (λ place. IsFoundAt key.now self.now place) (λ place. IsMissingAt key.now self.now place) }
+        ensures { MatchResult result (λ place. IsFoundAt key.now self.now place)
+            (λ place. IsMissingAt key.now self.now place) }
     {
         place_in(self.as_slice(), key)
     }
 
-    /// Puts an entry that is not there at its place.
+    // Puts an entry that is not there at its place.
     fn insert_at(
         &mut self,
         place: usize,
@@ -92,9 +93,9 @@ impl<K: EntryKind> EntriesOf<K> {
         Ok(())
     }
 
-    /// Puts the entry into the map, unless the key is there: then the map stays as it is.
-    ///
-    /// `AllocError`: out of memory, and the map is as before.
+    // Puts the entry into the map, unless the key is there: then the map stays as it is.
+    //
+    // `AllocError`: out of memory, and the map is as before.
     pub(crate) fn put_first(
         &mut self,
         key: SubtagOf<K, 2>,

@@ -36,7 +36,8 @@ impl<K: EntryKind> EntriesOf<K> {
         ensures value { IfOk result (MeansEntries K.accepts K.needs (listed code_units.now)) }
         ensures fault { IfErr result (IsRefused (MeansEntries K.accepts K.needs (listed code_units.now))) }
         ensures succeeds { code_units.now ≡ [] → IsOk result }
-        ensures room { begins_entry K.accepts K.needs (pieces code_units.now) ≡ false → ¬ (IsErrOf result ParseError.Memory) }
+        ensures room { begins_entry K.accepts K.needs (pieces code_units.now) ≡ false
+            → ¬ (IsErrOf result ParseError.Memory) }
     {
         if code_units.is_empty() {
             return Ok(Self::new(alloc));

@@ -22,7 +22,8 @@ fn write_entry<K: EntryKind, S: Sink>(
     requires { S.refused sink.old ≡ false }
     ensures ok { OnOk result (S.takes sink.old (bytes key.now ++ bytes (hyphened_value K.needs value.now)) sink.new) }
     ensures refused { S.refused sink.new ≡ is_err result }
-    ensures begun { OnErr result (HasBegun S.takes S.lacks_room sink.old (bytes key.now ++ bytes (hyphened_value K.needs value.now)) sink.new) }
+    ensures begun { OnErr result
+        (HasBegun S.takes S.lacks_room sink.old (bytes key.now ++ bytes (hyphened_value K.needs value.now)) sink.new) }
 {
     key.write_to(sink)?;
     value.write_hyphened(sink)
@@ -35,9 +36,13 @@ fn write_next_entry<K: EntryKind, S: Sink>(
     sink: &mut S,
 ) -> Result<(), Error>
     requires { S.refused sink.old ≡ false }
-    ensures ok { OnOk result (S.takes sink.old (bytes (hyphen ∷ []) ++ (bytes key.now ++ bytes (hyphened_value K.needs value.now))) sink.new) }
+    ensures ok { OnOk result
+        (S.takes sink.old (bytes (hyphen ∷ []) ++ (bytes key.now ++ bytes (hyphened_value K.needs value.now)))
+        sink.new) }
     ensures refused { S.refused sink.new ≡ is_err result }
-    ensures begun { OnErr result (HasBegun S.takes S.lacks_room sink.old (bytes (hyphen ∷ []) ++ (bytes key.now ++ bytes (hyphened_value K.needs value.now))) sink.new) }
+    ensures begun { OnErr result
+        (HasBegun S.takes S.lacks_room sink.old
+        (bytes (hyphen ∷ []) ++ (bytes key.now ++ bytes (hyphened_value K.needs value.now))) sink.new) }
 {
     sink.write_char('-')?;
     write_entry(key, value, sink)
@@ -51,7 +56,8 @@ fn write_entries<K: EntryKind, S: Sink>(
     requires { S.refused sink.old ≡ false }
     ensures ok { OnOk result (S.takes sink.old (bytes (hyphened_entries K.needs entries.now)) sink.new) }
     ensures refused { S.refused sink.new ≡ is_err result }
-    ensures begun { OnErr result (HasBegun S.takes S.lacks_room sink.old (bytes (hyphened_entries K.needs entries.now)) sink.new) }
+    ensures begun { OnErr result
+        (HasBegun S.takes S.lacks_room sink.old (bytes (hyphened_entries K.needs entries.now)) sink.new) }
 {
     for (key, value) in entries {
         write_next_entry(key, value, sink)?;
@@ -61,7 +67,8 @@ fn write_entries<K: EntryKind, S: Sink>(
 
 // How many bytes `write_entries` writes, where a `usize` holds it.
 fn entries_length<K: EntryKind>(entries: &[(SubtagOf<K, 2>, ValueOf<K>)]) -> Option<usize>
-    ensures { SomeIff result (length (hyphened_entries K.needs entries.now) < 2 ^ 64) (length (hyphened_entries K.needs entries.now)) }
+    ensures { SomeIff result (length (hyphened_entries K.needs entries.now) < 2 ^ 64)
+        (length (hyphened_entries K.needs entries.now)) }
 {
     let mut length: usize = 0;
     for (key, value) in entries {
@@ -80,9 +87,15 @@ fn write_map<K: EntryKind, S: Sink>(
     sink: &mut S,
 ) -> Result<(), Error>
     requires { S.refused sink.old ≡ false }
-    ensures ok { OnOk result (S.takes sink.old ((bytes first.now.0 ++ bytes (hyphened_value K.needs first.now.1)) ++ bytes (hyphened_entries K.needs others.now)) sink.new) }
+    ensures ok { OnOk result
+        (S.takes sink.old
+        ((bytes first.now.0 ++ bytes (hyphened_value K.needs first.now.1))
+        ++ bytes (hyphened_entries K.needs others.now)) sink.new) }
     ensures refused { S.refused sink.new ≡ is_err result }
-    ensures begun { OnErr result (HasBegun S.takes S.lacks_room sink.old ((bytes first.now.0 ++ bytes (hyphened_value K.needs first.now.1)) ++ bytes (hyphened_entries K.needs others.now)) sink.new) }
+    ensures begun { OnErr result
+        (HasBegun S.takes S.lacks_room sink.old
+        ((bytes first.now.0 ++ bytes (hyphened_value K.needs first.now.1))
+        ++ bytes (hyphened_entries K.needs others.now)) sink.new) }
 {
     write_entry(&first.0, &first.1, sink)?;
     write_entries(others, sink)
@@ -93,7 +106,8 @@ fn map_length<K: EntryKind>(
     first: &(SubtagOf<K, 2>, ValueOf<K>),
     others: &[(SubtagOf<K, 2>, ValueOf<K>)],
 ) -> Option<usize>
-    ensures { SomeIff result (length (entry_text K.needs first.now ++ hyphened_entries K.needs others.now) < 2 ^ 64) (length (entry_text K.needs first.now ++ hyphened_entries K.needs others.now)) }
+    ensures { SomeIff result (length (entry_text K.needs first.now ++ hyphened_entries K.needs others.now) < 2 ^ 64)
+        (length (entry_text K.needs first.now ++ hyphened_entries K.needs others.now)) }
 {
     let entry = first
         .1
@@ -121,7 +135,8 @@ impl<K: EntryKind> EntriesOf<K> {
         requires { S.refused sink.old ≡ false }
         ensures ok { OnOk result (S.takes sink.old (bytes (hyphened_entries K.needs self.now)) sink.new) }
         ensures refused { S.refused sink.new ≡ is_err result }
-        ensures begun { OnErr result (HasBegun S.takes S.lacks_room sink.old (bytes (hyphened_entries K.needs self.now)) sink.new) }
+        ensures begun { OnErr result
+            (HasBegun S.takes S.lacks_room sink.old (bytes (hyphened_entries K.needs self.now)) sink.new) }
     {
         write_entries(self.as_slice(), sink)
     }
@@ -129,7 +144,8 @@ impl<K: EntryKind> EntriesOf<K> {
     /// How many bytes `write_hyphened` writes: 20 of `ca-buddhist-nu-thai`. `None` where a `usize` does not hold it. It
     /// does not allocate.
     pub fn hyphened_length(&self) -> Option<usize>
-        ensures { SomeIff result (length (hyphened_entries K.needs self.now) < 2 ^ 64) (length (hyphened_entries K.needs self.now)) }
+        ensures { SomeIff result (length (hyphened_entries K.needs self.now) < 2 ^ 64)
+            (length (hyphened_entries K.needs self.now)) }
     {
         entries_length(self.as_slice())
     }
@@ -153,8 +169,10 @@ impl<K: EntryKind> Writeable for EntriesOf<K> {
     #[tactic(auto, using(writeable::proofs::AnnotatedTextLemmas::text_of_bytes))]
     fn writeable_length_hint(&self) -> LengthHint
         ensures within { IsWithinHint result (length (text_of (bytes (entries_text K.needs self.now)))) }
-        ensures low { length (entries_text K.needs self.now) < 2 ^ 64 → result.low ≡ length (entries_text K.needs self.now) }
-        ensures high { length (entries_text K.needs self.now) < 2 ^ 64 → result.high ≡ Some (length (entries_text K.needs self.now)) }
+        ensures low { length (entries_text K.needs self.now) < 2 ^ 64
+            → result.low ≡ length (entries_text K.needs self.now) }
+        ensures high { length (entries_text K.needs self.now) < 2 ^ 64
+            → result.high ≡ Some (length (entries_text K.needs self.now)) }
     {
         match entries_text_length(self) {
             Some(length) => LengthHint::exact(length),

@@ -63,21 +63,23 @@ pub enum HeadedStage<H, K: EntryKind> {
     InEntry(H, EntriesOf<K>, SubtagOf<K, 2>, ValueOf<K>, bool),
 }
 
-/// The key in a piece, in lower case, if the piece is one.
+// The key in a piece, in lower case, if the piece is one.
 fn read_key<K: EntryKind>(piece: &[u8]) -> Option<SubtagOf<K, 2>>
-    ensures { MatchOption result (K.accepts piece.now ≡ false) (λ key. (K.accepts piece.now ≡ true) × (key ≡ lower piece.now)) }
+    ensures { MatchOption result (K.accepts piece.now ≡ false)
+        (λ key. (K.accepts piece.now ≡ true) × (key ≡ lower piece.now)) }
 {
     SubtagOf::try_from_utf8(piece).ok()
 }
 
-/// The stage behind a head that has ended: the piece opens the first entry, or does not fit.
+// The stage behind a head that has ended: the piece opens the first entry, or does not fit.
 #[tactic(auto, unfolding(icu_locale_core_grammar::specs::Stepping::headed_after))]
 fn after_ended_head<H, K: EntryKind>(
     alloc: Global,
     head: H,
     piece: &[u8],
 ) -> Step<HeadedStage<H, K>>
-    ensures { (step : H → List ℕ → Option H) → step head piece.now ≡ None → IsStep (headed_after step ends_anywhere K.accepts K.needs) headed_view (InHead head) piece.now result }
+    ensures { (step : H → List ℕ → Option H) → step head piece.now ≡ None
+        → IsStep (headed_after step ends_anywhere K.accepts K.needs) headed_view (InHead head) piece.now result }
 {
     match read_key(piece) {
         Some(key) => Step::Taken(HeadedStage::InEntry(
@@ -91,7 +93,7 @@ fn after_ended_head<H, K: EntryKind>(
     }
 }
 
-/// The stage behind an entry that is read: the piece goes into its value, or opens the next entry, or does not fit.
+// The stage behind an entry that is read: the piece goes into its value, or opens the next entry, or does not fit.
 #[tactic(auto, unfolding(icu_locale_core_grammar::specs::Stepping::headed_after))]
 fn after_entry<H: Drop, K: EntryKind>(
     alloc: Global,
@@ -102,8 +104,12 @@ fn after_entry<H: Drop, K: EntryKind>(
     full: bool,
     piece: &[u8],
 ) -> Result<Step<HeadedStage<H, K>>, AllocError>
-    ensures step { (step : H → List ℕ → Option H) → IfOk result (IsStep (headed_after step ends_anywhere K.accepts K.needs) headed_view (InEntry head entries (key, value) full) piece.now) }
-    ensures room { (grows : H → List ℕ → Bool) → grows_at grows K.accepts (InEntry head entries (key, value) full) piece.now ≡ false → IsOk result }
+    ensures step { (step : H → List ℕ → Option H)
+        → IfOk result
+        (IsStep (headed_after step ends_anywhere K.accepts K.needs) headed_view
+        (InEntry head entries (key, value) full) piece.now) }
+    ensures room { (grows : H → List ℕ → Bool)
+        → grows_at grows K.accepts (InEntry head entries (key, value) full) piece.now ≡ false → IsOk result }
 {
     if value.take_piece(piece)? {
         return Ok(Step::Taken(HeadedStage::InEntry(head, entries, key, value, true)));
@@ -135,7 +141,8 @@ pub fn headed_after<R: HeadReader, K: EntryKind>(
 ) -> Result<Step<HeadedStage<R::Stage, K>>, AllocError>
 where
     R::Stage: Drop,
-    ensures step { IfOk result (IsStep (headed_after R.step ends_anywhere K.accepts K.needs) headed_view (headed_view stage) piece.now) }
+    ensures step { IfOk result
+        (IsStep (headed_after R.step ends_anywhere K.accepts K.needs) headed_view (headed_view stage) piece.now) }
     ensures room { grows_at R.grows K.accepts (headed_view stage) piece.now ≡ false → IsOk result }
 {
     match stage {

@@ -13,7 +13,7 @@ use crate::value::ValueOf;
 use icu_locale_core_subtags::SubtagOf;
 
 impl<K: EntryKind> EntriesOf<K> {
-    /// The value at the place of a key, for writing.
+    // The value at the place of a key, for writing.
     fn value_at_mut(&mut self, key: &SubtagOf<K, 2>, place: usize) -> &mut ValueOf<K>
         requires { IsFoundAt key.now self.old place }
         ensures* writes_back { sem 𝓛 (lends_value K.row K.needs K.SubtagRule self.entry key.now result) }

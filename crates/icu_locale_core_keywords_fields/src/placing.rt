@@ -13,18 +13,19 @@ use icu_locale_core_subtags::SubtagOf;
 use std::alloc::AllocError;
 use std::mem;
 
-/// The place of the key, or the place where it belongs.
+// The place of the key, or the place where it belongs.
 pub(crate) fn place_in<K: EntryKind>(
     entries: &[(SubtagOf<K, 2>, ValueOf<K>)],
     key: &SubtagOf<K, 2>,
 ) -> Result<usize, usize>
     requires { Rises (keys_of entries.now) }
-    ensures { MatchResult result (λ place. IsFoundAt key.now entries.now place) (λ place. IsMissingAt key.now entries.now place) }
+    ensures { MatchResult result (λ place. IsFoundAt key.now entries.now place)
+        (λ place. IsMissingAt key.now entries.now place) }
 {
     entries.binary_search_by(|entry| entry.0.cmp(key))
 }
 
-/// Sets the value of a key, and returns the value that it had, if any.
+// Sets the value of a key, and returns the value that it had, if any.
 pub(crate) fn set_in<K: EntryKind>(
     entries: &mut Vec<(SubtagOf<K, 2>, ValueOf<K>)>,
     key: SubtagOf<K, 2>,
@@ -49,7 +50,7 @@ pub(crate) fn set_in<K: EntryKind>(
     }
 }
 
-/// Sets each of some entries, in a vector that has room for the new ones.
+// Sets each of some entries, in a vector that has room for the new ones.
 pub(crate) fn set_all<K: EntryKind>(
     entries: &mut Vec<(SubtagOf<K, 2>, ValueOf<K>)>,
     others: Vec<(SubtagOf<K, 2>, ValueOf<K>)>,
@@ -63,7 +64,7 @@ pub(crate) fn set_all<K: EntryKind>(
     }
 }
 
-/// How many of the entries have a key that the map does not have.
+// How many of the entries have a key that the map does not have.
 pub(crate) fn count_new<K: EntryKind>(
     entries: &[(SubtagOf<K, 2>, ValueOf<K>)],
     map: &EntriesOf<K>,

@@ -35,7 +35,7 @@ impl<K: EntryKind> Model for ValueOf<K> {
     ghost invariant = { λ v. IsWithoutTrue v.subtags.items };
 }
 
-/// Whether the subtag is `true`.
+// Whether the subtag is `true`.
 fn is_true_word(subtag: &Subtag) -> bool
     ensures { result ≡ is_true subtag.now }
 {

@@ -16,11 +16,13 @@ use icu_locale_core_subtags::{SubtagIterator, value_subtag};
 use std::alloc::{AllocError, Global};
 
 impl<K: EntryKind> ValueOf<K> {
-    /// Takes a piece of a text, if it is a piece of a value, and returns whether it is.
-    ///
-    /// `AllocError`: out of memory, and the value is as before.
+    // Takes a piece of a text, if it is a piece of a value, and returns whether it is.
+    //
+    // `AllocError`: out of memory, and the value is as before.
     pub(crate) fn take_piece(&mut self, piece: &[u8]) -> Result<bool, AllocError>
-        ensures taken { IfOk result (λ taken. MatchBool taken (value_after self.old piece.now ≡ Some self.new) ((value_after self.old piece.now ≡ None) × (self.new ≡ self.old))) }
+        ensures taken { IfOk result
+            (λ taken. MatchBool taken (value_after self.old piece.now ≡ Some self.new)
+            ((value_after self.old piece.now ≡ None) × (self.new ≡ self.old))) }
         ensures err { OnErr result (self.new ≡ self.old) }
         ensures room { value_grows piece.now ≡ false → IsOk result }
     {

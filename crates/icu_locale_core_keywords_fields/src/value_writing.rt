@@ -20,7 +20,8 @@ impl<K: EntryKind> ValueOf<K> {
         requires { S.refused sink.old ≡ false }
         ensures ok { OnOk result (S.takes sink.old (bytes (hyphened_value K.needs self.now)) sink.new) }
         ensures refused { S.refused sink.new ≡ is_err result }
-        ensures begun { OnErr result (HasBegun S.takes S.lacks_room sink.old (bytes (hyphened_value K.needs self.now)) sink.new) }
+        ensures begun { OnErr result
+            (HasBegun S.takes S.lacks_room sink.old (bytes (hyphened_value K.needs self.now)) sink.new) }
     {
         if self.is_empty() && K::needs_value() {
             return sink.write_str("-true");
@@ -40,7 +41,8 @@ impl<K: EntryKind> ValueOf<K> {
     /// How many bytes `write_hyphened` writes: 8 of `abc-def`. `None` where a `usize` does not hold it. It does not
     /// allocate.
     pub fn hyphened_length(&self) -> Option<usize>
-        ensures { SomeIff result (length (hyphened_value K.needs self.now) < 2 ^ 64) (length (hyphened_value K.needs self.now)) }
+        ensures { SomeIff result (length (hyphened_value K.needs self.now) < 2 ^ 64)
+            (length (hyphened_value K.needs self.now)) }
     {
         if self.is_empty() && K::needs_value() {
             return Some(5);
@@ -73,8 +75,10 @@ impl<K: EntryKind> Writeable for ValueOf<K> {
     #[tactic(auto, using(writeable::proofs::AnnotatedTextLemmas::text_of_bytes))]
     fn writeable_length_hint(&self) -> LengthHint
         ensures within { IsWithinHint result (length (text_of (bytes (value_text K.needs self.now)))) }
-        ensures low { length (value_text K.needs self.now) < 2 ^ 64 → result.low ≡ length (value_text K.needs self.now) }
-        ensures high { length (value_text K.needs self.now) < 2 ^ 64 → result.high ≡ Some (length (value_text K.needs self.now)) }
+        ensures low { length (value_text K.needs self.now) < 2 ^ 64
+            → result.low ≡ length (value_text K.needs self.now) }
+        ensures high { length (value_text K.needs self.now) < 2 ^ 64
+            → result.high ≡ Some (length (value_text K.needs self.now)) }
     {
         match value_length(self) {
             Some(length) => LengthHint::exact(length),

@@ -21,9 +21,12 @@ fn write_optional_lower<R: SubtagRule<N>, const N: usize, S: Sink>(
     sink: &mut S,
 ) -> Result<(), Error>
     requires { S.refused sink.old ≡ false }
-    ensures ok { OnOk result (S.takes sink.old (bytes (flat_map hyphened (map lower (option_to_list subtag)))) sink.new) }
+    ensures ok { OnOk result
+        (S.takes sink.old (bytes (flat_map hyphened (map lower (option_to_list subtag)))) sink.new) }
     ensures refused { S.refused sink.new ≡ is_err result }
-    ensures begun { OnErr result (HasBegun S.takes S.lacks_room sink.old (bytes (flat_map hyphened (map lower (option_to_list subtag)))) sink.new) }
+    ensures begun { OnErr result
+        (HasBegun S.takes S.lacks_room sink.old (bytes (flat_map hyphened (map lower (option_to_list subtag))))
+        sink.new) }
 {
     match subtag {
         Some(subtag) => write_piece(subtag.to_tinystr().to_ascii_lowercase().as_str(), sink),

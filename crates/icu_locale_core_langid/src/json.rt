@@ -42,7 +42,8 @@ impl LanguageIdentifier {
     /// `InvalidLanguage`. It allocates only for variants.
     pub fn from_json(alloc: Global, value: &Value) -> Result<Self, ParseError>
         ensures value { IfOk result (λ id. MeansLanguage (pieces (json_text (view value.now))) id) }
-        ensures fault { IfErr result (λ e. (e ≡ ParseError.Memory) ⊎ HasFault MeansLanguage (pieces (json_text (view value.now))) e) }
+        ensures fault { IfErr result
+            (λ e. (e ≡ ParseError.Memory) ⊎ HasFault MeansLanguage (pieces (json_text (view value.now))) e) }
         ensures room { may_grow (pieces (json_text (view value.now))) ≡ false → ¬ (IsErrOf result ParseError.Memory) }
     {
         Self::try_from_str(alloc, text_of_json(value))

@@ -48,9 +48,12 @@ impl LanguageIdentifier {
     /// `EN-us` gives a new `en-US`, and `en-US` gives itself. The errors are those of `try_from_str`. It allocates only
     /// for variants and a new text.
     pub fn normalize(alloc: Global, input: &str) -> Result<CowStr<'_, Global>, ParseError>
-        ensures value { IfOk result (λ text. (id : LanguageId) × MeansLanguage (pieces input.now) id × IsNormalized input.now (language_text id) text) }
+        ensures value { IfOk result
+            (λ text. (id : LanguageId) × MeansLanguage (pieces input.now) id
+            × IsNormalized input.now (language_text id) text) }
         ensures fault { IfErr result (λ e. (e ≡ ParseError.Memory) ⊎ HasFault MeansLanguage (pieces input.now) e) }
-        ensures room { may_grow (pieces input.now) ≡ false → IsErrOf result ParseError.Memory → (id : LanguageId) × MeansLanguage (pieces input.now) id × (input.now ≢ language_text id) }
+        ensures room { may_grow (pieces input.now) ≡ false → IsErrOf result ParseError.Memory
+            → (id : LanguageId) × MeansLanguage (pieces input.now) id × (input.now ≢ language_text id) }
     {
         Self::normalize_utf8(alloc, input.as_bytes())
     }
@@ -58,9 +61,12 @@ impl LanguageIdentifier {
     /// The normal text of the bytes of a text, as `normalize`: `EN-us` gives a new `en-US`. The errors are those of
     /// `normalize`; it allocates where that does.
     pub fn normalize_utf8(alloc: Global, input: &[u8]) -> Result<CowStr<'_, Global>, ParseError>
-        ensures value { IfOk result (λ text. (id : LanguageId) × MeansLanguage (pieces input.now) id × IsNormalized input.now (language_text id) text) }
+        ensures value { IfOk result
+            (λ text. (id : LanguageId) × MeansLanguage (pieces input.now) id
+            × IsNormalized input.now (language_text id) text) }
         ensures fault { IfErr result (λ e. (e ≡ ParseError.Memory) ⊎ HasFault MeansLanguage (pieces input.now) e) }
-        ensures room { may_grow (pieces input.now) ≡ false → IsErrOf result ParseError.Memory → (id : LanguageId) × MeansLanguage (pieces input.now) id × (input.now ≢ language_text id) }
+        ensures room { may_grow (pieces input.now) ≡ false → IsErrOf result ParseError.Memory
+            → (id : LanguageId) × MeansLanguage (pieces input.now) id × (input.now ≢ language_text id) }
     {
         let id = Self::try_from_utf8(alloc, input)?;
         text_or_input(alloc, &id, input)

@@ -61,7 +61,8 @@ fn next_variant(parts: &OneVariantParts, piece: &[u8]) -> Option<Variant>
 
 // The parts with one more piece.
 fn parts_after(parts: &OneVariantParts, piece: &[u8]) -> Option<OneVariantParts>
-    ensures { MatchOption result (one_variant_after (Some (parts_id parts.now)) piece.now ≡ None) (λ next. one_variant_after (Some (parts_id parts.now)) piece.now ≡ Some (Some (parts_id next))) }
+    ensures { MatchOption result (one_variant_after (Some (parts_id parts.now)) piece.now ≡ None)
+        (λ next. one_variant_after (Some (parts_id parts.now)) piece.now ≡ Some (Some (parts_id next))) }
 {
     let (language, script, region, variant) = *parts;
     match next_script(parts, piece) {
@@ -81,7 +82,8 @@ fn parts_after(parts: &OneVariantParts, piece: &[u8]) -> Option<OneVariantParts>
 /// `None` and `de` give `de`; behind it `DE` gives `de-DE`, and behind `de-1996` the second variant `fonipa` gives
 /// `None`, as any piece that does not fit there. It does not allocate. Source: UTS 35, section 3.1.
 pub fn one_variant_step(parts: &Option<OneVariantParts>, piece: &[u8]) -> Option<OneVariantParts>
-    ensures { MatchOption result (one_variant_after (option_map parts_id parts.now) piece.now ≡ None) (λ next. one_variant_after (option_map parts_id parts.now) piece.now ≡ Some (Some (parts_id next))) }
+    ensures { MatchOption result (one_variant_after (option_map parts_id parts.now) piece.now ≡ None)
+        (λ next. one_variant_after (option_map parts_id parts.now) piece.now ≡ Some (Some (parts_id next))) }
 {
     match parts {
         None => match Language::try_from_utf8(piece) {
@@ -110,7 +112,9 @@ impl LanguageIdentifier {
     pub fn try_from_utf8_with_single_variant(
         code_units: &[u8],
     ) -> Result<OneVariantParts, ParseError>
-        ensures { MatchResult result (λ parts. MeansOneVariant (pieces code_units.now) (one_variant parts.0 parts.1 parts.2 parts.3)) (λ e. HasFault MeansOneVariant (pieces code_units.now) e) }
+        ensures { MatchResult result
+            (λ parts. MeansOneVariant (pieces code_units.now) (one_variant parts.0 parts.1 parts.2 parts.3))
+            (λ e. HasFault MeansOneVariant (pieces code_units.now) e) }
     {
         let mut parts: Option<OneVariantParts> = None;
         for piece in SubtagIterator::new(code_units) {

@@ -17,7 +17,8 @@ pub(crate) fn write_piece<S: Sink>(piece: &str, sink: &mut S) -> Result<(), Erro
     requires { S.refused sink.old ≡ false }
     ensures ok { OnOk result (S.takes sink.old (bytes (hyphen ∷ []) ++ bytes piece.now) sink.new) }
     ensures refused { S.refused sink.new ≡ is_err result }
-    ensures begun { OnErr result (HasBegun S.takes S.lacks_room sink.old (bytes (hyphen ∷ []) ++ bytes piece.now) sink.new) }
+    ensures begun { OnErr result
+        (HasBegun S.takes S.lacks_room sink.old (bytes (hyphen ∷ []) ++ bytes piece.now) sink.new) }
 {
     sink.write_char('-')?;
     sink.write_str(piece)
@@ -35,7 +36,8 @@ pub fn write_optional<R: SubtagRule<N>, const N: usize, S: Sink>(
     requires { S.refused sink.old ≡ false }
     ensures ok { OnOk result (S.takes sink.old (bytes (flat_map hyphened (option_to_list subtag))) sink.new) }
     ensures refused { S.refused sink.new ≡ is_err result }
-    ensures begun { OnErr result (HasBegun S.takes S.lacks_room sink.old (bytes (flat_map hyphened (option_to_list subtag))) sink.new) }
+    ensures begun { OnErr result
+        (HasBegun S.takes S.lacks_room sink.old (bytes (flat_map hyphened (option_to_list subtag))) sink.new) }
 {
     match subtag {
         Some(subtag) => write_piece(subtag.as_str(), sink),
@@ -56,7 +58,7 @@ fn write_parts<S: Sink>(id: &LanguageIdentifier, sink: &mut S) -> Result<(), Err
     write_pieces(id.variants.as_slice(), sink)
 }
 
-/// How many bytes the text has: 5 of `en-US`. `None` where a `usize` does not hold it. It is counted as it is written.
+// How many bytes the text has: 5 of `en-US`. `None` where a `usize` does not hold it. It is counted as it is written.
 pub(crate) fn text_length(id: &LanguageIdentifier) -> Option<usize>
     ensures { SomeIff result (length (language_text id.now) < 2 ^ 64) (length (language_text id.now)) }
 {

@@ -34,8 +34,10 @@ impl Locale {
     /// `InvalidLanguage`. It allocates only for variants and extensions.
     pub fn from_json(alloc: Global, value: &Value) -> Result<Self, ParseError>
         ensures value { IfOk result (MeansTag (pieces (json_text (view value.now)))) }
-        ensures fault { IfErr result (λ e. (e ≡ ParseError.Memory) ⊎ HasFault MeansTag (pieces (json_text (view value.now))) e) }
-        ensures room { tag_may_grow (pieces (json_text (view value.now))) ≡ false → ¬ (IsErrOf result ParseError.Memory) }
+        ensures fault { IfErr result
+            (λ e. (e ≡ ParseError.Memory) ⊎ HasFault MeansTag (pieces (json_text (view value.now))) e) }
+        ensures room { tag_may_grow (pieces (json_text (view value.now))) ≡ false
+            → ¬ (IsErrOf result ParseError.Memory) }
     {
         Self::try_from_str(alloc, text_of_json(value))
     }

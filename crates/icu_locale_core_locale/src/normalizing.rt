@@ -22,9 +22,11 @@ impl Locale {
     /// `EN-us-u-NU-Thai` gives a new `en-US-u-nu-thai`, which gives itself. The errors are those of `try_from_str`. It
     /// allocates only for variants, extensions and a new text.
     pub fn normalize(alloc: Global, input: &str) -> Result<CowStr<'_, Global>, ParseError>
-        ensures value { IfOk result (λ text. (m : TagMeaning) × MeansTag (pieces input.now) m × IsNormalized input.now (normal_text m) text) }
+        ensures value { IfOk result
+            (λ text. (m : TagMeaning) × MeansTag (pieces input.now) m × IsNormalized input.now (normal_text m) text) }
         ensures fault { IfErr result (λ e. (e ≡ ParseError.Memory) ⊎ HasFault MeansTag (pieces input.now) e) }
-        ensures room { tag_may_grow (pieces input.now) ≡ false → IsErrOf result ParseError.Memory → (m : TagMeaning) × MeansTag (pieces input.now) m × (input.now ≢ normal_text m) }
+        ensures room { tag_may_grow (pieces input.now) ≡ false → IsErrOf result ParseError.Memory
+            → (m : TagMeaning) × MeansTag (pieces input.now) m × (input.now ≢ normal_text m) }
     {
         Self::normalize_utf8(alloc, input.as_bytes())
     }
@@ -32,9 +34,11 @@ impl Locale {
     /// The normal text of the bytes of a text, as `normalize`: `EN-u-NU-Thai` gives a new `en-u-nu-thai`. The errors
     /// are those of `normalize`; it allocates where that does.
     pub fn normalize_utf8(alloc: Global, input: &[u8]) -> Result<CowStr<'_, Global>, ParseError>
-        ensures value { IfOk result (λ text. (m : TagMeaning) × MeansTag (pieces input.now) m × IsNormalized input.now (normal_text m) text) }
+        ensures value { IfOk result
+            (λ text. (m : TagMeaning) × MeansTag (pieces input.now) m × IsNormalized input.now (normal_text m) text) }
         ensures fault { IfErr result (λ e. (e ≡ ParseError.Memory) ⊎ HasFault MeansTag (pieces input.now) e) }
-        ensures room { tag_may_grow (pieces input.now) ≡ false → IsErrOf result ParseError.Memory → (m : TagMeaning) × MeansTag (pieces input.now) m × (input.now ≢ normal_text m) }
+        ensures room { tag_may_grow (pieces input.now) ≡ false → IsErrOf result ParseError.Memory
+            → (m : TagMeaning) × MeansTag (pieces input.now) m × (input.now ≢ normal_text m) }
     {
         let locale = Self::try_from_utf8(alloc, input)?;
         text_or_input(alloc, &locale, input)

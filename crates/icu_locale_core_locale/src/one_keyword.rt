@@ -23,7 +23,8 @@ impl Locale {
     pub fn try_from_utf8_with_single_variant_single_keyword_unicode_extension(
         code_units: &[u8],
     ) -> Result<SingleParts, ParseError>
-        ensures { MatchResult result (λ parts. MeansSingle (pieces code_units.now) (single parts)) (λ e. HasSingleFault (pieces code_units.now) e) }
+        ensures { MatchResult result (λ parts. MeansSingle (pieces code_units.now) (single parts))
+            (λ e. HasSingleFault (pieces code_units.now) e) }
     {
         parse_locale_with_single_variant_single_keyword_unicode_keyword_extension(
             code_units,

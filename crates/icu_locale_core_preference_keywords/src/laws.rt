@@ -32,19 +32,22 @@ pub fn subdivisions_read_back(id: &SubdivisionId)
 
 /// The value of a numbering system states it: `thai` the system `thai`.
 pub fn numbering_systems_read_back(system: &NumberingSystem)
-    ensures { ⟦<NumberingSystem as PreferenceKey>⟧.stated (⟦<NumberingSystem as PreferenceKey>⟧.written system.now) ≡ Some system.now }
+    ensures { ⟦<NumberingSystem as PreferenceKey>⟧.stated (⟦<NumberingSystem as PreferenceKey>⟧.written system.now)
+        ≡ Some system.now }
 {}
 
 /// The value of a regional subdivision states it: `ustx` the subdivision of `US` and `tx`.
 pub fn regional_subdivisions_read_back(subdivision: &RegionalSubdivision)
-    ensures { ⟦<RegionalSubdivision as PreferenceKey>⟧.stated (⟦<RegionalSubdivision as PreferenceKey>⟧.written subdivision.now) ≡ Some subdivision.now }
+    ensures { ⟦<RegionalSubdivision as PreferenceKey>⟧.stated
+        (⟦<RegionalSubdivision as PreferenceKey>⟧.written subdivision.now) ≡ Some subdivision.now }
 {
     subdivisions_read_back(subdivision);
 }
 
 /// The value of a region override states it: `gbeng` the region override of `GB` and `eng`.
 pub fn region_overrides_read_back(region: &RegionOverride)
-    ensures { ⟦<RegionOverride as PreferenceKey>⟧.stated (⟦<RegionOverride as PreferenceKey>⟧.written region.now) ≡ Some region.now }
+    ensures { ⟦<RegionOverride as PreferenceKey>⟧.stated (⟦<RegionOverride as PreferenceKey>⟧.written region.now)
+        ≡ Some region.now }
 {
     subdivisions_read_back(region);
 }
@@ -53,7 +56,8 @@ pub fn region_overrides_read_back(region: &RegionOverride)
 pub fn currencies_read_back(currency: &CurrencyType)
     ensures letters { is_currency currency.now ≡ true }
     ensures lowered { lower currency.now ≡ currency.now }
-    ensures stated { ⟦<CurrencyType as PreferenceKey>⟧.stated (⟦<CurrencyType as PreferenceKey>⟧.written currency.now) ≡ Some currency.now }
+    ensures stated { ⟦<CurrencyType as PreferenceKey>⟧.stated (⟦<CurrencyType as PreferenceKey>⟧.written currency.now)
+        ≡ Some currency.now }
 {
     let _code = currency.own;
 }

@@ -35,7 +35,8 @@ pub trait OnePiece: Copy {
 
 // The subtag of a value that has exactly one; it is not `true`, since no value has that.
 fn piece_of(value: &Value) -> Option<Subtag>
-    ensures { MatchOption result (one_piece value.now ≡ None) (λ piece. (one_piece value.now ≡ Some piece) × (is_true piece ≡ false)) }
+    ensures { MatchOption result (one_piece value.now ≡ None)
+        (λ piece. (one_piece value.now ≡ Some piece) × (is_true piece ≡ false)) }
 {
     match value.as_subtags_slice() {
         [subtag] => Some(*subtag),

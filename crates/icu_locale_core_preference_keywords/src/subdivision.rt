@@ -32,7 +32,8 @@ impl Model for SubdivisionId {
 
 // The subdivision whose region has n characters.
 fn read_at(code_units: &[u8], n: usize) -> Option<SubdivisionId>
-    ensures { MatchOption result (subdivision_at n code_units.now ≡ None) (λ s. subdivision_at n code_units.now ≡ Some s) }
+    ensures { MatchOption result (subdivision_at n code_units.now ≡ None)
+        (λ s. subdivision_at n code_units.now ≡ Some s) }
 {
     let (first, second) = code_units.split_at_checked(n)?;
     let region = Region::try_from_utf8(first).ok()?;
@@ -53,7 +54,8 @@ impl SubdivisionId {
     /// `USTX` is region `US` and suffix `tx`, `419abc` region `419` and suffix `abc`. Any other text is
     /// `InvalidExtension`. It does not allocate.
     pub fn try_from_utf8(code_units: &[u8]) -> Result<Self, ParseError>
-        ensures { MatchResult result (λ s. subdivision_of code_units.now ≡ Some s) (λ e. (subdivision_of code_units.now ≡ None) × (e ≡ ParseError.InvalidExtension)) }
+        ensures { MatchResult result (λ s. subdivision_of code_units.now ≡ Some s)
+            (λ e. (subdivision_of code_units.now ≡ None) × (e ≡ ParseError.InvalidExtension)) }
     {
         match read_at(code_units, 2) {
             Some(found) => Ok(found),
@@ -64,7 +66,8 @@ impl SubdivisionId {
     /// The subdivision that the text spells, as `try_from_utf8`: `USTX` is region `US` and suffix `tx`. The errors are
     /// those of `try_from_utf8`. It does not allocate.
     pub fn try_from_str(s: &str) -> Result<Self, ParseError>
-        ensures { MatchResult result (λ d. subdivision_of s.now ≡ Some d) (λ e. (subdivision_of s.now ≡ None) × (e ≡ ParseError.InvalidExtension)) }
+        ensures { MatchResult result (λ d. subdivision_of s.now ≡ Some d)
+            (λ e. (subdivision_of s.now ≡ None) × (e ≡ ParseError.InvalidExtension)) }
     {
         Self::try_from_utf8(s.as_bytes())
     }

@@ -19,7 +19,8 @@ pub fn write_piece<R: SubtagRule<N>, const N: usize, S: Sink>(
     requires { S.refused sink.old ≡ false }
     ensures ok { OnOk result (S.takes sink.old (bytes (hyphen ∷ []) ++ bytes piece.now) sink.new) }
     ensures refused { S.refused sink.new ≡ is_err result }
-    ensures begun { OnErr result (HasBegun S.takes S.lacks_room sink.old (bytes (hyphen ∷ []) ++ bytes piece.now) sink.new) }
+    ensures begun { OnErr result
+        (HasBegun S.takes S.lacks_room sink.old (bytes (hyphen ∷ []) ++ bytes piece.now) sink.new) }
 {
     sink.write_char('-')?;
     piece.write_to(sink)
@@ -36,7 +37,8 @@ pub fn write_pieces<R: SubtagRule<8>, S: Sink>(
     requires { S.refused sink.old ≡ false }
     ensures ok { OnOk result (S.takes sink.old (bytes (flat_map hyphened pieces.now)) sink.new) }
     ensures refused { S.refused sink.new ≡ is_err result }
-    ensures begun { OnErr result (HasBegun S.takes S.lacks_room sink.old (bytes (flat_map hyphened pieces.now)) sink.new) }
+    ensures begun { OnErr result
+        (HasBegun S.takes S.lacks_room sink.old (bytes (flat_map hyphened pieces.now)) sink.new) }
 {
     for piece in pieces {
         write_piece(piece, sink)?;
@@ -68,7 +70,8 @@ pub fn write_joined<R: SubtagRule<8>, S: Sink>(
     requires { S.refused sink.old ≡ false }
     ensures ok { OnOk result (S.takes sink.old (bytes first.now ++ bytes (flat_map hyphened others.now)) sink.new) }
     ensures refused { S.refused sink.new ≡ is_err result }
-    ensures begun { OnErr result (HasBegun S.takes S.lacks_room sink.old (bytes first.now ++ bytes (flat_map hyphened others.now)) sink.new) }
+    ensures begun { OnErr result
+        (HasBegun S.takes S.lacks_room sink.old (bytes first.now ++ bytes (flat_map hyphened others.now)) sink.new) }
 {
     first.write_to(sink)?;
     write_pieces(others, sink)
@@ -80,7 +83,8 @@ pub fn joined_length<R: SubtagRule<8>>(
     first: &SubtagOf<R, 8>,
     others: &[SubtagOf<R, 8>],
 ) -> Option<usize>
-    ensures { SomeIff result (length (first.now ++ flat_map hyphened others.now) < 2 ^ 64) (length (first.now ++ flat_map hyphened others.now)) }
+    ensures { SomeIff result (length (first.now ++ flat_map hyphened others.now) < 2 ^ 64)
+        (length (first.now ++ flat_map hyphened others.now)) }
 {
     pieces_length(others)?.checked_add(first.as_str().len())
 }

@@ -35,7 +35,9 @@ impl<R: SubtagRule<N>, const N: usize> SubtagOf<R, N> {
     ///
     /// A value that is no text has the error of the empty text. It does not allocate.
     pub fn from_json(value: &Value) -> Result<Self, ParseError>
-        ensures { let text = json_text (view value.now) in MatchResult result (λ subtag. (R.accepts text ≡ true) × (subtag ≡ R.normal text)) (λ e. (R.accepts text ≡ false) × (e ≡ R.fault)) }
+        ensures { let text = json_text (view value.now) in
+            MatchResult result (λ subtag. (R.accepts text ≡ true) × (subtag ≡ R.normal text))
+            (λ e. (R.accepts text ≡ false) × (e ≡ R.fault)) }
     {
         Self::try_from_str(text_of_json(value))
     }

@@ -21,14 +21,14 @@ impl<'a> Model for SubtagIterator<'a> {
     ghost view = { λ it. pieces_left it.rest };
 }
 
-/// The index of the first hyphen, if there is one.
+// The index of the first hyphen, if there is one.
 fn hyphen_in(text: &[u8]) -> Option<usize>
     ensures { result ≡ position is_hyphen text.now }
 {
     text.iter().position(|b| *b == b'-')
 }
 
-/// The first piece of a text, and what follows the hyphen that ends it.
+// The first piece of a text, and what follows the hyphen that ends it.
 fn split_piece(text: &[u8]) -> (&[u8], Option<&[u8]>)
     ensures { pieces text.now ≡ result.0.now ∷ pieces_left result.1 }
 {
@@ -55,7 +55,8 @@ impl<'a> SubtagIterator<'a> {
 
     /// The next piece, which stays: of `en-US` it is `en`, twice. It does not allocate.
     pub fn peek(&self) -> Option<&'a [u8]>
-        ensures { MatchOption result (self.now ≡ []) (λ piece. (others : List (List ℕ)) × (self.now ≡ piece.now ∷ others)) }
+        ensures { MatchOption result (self.now ≡ [])
+            (λ piece. (others : List (List ℕ)) × (self.now ≡ piece.now ∷ others)) }
     {
         let rest = self.rest?;
         Some(split_piece(rest).0)
@@ -64,7 +65,8 @@ impl<'a> SubtagIterator<'a> {
     /// The pieces after the next one, and the next one: of `en-US` the pieces `US`, and `en`. `None` where none is
     /// left. It does not allocate.
     pub fn next_const(self) -> (SubtagIterator<'a>, Option<&'a [u8]>)
-        ensures { MatchOption result.1 ((self.entry ≡ []) × (result.0 ≡ [])) (λ piece. self.entry ≡ piece.now ∷ result.0) }
+        ensures { MatchOption result.1 ((self.entry ≡ []) × (result.0 ≡ []))
+            (λ piece. self.entry ≡ piece.now ∷ result.0) }
     {
         let SubtagIterator { rest } = self;
         match rest {

@@ -32,7 +32,8 @@ impl<R: SubtagRule<N>, const N: usize> SubtagOf<R, N> {
     ///
     /// As a language `EN` is `en`, and `abcd` is `InvalidLanguage`. It does not allocate.
     pub fn try_from_str(s: &str) -> Result<Self, ParseError>
-        ensures { MatchResult result (λ subtag. (R.accepts s.now ≡ true) × (subtag ≡ R.normal s.now)) (λ e. (R.accepts s.now ≡ false) × (e ≡ R.fault)) }
+        ensures { MatchResult result (λ subtag. (R.accepts s.now ≡ true) × (subtag ≡ R.normal s.now))
+            (λ e. (R.accepts s.now ≡ false) × (e ≡ R.fault)) }
     {
         Self::try_from_utf8(s.as_bytes())
     }
@@ -40,7 +41,8 @@ impl<R: SubtagRule<N>, const N: usize> SubtagOf<R, N> {
     /// The subtag of these bytes, as `try_from_str`: as a language `EN` is `en`. The errors are those of
     /// `try_from_str`. It does not allocate.
     pub fn try_from_utf8(code_units: &[u8]) -> Result<Self, ParseError>
-        ensures { MatchResult result (λ subtag. (R.accepts code_units.now ≡ true) × (subtag ≡ R.normal code_units.now)) (λ e. (R.accepts code_units.now ≡ false) × (e ≡ R.fault)) }
+        ensures { MatchResult result (λ subtag. (R.accepts code_units.now ≡ true) × (subtag ≡ R.normal code_units.now))
+            (λ e. (R.accepts code_units.now ≡ false) × (e ≡ R.fault)) }
     {
         if !R::accepts(code_units) {
             return Err(R::fault());

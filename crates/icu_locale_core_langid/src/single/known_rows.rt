@@ -10,19 +10,26 @@ ghost use Rattle.icu_locale_core_langid.specs.SingleModes.{single, MeansSingleIn
 /// What the modes read.
 pub fn read_rows()
     // a keyword with a value
-    ensures keyword { MeansSingleInMode Locale (pieces (codes "EN-us-u-NU-Thai")) (single (codes "en", None, Some (codes "US"), None, Some (codes "nu", Some (codes "thai")))) }
+    ensures keyword { MeansSingleInMode Locale (pieces (codes "EN-us-u-NU-Thai"))
+        (single (codes "en", None, Some (codes "US"), None, Some (codes "nu", Some (codes "thai")))) }
     // `true` is left out
-    ensures true_is_no_value { MeansSingleInMode Locale (pieces (codes "en-u-nu-true")) (single (codes "en", None, None, None, Some (codes "nu", None))) }
+    ensures true_is_no_value { MeansSingleInMode Locale (pieces (codes "en-u-nu-true"))
+        (single (codes "en", None, None, None, Some (codes "nu", None))) }
     // a keyword without a value
-    ensures key_alone { MeansSingleInMode Locale (pieces (codes "en-u-nu")) (single (codes "en", None, None, None, Some (codes "nu", None))) }
+    ensures key_alone { MeansSingleInMode Locale (pieces (codes "en-u-nu"))
+        (single (codes "en", None, None, None, Some (codes "nu", None))) }
     // each part of the language part
-    ensures whole { MeansSingleInMode LanguageIdentifier (pieces (codes "EN-latn-us-FONIPA")) (single (codes "en", Some (codes "Latn"), Some (codes "US"), Some (codes "fonipa"), None)) }
+    ensures whole { MeansSingleInMode LanguageIdentifier (pieces (codes "EN-latn-us-FONIPA"))
+        (single (codes "en", Some (codes "Latn"), Some (codes "US"), Some (codes "fonipa"), None)) }
     // the keyword is left, and is not read
-    ensures keyword_left { MeansSingleInMode Partial (pieces (codes "en-US-u-nu-thai")) (single (codes "en", None, Some (codes "US"), None, None)) }
+    ensures keyword_left { MeansSingleInMode Partial (pieces (codes "en-US-u-nu-thai"))
+        (single (codes "en", None, Some (codes "US"), None, None)) }
     // a second variant is left
-    ensures variant_left { MeansSingleInMode Partial (pieces (codes "de-1996-fonipa")) (single (codes "de", None, None, Some (codes "1996"), None)) }
+    ensures variant_left { MeansSingleInMode Partial (pieces (codes "de-1996-fonipa"))
+        (single (codes "de", None, None, Some (codes "1996"), None)) }
     // another extension is left
-    ensures transform_left { MeansSingleInMode Partial (pieces (codes "en-t-de")) (single (codes "en", None, None, None, None)) }
+    ensures transform_left { MeansSingleInMode Partial (pieces (codes "en-t-de"))
+        (single (codes "en", None, None, None, None)) }
 {}
 
 /// The faults in mode `Locale`.

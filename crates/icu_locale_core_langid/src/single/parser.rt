@@ -31,7 +31,8 @@ fn front_of(
     parts: Option<OneVariantParts>,
     whole: bool,
 ) -> Result<(OneVariantParts, bool), ParseError>
-    ensures { MatchResult result (λ front. (parts ≡ Some front.0) × (front.1 ≡ whole)) (λ e. (parts ≡ None) × (e ≡ ParseError.InvalidLanguage)) }
+    ensures { MatchResult result (λ front. (parts ≡ Some front.0) × (front.1 ≡ whole))
+        (λ e. (parts ≡ None) × (e ≡ ParseError.InvalidLanguage)) }
 {
     match parts {
         Some(parts) => Ok((parts, whole)),
@@ -41,7 +42,8 @@ fn front_of(
 
 // The longest front that is a language part of at most one variant, and whether it is all.
 fn read_front(from: SubtagIterator<'_>) -> Result<(OneVariantParts, bool), ParseError>
-    ensures { MatchResult result (λ front. ReadsFrontOrAll from.entry (parts_id front.0) front.1) (λ e. HasFault MeansOneVariant from.entry e × (e ≡ ParseError.InvalidLanguage)) }
+    ensures { MatchResult result (λ front. ReadsFrontOrAll from.entry (parts_id front.0) front.1)
+        (λ e. HasFault MeansOneVariant from.entry e × (e ≡ ParseError.InvalidLanguage)) }
 {
     let mut parts: Option<OneVariantParts> = None;
     for piece in from {
@@ -56,7 +58,8 @@ fn read_front(from: SubtagIterator<'_>) -> Result<(OneVariantParts, bool), Parse
 // All pieces as a language part of at most one variant.
 #[tactic(auto, using(crate::proofs::SingleFrontLemmas::whole_front))]
 fn read_language(from: SubtagIterator<'_>) -> Result<OneVariantParts, ParseError>
-    ensures { MatchResult result (λ parts. MeansOneVariant from.entry (parts_id parts)) (λ e. HasFault MeansOneVariant from.entry e) }
+    ensures { MatchResult result (λ parts. MeansOneVariant from.entry (parts_id parts))
+        (λ e. HasFault MeansOneVariant from.entry e) }
 {
     let (parts, whole) = read_front(from)?;
     if whole {
@@ -80,7 +83,8 @@ pub fn parse_locale_with_single_variant_single_keyword_unicode_extension_from_it
     iter: SubtagIterator<'_>,
     mode: ParserMode,
 ) -> Result<SingleParts, ParseError>
-    ensures { MatchResult result (λ parts. MeansSingleInMode mode iter.entry (single parts)) (λ e. HasSingleFaultInMode mode iter.entry e) }
+    ensures { MatchResult result (λ parts. MeansSingleInMode mode iter.entry (single parts))
+        (λ e. HasSingleFaultInMode mode iter.entry e) }
 {
     match mode {
         ParserMode::LanguageIdentifier => Ok(joined_parts(read_language(iter)?, None)),
@@ -100,7 +104,8 @@ pub fn parse_locale_with_single_variant_single_keyword_unicode_keyword_extension
     code_units: &[u8],
     mode: ParserMode,
 ) -> Result<SingleParts, ParseError>
-    ensures { MatchResult result (λ parts. MeansSingleInMode mode (pieces code_units.now) (single parts)) (λ e. HasSingleFaultInMode mode (pieces code_units.now) e) }
+    ensures { MatchResult result (λ parts. MeansSingleInMode mode (pieces code_units.now) (single parts))
+        (λ e. HasSingleFaultInMode mode (pieces code_units.now) e) }
 {
     parse_locale_with_single_variant_single_keyword_unicode_extension_from_iter(
         SubtagIterator::new(code_units),
@@ -117,7 +122,8 @@ pub fn parse_language_identifier_with_single_variant(
     code_units: &[u8],
     mode: ParserMode,
 ) -> Result<(Language, Option<Script>, Option<Region>, Option<Variant>), ParseError>
-    ensures { MatchResult result (MeansPartsInMode mode (pieces code_units.now)) (λ e. HasSingleFaultInMode mode (pieces code_units.now) e) }
+    ensures { MatchResult result (MeansPartsInMode mode (pieces code_units.now))
+        (λ e. HasSingleFaultInMode mode (pieces code_units.now) e) }
 {
     let (language, script, region, variant, _) =
         parse_locale_with_single_variant_single_keyword_unicode_keyword_extension(

@@ -36,7 +36,8 @@ fn says_true(piece: &[u8]) -> bool
 // Behind a language part that does not go on with the piece: `u`.
 #[tactic(auto, using(crate::proofs::SingleStageLemmas::unicode_opened, crate::proofs::SingleStageLemmas::nothing_opened))]
 fn behind_language(parts: OneVariantParts, piece: &[u8]) -> Result<Stage, ParseError>
-    ensures { one_variant_after (Some (parts_id parts)) piece.now ≡ None → GoesOn (InLanguage (Some (parts_id parts))) piece.now result }
+    ensures { one_variant_after (Some (parts_id parts)) piece.now ≡ None
+        → GoesOn (InLanguage (Some (parts_id parts))) piece.now result }
 {
     if is_letter(piece, b'u') {
         Ok(Stage::BehindUnicode(parts))
@@ -99,7 +100,8 @@ pub(crate) fn stage_after(stage: Stage, piece: &[u8]) -> Result<Stage, ParseErro
 
 // What was read where the pieces end, or the fault there.
 pub(crate) fn parts_at_end(stage: Stage) -> Result<SingleParts, ParseError>
-    ensures { MatchResult result (λ parts. single_ends (stage_view stage) ≡ Some (single parts)) (λ e. (single_ends (stage_view stage) ≡ None) × (e ≡ single_fault (stage_view stage) None)) }
+    ensures { MatchResult result (λ parts. single_ends (stage_view stage) ≡ Some (single parts))
+        (λ e. (single_ends (stage_view stage) ≡ None) × (e ≡ single_fault (stage_view stage) None)) }
 {
     match stage {
         Stage::InLanguage(None) => Err(ParseError::InvalidLanguage),

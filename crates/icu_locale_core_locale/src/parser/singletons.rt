@@ -57,14 +57,14 @@ impl Singletons {
     }
 }
 
-/// Whether the piece is `x`, in either case.
+// Whether the piece is `x`, in either case.
 pub(crate) fn opens_private(piece: &[u8]) -> bool
     ensures { result ≡ is_private piece.now }
 {
     is_letter(piece, b'x')
 }
 
-/// Whether the piece is one of these singletons, in either case.
+// Whether the piece is one of these singletons, in either case.
 pub(crate) fn has_come(seen: &[u8], piece: &[u8]) -> bool
     ensures { result ≡ contains_text (lower piece.now) (singletons seen.now) }
 {
@@ -74,7 +74,7 @@ pub(crate) fn has_come(seen: &[u8], piece: &[u8]) -> bool
     }
 }
 
-/// The singleton of an extension that is read, in lower case.
+// The singleton of an extension that is read, in lower case.
 pub(crate) fn key_of(body: &BodyStage) -> u8
     ensures { result ∷ [] ≡ body_key body.now }
 {

@@ -58,7 +58,8 @@ fn stage_after_part(
     extensions: Extensions,
     piece: &[u8],
 ) -> Option<LocaleStage>
-    ensures { MatchOption result (stage_behind id (singletons seen) extensions.blocks piece.now ≡ None) (λ s. stage_behind id (singletons seen) extensions.blocks piece.now ≡ Some (stage_view s)) }
+    ensures { MatchOption result (stage_behind id (singletons seen) extensions.blocks piece.now ≡ None)
+        (λ s. stage_behind id (singletons seen) extensions.blocks piece.now ≡ Some (stage_view s)) }
 {
     if opens_private(piece) {
         return Some(LocaleStage::InPrivate(id, extensions, Private::new(alloc)));
@@ -122,7 +123,9 @@ fn after_ended(
     body: BodyStage,
     piece: &[u8],
 ) -> Result<Attempt<LocaleStage>, AllocError>
-    ensures step { body_stage_after (body_view body) piece.now ≡ None → IfOk result (GoesOn (InBlock id (singletons seen) extensions.blocks (body_key body) (body_view body)) piece.now) }
+    ensures step { body_stage_after (body_view body) piece.now ≡ None
+        → IfOk result
+        (GoesOn (InBlock id (singletons seen) extensions.blocks (body_key body) (body_view body)) piece.now) }
     ensures room { body_keeps (body_view body) ≡ false → length seen < 36 → IsOk result }
 {
     let key = key_of(&body);
@@ -146,8 +149,10 @@ fn after_extension(
     stage: ExtensionStage,
     piece: &[u8],
 ) -> Result<Attempt<LocaleStage>, AllocError>
-    ensures step { IfOk result (GoesOn (block_view stage.id stage.seen stage.extensions.blocks stage.body stage.filled) piece.now) }
-    ensures room { tag_grows_at (block_view stage.id stage.seen stage.extensions.blocks stage.body stage.filled) piece.now ≡ false → length stage.seen < 36 → IsOk result }
+    ensures step { IfOk result
+        (GoesOn (block_view stage.id stage.seen stage.extensions.blocks stage.body stage.filled) piece.now) }
+    ensures room { tag_grows_at (block_view stage.id stage.seen stage.extensions.blocks stage.body stage.filled)
+        piece.now ≡ false → length stage.seen < 36 → IsOk result }
 {
     let ExtensionStage {
         id,
@@ -227,7 +232,9 @@ fn with_last(
     mut extensions: Extensions,
     last: Part,
 ) -> Result<Extensions, AllocError>
-    ensures value { IfOk result (λ e. (key : List ℕ) → HasKey key last → e ≡ record { blocks = put_meaning key (part_view last) extensions.blocks; own = [] }) }
+    ensures value { IfOk result
+        (λ e. (key : List ℕ) → HasKey key last
+        → e ≡ record { blocks = put_meaning key (part_view last) extensions.blocks; own = [] }) }
     ensures room { is_other_part last ≡ false → IsOk result }
 {
     put_part(&mut extensions, last)?;
@@ -241,7 +248,8 @@ fn ended_body(
     extensions: Extensions,
     body: BodyStage,
 ) -> Result<Attempt<Locale>, AllocError>
-    ensures ends { (seen : List (List ℕ)) → IfOk result (Ends (InBlock id seen extensions.blocks (body_key body) (body_view body))) }
+    ensures ends { (seen : List (List ℕ))
+        → IfOk result (Ends (InBlock id seen extensions.blocks (body_key body) (body_view body))) }
     ensures room { body_keeps (body_view body) ≡ false → IsOk result }
 {
     match body_finish(alloc, body)? {
@@ -256,7 +264,8 @@ fn ended_body(
 // The locale of an extension that is read last.
 fn ended_extension(alloc: Global, stage: ExtensionStage) -> Result<Attempt<Locale>, AllocError>
     ensures ends { IfOk result (Ends (block_view stage.id stage.seen stage.extensions.blocks stage.body stage.filled)) }
-    ensures room { tag_keeps (block_view stage.id stage.seen stage.extensions.blocks stage.body stage.filled) ≡ false → IsOk result }
+    ensures room { tag_keeps (block_view stage.id stage.seen stage.extensions.blocks stage.body stage.filled) ≡ false
+        → IsOk result }
 {
     let ExtensionStage {
         id,

@@ -69,7 +69,8 @@ impl Private {
     pub fn try_from_str(alloc: Global, s: &str) -> Result<Self, ParseError>
         ensures value { IfOk result (ReadsPrivate s.now) }
         ensures fault { IfErr result (IsRefused (ReadsPrivate s.now)) }
-        ensures room { begins_behind is_private is_private_piece (pieces s.now) ≡ false → ¬ (IsErrOf result ParseError.Memory) }
+        ensures room { begins_behind is_private is_private_piece (pieces s.now) ≡ false
+            → ¬ (IsErrOf result ParseError.Memory) }
     {
         Private::try_from_utf8(alloc, s.as_bytes())
     }
@@ -79,7 +80,8 @@ impl Private {
     pub fn try_from_utf8(alloc: Global, code_units: &[u8]) -> Result<Self, ParseError>
         ensures value { IfOk result (ReadsPrivate code_units.now) }
         ensures fault { IfErr result (IsRefused (ReadsPrivate code_units.now)) }
-        ensures room { begins_behind is_private is_private_piece (pieces code_units.now) ≡ false → ¬ (IsErrOf result ParseError.Memory) }
+        ensures room { begins_behind is_private is_private_piece (pieces code_units.now) ≡ false
+            → ¬ (IsErrOf result ParseError.Memory) }
     {
         let (rest, first) = SubtagIterator::new(code_units).next_const();
         let Some(singleton) = first else {

@@ -13,9 +13,10 @@ use icu_locale_core_subtags::private::Subtag;
 use std::fmt;
 use writeable::{Error, LengthHint, Sink, Writeable, display};
 
-/// The number of bytes of the text; `None` where a `usize` does not hold it.
+// The number of bytes of the text; `None` where a `usize` does not hold it.
 fn text_length(private: &Private) -> Option<usize>
-    ensures { SomeIff result (length (joined_text (private_pieces private.now)) < 2 ^ 64) (length (joined_text (private_pieces private.now))) }
+    ensures { SomeIff result (length (joined_text (private_pieces private.now)) < 2 ^ 64)
+        (length (joined_text (private_pieces private.now))) }
 {
     if private.is_empty() {
         return Some(0);
@@ -28,7 +29,8 @@ fn write_behind_singleton<S: Sink>(pieces: &[Subtag], sink: &mut S) -> Result<()
     requires { S.refused sink.old ≡ false }
     ensures ok { OnOk result (S.takes sink.old (bytes private_text ++ bytes (flat_map hyphened pieces.now)) sink.new) }
     ensures refused { S.refused sink.new ≡ is_err result }
-    ensures begun { OnErr result (HasBegun S.takes S.lacks_room sink.old (bytes private_text ++ bytes (flat_map hyphened pieces.now)) sink.new) }
+    ensures begun { OnErr result
+        (HasBegun S.takes S.lacks_room sink.old (bytes private_text ++ bytes (flat_map hyphened pieces.now)) sink.new) }
 {
     sink.write_str("x")?;
     write_pieces(pieces, sink)
@@ -55,8 +57,10 @@ impl Writeable for Private {
     #[tactic(auto, using(writeable::proofs::AnnotatedTextLemmas::text_of_bytes))]
     fn writeable_length_hint(&self) -> LengthHint
         ensures within { IsWithinHint result (length (text_of (bytes (joined_text (private_pieces self.now))))) }
-        ensures low { length (joined_text (private_pieces self.now)) < 2 ^ 64 → result.low ≡ length (joined_text (private_pieces self.now)) }
-        ensures high { length (joined_text (private_pieces self.now)) < 2 ^ 64 → result.high ≡ Some (length (joined_text (private_pieces self.now))) }
+        ensures low { length (joined_text (private_pieces self.now)) < 2 ^ 64
+            → result.low ≡ length (joined_text (private_pieces self.now)) }
+        ensures high { length (joined_text (private_pieces self.now)) < 2 ^ 64
+            → result.high ≡ Some (length (joined_text (private_pieces self.now))) }
     {
         match text_length(self) {
             Some(length) => LengthHint::exact(length),

@@ -6,7 +6,7 @@ ghost use Rattle.icu_locale_core_subtag_lists.specs.Places.{StandsAt, BelongsAt}
 
 use icu_locale_core_subtags::{SubtagOf, SubtagRule};
 
-/// The place of the subtag, or the place where it belongs.
+// The place of the subtag, or the place where it belongs.
 pub(crate) fn place_of<R: SubtagRule<8>>(
     items: &[SubtagOf<R, 8>],
     subtag: &SubtagOf<R, 8>,

@@ -75,7 +75,8 @@ impl Subtag {
 /// The subtag of a piece of the value of a keyword or a field, 3 to 8 letters and digits: `Foo` gives `foo`, and of
 /// `fo` there is none. It does not allocate.
 pub fn value_subtag(piece: &[u8]) -> Option<Subtag>
-    ensures { MatchOption result (is_value piece.now ≡ false) (λ subtag. (is_value piece.now ≡ true) × (subtag ≡ lower piece.now)) }
+    ensures { MatchOption result (is_value piece.now ≡ false)
+        (λ subtag. (is_value piece.now ≡ true) × (subtag ≡ lower piece.now)) }
 {
     if piece.len() < 3 {
         return None;
