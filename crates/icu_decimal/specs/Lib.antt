@@ -28,6 +28,7 @@ pub use Rattle.icu_decimal_compact.specs.Identifiers
 pub use Rattle.icu_decimal_symbols.specs.Options
 pub use Rattle.icu_decimal_compact.specs.Preferences
 pub use Rattle.icu_decimal_symbols.specs.Symbols
+pub use Rattle.icu_decimal_reading.specs.DecimalOfText
 pub use Rattle.icu_decimal_reading.specs.PlainReading
 pub use Rattle.icu_decimal_reading.specs.Readable
 pub use Rattle.icu_decimal_reading.specs.ReadErrors

@@ -1,7 +1,8 @@
 //! Reading plain texts back, by a formatter.
 
 ghost use Rattle.std.specs.Prelude.{◌≡◌, ◌↔◌, true, false, IfOk, IsErrOf};
-ghost use Rattle.icu_decimal_reading.specs.PlainReading.{HasManyDigits, HasNoNumber, IsAnswered, IsPlainText, plain_reading};
+ghost use Rattle.icu_decimal_reading.specs.DecimalOfText.{HasManyDigits, HasNoNumber, IsAnswered, IsPlainText};
+ghost use Rattle.icu_decimal_reading.specs.PlainReading.{plain_reading};
 ghost use Rattle.icu_decimal_reading.specs.Readable.{is_readable_by};
 ghost use Rattle.icu_decimal_reading.specs.ReadingLaws.{AreTables};
 ghost use Rattle.icu_decimal_compact.specs.HeldTables.{tables_of};

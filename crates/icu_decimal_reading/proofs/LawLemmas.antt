@@ -14,11 +14,12 @@ use Rattle.fixed_decimal.specs.declared.Sign.{Sign}
 use Rattle.fixed_decimal.specs.declared.Sign.TheVariants.{None as NoSign, Negative, Positive}
 use Rattle.fixed_decimal.proofs.SignedReadOnceLemmas.{same_signed, signed_reads_once}
 use Rattle.icu_decimal_plain.specs.PlainText.{Tables, decimal_text}
-use Rattle.icu_decimal_reading.specs.PlainReading.{HasNoNumber, IsAnswered, IsPlainText, PlainReading, decimal, fraction_in, is_text_of, is_within, not_written, number_with, plain_reading, signed_reading, unreadable, whole_in, with_sign}
+use Rattle.icu_decimal_reading.specs.DecimalOfText.{HasNoNumber, IsAnswered, IsPlainText, IsReading, PlainReading, decimal, not_written, unreadable}
+use Rattle.icu_decimal_reading.specs.PlainReading.{fraction_in, is_text_of, is_within, number_with, plain_reading, signed_reading, whole_in, with_sign}
 use Rattle.icu_decimal_reading.specs.declared.error.ReadError.{ReadError}
 use Rattle.icu_decimal_reading.specs.declared.error.ReadError.TheVariants.{Unreadable, NotWritten, Memory}
 use Rattle.icu_decimal_reading.specs.Readable.{digit_of, do_signs_differ, is_readable_by, is_same_pair}
-use Rattle.icu_decimal_reading.specs.ReadingLaws.{AreTables, AutoIsAlways, HasOneReading, IsReading, ReadIsWrittenAgain, TextsHaveOneDecimal, WrittenReadsBack}
+use Rattle.icu_decimal_reading.specs.ReadingLaws.{AreTables, AutoIsAlways, HasOneReading, ReadIsWrittenAgain, TextsHaveOneDecimal, WrittenReadsBack}
 use Rattle.icu_decimal_reading.proofs.NumberLemmas.{fraction_digits_are, is_number, number_again, number_read, whole_digits_are, within_read}
 use Rattle.icu_decimal_reading.proofs.PlainLemmas.{chars_of, digit_first, encoded_decimal, fraction_again, plain_chars, prefix_clear, prefix_for, prefix_utf8, same_chars, suffix_for, suffix_utf8, tests_of, whole_again, whole_some}
 use Rattle.icu_decimal_reading.proofs.ReadingLemmas.{first_sign, fraction_of, no_sign_fits, reading_past, reading_signed, reading_unreadable, second_sign, third_sign, whole_of}

@@ -5,7 +5,8 @@ use Rattle.std.specs.Str.{chars}
 use Rattle.fixed_decimal.specs.Number.{Number}
 use Rattle.fixed_decimal.specs.declared.Sign.TheVariants.{None as NoSign, Negative, Positive}
 use Rattle.icu_decimal_plain.specs.PlainText.{Tables}
-use Rattle.icu_decimal_reading.specs.PlainReading.{PlainReading, decimal, fraction_in, is_text_of, is_within, not_written, number_with, plain_reading, signed_reading, unreadable, whole_in, with_sign, written_reading}
+use Rattle.icu_decimal_reading.specs.DecimalOfText.{PlainReading, decimal, not_written, unreadable}
+use Rattle.icu_decimal_reading.specs.PlainReading.{fraction_in, is_text_of, is_within, number_with, plain_reading, signed_reading, whole_in, with_sign, written_reading}
 use Rattle.icu_decimal_reading.specs.Readable.{all_differ, is_readable_by}
 
 module _ (t : Tables) (text : List ℕ) (n : Number) where

@@ -1,3 +1,4 @@
+pub mod DecimalOfText
 pub mod GatheredDigits
 pub mod PlainReading
 pub mod Readable

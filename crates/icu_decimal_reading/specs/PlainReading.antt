@@ -1,39 +1,16 @@
--- What a text is under some tables: the plain text of one decimal, or of none, as a relation and as a function of the text.
--- Defined in docs/reading.md, "Reading"; a law of `laws.rt` says that the function is the relation.
--- Cited by `read_plain`, and by what answers with it.
-use Rattle.std.specs.Prelude.{◌≡◌, ◌≢◌, ℕ, ◌+◌, ◌-◌, ◌*◌, ◌^◌, ◌<◌, ◌==◌, nat_le, nat_lt, Bool, true, false, ◌&&◌, cond, List, [], ◌∷◌, ◌++◌, length, map, filter_map, is_some, Option, None, Some, Result, Ok, Err}
+-- The reading of a text as a function of tables and text: its digits, as one number under each sign, written again and compared with the text.
+-- Defined in docs/reading.md, "Reading"; a law of `laws.rt` says that it is the reading which `IsReading` of DecimalOfText.antt names.
+-- Cited by `read_plain` and `read_readable`, and by what answers with it.
+use Rattle.std.specs.Prelude.{ℕ, ◌+◌, ◌-◌, ◌*◌, ◌^◌, ◌==◌, nat_le, nat_lt, Bool, true, false, ◌&&◌, cond, List, [], ◌∷◌, ◌++◌, length, map, filter_map, is_some, Option, None, Some}
 use Rattle.std.specs.Str.{bytes_eq, chars}
 use Rattle.fixed_decimal.specs.Number.{Number}
 use Rattle.fixed_decimal.specs.NumberText.{character, spelled}
 use Rattle.fixed_decimal.specs.SignedValue.{SignedValue}
-use Rattle.fixed_decimal.specs.TextLaws.{IsDecimal}
 use Rattle.fixed_decimal.specs.declared.Sign.{Sign}
 use Rattle.fixed_decimal.specs.declared.Sign.TheVariants.{None as NoSign, Negative, Positive}
 use Rattle.icu_decimal_plain.specs.PlainText.{Tables, decimal_text}
 use Rattle.icu_decimal_reading.specs.Readable.{digit_of, is_readable_by}
-use Rattle.icu_decimal_reading.specs.declared.error.ReadError.{ReadError}
-use Rattle.icu_decimal_reading.specs.declared.error.ReadError.TheVariants.{Unreadable, NotWritten, Memory}
-
--- ---- the relation
-
--- this is the plain text of the decimal
-pub record IsPlainText (t : Tables) (text : List ℕ) (v : SignedValue Number) : Type 0 where
-  pub decimal : IsDecimal v
-  pub written : decimal_text t v ≡ text
-
--- it is that of no decimal
-abbrev pub HasNoNumber : Tables → List ℕ → Type 0
-HasNoNumber t text = (v : SignedValue Number) → IsDecimal v → decimal_text t v ≢ text
-
--- the digits of a text that are digits of a table
-abbrev pub digits_in : Tables → List ℕ → List ℕ
-digits_in t text = filter_map (digit_of t.digits) (chars text)
-
--- more than eight of them
-abbrev pub HasManyDigits : Tables → List ℕ → Type 0
-HasManyDigits t text = 8 < length (digits_in t text)
-
--- ---- the function
+pub use Rattle.icu_decimal_reading.specs.DecimalOfText.{HasManyDigits, HasNoNumber, IsAnswered, IsPlainText, PlainReading, decimal, not_written, unreadable}
 
 -- the separator stands at the front of these characters, and a digit behind it
 abbrev pub begins_fraction : List ℕ → List ℕ → List ℕ → Bool
@@ -86,12 +63,6 @@ with_sign sign number = record { sign = sign; absolute = number }
 abbrev pub is_text_of : Tables → List ℕ → SignedValue Number → Bool
 is_text_of t text v = bytes_eq (decimal_text t v) text
 
--- what a text is under some tables
-pub data PlainReading : Type 0 where
-  unreadable : PlainReading
-  not_written : PlainReading
-  decimal : SignedValue Number → PlainReading
-
 -- the number with the sign under which this is its text
 abbrev pub signed_reading : Tables → List ℕ → Number → PlainReading
 signed_reading t text n =
@@ -110,10 +81,3 @@ written_reading t text =
 
 abbrev pub plain_reading : Tables → List ℕ → PlainReading
 plain_reading t text = cond (is_readable_by t) (written_reading t text) unreadable
-
--- a call answers so, where it is not out of memory
-abbrev pub IsAnswered : Result (SignedValue Number) ReadError → PlainReading → Type 0
-IsAnswered (Ok v) reading = reading ≡ decimal v
-IsAnswered (Err Unreadable) reading = reading ≡ unreadable
-IsAnswered (Err NotWritten) reading = reading ≡ not_written
-IsAnswered (Err Memory) reading = Unit {0}

@@ -1,7 +1,7 @@
 -- Laws of reading, over the definitions alone.
 -- Defined in docs/reading.md, "Laws".
 -- Cited by the functions of `laws`.
-use Rattle.std.specs.Prelude.{◌≡◌, ◌↔◌, ℕ, true, false, List, length}
+use Rattle.std.specs.Prelude.{◌≡◌, ◌↔◌, ℕ, true, List, length}
 use Rattle.std.specs.Str.{IsUtf8}
 use Rattle.fixed_decimal.specs.Number.{Number}
 use Rattle.fixed_decimal.specs.SignedValue.{SignedValue}
@@ -9,7 +9,8 @@ use Rattle.fixed_decimal.specs.TextLaws.{IsDecimal}
 use Rattle.icu_decimal_symbols.specs.declared.options.GroupingStrategy.TheVariants.{Auto, Always}
 use Rattle.icu_decimal_plain.specs.PlainText.{Tables, decimal_text}
 use Rattle.icu_decimal_reading.specs.Readable.{is_readable_by}
-use Rattle.icu_decimal_reading.specs.PlainReading.{HasNoNumber, IsPlainText, PlainReading, decimal, not_written, unreadable, plain_reading}
+use Rattle.icu_decimal_reading.specs.DecimalOfText.{IsReading, PlainReading, decimal}
+use Rattle.icu_decimal_reading.specs.PlainReading.{plain_reading}
 
 -- what holds of the tables of every formatter: ten digits, and symbols that are texts
 pub record AreTables (t : Tables) : Type 0 where
@@ -25,12 +26,6 @@ pub record AreTables (t : Tables) : Type 0 where
 abbrev pub TextsHaveOneDecimal : Type 0
 TextsHaveOneDecimal = (t : Tables) (a b : SignedValue Number) → AreTables t → is_readable_by t ≡ true
     → IsDecimal a → IsDecimal b → decimal_text t a ≡ decimal_text t b → a ≡ b
-
--- the text is what the reading says
-abbrev pub IsReading : Tables → List ℕ → PlainReading → Type 0
-IsReading t text unreadable = is_readable_by t ≡ false
-IsReading t text not_written = (is_readable_by t ≡ true) × HasNoNumber t text
-IsReading t text (decimal v) = (is_readable_by t ≡ true) × IsPlainText t text v
 
 -- each text has one reading, and the function answers it
 abbrev pub HasOneReading : Type 0

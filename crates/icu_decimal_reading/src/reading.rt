@@ -5,7 +5,8 @@ ghost use Rattle.std.specs.Str.{bytes_eq, chars};
 ghost use Rattle.fixed_decimal.specs.declared.Sign.TheVariants.{None as NoSign};
 ghost use Rattle.icu_decimal_plain.specs.BorrowedTables.{borrowed_tables};
 ghost use Rattle.icu_decimal_plain.specs.PlainText.{decimal_text};
-ghost use Rattle.icu_decimal_reading.specs.PlainReading.{HasManyDigits, HasNoNumber, IsAnswered, IsPlainText, decimal, fraction_in, is_text_of, is_within, not_written, number_with, plain_reading, signed_reading, whole_in, with_sign, written_reading};
+ghost use Rattle.icu_decimal_reading.specs.DecimalOfText.{HasManyDigits, HasNoNumber, IsAnswered, IsPlainText, decimal, not_written};
+ghost use Rattle.icu_decimal_reading.specs.PlainReading.{fraction_in, is_text_of, is_within, number_with, plain_reading, signed_reading, whole_in, with_sign, written_reading};
 ghost use Rattle.icu_decimal_reading.specs.Readable.{is_readable_by};
 ghost use Rattle.icu_decimal_reading.specs.ReadingLaws.{AreTables};
 
