@@ -1,5 +1,5 @@
 -- The text of a number in a pattern, and of the affixes round it.
-use Rattle.std.proofs.Common.{◌≡◌, ℕ, List, ◌++◌, Option, None, Some, Result, Ok, Err, IfOk, refl, sym, ap, ◌∙◌}
+use Rattle.std.proofs.Common.{◌≡◌, ℕ, List, ◌++◌, Option, None, Some, refl, sym, ap, ◌∙◌}
 use Rattle.writeable.specs.AnnotatedText.{Event, bytes, text_of, without_parts}
 use Rattle.writeable.proofs.AnnotatedTextLemmas.{bytes_joined, text_of_bytes}
 use Rattle.fixed_decimal.specs.Number.{Number}
@@ -10,11 +10,6 @@ use Rattle.icu_decimal_plain.specs.PlainText.{PlainNumber, prefix_text, suffix_t
 use Rattle.icu_decimal_plain.proofs.TextLemmas.{text_in_unit, text_with_sign, unsigned_is_text}
 use Rattle.icu_decimal_compact.specs.CompactTables.{CompactTables}
 use Rattle.icu_decimal_compact.specs.CompactText.{compact_decimal_events, compact_decimal_text, compact_formatted, compact_of, compact_text, text_in}
-
--- what holds of each answer of one kind holds of an Ok
-pub if_ok_by : {T E : Type 0} {P Q : T → Type 0} (r : Result T E) → ((t : T) → P t → Q t) → IfOk r P → IfOk r Q
-if_ok_by (Ok t) f h = f t h
-if_ok_by (Err e) f h = tt
 
 bytes_in : (p : Option PatternText) (text : List ℕ) → optional_events p (bytes text) ≡ bytes (text_in p text)
 bytes_in None text = refl

@@ -19,7 +19,7 @@ module _ (ones : ℕ) (entries : List CompactEntry) (place i : ℕ) (d : Compact
   unrolled : entry_at ones (drop i entries) place ≡ option_or (entry_at ones (drop (suc i) entries) place) (cond (nat_le (ones + (get_or entries i d).log10_type) place) (Some (get_or entries i d)) None)
   unrolled = ap (λ xs. entry_at ones xs place) (drop-cons entries i d l)
 
-  -- behind the index no entry is reached; the one at it is, or is passed
+  -- behind the index no entry is reached, and the one at it is
   module _ (next : ℕ) (behind : next ≡ suc i) (none : entry_at ones (drop next entries) place ≡ None) where
     at : (b : Bool) → nat_le (ones + (get_or entries i d).log10_type) place ≡ b → entry_at ones (drop i entries) place ≡ cond b (Some (get_or entries i d)) None
     at b test =
@@ -31,9 +31,6 @@ module _ (ones : ℕ) (entries : List CompactEntry) (place i : ℕ) (d : Compact
     reached h =
         let yes : nat_le (ones + (get_or entries i d).log10_type) place ≡ true = grind (arith, nat_tests) in
         slice_get-get_or entries i d l ∙ sym (whole_some ones entries place i (get_or entries i d) (at true yes))
-
-    pub passed : place < ones + (get_or entries i d).log10_type → entry_at ones (drop i entries) place ≡ None
-    passed h = let lacks : nat_le (ones + (get_or entries i d).log10_type) place ≡ false = grind (arith, nat_tests) in at false lacks
 
 pub found_at : (p : CompactEntry → Bool) (xs : List CompactEntry) → entry_of xs (position p xs) ≡ find p xs
 found_at p xs = go (nat_lt (position_or_len p xs) (length xs)) refl

@@ -3,7 +3,7 @@ use Rattle.std.proofs.Common.{◌≡◌, ◌<◌, ℕ, suc, Bool, true, false, n
 use Rattle.std.specs.List.{list_all, list_any}
 use Rattle.std.specs.Option.{option_or}
 use Rattle.std.specs.Str.{bytes_eq}
-use Rattle.std.proofs.lemmas.Bool.{and_parts, le-leb, lt-ltb, or_parts}
+use Rattle.std.proofs.lemmas.Bool.{and_parts, le-leb, lt-ltb, not-true, or_parts}
 use Rattle.icu_decimal_compact_value.specs.declared.entry.CompactEntry.{CompactEntry}
 use Rattle.icu_decimal_compact_value.specs.Entries.{Rises}
 use Rattle.icu_decimal_patterns.specs.KeptEntries.{CompactTable, IsOwnTable, Patterns, types_held}
@@ -46,16 +46,12 @@ abbrev are_distinct : List Slot → Bool
 are_distinct [] = true
 are_distinct (s ∷ slots) = not (has_name s.0 slots) && are_distinct slots
 
-not_true : (b : Bool) → not b ≡ true → b ≡ false
-not_true true h = cc
-not_true false h = refl
-
 none_repeated : (slots : List Slot) → are_distinct slots ≡ true → repeats_name (filled_slots slots) ≡ false
 none_repeated [] distinct = refl
 none_repeated ((name, None) ∷ slots) distinct = none_repeated slots (and_parts (not (has_name name slots)) (are_distinct slots) distinct).1
 none_repeated ((name, Some p) ∷ slots) distinct =
     let parts = and_parts (not (has_name name slots)) (are_distinct slots) distinct in
-    rw (none_named name slots (not_true (has_name name slots) parts.0)) (none_repeated slots parts.1)
+    rw (none_named name slots (not-true (has_name name slots) parts.0)) (none_repeated slots parts.1)
 
 abbrev slot_at : List ℕ → List Slot → Option PatternText
 slot_at name [] = None

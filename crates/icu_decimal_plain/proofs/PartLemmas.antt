@@ -7,6 +7,7 @@ use Rattle.writeable.specs.Laws.{IsBalanced}
 use Rattle.writeable.specs.PartName.{PartName}
 use Rattle.writeable.proofs.AnnotatedTextLemmas.{text_of_bytes}
 use Rattle.writeable.proofs.BalancedLemmas.{balanced_append, balanced_none, balanced_part, balanced_text}
+use Rattle.writeable.proofs.LawsLemmas.{intervals_bytes_alone}
 use Rattle.fixed_decimal.specs.Number.{Number, fraction_digits, whole_digits}
 use Rattle.fixed_decimal.specs.SignedValue.{SignedValue}
 use Rattle.icu_decimal_plain.specs.Affixes.{AffixTexts, affixes_of, as_part, decimal_part, prefix_events, suffix_events}
@@ -15,7 +16,7 @@ use Rattle.icu_decimal_plain.specs.PartLaws.{DecimalHasParts, UnitHasParts, Unsi
 use Rattle.icu_decimal_plain.specs.PlainText.{PlainNumber, Tables, chained, decimal_events, digit_text, formatted, fraction_events, integer_events, prefix_text, unsigned_events, unsigned_text, whole_events, whole_text}
 use Rattle.icu_decimal_plain.proofs.PlainTextLemmas.{bytes_chained}
 use Rattle.icu_decimal_plain.proofs.TextLemmas.{decimal_is_text, text_in_unit, text_of_part, text_prefix, text_whole, text_inside, text_with_sign, unsigned_is_text}
-use Rattle.icu_decimal_plain.proofs.EventPartLemmas.{both_from, no_parts, part_from, text_part_balanced, text_part_from}
+use Rattle.icu_decimal_plain.proofs.EventPartLemmas.{both_from, part_from, text_part_balanced, text_part_from}
 use Rattle.icu_decimal_plain.proofs.SeparatorLemmas.{groups_balanced, groups_from, whole_is}
 
 whole_balanced : (t : Tables) (ds : List ℕ) → IsBalanced (whole_events t ds)
@@ -114,9 +115,9 @@ unit_from n before behind p =
     let begin : ℕ = n + length before in
     let text : List ℕ = unsigned_text p.tables p.number in
     both_from n (bytes before) (unsigned_events p ++ bytes behind) before (balanced_text before) (text_of_bytes before)
-    ∙ ap (λ first. first ++ intervals_from begin (unsigned_events p ++ bytes behind)) (no_parts n before)
+    ∙ ap (λ first. first ++ intervals_from begin (unsigned_events p ++ bytes behind)) (intervals_bytes_alone n before)
     ∙ both_from begin (unsigned_events p) (bytes behind) text (unsigned_balanced p) (unsigned_is_text p)
-    ∙ ap (λ last. intervals_from begin (unsigned_events p) ++ last) (no_parts (begin + length text) behind)
+    ∙ ap (λ last. intervals_from begin (unsigned_events p) ++ last) (intervals_bytes_alone (begin + length text) behind)
     ∙ append-nil (intervals_from begin (unsigned_events p))
     ∙ unsigned_from begin p
 

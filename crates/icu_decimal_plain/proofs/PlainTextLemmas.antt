@@ -3,6 +3,7 @@ use Rattle.std.proofs.Common.{◌≡◌, ℕ, zero, suc, ◌+◌, ◌-◌, ◌/�
 use Rattle.std.proofs.lemmas.List.{drop-drop, drop-map, map-append, take-map}
 use Rattle.std.proofs.lemmas.List.Concat.{flat_map-append}
 use Rattle.std.proofs.lemmas.Nat.{mod_below}
+use Rattle.std.proofs.Math.Seq.{take-nil}
 use Rattle.std.specs.Char.{encode_utf8}
 use Rattle.std.specs.Int.Digits.{AllBelowBase}
 use Rattle.std.specs.List.{flat_map}
@@ -117,13 +118,9 @@ next_rest ds rest left k d next is =
     let more : left ≡ suc k = omega (arith, next) in ap (λ n. drop n ds) more ∙ ap (drop (suc k)) is
 
 -- of so many digits the first few, and the others
-take_none : (k : ℕ) → take {A = ℕ} k [] ≡ []
-take_none zero = refl
-take_none (suc k) = refl
-
 take_parts : (n k : ℕ) (ds : List ℕ) → take (n + k) ds ≡ take n ds ++ take k (drop n ds)
 take_parts zero k ds = let none : 0 + k ≡ k = omega arith in ap (λ j. take j ds) none
-take_parts (suc n) k [] = let whole : suc n + k ≡ suc (n + k) = omega arith in ap (λ j. take j []) whole ∙ sym (take_none k)
+take_parts (suc n) k [] = let whole : suc n + k ≡ suc (n + k) = omega arith in ap (λ j. take j []) whole ∙ sym (take-nil k)
 take_parts (suc n) k (d ∷ ds) = let whole : suc n + k ≡ suc (n + k) = omega arith in ap (λ j. take j (d ∷ ds)) whole ∙ ap (λ rest. d ∷ rest) (take_parts n k ds)
 
 pub next_piece : (table ds after : List ℕ) (left n k : ℕ) → left ≡ n + k → after ≡ drop n ds → chained (map (digit_events table) (take left ds)) ≡ chained (map (digit_events table) (take n ds)) ++ chained (map (digit_events table) (take k after))
@@ -150,9 +147,6 @@ pub next_group : (separator table ns others ds after : List ℕ) (n : ℕ) → n
 next_group separator table ns others ds after n next is =
     ap (λ sizes. later_events separator table sizes ds) next
     ∙ ap (λ digits. (as_part (decimal_part (codes "group")) separator ++ chained (map (digit_events table) (take n ds))) ++ later_events separator table others digits) (sym is)
-
-pub no_group : (separator table ns ds : List ℕ) → ns ≡ [] → later_events separator table ns ds ≡ []
-no_group separator table ns ds none = ap (λ sizes. later_events separator table sizes ds) none
 
 -- a character has at most four bytes
 pub few_bytes : (c : ℕ) → length (encode_utf8 c) ≤ 4

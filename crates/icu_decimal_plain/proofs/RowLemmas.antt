@@ -1,7 +1,7 @@
 -- Digits that are single bytes in a row.
 use Rattle.std.proofs.Common.{◌≡◌, ℕ, zero, suc, ◌+◌, ◌-◌, ◌*◌, ◌<◌, ◌≤◌, List, [], ◌∷◌, ◌++◌, drop, encode_utf8, get_or, length, map, refl, replicate, set, slice_index, sum, sym, take, ap, ◌∙◌, append_assoc, arith}
 use Rattle.std.proofs.lemmas.Grind.{take-set_at}
-use Rattle.std.proofs.lemmas.List.{drop_all, drop_more, length-replicate}
+use Rattle.std.proofs.lemmas.List.{drop_all, drop_more}
 use Rattle.std.proofs.lemmas.List.Sums.{sum_by-cons}
 use Rattle.std.proofs.lemmas.Str.{encode_ascii}
 use Rattle.std.specs.Int.Digits.{AllBelowBase}
@@ -48,10 +48,7 @@ threes_ahead nought groups n bytes table ns ds row tens long one all =
     ∙ ap (λ separator. groups_ahead separator (row_text nought) ns ds) (one_taken bytes n long one)
     ∙ row_ahead nought (take n bytes) table ns ds row tens
 
--- how many they are, and their digits together
-pub threes_count : (groups : ℕ) (ns : List ℕ) → ns ≡ replicate groups 3 → length ns ≡ groups
-threes_count groups ns all = ap length all ∙ length-replicate groups 3
-
+-- their digits together
 threes_sum : (groups : ℕ) → sum (replicate groups 3) ≡ 3 * groups
 threes_sum zero = refl
 threes_sum (suc k) =

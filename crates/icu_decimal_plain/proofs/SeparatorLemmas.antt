@@ -10,13 +10,14 @@ use Rattle.writeable.specs.Laws.{IsBalanced}
 use Rattle.writeable.specs.PartName.{PartName}
 use Rattle.writeable.proofs.AnnotatedTextLemmas.{bytes_joined, no_bytes, text_of_bytes}
 use Rattle.writeable.proofs.BalancedLemmas.{balanced_append, balanced_none, balanced_text}
+use Rattle.writeable.proofs.LawsLemmas.{intervals_bytes_alone}
 use Rattle.icu_decimal_plain.specs.Affixes.{as_part, decimal_part}
 use Rattle.icu_decimal_grouping.specs.Grouper.{cut_by, group_sizes, groups, joined}
 use Rattle.icu_decimal_plain.specs.PartIntervals.{groups_of, groups_text, part_at, separator_at, separator_parts}
 use Rattle.icu_decimal_plain.specs.PartLaws.{SeparatorsStandBetween}
 use Rattle.icu_decimal_plain.specs.PlainText.{Tables, chained, digit_events, digit_text, whole_events}
 use Rattle.icu_decimal_plain.proofs.TextLemmas.{text_of_part}
-use Rattle.icu_decimal_plain.proofs.EventPartLemmas.{both_from, no_parts, text_part_balanced, text_part_from}
+use Rattle.icu_decimal_plain.proofs.EventPartLemmas.{both_from, text_part_balanced, text_part_from}
 
 abbrev group_part : List ℕ → List Event
 group_part separator = as_part (decimal_part (codes "group")) separator
@@ -61,7 +62,7 @@ behind_from n separator (g ∷ gs) =
     both_from n (group_part separator) (bytes (chained g) ++ behind separator gs) separator (text_part_balanced part separator) (text_of_part part separator)
     ∙ ap (λ first. first ++ intervals_from m (bytes (chained g) ++ behind separator gs)) (text_part_from n part separator)
     ∙ ap (λ others. part_at n separator part ++ others) (both_from m (bytes (chained g)) (behind separator gs) (chained g) (balanced_text (chained g)) (text_of_bytes (chained g))
-    ∙ ap (λ none. none ++ intervals_from (m + length (chained g)) (behind separator gs)) (no_parts m (chained g))
+    ∙ ap (λ none. none ++ intervals_from (m + length (chained g)) (behind separator gs)) (intervals_bytes_alone m (chained g))
     ∙ behind_from (m + length (chained g)) separator gs)
 
 -- the text of groups, and of more behind them
@@ -118,7 +119,7 @@ groups_from n separator [] = refl
 groups_from n separator (g ∷ gs) =
     let m : ℕ = n + length (chained g) in
     both_from n (bytes (chained g)) (behind separator gs) (chained g) (balanced_text (chained g)) (text_of_bytes (chained g))
-    ∙ ap (λ none. none ++ intervals_from m (behind separator gs)) (no_parts n (chained g))
+    ∙ ap (λ none. none ++ intervals_from m (behind separator gs)) (intervals_bytes_alone n (chained g))
     ∙ behind_from m separator gs
     ∙ ap (λ list. behind_parts (n + length (chained list)) separator gs) (sym (append-nil g))
     ∙ behind_counted n separator g [] gs

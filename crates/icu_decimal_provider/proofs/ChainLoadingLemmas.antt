@@ -3,7 +3,7 @@ use Rattle.std.proofs.Common.{◌≡◌, ℕ, zero, suc, List, [], ◌∷◌, �
 use Rattle.std.specs.Prelude.{Result, Ok, Err}
 use Rattle.icu_locale_core.specs.Subtags.{Text}
 use Rattle.icu_locale_core.specs.TagPreferences.{DataLocaleMeaning}
-use Rattle.icu_decimal_chains.specs.Chains.{walk, chain}
+use Rattle.icu_decimal_chains.specs.Chains.{chain}
 use Rattle.icu_decimal_symbols.specs.declared.error.DataError.{DataError}
 use Rattle.icu_decimal_symbols.specs.declared.error.DataError.TheVariants.{IdentifierNotFound, InvalidRequest, Decreasing, TooManyZeros, AboveType, Memory, Custom}
 use Rattle.icu_decimal_provider.specs.Choice.{or_next, found_or, first_found}

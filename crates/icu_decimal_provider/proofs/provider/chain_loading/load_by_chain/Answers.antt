@@ -1,5 +1,4 @@
-use Rattle.std.proofs.Common.{◌≡◌, Some, refl, sym, ap, ◌∙◌}
-use Rattle.icu_decimal_symbols.specs.declared.error.DataError.{DataError}
+use Rattle.std.proofs.Common.{Some, sym, ap, ◌∙◌}
 use Rattle.icu_decimal_provider.proofs.ChainLoadingLemmas.{found_with, found_without, refused_with}
 use Rattle.icu_decimal_provider.proofs.provider.chain_loading.load_by_chain.Goals as goal
 

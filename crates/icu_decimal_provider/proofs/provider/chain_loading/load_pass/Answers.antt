@@ -1,6 +1,4 @@
-use Rattle.std.proofs.Common.{◌≡◌, ℕ, suc, ◌+◌, ◌-◌, refl, sym, ap, ◌∙◌, arith}
-use Rattle.std.specs.Prelude.{Err}
-use Rattle.icu_decimal_symbols.specs.declared.error.DataError.{DataError}
+use Rattle.std.proofs.Common.{◌-◌, sym, ◌∙◌, arith}
 use Rattle.icu_decimal_provider.proofs.ChainLoadingLemmas.{ended, stepped}
 use Rattle.icu_decimal_provider.proofs.provider.chain_loading.load_pass.Goals as goal
 
