@@ -1,4 +1,5 @@
-// Exact forms: a significand and an exponent that the caller chose.
+//! Exact forms: a significand and an exponent that the caller chose.
+
 ghost use Rattle.std.specs.Prelude.{◌≡◌, ◌↔◌, IfErr, IfOk, IsTrue, Some, is_err, is_none};
 ghost use Rattle.icu_decimal_compact_value.specs.ExactForms.{IsInRange, IsRefused};
 ghost use Rattle.icu_decimal_plain.specs.Affixes.{affixes_of};

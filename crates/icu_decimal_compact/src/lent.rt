@@ -1,4 +1,5 @@
-// A value that is lent, written as it is.
+//! A value that is lent, written as it is.
+
 ghost use Rattle.std.specs.Prelude.{◌≡◌};
 
 use std::marker::Model;

@@ -1,4 +1,5 @@
-// The tables that preferences for compact numbers ask a provider for.
+//! The tables that preferences for compact numbers ask a provider for.
+
 ghost use Rattle.std.specs.Prelude.{◌≡◌};
 ghost use Rattle.std.specs.Result.{result_map_both};
 ghost use Rattle.icu_decimal_chains.specs.Chains.{chain};

@@ -1,4 +1,5 @@
-// The text of a value without its parts.
+//! The text of a value without its parts.
+
 ghost use Rattle.std.specs.Prelude.{◌≡◌};
 
 use std::marker::Model;

@@ -1,4 +1,5 @@
-// Writing a number in place: it becomes what is shown for it.
+//! Writing a number in place: it becomes what is shown for it.
+
 ghost use Rattle.std.specs.Prelude.{◌≡◌, false, is_err, IfOk, OnErr, OnOk};
 ghost use Rattle.writeable.specs.Taking.{HasBegun};
 ghost use Rattle.fixed_decimal.specs.Number.{Number};

@@ -1,3 +1,5 @@
+//! Entries of compact tables, without their patterns.
+
 /// An entry of a compact table without its patterns: of type 4 and exponent 3, it writes 12000 as `12K`.
 ///
 /// `log10_type` is the least magnitude that the entry is for, 0 to 255; `exponent` is the power of ten that its

@@ -1,3 +1,5 @@
+//! Why an exact form is refused.
+
 ghost use Rattle.std.specs.Prelude.{◌≡◌};
 ghost use Rattle.icu_decimal_compact_value.specs.ExactForms.{compact_exponent_error_number};
 

@@ -1,4 +1,5 @@
-// Exact forms: a significand and an exponent, written under the entry of their magnitude.
+//! Exact forms: a significand and an exponent, written under the entry of their magnitude.
+
 ghost use Rattle.std.specs.Prelude.{◌≡◌, ◌+◌, ◌<◌, ◌↔◌, Some, is_err, is_none, IfOk, IfErr, IsTrue};
 ghost use Rattle.icu_decimal_compact_value.specs.Choice.{entry_of, exact_entry as entry_is};
 ghost use Rattle.icu_decimal_compact_value.specs.ExactForms.{IsInRange, IsRefused, exact_place};

@@ -1,4 +1,5 @@
-// Places: magnitudes counted from the lowest one, -32768, up.
+//! Places: magnitudes counted from the lowest one, -32768, up.
+
 ghost use Rattle.std.specs.Prelude.{◌≡◌};
 ghost use Rattle.fixed_decimal.specs.Number.{place as place_is};
 ghost use Rattle.icu_decimal_compact_value.specs.ShownValue.{magnitude};

@@ -1,4 +1,5 @@
-// The value that compact text shows for a number.
+//! The value that compact text shows for a number.
+
 ghost use Rattle.std.specs.Prelude.{◌≡◌, ◌+◌, ◌-◌, ◌<◌, ◌≤◌, ◌↔◌, false, true, min, length, IfOk, IfSome, IfNone, OnErr, IsTrue};
 ghost use Rattle.fixed_decimal.specs.Number.{digit};
 ghost use Rattle.fixed_decimal.specs.Range.{IsLong, Rounds};

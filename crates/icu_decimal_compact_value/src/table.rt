@@ -1,4 +1,5 @@
-// The entries of a table by magnitude.
+//! The entries of a table by magnitude.
+
 ghost use Rattle.std.specs.Prelude.{◌≡◌, ◌+◌, ◌<◌, length, nat_lt, IfSome};
 ghost use Rattle.std.specs.List.{position};
 ghost use Rattle.fixed_decimal.specs.Number.{place as place_is};

@@ -1,4 +1,4 @@
-// The digits of a table.
+//! The digits of a table.
 
 ghost use Rattle.std.specs.Prelude.{◌≡◌, ◌≤◌, ◌<◌, true, [], ◌∷◌, length, IfSome, IfNone, is_some, is_none, filter_map};
 ghost use Rattle.std.specs.List.{list_all};

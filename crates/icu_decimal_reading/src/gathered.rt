@@ -1,4 +1,4 @@
-// Digits gathered from a text, and the number that they are.
+//! Digits gathered from a text, and the number that they are.
 
 ghost use Rattle.std.specs.Prelude.{◌≡◌, ◌-◌, ◌<◌, ◌≤◌, ◌^◌, IfNone, IfOk, IfSome, OnErr, OnOk, OnSome};
 ghost use Rattle.fixed_decimal.specs.GivenDigits.{with_digit};

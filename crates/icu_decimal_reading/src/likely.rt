@@ -1,4 +1,4 @@
-// The number that a text most likely is: a guess, of which nothing is claimed.
+//! A guess at the number that a text is: nothing is claimed of it.
 
 ghost use Rattle.std.specs.Prelude.{◌≡◌, true};
 ghost use Rattle.icu_decimal_plain.specs.BorrowedTables.{borrowed_tables};

@@ -1,5 +1,4 @@
-// The number that a text without a sign most likely is, where the digits are `0` to `9` in groups of three and each
-// separator is one byte: a guess, of which nothing is claimed.
+//! A guess at an unsigned text of digits `0` to `9` in threes, each separator one byte: nothing is claimed of it.
 
 ghost use Rattle.std.specs.Prelude.{◌≡◌, ◌+◌, ◌≤◌, length, IsTrue};
 

@@ -1,4 +1,4 @@
-// The number that the digits of any table in a text most likely are: a guess, of which nothing is claimed.
+//! A guess at the number that digits of any table in a text are: nothing is claimed of it.
 
 ghost use Rattle.std.specs.Prelude.{◌≡◌, true};
 ghost use Rattle.icu_decimal_reading.specs.Readable.{all_differ};

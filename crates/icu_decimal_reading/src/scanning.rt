@@ -1,4 +1,4 @@
-// The digits of a text, gathered in one pass, and the number that they are.
+//! The digits of a text, gathered in one pass, and the number that they are.
 
 ghost use Rattle.std.specs.Prelude.{◌≡◌, ◌+◌, ◌^◌, ◌≤◌, ◌<◌, length, filter_map, true, false, IfOk, IsErrOf, OnErr, OnOk};
 ghost use Rattle.std.specs.Str.{chars};

@@ -1,4 +1,5 @@
-// Examples of public items that the other rows do not call: values, errors, identifiers, symbols, formatted numbers.
+//! Examples of public items that the other rows do not call: values, errors, identifiers, symbols, formatted numbers.
+
 use icu_decimal::input::Decimal;
 use icu_decimal::options::GroupingStrategy;
 use icu_decimal::provider::{

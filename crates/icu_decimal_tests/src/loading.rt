@@ -1,4 +1,5 @@
-// Tables asked for under one identifier after another, of a provider with an error of its own.
+//! Tables asked for under one identifier after another, of a provider with an error of its own.
+
 ghost use Rattle.std.specs.Prelude.{◌≡◌, ◌==◌, length};
 
 use icu_decimal::provider::{

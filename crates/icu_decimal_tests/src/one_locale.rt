@@ -1,4 +1,5 @@
-// A provider that returns the tables of one locale for every identifier, with borrowed symbols.
+//! A provider that returns the tables of one locale for every identifier, with borrowed symbols.
+
 use icu_decimal::provider::{
     DataError, DataIdentifier, DataProvider, DecimalDigitsV1, DecimalSymbols, DecimalSymbolsV1,
     ParentProvider,

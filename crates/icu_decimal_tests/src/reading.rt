@@ -1,4 +1,5 @@
-// Plain texts read back: under which symbols, and as which decimal.
+//! Plain texts read back: under which symbols, and as which decimal.
+
 use crate::one_locale::OneLocale;
 use icu_decimal::error::ReadError;
 use icu_decimal::input::Decimal;

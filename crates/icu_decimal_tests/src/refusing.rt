@@ -1,4 +1,5 @@
-// Formatters of providers that refuse symbols or digits with an error of their own.
+//! Formatters of providers that refuse symbols or digits with an error of their own.
+
 use icu_decimal::DecimalFormatter;
 use icu_decimal::options::GroupingStrategy;
 use icu_decimal::preferences::DecimalFormatterPreferences;

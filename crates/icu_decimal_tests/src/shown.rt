@@ -1,4 +1,5 @@
-// The text and the parts of decimals in the symbols of English, with other sizes and digits.
+//! The text and the parts of decimals in the symbols of English, with other sizes and digits.
+
 use crate::one_locale::OneLocale;
 use icu_decimal::DecimalFormatter;
 use icu_decimal::input::Decimal;
