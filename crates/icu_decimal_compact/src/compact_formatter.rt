@@ -80,7 +80,13 @@ impl<'b> CompactDecimalFormatter<'b> {
             + DataProvider<PluralsCardinalV1>
             + DataProvider<DecimalCompactShortV1>
             + ParentProvider,
-        ensures { result_map_both compact_tables_of (λ error. error) result ≡ found_compact_tables (chain (P.next provider.now) (P.limit provider.now)) (λ id. ⟦<P as DataProvider<DecimalSymbolsV1>>⟧.table provider.now id) (λ id. ⟦<P as DataProvider<DecimalDigitsV1>>⟧.table provider.now id) (λ id. ⟦<P as DataProvider<PluralsCardinalV1>>⟧.table provider.now id) (λ id. ⟦<P as DataProvider<DecimalCompactShortV1>>⟧.table provider.now id) preferences options.grouping_strategy }
+        ensures { result_map_both compact_tables_of (λ error. error) result ≡ found_compact_tables
+            (chain (P.next provider.now) (P.limit provider.now))
+            (λ id. ⟦<P as DataProvider<DecimalSymbolsV1>>⟧.table provider.now id)
+            (λ id. ⟦<P as DataProvider<DecimalDigitsV1>>⟧.table provider.now id)
+            (λ id. ⟦<P as DataProvider<PluralsCardinalV1>>⟧.table provider.now id)
+            (λ id. ⟦<P as DataProvider<DecimalCompactShortV1>>⟧.table provider.now id)
+            preferences options.grouping_strategy }
     {
         let patterns = load_by_locale::<DecimalCompactShortV1, P>(provider, &preferences);
         load_with(provider, &preferences, options, patterns)
@@ -98,7 +104,13 @@ impl<'b> CompactDecimalFormatter<'b> {
             + DataProvider<PluralsCardinalV1>
             + DataProvider<DecimalCompactLongV1>
             + ParentProvider,
-        ensures { result_map_both compact_tables_of (λ error. error) result ≡ found_compact_tables (chain (P.next provider.now) (P.limit provider.now)) (λ id. ⟦<P as DataProvider<DecimalSymbolsV1>>⟧.table provider.now id) (λ id. ⟦<P as DataProvider<DecimalDigitsV1>>⟧.table provider.now id) (λ id. ⟦<P as DataProvider<PluralsCardinalV1>>⟧.table provider.now id) (λ id. ⟦<P as DataProvider<DecimalCompactLongV1>>⟧.table provider.now id) preferences options.grouping_strategy }
+        ensures { result_map_both compact_tables_of (λ error. error) result ≡ found_compact_tables
+            (chain (P.next provider.now) (P.limit provider.now))
+            (λ id. ⟦<P as DataProvider<DecimalSymbolsV1>>⟧.table provider.now id)
+            (λ id. ⟦<P as DataProvider<DecimalDigitsV1>>⟧.table provider.now id)
+            (λ id. ⟦<P as DataProvider<PluralsCardinalV1>>⟧.table provider.now id)
+            (λ id. ⟦<P as DataProvider<DecimalCompactLongV1>>⟧.table provider.now id)
+            preferences options.grouping_strategy }
     {
         let patterns = load_by_locale::<DecimalCompactLongV1, P>(provider, &preferences);
         load_with(provider, &preferences, options, patterns)

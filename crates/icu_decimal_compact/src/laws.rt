@@ -19,18 +19,36 @@ use icu_decimal_formatter::DecimalFormatter;
 /// `format` writes for the number with it, and their text is that of `format_to_string`: of -999500 in English a
 /// compact formatter writes `-` before `1M`, which is `-1M`.
 pub fn sign_round_unsigned()
-    ensures plain { WritesTogether ⟦<DecimalFormatter<'static> as AbstractFormatter>⟧.unsigned_events ⟦<DecimalFormatter<'static> as AbstractFormatter>⟧.affixes (λ f d. decimal_events (formatted (tables_of f) d)) }
-    ensures plain_text { WritesText ⟦<DecimalFormatter<'static> as AbstractFormatter>⟧.unsigned_events ⟦<DecimalFormatter<'static> as AbstractFormatter>⟧.affixes (λ f d. decimal_text (tables_of f) d) }
-    ensures compact { WritesTogether ⟦<CompactDecimalFormatter<'static> as AbstractFormatter>⟧.unsigned_events ⟦<CompactDecimalFormatter<'static> as AbstractFormatter>⟧.affixes (λ f d. compact_decimal_events (compact_formatted (compact_tables_of f) d)) }
-    ensures compact_text { WritesText ⟦<CompactDecimalFormatter<'static> as AbstractFormatter>⟧.unsigned_events ⟦<CompactDecimalFormatter<'static> as AbstractFormatter>⟧.affixes (λ f d. compact_decimal_text (compact_tables_of f) d) }
+    ensures plain { WritesTogether
+        ⟦<DecimalFormatter<'static> as AbstractFormatter>⟧.unsigned_events
+        ⟦<DecimalFormatter<'static> as AbstractFormatter>⟧.affixes
+        (λ f d. decimal_events (formatted (tables_of f) d)) }
+    ensures plain_text { WritesText
+        ⟦<DecimalFormatter<'static> as AbstractFormatter>⟧.unsigned_events
+        ⟦<DecimalFormatter<'static> as AbstractFormatter>⟧.affixes
+        (λ f d. decimal_text (tables_of f) d) }
+    ensures compact { WritesTogether
+        ⟦<CompactDecimalFormatter<'static> as AbstractFormatter>⟧.unsigned_events
+        ⟦<CompactDecimalFormatter<'static> as AbstractFormatter>⟧.affixes
+        (λ f d. compact_decimal_events (compact_formatted (compact_tables_of f) d)) }
+    ensures compact_text { WritesText
+        ⟦<CompactDecimalFormatter<'static> as AbstractFormatter>⟧.unsigned_events
+        ⟦<CompactDecimalFormatter<'static> as AbstractFormatter>⟧.affixes
+        (λ f d. compact_decimal_text (compact_tables_of f) d) }
 {}
 
 /// With a text before what `format_unsigned` returns and one behind it, `format_sign` writes the affixes of the sign
 /// round all three: of `€`, -1234.5 and no text behind in English a plain formatter writes `-€1,234.5`, and a compact
 /// one `-€1.2K`.
 pub fn sign_round_unit()
-    ensures plain { WritesUnit ⟦<DecimalFormatter<'static> as AbstractFormatter>⟧.unsigned_events ⟦<DecimalFormatter<'static> as AbstractFormatter>⟧.affixes (λ f number. unsigned_text (tables_of f) number) }
-    ensures compact { WritesUnit ⟦<CompactDecimalFormatter<'static> as AbstractFormatter>⟧.unsigned_events ⟦<CompactDecimalFormatter<'static> as AbstractFormatter>⟧.affixes (λ f number. compact_text (compact_of (compact_tables_of f) number)) }
+    ensures plain { WritesUnit
+        ⟦<DecimalFormatter<'static> as AbstractFormatter>⟧.unsigned_events
+        ⟦<DecimalFormatter<'static> as AbstractFormatter>⟧.affixes
+        (λ f number. unsigned_text (tables_of f) number) }
+    ensures compact { WritesUnit
+        ⟦<CompactDecimalFormatter<'static> as AbstractFormatter>⟧.unsigned_events
+        ⟦<CompactDecimalFormatter<'static> as AbstractFormatter>⟧.affixes
+        (λ f number. compact_text (compact_of (compact_tables_of f) number)) }
 {}
 
 /// What is shown for a number, sent back as an exact form of the same tables: whether it is written, and as which text.

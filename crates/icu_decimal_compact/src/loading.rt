@@ -29,7 +29,11 @@ pub fn load_plain<
     preferences: &CompactDecimalFormatterPreferences,
     options: CompactDecimalFormatterOptions,
 ) -> Result<DecimalFormatter<'p>, DataError>
-    ensures { result_map_both tables_of (λ error. error) result ≡ found_tables (chain (P.next provider.now) (P.limit provider.now)) (λ id. ⟦<P as DataProvider<DecimalSymbolsV1>>⟧.table provider.now id) (λ id. ⟦<P as DataProvider<DecimalDigitsV1>>⟧.table provider.now id) preferences.now options.grouping_strategy }
+    ensures { result_map_both tables_of (λ error. error) result ≡ found_tables
+        (chain (P.next provider.now) (P.limit provider.now))
+        (λ id. ⟦<P as DataProvider<DecimalSymbolsV1>>⟧.table provider.now id)
+        (λ id. ⟦<P as DataProvider<DecimalDigitsV1>>⟧.table provider.now id)
+        preferences.now options.grouping_strategy }
 {
     DecimalFormatter::try_new_unstable(
         provider,
@@ -43,7 +47,8 @@ pub fn load_rules<'p, P: DataProvider<PluralsCardinalV1> + ParentProvider>(
     provider: &'p P,
     preferences: &CompactDecimalFormatterPreferences,
 ) -> Result<&'p PluralRules, DataError>
-    ensures { result_map_both (λ found. found.now) (λ error. error) result ≡ first_found (λ id. P.table provider.now id) (rules_identifiers (chain (P.next provider.now) (P.limit provider.now)) preferences.now) }
+    ensures { result_map_both (λ found. found.now) (λ error. error) result ≡ first_found (λ id. P.table provider.now id)
+        (rules_identifiers (chain (P.next provider.now) (P.limit provider.now)) preferences.now) }
 {
     let locale = preferences
         .locale_preferences
@@ -64,7 +69,14 @@ where
         + DataProvider<DecimalDigitsV1>
         + DataProvider<PluralsCardinalV1>
         + ParentProvider,
-    ensures { result_map_both compact_tables_of (λ error. error) result ≡ with_plain (found_tables (chain (P.next provider.now) (P.limit provider.now)) (λ id. ⟦<P as DataProvider<DecimalSymbolsV1>>⟧.table provider.now id) (λ id. ⟦<P as DataProvider<DecimalDigitsV1>>⟧.table provider.now id) preferences.now options.grouping_strategy) (first_found (λ id. ⟦<P as DataProvider<PluralsCardinalV1>>⟧.table provider.now id) (rules_identifiers (chain (P.next provider.now) (P.limit provider.now)) preferences.now)) (result_map_both (λ found. found.now) (λ error. error) patterns.entry) }
+    ensures { result_map_both compact_tables_of (λ error. error) result ≡ with_plain
+        (found_tables (chain (P.next provider.now) (P.limit provider.now))
+        (λ id. ⟦<P as DataProvider<DecimalSymbolsV1>>⟧.table provider.now id)
+        (λ id. ⟦<P as DataProvider<DecimalDigitsV1>>⟧.table provider.now id)
+        preferences.now options.grouping_strategy)
+        (first_found (λ id. ⟦<P as DataProvider<PluralsCardinalV1>>⟧.table provider.now id)
+        (rules_identifiers (chain (P.next provider.now) (P.limit provider.now)) preferences.now))
+        (result_map_both (λ found. found.now) (λ error. error) patterns.entry) }
 {
     let plain = load_plain(provider, preferences, options)?;
     let rules = load_rules(provider, preferences)?;

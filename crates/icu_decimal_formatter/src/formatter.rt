@@ -41,7 +41,11 @@ impl<'b> DecimalFormatter<'b> {
     ) -> Result<Self, DataError>
     where
         P: DataProvider<DecimalSymbolsV1> + DataProvider<DecimalDigitsV1> + ParentProvider,
-        ensures { result_map_both tables_of (λ error. error) result ≡ found_tables (chain (P.next provider.now) (P.limit provider.now)) (λ id. ⟦<P as DataProvider<DecimalSymbolsV1>>⟧.table provider.now id) (λ id. ⟦<P as DataProvider<DecimalDigitsV1>>⟧.table provider.now id) preferences options.grouping_strategy }
+        ensures { result_map_both tables_of (λ error. error) result ≡ found_tables
+            (chain (P.next provider.now) (P.limit provider.now))
+            (λ id. ⟦<P as DataProvider<DecimalSymbolsV1>>⟧.table provider.now id)
+            (λ id. ⟦<P as DataProvider<DecimalDigitsV1>>⟧.table provider.now id)
+            preferences options.grouping_strategy }
     {
         let symbols = load_symbols(provider, &preferences)?;
         let digits = load_digits(provider, &preferences, symbols)?;

@@ -80,9 +80,12 @@ pub(crate) fn write_chunks<S: Sink>(
     requires tens { AllBelowBase 10 digits.old }
     ensures tens { OnOk result (AllBelowBase 10 digits.new) }
     ensures digits { OnOk result (drop (sum sizes.new) digits.new ≡ drop (sum sizes.old) digits.old) }
-    ensures ok { OnOk result (IsWriting S.takes S.refused sink.old (bytes (groups_ahead separator.now (digit_text table.now.chars.now) sizes.old digits.old)) sink.new (bytes (groups_ahead separator.now (digit_text table.now.chars.now) sizes.new digits.new))) }
+    ensures ok { OnOk result (IsWriting S.takes S.refused
+        sink.old (bytes (groups_ahead separator.now (digit_text table.now.chars.now) sizes.old digits.old))
+        sink.new (bytes (groups_ahead separator.now (digit_text table.now.chars.now) sizes.new digits.new))) }
     ensures refused { S.refused sink.new ≡ is_err result }
-    ensures begun { OnErr result (HasBegun S.takes S.lacks_room sink.old (bytes (groups_ahead separator.now (digit_text table.now.chars.now) sizes.old digits.old)) sink.new) }
+    ensures begun { OnErr result (HasBegun S.takes S.lacks_room
+        sink.old (bytes (groups_ahead separator.now (digit_text table.now.chars.now) sizes.old digits.old)) sink.new) }
 {
     let piece = Piece::new(separator);
     let mut waiting = [0; CHUNK_BYTES];
@@ -114,7 +117,8 @@ pub(crate) fn write_last<S: Sink>(
     ensures digits { OnOk result (digits.new ≡ drop (sum sizes.old) digits.old) }
     ensures ok { OnOk result (S.takes sink.old (bytes (groups_ahead separator.now (digit_text table.now.chars.now) sizes.old digits.old)) sink.new) }
     ensures refused { S.refused sink.new ≡ is_err result }
-    ensures begun { OnErr result (HasBegun S.takes S.lacks_room sink.old (bytes (groups_ahead separator.now (digit_text table.now.chars.now) sizes.old digits.old)) sink.new) }
+    ensures begun { OnErr result (HasBegun S.takes S.lacks_room
+        sink.old (bytes (groups_ahead separator.now (digit_text table.now.chars.now) sizes.old digits.old)) sink.new) }
 {
     let piece = Piece::new(separator);
     let count = digits.len();

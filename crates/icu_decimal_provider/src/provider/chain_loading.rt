@@ -20,7 +20,8 @@ fn load_pass<'p, M: DataMarker, P: DataProvider<M> + ParentProvider>(
     locale: &DataLocale,
     attributes: TinyAsciiStr<8>,
 ) -> Result<&'p M::DataStruct, DataError>
-    ensures { result_map_both (λ found. found.now) (λ error. error) result ≡ first_found (λ id. P.table provider.now id) (under_each attributes (chain (P.next provider.now) (P.limit provider.now) locale.now)) }
+    ensures { result_map_both (λ found. found.now) (λ error. error) result ≡ first_found (λ id. P.table provider.now id)
+        (under_each attributes (chain (P.next provider.now) (P.limit provider.now) locale.now)) }
 {
     let mut current = *locale;
     for _turn in 0..provider.chain_limit() {
@@ -51,7 +52,8 @@ pub fn load_by_chain<'p, M: DataMarker, P: DataProvider<M> + ParentProvider>(
     locale: &DataLocale,
     system: Option<NumberingSystem>,
 ) -> Result<&'p M::DataStruct, DataError>
-    ensures { result_map_both (λ found. found.now) (λ error. error) result ≡ first_found (λ id. P.table provider.now id) (identifiers_along system (chain (P.next provider.now) (P.limit provider.now) locale.now)) }
+    ensures { result_map_both (λ found. found.now) (λ error. error) result ≡ first_found (λ id. P.table provider.now id)
+        (identifiers_along system (chain (P.next provider.now) (P.limit provider.now) locale.now)) }
 {
     let alone = TinyAsciiStr::default();
     let system = match system {

@@ -38,7 +38,8 @@ pub fn load_by_locale<'p, M: DataMarker, P: DataProvider<M> + ParentProvider>(
     provider: &'p P,
     preferences: &DecimalFormatterPreferences,
 ) -> Result<&'p M::DataStruct, DataError>
-    ensures { result_map_both (λ found. found.now) (λ error. error) result ≡ first_found (λ id. P.table provider.now id) (symbols_identifiers (chain (P.next provider.now) (P.limit provider.now)) preferences.now) }
+    ensures { result_map_both (λ found. found.now) (λ error. error) result ≡ first_found (λ id. P.table provider.now id)
+        (symbols_identifiers (chain (P.next provider.now) (P.limit provider.now)) preferences.now) }
 {
     let locale = preferences
         .locale_preferences
@@ -54,7 +55,8 @@ pub fn load_symbols<'p, P: DataProvider<DecimalSymbolsV1> + ParentProvider>(
     provider: &'p P,
     preferences: &DecimalFormatterPreferences,
 ) -> Result<&'p DecimalSymbols, DataError>
-    ensures { result_map_both (λ found. found.now) (λ error. error) result ≡ first_found (λ id. P.table provider.now id) (symbols_identifiers (chain (P.next provider.now) (P.limit provider.now)) preferences.now) }
+    ensures { result_map_both (λ found. found.now) (λ error. error) result ≡ first_found (λ id. P.table provider.now id)
+        (symbols_identifiers (chain (P.next provider.now) (P.limit provider.now)) preferences.now) }
 {
     load_by_locale::<DecimalSymbolsV1, P>(provider, preferences)
 }
@@ -69,7 +71,8 @@ pub fn load_digits<'p, P: DataProvider<DecimalDigitsV1>>(
     preferences: &DecimalFormatterPreferences,
     symbols: &DecimalSymbols,
 ) -> Result<&'p [char; 10], DataError>
-    ensures { result_map_both (λ found. found.now) (λ error. error) result ≡ first_found (λ id. P.table provider.now id) (digits_identifiers preferences.now.numbering_system symbols.now.strings.numsys) }
+    ensures { result_map_both (λ found. found.now) (λ error. error) result ≡ first_found (λ id. P.table provider.now id)
+        (digits_identifiers preferences.now.numbering_system symbols.now.strings.numsys) }
 {
     let asked = match preferences.numbering_system {
         Some(system) => Some(DataIdentifier::for_marker_attributes(system.to_tinystr())),
