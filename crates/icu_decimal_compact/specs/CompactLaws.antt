@@ -1,6 +1,7 @@
 -- Laws of what is shown for a number, sent back as an exact form of the same tables: whether it is written, and that it is one of the type.
 -- Defined in docs/compact-text.md, "Laws".
 -- Cited by the functions of the module `laws`.
+-- It names many files, since its laws are about compact text, exact forms and the values and entries that both show.
 use Rattle.std.specs.Prelude.{◌≡◌, ◌*◌, ◌^◌, ◌==◌, cond, List, None, Some}
 use Rattle.fixed_decimal.specs.CompactText.{IsCompact}
 use Rattle.fixed_decimal.specs.Number.{IsNumber, Number}

@@ -1,8 +1,8 @@
 -- The compact text of a number: what is shown for it, written plainly in the pattern of its entry, between the affixes of the sign.
 -- UTS 35, part 3 (numbers), "Compact Number Formats"; docs/compact-text.md, "The text".
 -- Cited by `format`, `format_to_string` and `FormattedUnsignedCompactDecimal`, and by the laws.
-use Rattle.std.specs.Prelude.{ℕ, zero, suc, ◌-◌, ◌%◌, ◌^◌, ◌==◌, cond, max, List, [], ◌∷◌, ◌++◌, Option, None, Some, option_map}
-use Rattle.std.specs.Option.{option_and_then}
+-- It names many files, since it puts together numbers, entries, plurals, patterns, plain text and signs, each of a crate of its own.
+use Rattle.std.specs.Prelude.{ℕ, zero, suc, ◌-◌, ◌%◌, ◌^◌, ◌==◌, cond, max, List, [], ◌∷◌, ◌++◌, Option, None, Some, option_and_then, option_map}
 use Rattle.writeable.specs.AnnotatedText.{Event, bytes}
 use Rattle.fixed_decimal.specs.CompactText.{CompactValue}
 use Rattle.fixed_decimal.specs.Number.{Number}

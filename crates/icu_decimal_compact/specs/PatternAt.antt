@@ -1,9 +1,8 @@
 -- The pattern beside the entry that an index names, and a significand in it.
 -- Defined in docs/compact-text.md, "The text".
--- Cited by private steps of the formatter alone.
-use Rattle.std.specs.Prelude.{ℕ, Option, option_map}
+-- Cited only by private steps of the formatter.
+use Rattle.std.specs.Prelude.{ℕ, Option, option_and_then, option_map}
 use Rattle.std.specs.List.{slice_get}
-use Rattle.std.specs.Option.{option_and_then}
 use Rattle.fixed_decimal.specs.Number.{Number}
 use Rattle.fixed_decimal.specs.SignedValue.{SignedValue}
 use Rattle.icu_decimal_patterns.specs.Elements.{slot_of}
