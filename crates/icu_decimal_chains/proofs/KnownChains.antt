@@ -1,5 +1,5 @@
 -- Chains at known values: the step down of numbers.
-use Rattle.std.proofs.Common.{◌≡◌, ℕ, zero, suc, List, [], ◌∷◌, Option, None, Some, refl}
+use Rattle.std.proofs.Common.{◌≡◌, ℕ, zero, suc, [], ◌∷◌, Option, None, Some, refl}
 use Rattle.icu_decimal_chains.specs.Chains.{Follows, walk, chain, after, ComesBack}
 
 abbrev below : ℕ → Option ℕ

@@ -1,11 +1,9 @@
 -- Values from outside that a wrong definition does not survive: the examples of UTS 35, rules of CLDR and the tables of docs/plurals.md.
 use Rattle.std.proofs.Common.{◌≡◌, ℕ, ◌*◌, ◌^◌, false, List, [], ◌∷◌, Option, None, Some, refl, codes, option_map}
-use Rattle.fixed_decimal.specs.Number.{Number}
 use Rattle.icu_decimal_plurals.specs.declared.category.PluralCategory.{PluralCategory}
 use Rattle.icu_decimal_plurals.specs.declared.category.PluralCategory.TheVariants.{Zero, One, Few, Many, Other}
 use Rattle.icu_decimal_plurals.specs.declared.operand.Operand.TheVariants as operand
 use Rattle.icu_decimal_plurals.specs.declared.token.Token.TheVariants as token
-use Rattle.icu_decimal_plurals.specs.Conditions.{ConditionData}
 use Rattle.icu_decimal_plurals.specs.Operands.{Operands, operands_with, operands_of}
 use Rattle.icu_decimal_plurals.specs.Reading.{condition_in, rules_of}
 use Rattle.icu_decimal_plurals.specs.Rules.{category_of}
