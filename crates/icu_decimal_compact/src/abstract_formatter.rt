@@ -101,7 +101,8 @@ pub trait AbstractFormatter: private::Sealed {
         requires can { can_write self.now value.now }
         ensures sink { IsTrue (S.refused sink.new) ↔ IsErrOf result WriteFault.Sink }
         ensures ok { OnOk result (S.takes sink.old (unsigned_events self.now value.now) sink.new) }
-        ensures begun { IsErrOf result WriteFault.Sink → HasBegun S.takes S.lacks_room sink.old (unsigned_events self.now value.now) sink.new }
+        ensures begun { IsErrOf result WriteFault.Sink
+            → HasBegun S.takes S.lacks_room sink.old (unsigned_events self.now value.now) sink.new }
         ensures same { IsErrOf result WriteFault.Memory → sink.new ≡ sink.old }
         ensures room { IsErrOf result WriteFault.Memory → takes_memory self.now value.now }
     {
@@ -120,9 +121,13 @@ pub trait AbstractFormatter: private::Sealed {
         sink: &mut S,
     ) -> Result<(), Error>
         requires { S.refused sink.old ≡ false }
-        ensures ok { OnOk result (S.takes sink.old (events_with_sign T.events (record { value = value.now; affixes = affixes self.now sign })) sink.new) }
+        ensures ok { OnOk result
+            (S.takes sink.old
+            (events_with_sign T.events (record { value = value.now; affixes = affixes self.now sign })) sink.new) }
         ensures refused { S.refused sink.new ≡ is_err result }
-        ensures begun { OnErr result (HasBegun S.takes S.lacks_room sink.old (events_with_sign T.events (record { value = value.now; affixes = affixes self.now sign })) sink.new) }
+        ensures begun { OnErr result
+            (HasBegun S.takes S.lacks_room sink.old
+            (events_with_sign T.events (record { value = value.now; affixes = affixes self.now sign })) sink.new) }
     {
         self.format_sign(sign, Lent::new(value)).write_to(sink)
     }
@@ -163,8 +168,10 @@ impl<'b> AbstractFormatter for DecimalFormatter<'b> {
         value: &'l UnsignedDecimal,
     ) -> Result<FormattedUnsigned<'l>, AllocError>
         ensures succeeds { IsOk result }
-        ensures value { IfOk result (λ number. number ≡ FormattedUnsigned.Plain (record { number = value.now; tables = tables_of self.now })) }
-        ensures events { IfOk result (λ number. formatted_unsigned_events number ≡ plain_unsigned_events (tables_of self.now) value.now) }
+        ensures value { IfOk result
+            (λ number. number ≡ FormattedUnsigned.Plain (record { number = value.now; tables = tables_of self.now })) }
+        ensures events { IfOk result
+            (λ number. formatted_unsigned_events number ≡ plain_unsigned_events (tables_of self.now) value.now) }
         ensures room { OnErr result ⊥ }
     {
         let number = DecimalFormatter::format_unsigned(self, value);

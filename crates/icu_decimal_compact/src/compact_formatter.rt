@@ -125,7 +125,8 @@ impl<'b> CompactDecimalFormatter<'b> {
         rules: &'b PluralRules,
         patterns: &'b CompactPatterns,
     ) -> Self
-        ensures value { compact_tables_of result ≡ record { plain = tables_of plain.entry; rules = rules.now; patterns = patterns.now } }
+        ensures value { compact_tables_of result
+            ≡ record { plain = tables_of plain.entry; rules = rules.now; patterns = patterns.now } }
     {
         CompactDecimalFormatter {
             plain,
@@ -158,7 +159,8 @@ impl<'b> CompactDecimalFormatter<'b> {
 
     // The patterns beside the entry of an index.
     fn patterns_at(&self, index: Option<usize>) -> Option<&'b PluralElements<Pattern>>
-        ensures { option_map (λ p. p.now) result ≡ option_and_then (patterns_beside (compact_tables_of self.now).patterns) index }
+        ensures { option_map (λ p. p.now) result
+            ≡ option_and_then (patterns_beside (compact_tables_of self.now).patterns) index }
     {
         let place = index?;
         if place < self.patterns.entries().len() {
@@ -174,7 +176,8 @@ impl<'b> CompactDecimalFormatter<'b> {
         index: Option<usize>,
         significand: &UnsignedDecimal,
     ) -> Option<&'b Pattern>
-        ensures { option_map (λ p. p.now) result ≡ pattern_at (compact_tables_of self.now) index (operands_of significand.now 0) }
+        ensures { option_map (λ p. p.now) result
+            ≡ pattern_at (compact_tables_of self.now) index (operands_of significand.now 0) }
     {
         match self.patterns_at(index) {
             Some(patterns) => Some(pattern_for(patterns, significand, self.rules)),
@@ -242,14 +245,16 @@ impl<'b> CompactDecimalFormatter<'b> {
     /// The condition is `can_format`. It allocates. `AllocError`: out of memory.
     pub fn format_to_string(&self, alloc: Global, value: &Decimal) -> Result<String, AllocError>
         requires { CanShow (compact_tables_of self.now).patterns.entries value.now.absolute.count }
-        ensures { IfOk result (λ text. string_bytes text ≡ compact_decimal_text (compact_tables_of self.now) value.now) }
+        ensures { IfOk result
+            (λ text. string_bytes text ≡ compact_decimal_text (compact_tables_of self.now) value.now) }
     {
         self.format(value)?.write_to_string(alloc)
     }
 
     /// The exponent that numbers of a magnitude are shown with: in English 3 for 5, and 0 for 2. It does not allocate.
     pub fn compact_exponent_for_magnitude(&self, magnitude: i16) -> u8
-        ensures { result ≡ exponent_of (entry_at 32768 (compact_tables_of self.now).patterns.entries (place magnitude)) }
+        ensures { result
+            ≡ exponent_of (entry_at 32768 (compact_tables_of self.now).patterns.entries (place magnitude)) }
     {
         exponent_for_magnitude(magnitude, self.patterns.entries())
     }

@@ -19,7 +19,8 @@ fn signed<'l, 'b, T>(
     sign: Sign,
     value: T,
 ) -> FormattedSign<'l, T>
-    ensures { result ≡ record { value = value; affixes = affixes_of (compact_tables_of formatter.now).plain.symbols.strings sign } }
+    ensures { result
+        ≡ record { value = value; affixes = affixes_of (compact_tables_of formatter.now).plain.symbols.strings sign } }
 {
     FormattedSign::new(sign, formatter.plain.symbols(), value)
 }
@@ -64,9 +65,12 @@ impl<'b> CompactDecimalFormatter<'b> {
         CompactExponentError,
     >
         requires { IsInRange significand.now.absolute.count exponent }
-        ensures value { IfOk result (λ shown. exact_formatted (compact_tables_of self.now) significand.now exponent ≡ Some shown) }
-        ensures refused { is_err result ≡ is_none (exact_formatted (compact_tables_of self.now) significand.now exponent) }
-        ensures err { IfErr result (IsRefused (compact_tables_of self.now).patterns.entries significand.now.absolute.count exponent) }
+        ensures value { IfOk result
+            (λ shown. exact_formatted (compact_tables_of self.now) significand.now exponent ≡ Some shown) }
+        ensures refused { is_err result
+            ≡ is_none (exact_formatted (compact_tables_of self.now) significand.now exponent) }
+        ensures err { IfErr result
+            (IsRefused (compact_tables_of self.now).patterns.entries significand.now.absolute.count exponent) }
     {
         match exact_entry(&significand.absolute, exponent, self.patterns.entries()) {
             Ok(entry) => Ok(self.written_at(significand, entry)),

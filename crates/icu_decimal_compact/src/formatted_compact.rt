@@ -45,7 +45,13 @@ impl<'l> FormattedUnsignedCompactDecimal<'l> {
         pattern: Option<&'l Pattern>,
         plain: &'l DecimalFormatter<'l>,
     ) -> Self
-        ensures { result ≡ record { plain = record { number = significand; tables = tables_of plain.now }; exponent = exponent; pattern = option_map (λ p. p.now) pattern.entry } }
+        ensures { result
+            ≡ record {
+              plain = record { number = significand; tables = tables_of plain.now };
+              exponent = exponent;
+              pattern =
+                  option_map (λ p. p.now) pattern.entry;
+            } }
     {
         FormattedUnsignedCompactDecimal {
             number: significand,

@@ -19,7 +19,8 @@ use writeable::{Error, Sink, Writeable};
 fn show_absolute(value: &mut Decimal, entries: &[CompactEntry]) -> ShownUnder
     requires { CanShow entries.now value.old.absolute.count }
     ensures sign { value.new.sign ≡ value.old.sign }
-    ensures value { Shows entries.now value.old.absolute (record { significand = value.new.absolute; exponent = result.exponent; entry = result.entry }) }
+    ensures value { Shows entries.now value.old.absolute
+        (record { significand = value.new.absolute; exponent = result.exponent; entry = result.entry }) }
 {
     show_in_place(&mut value.absolute, entries)
 }
@@ -34,10 +35,15 @@ impl<'b> CompactDecimalFormatter<'b> {
         requires fine { S.refused sink.old ≡ false }
         requires can { CanShow (compact_tables_of self.now).patterns.entries value.old.absolute.count }
         ensures significand { value.new ≡ (value_shown (compact_tables_of self.now) value.old).significand }
-        ensures exponent { IfOk result (λ exponent. exponent ≡ (value_shown (compact_tables_of self.now) value.old).exponent) }
-        ensures ok { OnOk result (S.takes sink.old (compact_decimal_events (compact_formatted (compact_tables_of self.now) value.old)) sink.new) }
+        ensures exponent { IfOk result
+            (λ exponent. exponent ≡ (value_shown (compact_tables_of self.now) value.old).exponent) }
+        ensures ok { OnOk result
+            (S.takes sink.old (compact_decimal_events (compact_formatted (compact_tables_of self.now) value.old))
+            sink.new) }
         ensures refused { S.refused sink.new ≡ is_err result }
-        ensures begun { OnErr result (HasBegun S.takes S.lacks_room sink.old (compact_decimal_events (compact_formatted (compact_tables_of self.now) value.old)) sink.new) }
+        ensures begun { OnErr result
+            (HasBegun S.takes S.lacks_room sink.old
+            (compact_decimal_events (compact_formatted (compact_tables_of self.now) value.old)) sink.new) }
     {
         let under = show_absolute(value, self.patterns.entries());
         let pattern = self.pattern_at(under.entry, &value.absolute);

@@ -39,7 +39,8 @@ pub fn exact_entry(
     entries: &[CompactEntry],
 ) -> Result<Option<usize>, CompactExponentError>
     requires { IsInRange significand.now.count exponent }
-    ensures value { IfOk result (λ entry. entry_is 32768 entries.now significand.now.count exponent ≡ Some (entry_of entries.now entry)) }
+    ensures value { IfOk result
+        (λ entry. entry_is 32768 entries.now significand.now.count exponent ≡ Some (entry_of entries.now entry)) }
     ensures refused { is_err result ≡ is_none (entry_is 32768 entries.now significand.now.count exponent) }
     ensures err { IfErr result (IsRefused entries.now significand.now.count exponent) }
 {

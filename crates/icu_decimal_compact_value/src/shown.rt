@@ -169,7 +169,8 @@ fn divide(rounded: &mut UnsignedDecimal, exponent: u8)
 /// not allocate.
 pub fn show_in_place(number: &mut UnsignedDecimal, entries: &[CompactEntry]) -> ShownUnder
     requires { CanShow entries.now number.old.count }
-    ensures { Shows entries.now number.old (record { significand = number.new; exponent = result.exponent; entry = result.entry }) }
+    ensures { Shows entries.now number.old
+        (record { significand = number.new; exponent = result.exponent; entry = result.entry }) }
 {
     let place = magnitude_place(number);
     let entry = entry_index(entries, place);

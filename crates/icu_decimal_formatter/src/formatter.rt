@@ -61,7 +61,8 @@ impl<'b> DecimalFormatter<'b> {
         digits: &'b [char; 10],
         options: DecimalFormatterOptions,
     ) -> Self
-        ensures { tables_of result ≡ record { symbols = symbols.now; digits = digits.now; strategy = strategy_in options.grouping_strategy } }
+        ensures { tables_of result
+            ≡ record { symbols = symbols.now; digits = digits.now; strategy = strategy_in options.grouping_strategy } }
     {
         DecimalFormatter {
             tables: DecimalTables::new(symbols, digits, strategy_of(options)),

@@ -18,7 +18,8 @@ pub fn check(
     strategy: GroupingStrategy,
     sizes: GroupingSizes,
 ) -> bool
-    ensures places { (u m : ℕ) → upper_magnitude ≡ pos u → magnitude ≡ pos m → m ≤ u → result ≡ ends_at (group_sizes strategy sizes (u + 1)) m }
+    ensures places { (u m : ℕ) → upper_magnitude ≡ pos u → magnitude ≡ pos m → m ≤ u
+        → result ≡ ends_at (group_sizes strategy sizes (u + 1)) m }
     ensures below { magnitude <ℤ pos 0 → result ≡ false }
     ensures value { result ≡ separates_at strategy sizes upper_magnitude magnitude }
 {

@@ -102,11 +102,16 @@ impl CompactPatterns {
         zero_magnitude: Option<&PluralElements<Pattern>>,
     ) -> Result<Self, DataError>
         ensures decreasing { IsErrOf result DataError.Decreasing ↔ ¬ (NeverFalls 0 (map of_type types.entries)) }
-        ensures above { IsErrOf result DataError.AboveType ↔ IsFaulty (option_map (λ p. p.now) zero_magnitude.entry) (map of_type types.entries) DataError.AboveType }
-        ensures zeros { IsErrOf result DataError.TooManyZeros ↔ IsFaulty (option_map (λ p. p.now) zero_magnitude.entry) (map of_type types.entries) DataError.TooManyZeros }
+        ensures above { IsErrOf result DataError.AboveType
+            ↔ IsFaulty (option_map (λ p. p.now) zero_magnitude.entry) (map of_type types.entries) DataError.AboveType }
+        ensures zeros { IsErrOf result DataError.TooManyZeros
+            ↔ IsFaulty (option_map (λ p. p.now) zero_magnitude.entry) (map of_type types.entries)
+            DataError.TooManyZeros }
         ensures only { IfErr result IsTableFault }
-        ensures value { IfOk result (λ table. IsTable (option_map (λ p. p.now) zero_magnitude.entry) (map of_type types.entries) table) }
-        ensures room { IsErrOf result DataError.Memory → MakesEntries (option_map (λ p. p.now) zero_magnitude.entry) (map of_type types.entries) }
+        ensures value { IfOk result
+            (λ table. IsTable (option_map (λ p. p.now) zero_magnitude.entry) (map of_type types.entries) table) }
+        ensures room { IsErrOf result DataError.Memory
+            → MakesEntries (option_map (λ p. p.now) zero_magnitude.entry) (map of_type types.entries) }
     {
         if !never_falls(&types) {
             return Err(DataError::Decreasing);

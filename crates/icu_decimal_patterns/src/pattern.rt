@@ -158,7 +158,9 @@ fn write_between<T: Writeable, S: Sink>(
     requires { S.refused sink.old ≡ false }
     ensures ok { OnOk result (S.takes sink.old (bytes before.now ++ (T.events value.now ++ bytes after.now)) sink.new) }
     ensures refused { S.refused sink.new ≡ is_err result }
-    ensures begun { OnErr result (HasBegun S.takes S.lacks_room sink.old (bytes before.now ++ (T.events value.now ++ bytes after.now)) sink.new) }
+    ensures begun { OnErr result
+        (HasBegun S.takes S.lacks_room sink.old (bytes before.now ++ (T.events value.now ++ bytes after.now))
+        sink.new) }
 {
     write_some(before, sink)?;
     value.write_to(sink)?;
@@ -174,7 +176,8 @@ pub(crate) fn write_in<T: Writeable, S: Sink>(
     requires { S.refused sink.old ≡ false }
     ensures ok { OnOk result (S.takes sink.old (pattern_events pattern.now (T.events value.now)) sink.new) }
     ensures refused { S.refused sink.new ≡ is_err result }
-    ensures begun { OnErr result (HasBegun S.takes S.lacks_room sink.old (pattern_events pattern.now (T.events value.now)) sink.new) }
+    ensures begun { OnErr result
+        (HasBegun S.takes S.lacks_room sink.old (pattern_events pattern.now (T.events value.now)) sink.new) }
 {
     match &pattern.texts {
         Texts::Literal(text) => sink.write_str(text.as_str()),

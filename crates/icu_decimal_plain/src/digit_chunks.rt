@@ -115,7 +115,9 @@ pub(crate) fn write_last<S: Sink>(
     requires whole { sum sizes.old ≡ length digits.old }
     requires tens { AllBelowBase 10 digits.old }
     ensures digits { OnOk result (digits.new ≡ drop (sum sizes.old) digits.old) }
-    ensures ok { OnOk result (S.takes sink.old (bytes (groups_ahead separator.now (digit_text table.now.chars.now) sizes.old digits.old)) sink.new) }
+    ensures ok { OnOk result
+        (S.takes sink.old (bytes (groups_ahead separator.now (digit_text table.now.chars.now) sizes.old digits.old))
+        sink.new) }
     ensures refused { S.refused sink.new ≡ is_err result }
     ensures begun { OnErr result (HasBegun S.takes S.lacks_room
         sink.old (bytes (groups_ahead separator.now (digit_text table.now.chars.now) sizes.old digits.old)) sink.new) }

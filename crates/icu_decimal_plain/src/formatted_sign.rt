@@ -126,7 +126,8 @@ fn write_prefix<S: Sink>(affixes: Option<Affixes<'_>>, sink: &mut S) -> Result<(
     requires { S.refused sink.old ≡ false }
     ensures ok { OnOk result (S.takes sink.old (prefix_events (option_map texts_of affixes.entry)) sink.new) }
     ensures refused { S.refused sink.new ≡ is_err result }
-    ensures begun { OnErr result (HasBegun S.takes S.lacks_room sink.old (prefix_events (option_map texts_of affixes.entry)) sink.new) }
+    ensures begun { OnErr result
+        (HasBegun S.takes S.lacks_room sink.old (prefix_events (option_map texts_of affixes.entry)) sink.new) }
 {
     match affixes {
         Some(affixes) => write_part(affixes.part.part(), affixes.prefix, sink),
@@ -139,7 +140,8 @@ fn write_suffix<S: Sink>(affixes: Option<Affixes<'_>>, sink: &mut S) -> Result<(
     requires { S.refused sink.old ≡ false }
     ensures ok { OnOk result (S.takes sink.old (suffix_events (option_map texts_of affixes.entry)) sink.new) }
     ensures refused { S.refused sink.new ≡ is_err result }
-    ensures begun { OnErr result (HasBegun S.takes S.lacks_room sink.old (suffix_events (option_map texts_of affixes.entry)) sink.new) }
+    ensures begun { OnErr result
+        (HasBegun S.takes S.lacks_room sink.old (suffix_events (option_map texts_of affixes.entry)) sink.new) }
 {
     match affixes {
         Some(affixes) => write_part(affixes.part.part(), affixes.suffix, sink),

@@ -63,7 +63,8 @@ pub(crate) fn put_threes<const N: usize>(
     requires enough { 3 * groups ≤ length digits.now }
     requires small { nought + 9 < 128 }
     requires tens { AllBelowBase 10 digits.now }
-    ensures text { take result waiting.new ≡ take len waiting.old ++ groups_ahead (separator ∷ []) (row_text nought) (replicate groups 3) digits.now }
+    ensures text { take result waiting.new
+        ≡ take len waiting.old ++ groups_ahead (separator ∷ []) (row_text nought) (replicate groups 3) digits.now }
     ensures room { result ≡ len + 4 * groups }
 {
     let mut at = 0;

@@ -82,7 +82,8 @@ fn put_whole(
     requires one { separator.len ≡ 1 }
     requires row { IsRow nought (borrowed_tables tables.now).digits }
     requires few { number.now.high - 32767 ≤ 16 }
-    ensures text { IfSome result (λ len. take len text.new ≡ whole_text (borrowed_tables tables.now) (whole_digits number.now)) }
+    ensures text { IfSome result
+        (λ len. take len text.new ≡ whole_text (borrowed_tables tables.now) (whole_digits number.now)) }
     ensures utf8 { IfSome result (λ len. ∥ IsUtf8 (take len text.new) ∥₁) }
     ensures room { IfSome result (λ len. len ≤ 24) }
 {
@@ -114,7 +115,8 @@ fn put_fraction(
     requires row { IsRow nought (borrowed_tables tables.now).digits }
     requires few { 32768 - number.now.low ≤ 16 }
     requires utf8 { ∥ IsUtf8 (take len text.old) ∥₁ }
-    ensures text { take result text.new ≡ take len text.old ++ fraction_text (borrowed_tables tables.now) (fraction_digits number.now) }
+    ensures text { take result text.new
+        ≡ take len text.old ++ fraction_text (borrowed_tables tables.now) (fraction_digits number.now) }
     ensures utf8 { ∥ IsUtf8 (take result text.new) ∥₁ }
     ensures room { result ≤ 64 }
 {

@@ -92,7 +92,8 @@ impl ShortText {
     // Adds digits. `None`: they may not have room.
     fn push_front(&mut self, digits: &[u8], table: &DigitTable<'_>) -> Option<()>
         requires { AllBelowBase 10 digits.now }
-        ensures { IfSome result (λ _. self.new ≡ self.old ++ chained (map (digit_text table.now.chars.now) digits.now)) }
+        ensures { IfSome result
+            (λ _. self.new ≡ self.old ++ chained (map (digit_text table.now.chars.now) digits.now)) }
     {
         if (ROOM - self.len) / 4 < digits.len() {
             return None;
@@ -113,7 +114,11 @@ impl ShortText {
         requires few { length digits.now ≤ 48 }
         requires whole { sum sizes.old ≡ length digits.now }
         requires tens { AllBelowBase 10 digits.now }
-        ensures { IfSome result (λ _. self.new ≡ self.old ++ groups_ahead (take separator.len separator.bytes) (digit_text table.now.chars.now) sizes.old digits.now) }
+        ensures { IfSome result
+            (λ _. self.new
+            ≡ self.old
+            ++ groups_ahead (take separator.len separator.bytes) (digit_text table.now.chars.now) sizes.old
+            digits.now) }
     {
         if (ROOM - self.len) / 4 < digits.len() + sizes.groups() {
             return None;
@@ -131,7 +136,8 @@ impl ShortText {
     ) -> Option<()>
         requires separator { Holds separator (borrowed_tables tables.now).symbols.strings.grouping_separator }
         requires few { number.now.high - 32767 ≤ 48 }
-        ensures { IfSome result (λ _. self.new ≡ self.old ++ whole_text (borrowed_tables tables.now) (whole_digits number.now)) }
+        ensures { IfSome result
+            (λ _. self.new ≡ self.old ++ whole_text (borrowed_tables tables.now) (whole_digits number.now)) }
     {
         let symbols = tables.symbols.symbols;
         let table = &tables.digits;
@@ -153,7 +159,8 @@ impl ShortText {
     ) -> Option<()>
         requires separator { Holds separator (borrowed_tables tables.now).symbols.strings.decimal_separator }
         requires few { 32768 - number.now.low ≤ 48 }
-        ensures { IfSome result (λ _. self.new ≡ self.old ++ fraction_text (borrowed_tables tables.now) (fraction_digits number.now)) }
+        ensures { IfSome result
+            (λ _. self.new ≡ self.old ++ fraction_text (borrowed_tables tables.now) (fraction_digits number.now)) }
     {
         let count = fraction_len(number) as usize;
         if count == 0 {

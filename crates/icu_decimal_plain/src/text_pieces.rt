@@ -97,7 +97,8 @@ fn put_digit_pieces<const N: usize>(
 ) -> usize
     requires room { len + 4 * length digits.now ≤ N }
     requires tens { AllBelowBase 10 digits.now }
-    ensures text { take result waiting.new ≡ take len waiting.old ++ chained (map (digit_text table.now.chars.now) digits.now) }
+    ensures text { take result waiting.new
+        ≡ take len waiting.old ++ chained (map (digit_text table.now.chars.now) digits.now) }
     ensures room { result ≤ len + 4 * length digits.now }
 {
     let mut len = len;
@@ -118,7 +119,8 @@ pub(crate) fn put_digits<const N: usize>(
 ) -> usize
     requires room { len + 4 * length digits.now ≤ N }
     requires tens { AllBelowBase 10 digits.now }
-    ensures text { take result waiting.new ≡ take len waiting.old ++ chained (map (digit_text table.now.chars.now) digits.now) }
+    ensures text { take result waiting.new
+        ≡ take len waiting.old ++ chained (map (digit_text table.now.chars.now) digits.now) }
     ensures room { result ≤ len + 4 * length digits.now }
 {
     if let Some(nought) = table.nought {
@@ -142,7 +144,9 @@ fn put_any_groups<const N: usize>(
     requires long { length separator.bytes ≡ 4 }
     requires short { separator.len ≤ 4 }
     requires tens { AllBelowBase 10 digits.now }
-    ensures text { take result waiting.new ≡ take len waiting.old ++ groups_ahead (take separator.len separator.bytes) (digit_text table.now.chars.now) sizes.old digits.now }
+    ensures text { take result waiting.new
+        ≡ take len waiting.old
+        ++ groups_ahead (take separator.len separator.bytes) (digit_text table.now.chars.now) sizes.old digits.now }
     ensures room { result ≤ len + 4 * (length digits.now + length sizes.old) }
 {
     let mut len = len;
@@ -171,7 +175,9 @@ pub(crate) fn put_groups<const N: usize>(
     requires long { length separator.bytes ≡ 4 }
     requires short { separator.len ≤ 4 }
     requires tens { AllBelowBase 10 digits.now }
-    ensures text { take result waiting.new ≡ take len waiting.old ++ groups_ahead (take separator.len separator.bytes) (digit_text table.now.chars.now) sizes.old digits.now }
+    ensures text { take result waiting.new
+        ≡ take len waiting.old
+        ++ groups_ahead (take separator.len separator.bytes) (digit_text table.now.chars.now) sizes.old digits.now }
     ensures room { result ≤ len + 4 * (length digits.now + length sizes.old) }
 {
     if let Some(nought) = table.nought {

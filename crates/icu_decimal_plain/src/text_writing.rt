@@ -32,9 +32,15 @@ fn write_group<S: Sink>(
     requires fine { S.refused sink.old ≡ false }
     requires tens { AllBelowBase 10 digits.old }
     ensures digits { OnOk result (digits.new ≡ drop size digits.old) }
-    ensures ok { OnOk result (S.takes sink.old (bytes separator.now ++ bytes (chained (map (digit_text table.now.chars.now) (take size digits.old)))) sink.new) }
+    ensures ok { OnOk result
+        (S.takes sink.old
+        (bytes separator.now ++ bytes (chained (map (digit_text table.now.chars.now) (take size digits.old))))
+        sink.new) }
     ensures refused { S.refused sink.new ≡ is_err result }
-    ensures begun { OnErr result (HasBegun S.takes S.lacks_room sink.old (bytes separator.now ++ bytes (chained (map (digit_text table.now.chars.now) (take size digits.old)))) sink.new) }
+    ensures begun { OnErr result
+        (HasBegun S.takes S.lacks_room sink.old
+        (bytes separator.now ++ bytes (chained (map (digit_text table.now.chars.now) (take size digits.old))))
+        sink.new) }
 {
     sink.write_str(separator)?;
     write_digits(digits, size, table, sink)
@@ -51,9 +57,13 @@ fn write_few<S: Sink>(
     requires fine { S.refused sink.old ≡ false }
     requires tens { AllBelowBase 10 digits.old }
     ensures digits { OnOk result (digits.new ≡ drop (sum sizes.old) digits.old) }
-    ensures ok { OnOk result (S.takes sink.old (bytes (groups_ahead separator.now (digit_text table.now.chars.now) sizes.old digits.old)) sink.new) }
+    ensures ok { OnOk result
+        (S.takes sink.old (bytes (groups_ahead separator.now (digit_text table.now.chars.now) sizes.old digits.old))
+        sink.new) }
     ensures refused { S.refused sink.new ≡ is_err result }
-    ensures begun { OnErr result (HasBegun S.takes S.lacks_room sink.old (bytes (groups_ahead separator.now (digit_text table.now.chars.now) sizes.old digits.old)) sink.new) }
+    ensures begun { OnErr result
+        (HasBegun S.takes S.lacks_room sink.old
+        (bytes (groups_ahead separator.now (digit_text table.now.chars.now) sizes.old digits.old)) sink.new) }
 {
     while let Some(size) = sizes.next() {
         write_group(separator, digits, size, table, sink)?;
@@ -73,9 +83,13 @@ fn write_groups<S: Sink>(
     requires fine { S.refused sink.old ≡ false }
     requires tens { AllBelowBase 10 digits.old }
     ensures digits { OnOk result (digits.new ≡ drop (sum sizes.old) digits.old) }
-    ensures ok { OnOk result (S.takes sink.old (bytes (groups_ahead separator.now (digit_text table.now.chars.now) sizes.old digits.old)) sink.new) }
+    ensures ok { OnOk result
+        (S.takes sink.old (bytes (groups_ahead separator.now (digit_text table.now.chars.now) sizes.old digits.old))
+        sink.new) }
     ensures refused { S.refused sink.new ≡ is_err result }
-    ensures begun { OnErr result (HasBegun S.takes S.lacks_room sink.old (bytes (groups_ahead separator.now (digit_text table.now.chars.now) sizes.old digits.old)) sink.new) }
+    ensures begun { OnErr result
+        (HasBegun S.takes S.lacks_room sink.old
+        (bytes (groups_ahead separator.now (digit_text table.now.chars.now) sizes.old digits.old)) sink.new) }
 {
     if separator.len() > 4 {
         return write_few(separator, digits, sizes, table, sink);
@@ -101,9 +115,12 @@ pub(crate) fn write_run<S: Sink>(
     requires fine { S.refused sink.old ≡ false }
     requires tens { AllBelowBase 10 digits.old }
     ensures digits { OnOk result (digits.new ≡ drop count digits.old) }
-    ensures ok { OnOk result (S.takes sink.old (bytes (chained (map (digit_text table.now.chars.now) (take count digits.old)))) sink.new) }
+    ensures ok { OnOk result
+        (S.takes sink.old (bytes (chained (map (digit_text table.now.chars.now) (take count digits.old)))) sink.new) }
     ensures refused { S.refused sink.new ≡ is_err result }
-    ensures begun { OnErr result (HasBegun S.takes S.lacks_room sink.old (bytes (chained (map (digit_text table.now.chars.now) (take count digits.old)))) sink.new) }
+    ensures begun { OnErr result
+        (HasBegun S.takes S.lacks_room sink.old
+        (bytes (chained (map (digit_text table.now.chars.now) (take count digits.old)))) sink.new) }
 {
     if count < CHUNK || count > u16::MAX as usize {
         return write_digits(digits, count, table, sink);
@@ -119,9 +136,12 @@ fn write_whole_text<S: Sink>(
     sink: &mut S,
 ) -> Result<(), Error>
     requires { S.refused sink.old ≡ false }
-    ensures ok { OnOk result (S.takes sink.old (bytes (whole_text (borrowed_tables tables.now) (whole_digits number.now))) sink.new) }
+    ensures ok { OnOk result
+        (S.takes sink.old (bytes (whole_text (borrowed_tables tables.now) (whole_digits number.now))) sink.new) }
     ensures refused { S.refused sink.new ≡ is_err result }
-    ensures begun { OnErr result (HasBegun S.takes S.lacks_room sink.old (bytes (whole_text (borrowed_tables tables.now) (whole_digits number.now))) sink.new) }
+    ensures begun { OnErr result
+        (HasBegun S.takes S.lacks_room sink.old
+        (bytes (whole_text (borrowed_tables tables.now) (whole_digits number.now))) sink.new) }
 {
     let symbols = tables.symbols.symbols;
     let table = &tables.digits;
@@ -146,9 +166,12 @@ fn write_fraction_text<S: Sink>(
     sink: &mut S,
 ) -> Result<(), Error>
     requires { S.refused sink.old ≡ false }
-    ensures ok { OnOk result (S.takes sink.old (bytes (fraction_text (borrowed_tables tables.now) (fraction_digits number.now))) sink.new) }
+    ensures ok { OnOk result
+        (S.takes sink.old (bytes (fraction_text (borrowed_tables tables.now) (fraction_digits number.now))) sink.new) }
     ensures refused { S.refused sink.new ≡ is_err result }
-    ensures begun { OnErr result (HasBegun S.takes S.lacks_room sink.old (bytes (fraction_text (borrowed_tables tables.now) (fraction_digits number.now))) sink.new) }
+    ensures begun { OnErr result
+        (HasBegun S.takes S.lacks_room sink.old
+        (bytes (fraction_text (borrowed_tables tables.now) (fraction_digits number.now))) sink.new) }
 {
     if fraction_len(number) == 0 {
         return Ok(());
@@ -167,9 +190,12 @@ fn write_long_text<S: Sink>(
     sink: &mut S,
 ) -> Result<(), Error>
     requires { S.refused sink.old ≡ false }
-    ensures ok { OnOk result (S.takes sink.old (bytes (unsigned_text (borrowed_tables tables.now) number.now)) sink.new) }
+    ensures ok { OnOk result
+        (S.takes sink.old (bytes (unsigned_text (borrowed_tables tables.now) number.now)) sink.new) }
     ensures refused { S.refused sink.new ≡ is_err result }
-    ensures begun { OnErr result (HasBegun S.takes S.lacks_room sink.old (bytes (unsigned_text (borrowed_tables tables.now) number.now)) sink.new) }
+    ensures begun { OnErr result
+        (HasBegun S.takes S.lacks_room sink.old (bytes (unsigned_text (borrowed_tables tables.now) number.now))
+        sink.new) }
 {
     let mut text = ShortText::new();
     if text.push_number(tables, number).is_some() {
@@ -186,9 +212,12 @@ pub(crate) fn write_unsigned_text<S: Sink>(
     sink: &mut S,
 ) -> Result<(), Error>
     requires { S.refused sink.old ≡ false }
-    ensures ok { OnOk result (S.takes sink.old (bytes (unsigned_text (borrowed_tables tables.now) number.now)) sink.new) }
+    ensures ok { OnOk result
+        (S.takes sink.old (bytes (unsigned_text (borrowed_tables tables.now) number.now)) sink.new) }
     ensures refused { S.refused sink.new ≡ is_err result }
-    ensures begun { OnErr result (HasBegun S.takes S.lacks_room sink.old (bytes (unsigned_text (borrowed_tables tables.now) number.now)) sink.new) }
+    ensures begun { OnErr result
+        (HasBegun S.takes S.lacks_room sink.old (bytes (unsigned_text (borrowed_tables tables.now) number.now))
+        sink.new) }
 {
     let mut text = [0; SHORT];
     match put_short(&mut text, tables, number) {

@@ -47,9 +47,12 @@ fn write_piece<S: Sink>(
     requires few { count ≤ 16 }
     requires tens { AllBelowBase 10 digits.old }
     ensures digits { digits.new ≡ drop count digits.old }
-    ensures ok { OnOk result (S.takes sink.old (chained (map (digit_events table.now.chars.now) (take count digits.old))) sink.new) }
+    ensures ok { OnOk result
+        (S.takes sink.old (chained (map (digit_events table.now.chars.now) (take count digits.old))) sink.new) }
     ensures refused { S.refused sink.new ≡ is_err result }
-    ensures begun { OnErr result (HasBegun S.takes S.lacks_room sink.old (chained (map (digit_events table.now.chars.now) (take count digits.old))) sink.new) }
+    ensures begun { OnErr result
+        (HasBegun S.takes S.lacks_room sink.old
+        (chained (map (digit_events table.now.chars.now) (take count digits.old))) sink.new) }
 {
     let mut text = ShortText::new();
     text.push_digits(digits, count, table);
@@ -66,9 +69,12 @@ pub(crate) fn write_digits<S: Sink>(
     requires fine { S.refused sink.old ≡ false }
     requires tens { AllBelowBase 10 digits.old }
     ensures digits { OnOk result (digits.new ≡ drop count digits.old) }
-    ensures ok { OnOk result (S.takes sink.old (chained (map (digit_events table.now.chars.now) (take count digits.old))) sink.new) }
+    ensures ok { OnOk result
+        (S.takes sink.old (chained (map (digit_events table.now.chars.now) (take count digits.old))) sink.new) }
     ensures refused { S.refused sink.new ≡ is_err result }
-    ensures begun { OnErr result (HasBegun S.takes S.lacks_room sink.old (chained (map (digit_events table.now.chars.now) (take count digits.old))) sink.new) }
+    ensures begun { OnErr result
+        (HasBegun S.takes S.lacks_room sink.old
+        (chained (map (digit_events table.now.chars.now) (take count digits.old))) sink.new) }
 {
     let mut left = count;
     while left > 0 {
@@ -112,9 +118,12 @@ fn write_groups<S: Sink>(
 ) -> Result<(), Error>
     requires fine { S.refused sink.old ≡ false }
     requires tens { AllBelowBase 10 digits.old }
-    ensures ok { OnOk result (S.takes sink.old (later_events separator.now table.now.chars.now sizes.old digits.old) sink.new) }
+    ensures ok { OnOk result
+        (S.takes sink.old (later_events separator.now table.now.chars.now sizes.old digits.old) sink.new) }
     ensures refused { S.refused sink.new ≡ is_err result }
-    ensures begun { OnErr result (HasBegun S.takes S.lacks_room sink.old (later_events separator.now table.now.chars.now sizes.old digits.old) sink.new) }
+    ensures begun { OnErr result
+        (HasBegun S.takes S.lacks_room sink.old (later_events separator.now table.now.chars.now sizes.old digits.old)
+        sink.new) }
 {
     while let Some(size) = sizes.next() {
         write_group(separator, digits, size, table, sink)?;
@@ -137,9 +146,12 @@ fn write_whole<S: Sink>(
     sink: &mut S,
 ) -> Result<(), Error>
     requires { S.refused sink.old ≡ false }
-    ensures ok { OnOk result (S.takes sink.old (whole_events (borrowed_tables tables.now) (whole_digits number.now)) sink.new) }
+    ensures ok { OnOk result
+        (S.takes sink.old (whole_events (borrowed_tables tables.now) (whole_digits number.now)) sink.new) }
     ensures refused { S.refused sink.new ≡ is_err result }
-    ensures begun { OnErr result (HasBegun S.takes S.lacks_room sink.old (whole_events (borrowed_tables tables.now) (whole_digits number.now)) sink.new) }
+    ensures begun { OnErr result
+        (HasBegun S.takes S.lacks_room sink.old (whole_events (borrowed_tables tables.now) (whole_digits number.now))
+        sink.new) }
 {
     let symbols = tables.symbols.symbols;
     let table = &tables.digits;
@@ -177,9 +189,12 @@ pub(crate) fn write_fraction_digits<S: Sink>(
     sink: &mut S,
 ) -> Result<(), Error>
     requires { S.refused sink.old ≡ false }
-    ensures ok { OnOk result (S.takes sink.old (chained (map (digit_events table.now.chars.now) (fraction_digits number.now))) sink.new) }
+    ensures ok { OnOk result
+        (S.takes sink.old (chained (map (digit_events table.now.chars.now) (fraction_digits number.now))) sink.new) }
     ensures refused { S.refused sink.new ≡ is_err result }
-    ensures begun { OnErr result (HasBegun S.takes S.lacks_room sink.old (chained (map (digit_events table.now.chars.now) (fraction_digits number.now))) sink.new) }
+    ensures begun { OnErr result
+        (HasBegun S.takes S.lacks_room sink.old
+        (chained (map (digit_events table.now.chars.now) (fraction_digits number.now))) sink.new) }
 {
     let mut shown = number.fraction_digits();
     write_run(&mut shown, fraction_len(number) as usize, table, sink)
@@ -192,9 +207,12 @@ fn write_integer<S: Sink>(
     sink: &mut S,
 ) -> Result<(), Error>
     requires { S.refused sink.old ≡ false }
-    ensures ok { OnOk result (S.takes sink.old (integer_events (borrowed_tables tables.now) (whole_digits number.now)) sink.new) }
+    ensures ok { OnOk result
+        (S.takes sink.old (integer_events (borrowed_tables tables.now) (whole_digits number.now)) sink.new) }
     ensures refused { S.refused sink.new ≡ is_err result }
-    ensures begun { OnErr result (HasBegun S.takes S.lacks_room sink.old (integer_events (borrowed_tables tables.now) (whole_digits number.now)) sink.new) }
+    ensures begun { OnErr result
+        (HasBegun S.takes S.lacks_room sink.old (integer_events (borrowed_tables tables.now) (whole_digits number.now))
+        sink.new) }
 {
     sink.open_part(parts::INTEGER)?;
     write_whole(tables, number, sink)?;
@@ -229,9 +247,12 @@ fn write_fraction<S: Sink>(
     sink: &mut S,
 ) -> Result<(), Error>
     requires { S.refused sink.old ≡ false }
-    ensures ok { OnOk result (S.takes sink.old (fraction_events (borrowed_tables tables.now) (fraction_digits number.now)) sink.new) }
+    ensures ok { OnOk result
+        (S.takes sink.old (fraction_events (borrowed_tables tables.now) (fraction_digits number.now)) sink.new) }
     ensures refused { S.refused sink.new ≡ is_err result }
-    ensures begun { OnErr result (HasBegun S.takes S.lacks_room sink.old (fraction_events (borrowed_tables tables.now) (fraction_digits number.now)) sink.new) }
+    ensures begun { OnErr result
+        (HasBegun S.takes S.lacks_room sink.old
+        (fraction_events (borrowed_tables tables.now) (fraction_digits number.now)) sink.new) }
 {
     if fraction_len(number) == 0 {
         return Ok(());
@@ -248,9 +269,13 @@ pub(crate) fn write_unsigned<S: Sink>(
     sink: &mut S,
 ) -> Result<(), Error>
     requires { S.refused sink.old ≡ false }
-    ensures ok { OnOk result (S.takes sink.old (unsigned_events (record { number = number.now; tables = borrowed_tables tables.now })) sink.new) }
+    ensures ok { OnOk result
+        (S.takes sink.old (unsigned_events (record { number = number.now; tables = borrowed_tables tables.now }))
+        sink.new) }
     ensures refused { S.refused sink.new ≡ is_err result }
-    ensures begun { OnErr result (HasBegun S.takes S.lacks_room sink.old (unsigned_events (record { number = number.now; tables = borrowed_tables tables.now })) sink.new) }
+    ensures begun { OnErr result
+        (HasBegun S.takes S.lacks_room sink.old
+        (unsigned_events (record { number = number.now; tables = borrowed_tables tables.now })) sink.new) }
 {
     write_integer(tables, number, sink)?;
     write_fraction(tables, number, sink)

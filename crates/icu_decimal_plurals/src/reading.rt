@@ -52,7 +52,9 @@ fn text_for<'t>(
     category: PluralCategory,
     given: &[(PluralCategory, &'t str)],
 ) -> Result<Option<&'t str>, ConditionError>
-    ensures ok { IfOk result (λ found. MatchOption found (texts_for category (pairs_of given.now) ≡ []) (λ text. texts_for category (pairs_of given.now) ≡ text.now ∷ [])) }
+    ensures ok { IfOk result
+        (λ found. MatchOption found (texts_for category (pairs_of given.now) ≡ [])
+        (λ text. texts_for category (pairs_of given.now) ≡ text.now ∷ [])) }
     ensures syntax { IsErr result → 1 < length (texts_for category (pairs_of given.now)) }
 {
     let mut found = None;
@@ -75,7 +77,8 @@ fn condition_for(
     given: &[(PluralCategory, &str)],
 ) -> Result<Option<Condition>, ConditionError>
     ensures ok { IfOk result (λ condition. condition_by (texts_for category (pairs_of given.now)) ≡ Some condition) }
-    ensures syntax { IsErrOf result ConditionError.Syntax → condition_by (texts_for category (pairs_of given.now)) ≡ None }
+    ensures syntax { IsErrOf result ConditionError.Syntax
+        → condition_by (texts_for category (pairs_of given.now)) ≡ None }
     ensures room { texts_for category (pairs_of given.now) ≡ [] → IsOk result }
 {
     match text_for(category, given)? {

@@ -34,9 +34,13 @@ pub fn same_preferences(
     other: &DecimalFormatterPreferences,
 ) -> bool
     ensures same { IsTrue result ↔ (one.now ≡ other.now) }
-    ensures symbols { IsTrue result → (chain : DataLocaleMeaning → List DataLocaleMeaning) → symbols_identifiers chain one.now ≡ symbols_identifiers chain other.now }
-    ensures digits { IsTrue result → (named : Text) → digits_identifiers one.now.numbering_system named ≡ digits_identifiers other.now.numbering_system named }
-    ensures hashed { IsTrue result → ⟦<DecimalFormatterPreferences as Hash>⟧.hash_input one.now ≡ ⟦<DecimalFormatterPreferences as Hash>⟧.hash_input other.now }
+    ensures symbols { IsTrue result → (chain : DataLocaleMeaning → List DataLocaleMeaning)
+        → symbols_identifiers chain one.now ≡ symbols_identifiers chain other.now }
+    ensures digits { IsTrue result → (named : Text)
+        → digits_identifiers one.now.numbering_system named ≡ digits_identifiers other.now.numbering_system named }
+    ensures hashed { IsTrue result
+        → ⟦<DecimalFormatterPreferences as Hash>⟧.hash_input one.now
+        ≡ ⟦<DecimalFormatterPreferences as Hash>⟧.hash_input other.now }
 {
     one == other
 }

@@ -50,7 +50,8 @@ fn read_likely(alloc: Global, tables: &DecimalTables<'_>, text: &str) -> Option<
 #[tactic(auto, using(crate::proofs::ReadingLemmas::first_sign, crate::proofs::ReadingLemmas::second_sign, crate::proofs::ReadingLemmas::third_sign, crate::proofs::ReadingLemmas::no_sign_fits))]
 fn with_sign_of(tables: &DecimalTables<'_>, number: Decimal, text: &str) -> Option<Decimal>
     requires { number.sign ≡ NoSign }
-    ensures some { IfSome result (λ v. signed_reading (borrowed_tables tables.now) text.now number.absolute ≡ decimal v) }
+    ensures some { IfSome result
+        (λ v. signed_reading (borrowed_tables tables.now) text.now number.absolute ≡ decimal v) }
     ensures none { IfNone result (signed_reading (borrowed_tables tables.now) text.now number.absolute ≡ not_written) }
 {
     let mut number = number;

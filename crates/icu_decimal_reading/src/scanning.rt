@@ -32,7 +32,8 @@ fn room_for(table: &[char; 10], text: &str) -> usize
 fn gather_all(table: &[char; 10], text: &str, gathered: &mut Gathered) -> Result<(), AllocError>
     requires differ { all_differ table.now ≡ true }
     requires few { gathered.old.count + length text.now < 2 ^ 63 }
-    ensures value { OnOk result (gathered.new ≡ with_characters gathered.old (digits_of_text table.now (chars text.now))) }
+    ensures value { OnOk result
+        (gathered.new ≡ with_characters gathered.old (digits_of_text table.now (chars text.now))) }
     ensures room { OnErr result (8 < gathered.old.count + length (digits_of_text table.now (chars text.now))) }
 {
     let mut left = text;
@@ -56,10 +57,14 @@ fn gather_whole<'t>(
 ) -> Result<&'t str, AllocError>
     requires differ { all_differ table.now ≡ true }
     requires few { gathered.old.count + length text.now < 2 ^ 63 }
-    ensures value { OnOk result (gathered.new ≡ with_characters gathered.old (whole_in table.now (chars separator.now) (chars text.now))) }
-    ensures fraction { IfOk result (λ rest. digits_of_text table.now (chars rest.now) ≡ fraction_in table.now (chars separator.now) (chars text.now)) }
+    ensures value { OnOk result
+        (gathered.new ≡ with_characters gathered.old (whole_in table.now (chars separator.now) (chars text.now))) }
+    ensures fraction { IfOk result
+        (λ rest. digits_of_text table.now (chars rest.now)
+        ≡ fraction_in table.now (chars separator.now) (chars text.now)) }
     ensures bound { IfOk result (λ rest. gathered.new.count + length rest.now ≤ gathered.old.count + length text.now) }
-    ensures room { OnErr result (8 < gathered.old.count + length (whole_in table.now (chars separator.now) (chars text.now))) }
+    ensures room { OnErr result
+        (8 < gathered.old.count + length (whole_in table.now (chars separator.now) (chars text.now))) }
 {
     let mut left = text;
     while let Some((character, rest)) = split_character(left) {
@@ -83,9 +88,17 @@ pub(crate) fn number_in(
     text: &str,
 ) -> Result<Decimal, ReadError>
     requires { all_differ table.now ≡ true }
-    ensures value { IfOk result (λ v. v ≡ with_sign NoSign (number_with (whole_in table.now (chars separator.now) (chars text.now)) (fraction_in table.now (chars separator.now) (chars text.now)))) }
-    ensures within { OnOk result (is_within (whole_in table.now (chars separator.now) (chars text.now)) (fraction_in table.now (chars separator.now) (chars text.now)) ≡ true) }
-    ensures not_written { IsErrOf result ReadError.NotWritten → is_within (whole_in table.now (chars separator.now) (chars text.now)) (fraction_in table.now (chars separator.now) (chars text.now)) ≡ false }
+    ensures value { IfOk result
+        (λ v. v
+        ≡ with_sign NoSign
+        (number_with (whole_in table.now (chars separator.now) (chars text.now))
+        (fraction_in table.now (chars separator.now) (chars text.now)))) }
+    ensures within { OnOk result
+        (is_within (whole_in table.now (chars separator.now) (chars text.now))
+        (fraction_in table.now (chars separator.now) (chars text.now)) ≡ true) }
+    ensures not_written { IsErrOf result ReadError.NotWritten
+        → is_within (whole_in table.now (chars separator.now) (chars text.now))
+        (fraction_in table.now (chars separator.now) (chars text.now)) ≡ false }
     ensures unreadable { ¬ (IsErrOf result ReadError.Unreadable) }
     ensures memory { IsErrOf result ReadError.Memory → 8 < length (filter_map (digit_of table.now) (chars text.now)) }
 {

@@ -132,7 +132,8 @@ fn has_named(slots: &[Value], name: &str) -> bool
 
 // Whether the first slot's name stands in the others too.
 fn is_repeated(first: &Value, others: &[Value]) -> bool
-    ensures { result ≡ option_map_or (λ name. list_any (is_named name) (map view others.now)) (slot_name (view first.now)) false }
+    ensures { result
+        ≡ option_map_or (λ name. list_any (is_named name) (map view others.now)) (slot_name (view first.now)) false }
 {
     match slot_name(first) {
         Some(name) => has_named(others, name),

@@ -49,8 +49,10 @@ fn owned_types(alloc: Global, rows: &[Value]) -> Result<GivenTypes, AllocError>
 fn table_of(alloc: Global, rows: &[Value]) -> Result<CompactPatterns, DataError>
     requires { rise_from 0 (known_types (map view rows.now)) ≡ true }
     ensures decreasing { IsErrOf result DataError.Decreasing ↔ ¬ (NeverFalls 0 (known_types (map view rows.now))) }
-    ensures above { IsErrOf result DataError.AboveType ↔ IsFaulty None (known_types (map view rows.now)) DataError.AboveType }
-    ensures zeros { IsErrOf result DataError.TooManyZeros ↔ IsFaulty None (known_types (map view rows.now)) DataError.TooManyZeros }
+    ensures above { IsErrOf result DataError.AboveType
+        ↔ IsFaulty None (known_types (map view rows.now)) DataError.AboveType }
+    ensures zeros { IsErrOf result DataError.TooManyZeros
+        ↔ IsFaulty None (known_types (map view rows.now)) DataError.TooManyZeros }
     ensures only { IfErr result IsTableFault }
     ensures value { IfOk result (λ table. IsTable None (known_types (map view rows.now)) table) }
     ensures room { IsErrOf result DataError.Memory → MakesEntries None (known_types (map view rows.now)) }
@@ -77,12 +79,16 @@ impl CompactPatterns {
     /// allocate for an array without items, nor where another error is returned.
     pub fn from_json(alloc: Global, value: &Value) -> Result<Self, DataError>
         ensures custom { IsErrOf result DataError.Custom ↔ (types_of (view value.now) ≡ None) }
-        ensures decreasing { IsErrOf result DataError.Decreasing ↔ IsSomeAnd (types_of (view value.now)) (λ given. ¬ (NeverFalls 0 given)) }
-        ensures above { IsErrOf result DataError.AboveType ↔ IsSomeAnd (types_of (view value.now)) (λ given. IsFaulty None given DataError.AboveType) }
-        ensures zeros { IsErrOf result DataError.TooManyZeros ↔ IsSomeAnd (types_of (view value.now)) (λ given. IsFaulty None given DataError.TooManyZeros) }
+        ensures decreasing { IsErrOf result DataError.Decreasing
+            ↔ IsSomeAnd (types_of (view value.now)) (λ given. ¬ (NeverFalls 0 given)) }
+        ensures above { IsErrOf result DataError.AboveType
+            ↔ IsSomeAnd (types_of (view value.now)) (λ given. IsFaulty None given DataError.AboveType) }
+        ensures zeros { IsErrOf result DataError.TooManyZeros
+            ↔ IsSomeAnd (types_of (view value.now)) (λ given. IsFaulty None given DataError.TooManyZeros) }
         ensures only { IfErr result IsTableJsonFault }
         ensures value { IfOk result (SaysTable (view value.now)) }
-        ensures room { IsErrOf result DataError.Memory → IsSomeAnd (types_of (view value.now)) (λ given. MakesEntries None given) }
+        ensures room { IsErrOf result DataError.Memory
+            → IsSomeAnd (types_of (view value.now)) (λ given. MakesEntries None given) }
     {
         match rows_of(value) {
             Some(rows) => table_of(alloc, rows),

@@ -115,7 +115,8 @@ impl DecimalFormatterPreferences {
     ///
     /// `InvalidKeywordValue`: one of them is there and does not read, as in `en-u-nu-latn-thai`. It does not allocate.
     pub fn from_locale_strict(locale: &Locale) -> Result<Self, PreferencesParseError>
-        ensures { MatchResult result (λ p. (fails locale.now ≡ false) × (p ≡ preferences_of locale.now)) (λ e. (fails locale.now ≡ true) × (e ≡ PreferencesParseError.InvalidKeywordValue)) }
+        ensures { MatchResult result (λ p. (fails locale.now ≡ false) × (p ≡ preferences_of locale.now))
+            (λ e. (fails locale.now ≡ true) × (e ≡ PreferencesParseError.InvalidKeywordValue)) }
     {
         if fails_at_numbering(locale) {
             return Err(PreferencesParseError::InvalidKeywordValue);

@@ -17,7 +17,8 @@ pub fn load_with_fallback<'p, M: DataMarker, P: DataProvider<M>>(
     provider: &'p P,
     ids: &[DataIdentifier],
 ) -> Result<&'p M::DataStruct, DataError>
-    ensures { result_map_both (λ found. found.now) (λ error. error) result ≡ first_found (λ id. P.table provider.now id) ids.now }
+    ensures { result_map_both (λ found. found.now) (λ error. error) result
+        ≡ first_found (λ id. P.table provider.now id) ids.now }
 {
     let mut last = DataError::InvalidRequest;
     for id in ids {

@@ -21,7 +21,8 @@ fn load_one_or<'p, M: DataMarker, P: DataProvider<M>>(
     first: Option<DataIdentifier>,
     other: DataIdentifier,
 ) -> Result<&'p M::DataStruct, DataError>
-    ensures { result_map_both (λ found. found.now) (λ error. error) result ≡ first_found (λ id. P.table provider.now id) (option_to_list first ++ other ∷ []) }
+    ensures { result_map_both (λ found. found.now) (λ error. error) result
+        ≡ first_found (λ id. P.table provider.now id) (option_to_list first ++ other ∷ []) }
 {
     match first {
         Some(first) => load_with_fallback::<M, P>(provider, &[first, other]),
