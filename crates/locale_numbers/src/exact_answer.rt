@@ -1,4 +1,5 @@
 //! The exact forms: a significand and an exponent, as they are given.
+
 ghost use Rattle.std.specs.Prelude.{◌≡◌, ◌∷◌, ◌++◌, List, Option, Some, IsOk, OnOk, OnErr, string_bytes};
 ghost use Rattle.fixed_decimal.specs.CompactText.{ReadsLongCompact};
 ghost use Rattle.locale_numbers_lines.specs.Growth.{Grows};

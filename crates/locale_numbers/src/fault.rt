@@ -1,3 +1,5 @@
+//! Why the program ended before it had answered all lines, and with which status.
+
 ghost use Rattle.std.specs.Prelude.{◌≡◌, Some};
 
 use locale_numbers_book::BookError;

@@ -1,4 +1,5 @@
 //! What a formatter is kept under.
+
 ghost use Rattle.std.specs.Prelude.{◌≡◌};
 ghost use Rattle.locale_numbers.specs.FormatterKeys.{kind_of};
 

@@ -1,3 +1,5 @@
+//! What hands out the formatter of a line, made now or kept from earlier lines.
+
 ghost use Rattle.std.specs.Prelude.{◌≡◌, ◌∷◌, ℕ, List, Option, Some, None, IfOk, IsTrue, OnOk, OnErr};
 ghost use Rattle.locale_numbers_book.specs.Book.{BookTables};
 ghost use Rattle.locale_numbers.specs.FormatterKeys.{IsMadeFor, finds};

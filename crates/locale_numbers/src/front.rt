@@ -1,4 +1,5 @@
 //! The front of a line: all that stands before its text.
+
 ghost use Rattle.std.specs.Prelude.{◌≡◌, IfOk, option_map};
 ghost use Rattle.locale_numbers.specs.FormatterKeys.{key_with};
 ghost use Rattle.locale_numbers.specs.Front.{asked_text, front_of};

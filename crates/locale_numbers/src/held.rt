@@ -1,4 +1,5 @@
-// The formatter of a key, which is looked for only where it is not the one that was found last.
+//! The formatter of a key, which is looked for only where it is not the one that was found last.
+
 ghost use Rattle.std.specs.Prelude.{◌≡◌, ◌∷◌, List, Option, Some, IfOk, IsTrue, OnOk, OnErr};
 ghost use Rattle.locale_numbers.specs.FormatterKeys.{finds};
 ghost use Rattle.locale_numbers.specs.declared.formatter_key.FormatterKey.{FormatterKey};

@@ -1,4 +1,5 @@
-// Formatters that are kept from line to line.
+//! Formatters that are kept from line to line.
+
 use crate::formatter_key::FormatterKey;
 use crate::formatters::Formatters;
 use crate::kept_formatter::{FormatterMaker, KeptFormatter};

@@ -1,4 +1,5 @@
 //! What is kept under a key, and how it is made.
+
 ghost use Rattle.std.specs.Prelude.{◌≡◌, false, IfSome, IsSome, IsTrue, MatchOption};
 ghost use Rattle.std.specs.Result.{result_map_both};
 ghost use Rattle.icu_decimal.specs.HeldCompact.{compact_tables_of};

@@ -1,5 +1,6 @@
 //! Laws over the definitions that the clauses of this crate cite. Each function is a proof: it
 //! answers nothing.
+
 ghost use Rattle.locale_numbers.specs.Answer.{found_in};
 ghost use Rattle.locale_numbers.specs.CompactAnswer.{found_compact};
 ghost use Rattle.locale_numbers.specs.FormatterKeys.{same_keys};

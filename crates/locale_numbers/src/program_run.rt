@@ -1,3 +1,5 @@
+//! The program for given words: its book is read, then its lines are answered.
+
 ghost use Rattle.std.specs.Prelude.{◌≡◌, ◌≤◌, false, true, IfOk, IfErr, OnOk, IsErrOf, IsSome, IsNone};
 ghost use Rattle.std.specs.IoError.{error_kind};
 ghost use Rattle.std.specs.declared.io.ErrorKind.TheVariants.{OutOfMemory};

@@ -1,3 +1,5 @@
+//! All lines of a reader, answered onto a writer.
+
 ghost use Rattle.std.specs.Prelude.{◌≡◌, ◌≤◌, false, true, IfOk, OnOk, IsErrOf};
 ghost use Rattle.locale_numbers_lines.specs.Outcomes.{ends_in_write};
 ghost use Rattle.locale_numbers_lines.specs.Run.{WritesAll, WritesTold, WritesPart, WritesFirst, CountsLines, CountsMade, MayReadOnceAnswered};

@@ -1,3 +1,5 @@
+//! What the program's arguments say: the path of a book, and a capacity.
+
 ghost use Rattle.std.specs.Prelude.{◌≡◌, ◌≤◌, None, Some, IfOk, IfErr, IfSome, map, option_map};
 ghost use Rattle.locale_numbers.specs.Words.{capacity_named, said_by, words_said};
 

@@ -1,4 +1,5 @@
 //! The buffer of answers as a sink, so that no text is copied.
+
 ghost use Rattle.std.specs.Prelude.{◌≡◌, ◌+◌, ◌<◌, ◌≤◌, ◌++◌, length, IfOk, IsOk, OnOk, OnErr, string_bytes, string_capacity};
 ghost use Rattle.writeable.specs.AnnotatedText.{text_of};
 ghost use Rattle.icu_decimal.specs.CompactText.{compact_decimal_text, value_shown};

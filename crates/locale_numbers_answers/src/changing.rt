@@ -1,4 +1,5 @@
-// What a request makes of its number before it is written.
+//! What a request makes of its number before it is written.
+
 ghost use Rattle.std.specs.Prelude.{◌≡◌, OnOk, OnErr};
 ghost use Rattle.locale_numbers_answers.specs.Changing.{rounded_as, signed_as, changed, MayGrow};
 

@@ -1,4 +1,5 @@
 //! The forms `short` and `long`: what a number is shown as, and the value shown.
+
 ghost use Rattle.std.specs.Prelude.{◌≡◌, ◌≤◌, ◌∷◌, ◌++◌, map, IfOk, IsOk, OnOk, OnErr, string_bytes, string_capacity};
 ghost use Rattle.std.specs.Int.Digits.{digits_of};
 ghost use Rattle.std.specs.Str.{IsAscii};

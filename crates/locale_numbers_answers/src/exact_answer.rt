@@ -1,4 +1,5 @@
 //! The exact forms: a significand and an exponent, as they are given.
+
 ghost use Rattle.std.specs.Prelude.{◌≡◌, ◌++◌, IfOk, IsOk, OnOk, OnErr, IsErrOf, string_bytes};
 ghost use Rattle.fixed_decimal.specs.CompactText.{ReadsLongCompact};
 ghost use Rattle.icu_decimal.specs.HeldCompact.{compact_tables_of};

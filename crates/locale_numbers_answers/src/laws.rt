@@ -1,4 +1,5 @@
 //! Laws over the definitions that an answer goes by. Each function is a proof: it answers nothing.
+
 ghost use Rattle.locale_numbers_answers.specs.Laws.{HasOneReading, HasOneCompactReading, HasOneRounding};
 
 /// Each text spells one number, or one beyond the limits, or none: what the relations of `fixed_decimal` say of a text

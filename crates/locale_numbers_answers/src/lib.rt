@@ -11,6 +11,7 @@
 //! write_plain_answer(&formatter, &value, &mut out)?;        // behind what `out` holds: `ok`, a tab, `-987,654.321`
 //! write_refusal(&mut out, Refusal::Table)?;                 // `err`, a tab, `table`
 //! ```
+
 #![tactic(auto)]
 
 mod answer_line;

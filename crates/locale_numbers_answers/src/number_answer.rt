@@ -1,4 +1,5 @@
-// The forms that write a number.
+//! The forms that write a number.
+
 ghost use Rattle.std.specs.Prelude.{◌≡◌, true, ◌++◌, IsOk, OnOk, OnErr, IsErrOf, string_bytes};
 ghost use Rattle.std.specs.Str.{is_utf8};
 ghost use Rattle.icu_decimal.specs.HeldTables.{tables_of};

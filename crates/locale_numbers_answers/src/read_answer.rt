@@ -1,4 +1,5 @@
 //! The form `read`: the number that a text was written from, as an answer.
+
 ghost use Rattle.std.specs.Prelude.{◌≡◌, ◌++◌, IfSome, IsErrOf, IsOk, OnOk, OnErr, string_bytes};
 ghost use Rattle.fixed_decimal.specs.SignedText.{signed_text_of};
 ghost use Rattle.icu_decimal.specs.HeldTables.{tables_of};

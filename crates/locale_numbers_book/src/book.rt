@@ -1,4 +1,5 @@
 //! A book of tables.
+
 ghost use Rattle.std.specs.Prelude.{◌≡◌, true, IfOk, IsErrOf, IfErr, option_map, unwrap_or};
 ghost use Rattle.serde_json.specs.Data.{Data, no_items};
 ghost use Rattle.serde_json.specs.View.{items_view, view};

@@ -1,4 +1,5 @@
 //! Laws of the definitions, each the contract of a function that does nothing.
+
 ghost use Rattle.locale_numbers_book.specs.Laws.{TagsAreRead, DataLocalesAreRead, KeysAreOneWhereEqual, TablesAreMade, IsOneBook, BookTablesAreSound, BookChainsEnd, SampleBookIsKnown};
 
 /// The function by which a line is answered reads as a tag exactly what means one in the grammar, and as that meaning:

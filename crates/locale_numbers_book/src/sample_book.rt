@@ -1,3 +1,5 @@
+//! The book that is there without a file, as a constant.
+
 /// A small book: symbols for English and for Arabic in Egypt, digits of three systems, and the English plural rules and
 /// compact patterns.
 ///

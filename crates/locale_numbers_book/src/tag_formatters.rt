@@ -1,4 +1,5 @@
 //! The formatters of a book for a tag.
+
 ghost use Rattle.std.specs.Prelude.{◌≡◌, ◌⊎◌, Ok, Err, Some, None, false, IfOk, IfErr};
 ghost use Rattle.std.specs.Result.{IsErrOf, result_map_both};
 ghost use Rattle.icu_decimal.specs.HeldCompact.{compact_tables_of};

@@ -1,4 +1,5 @@
 //! What a tag prefers.
+
 ghost use Rattle.std.specs.Prelude.{◌≡◌, false, true, IfOk, IfSome, IsOk, OnErr};
 ghost use Rattle.icu_locale_core.specs.Pieces.{pieces};
 ghost use Rattle.icu_locale_core.specs.SingleModes.{single};

@@ -1,3 +1,5 @@
+//! What a thing is kept under, as a trait.
+
 ghost use Rattle.std.specs.Prelude.{◌≡◌, IsTrue};
 
 use std::hash::Hash;

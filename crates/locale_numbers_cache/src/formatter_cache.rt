@@ -1,3 +1,5 @@
+//! What was made for the most recently used keys, up to a capacity.
+
 ghost use Rattle.std.specs.Prelude.{◌≡◌, ◌≤◌, Bool, List, ◌∷◌, [], Option, option_map, option_copied, slice_get, false, IfOk, OnOk, OnErr, IsOk, IsTrue};
 ghost use Rattle.locale_numbers_cache.specs.Recent.{has};
 ghost use Rattle.locale_numbers_cache.specs.Cached.{cached, most, ChangesNothing, IsFirst, IsSound, IsLatest, recent_of, recent_with, made_over};

@@ -1,3 +1,5 @@
+//! Two places for the bytes of one hash.
+
 ghost use Rattle.std.specs.Prelude.{◌≡◌, true, None, IfOk, OnOk, OnErr, IsOk};
 ghost use Rattle.locale_numbers_cache.specs.LastRead.{AreRead, Uses, either_remembers, remembers};
 

@@ -1,3 +1,5 @@
+//! What reads keys from bytes, as a trait.
+
 ghost use Rattle.std.specs.Prelude.{◌≡◌, ℕ, List, IfOk};
 
 use std::alloc::AllocError;

@@ -1,3 +1,5 @@
+//! One place for bytes and what was read from them.
+
 ghost use Rattle.std.specs.Prelude.{◌≡◌, Option, Some, None, true, false, MatchOption, OnOk, OnErr};
 ghost use Rattle.locale_numbers_cache.specs.LastRead.{remembers};
 

@@ -1,3 +1,5 @@
+//! What makes the things that a cache keeps, as a trait.
+
 ghost use Rattle.std.specs.Prelude.{◌≡◌, Bool, true, false, MatchOption};
 
 /// One that makes what a cache keeps, as a formatter of English for what `en` prefers.

@@ -1,4 +1,5 @@
-// The entry of a key goes to the front, with no look-up where it stands there.
+//! The entry of a key goes to the front, with no look-up where it stands there.
+
 ghost use Rattle.std.specs.Prelude.{◌≡◌, is_some};
 ghost use Rattle.std.specs.Map.{lookup};
 ghost use Rattle.lru.specs.LruCache.{lru_cache, promoted};

@@ -1,3 +1,5 @@
+//! Bytes that were read before, each beside its key.
+
 ghost use Rattle.std.specs.Prelude.{◌≡◌, ◌<◌, ◌≤◌, ℕ, List, length, true, None, Some, slice_get, IfOk, IfSome, IsSome, OnOk, OnErr, IsOk, IsTrue};
 ghost use Rattle.std.specs.List.{All};
 ghost use Rattle.locale_numbers_cache.specs.LastRead.{AreRead, IsLastOf, Uses, either_remembers, pair_at};

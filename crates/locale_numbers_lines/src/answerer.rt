@@ -1,3 +1,5 @@
+//! What answers lines one by one, as a trait.
+
 ghost use Rattle.std.specs.Prelude.{◌≡◌, ℕ, List, [], ◌∷◌, ◌++◌, string_bytes, OnOk, OnErr};
 ghost use Rattle.locale_numbers_lines.specs.Growth.{Grows};
 

@@ -1,3 +1,5 @@
+//! A sink of bytes that knows whether a write or a flush has failed, as a trait.
+
 ghost use Rattle.std.specs.Prelude.{◌≡◌, ℕ, ◌≤◌, Bool, false, List, length, Option, IfOk, is_err};
 ghost use Rattle.std.specs.Io.KnownBytes.{Keeps, WriteAppends};
 ghost use Rattle.locale_numbers_lines.specs.ByteIo.{write_fails};

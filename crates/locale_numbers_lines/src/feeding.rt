@@ -1,3 +1,5 @@
+//! The lines that end in one piece of the input, and what is held for the next piece.
+
 ghost use Rattle.std.specs.Prelude.{◌≡◌, ◌<◌, false, ◌++◌, [], length, string_bytes, OnOk};
 ghost use Rattle.locale_numbers_lines.specs.Lines.{HasNoFeed};
 ghost use Rattle.locale_numbers_lines.specs.Outcomes.{ends_in_write};

@@ -1,3 +1,5 @@
+//! A text cut at its first line feed.
+
 ghost use Rattle.std.specs.Prelude.{MatchOption};
 ghost use Rattle.locale_numbers_lines.specs.Lines.{HasNoFeed};
 ghost use Rattle.locale_numbers_lines.specs.Progress.{FirstLine};

@@ -1,3 +1,5 @@
+//! Answers behind those that wait to be written.
+
 ghost use Rattle.std.specs.Prelude.{◌≡◌, ℕ, List, [], ◌∷◌, ◌++◌, string_bytes, OnOk, OnErr};
 ghost use Rattle.locale_numbers_lines.specs.Lines.{ended};
 ghost use Rattle.locale_numbers_lines.specs.Growth.{Grows};

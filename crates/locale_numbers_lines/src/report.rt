@@ -1,3 +1,5 @@
+//! What a run counted.
+
 /// What a run that answered all lines counted: 2 lines of `one`, line feed, `two`.
 #[derive(Clone, Copy, Debug, PartialEq, Eq)]
 pub struct Report {

@@ -1,3 +1,5 @@
+//! Why a run ended early: its reader, its writer, or memory.
+
 ghost use Rattle.std.specs.Prelude.{◌≡◌};
 
 use crate::byte_writer::ByteWriteFault;

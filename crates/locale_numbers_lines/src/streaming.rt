@@ -1,3 +1,5 @@
+//! A run from the first read to the flush behind the last line.
+
 ghost use Rattle.std.specs.Prelude.{◌≡◌, ◌<◌, [], length, string_bytes, true, false, IfOk, IsErrOf, MatchResult, OnOk};
 ghost use Rattle.std.specs.Io.KnownBytes.{Keeps};
 ghost use Rattle.locale_numbers_lines.specs.Lines.{answers_to, last_line};

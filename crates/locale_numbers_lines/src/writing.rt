@@ -1,3 +1,5 @@
+//! Whole texts onto a writer that may take them in parts.
+
 ghost use Rattle.std.specs.Prelude.{◌≡◌, ◌<◌, false, [], length, string_bytes, is_err, MatchResult, OnOk};
 ghost use Rattle.std.specs.Io.KnownBytes.{Appends};
 ghost use Rattle.locale_numbers_lines.specs.Run.{WritesFront};

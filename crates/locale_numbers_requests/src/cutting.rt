@@ -1,4 +1,5 @@
-// Pieces of a text between the bytes that part them.
+//! Pieces of a text between the bytes that part them.
+
 ghost use Rattle.std.specs.Prelude.{◌≡◌, ◌<◌, ◌+◌, ◌∷◌, [], length, position, drop, slice_index, MatchOption};
 ghost use Rattle.std.specs.List.{All};
 ghost use Rattle.locale_numbers_requests.specs.Cutting.{IsLastCut, IsNot, is_separator, cut_at};

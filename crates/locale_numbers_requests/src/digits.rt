@@ -1,4 +1,5 @@
 //! The number that decimal digits spell, as far as a line or a word of the program asks.
+
 ghost use Rattle.std.specs.Prelude.{◌≡◌, ◌<◌, true, min};
 ghost use Rattle.std.specs.Char.{digit_value};
 ghost use Rattle.std.specs.List.{list_all};

@@ -10,6 +10,7 @@
 //! let request = read_request(front);                                       // Some: the tag `en`, plain, Min2, the sign of the text, no rounding
 //! let word = Refusal::Shape.word();                                        // "shape"
 //! ```
+
 #![tactic(auto)]
 
 mod cutting;

@@ -1,3 +1,5 @@
+//! The causes for which a line is refused, each with its word.
+
 ghost use Rattle.std.specs.Prelude.{◌≡◌};
 ghost use Rattle.locale_numbers_requests.specs.Refusal.{word_of};
 

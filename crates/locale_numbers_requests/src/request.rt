@@ -1,4 +1,5 @@
-// The request line: six fields between tabs.
+//! The request line: six fields between tabs.
+
 ghost use Rattle.std.specs.Prelude.{◌≡◌, true, false, ◌∷◌, [], ◌↔◌, length, IsSome, IfSome, MatchOption, Some, None};
 ghost use Rattle.std.specs.Str.{is_utf8};
 ghost use Rattle.locale_numbers_requests.specs.Request.{fields, form_named, grouping_named, keeps_digits, keeps_sign, request_of, takes, with_text};

@@ -1,4 +1,5 @@
-// The rounding that a request asks for: a position, a mode and an increment, or none.
+//! The rounding that a request asks for: a position, a mode and an increment, or none.
+
 ghost use Rattle.std.specs.Prelude.{◌≡◌, ◌≤◌, ◌∷◌, [], ◌↔◌, length, IsSome, IfSome};
 ghost use Rattle.locale_numbers_requests.specs.RoundingField.{comma, is_size, size_named, position_named, mode_named, increment_named, rounding_in, rounding_named};
 ghost use Rattle.locale_numbers_requests.specs.Cutting.{cut_at};

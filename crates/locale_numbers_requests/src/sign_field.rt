@@ -1,4 +1,5 @@
-// The sign that a request asks for.
+//! The sign that a request asks for.
+
 ghost use Rattle.std.specs.Prelude.{◌≡◌};
 ghost use Rattle.locale_numbers_requests.specs.Request.{sign_named};
 

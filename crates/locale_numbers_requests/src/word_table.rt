@@ -1,4 +1,5 @@
-// A table of words, each with a value.
+//! A table of words, each with a value.
+
 ghost use Rattle.std.specs.Prelude.{◌≡◌, map};
 ghost use Rattle.locale_numbers_requests.specs.WordTable.{value_beside};
 

@@ -1,4 +1,5 @@
 //! Entries of symbols and of digits.
+
 ghost use Rattle.std.specs.Prelude.{◌≡◌, IfOk, Some, None};
 ghost use Rattle.serde_json.specs.View.{view};
 ghost use Rattle.icu_decimal.specs.Symbols.{SymbolStrings};

@@ -1,4 +1,5 @@
 //! What an entry of an array says.
+
 ghost use Rattle.std.specs.Prelude.{◌≡◌, true, Bool, IfOk, IsErrOf, IfErr, OnOk, Option, Some, None};
 ghost use Rattle.serde_json.specs.Data.{Data};
 ghost use Rattle.serde_json.specs.View.{view};

@@ -1,4 +1,5 @@
 //! Why a text is no book.
+
 ghost use Rattle.std.specs.Prelude.{◌≡◌, codes};
 ghost use Rattle.locale_numbers_tables.specs.BookError.{number_of, word_of};
 

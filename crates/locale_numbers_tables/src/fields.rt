@@ -1,4 +1,5 @@
 //! One field of an entry.
+
 ghost use Rattle.std.specs.Prelude.{◌≡◌, true, IfOk, OnErr, Some, chars, is_some, length, option_map, string_bytes};
 ghost use Rattle.std.specs.List.{list_all};
 ghost use Rattle.serde_json.specs.View.{view};

@@ -1,4 +1,5 @@
 //! Entries of plural rules.
+
 ghost use Rattle.std.specs.Prelude.{◌≡◌, true, IfOk, Some, None, is_some, option_map};
 ghost use Rattle.serde_json.specs.Find.{as_array};
 ghost use Rattle.serde_json.specs.View.{view, items_view};

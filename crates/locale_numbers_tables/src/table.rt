@@ -1,4 +1,5 @@
 //! A table that has no key twice.
+
 ghost use Rattle.std.specs.Prelude.{◌≡◌, ◌⊎◌, ◌++◌, [], ◌∷◌, None, IsSome, OnOk, IsErrOf, IfErr};
 ghost use Rattle.indexmap.specs.IndexMap.{get, hasher_of};
 ghost use Rattle.locale_numbers_tables.specs.declared.error.BookError.{BookError};

@@ -1,4 +1,5 @@
 //! The arrays of a book as tables.
+
 ghost use Rattle.std.specs.Prelude.{◌≡◌, true, IfOk, IsErrOf, IfErr, OnOk, Some, None, [], map};
 ghost use Rattle.indexmap.specs.IndexMap.{hasher_of};
 ghost use Rattle.serde_json.specs.Data.{item, no_items};

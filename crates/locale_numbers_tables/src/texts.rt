@@ -1,4 +1,5 @@
 //! The texts of patterns: no tab and no line feed stands in one.
+
 ghost use Rattle.std.specs.Prelude.{◌≡◌};
 ghost use Rattle.serde_json.specs.View.{view, items_view};
 ghost use Rattle.locale_numbers_tables.specs.CompactEntries.{each, each_in, is_so_at, is_plain_text, is_plain_slot, are_plain_slots, is_plain_row, has_plain_patterns};

@@ -1,4 +1,5 @@
 //! JSON texts as the arrays of a book.
+
 mod form;
 mod parents;
 mod value;

@@ -1,4 +1,5 @@
 //! The sixth array of a book: locales and their parents.
+
 ghost use Rattle.std.specs.Prelude.{◌≡◌, ◌&&◌, ◌||◌, true, [], ◌∷◌, IfOk, IfErr, IsErrOf, OnOk, Some, None, is_some, option_and_then, option_map, unwrap_or};
 ghost use Rattle.serde_json.specs.Data.{no_items};
 ghost use Rattle.serde_json.specs.View.{items_view, view};

@@ -1,4 +1,5 @@
 //! Bytes as a JSON value.
+
 ghost use Rattle.std.specs.Prelude.{◌≡◌, ◌<◌, IfOk, IsErrOf, IfErr, length};
 ghost use Rattle.serde_json.specs.View.{view};
 ghost use Rattle.locale_numbers_book.specs.Json.{IsJsonOrMemory, IsNoJson, Reads};

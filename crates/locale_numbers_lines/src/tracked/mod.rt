@@ -1,3 +1,5 @@
+//! Readers and writers of std, made into those that a run takes.
+
 mod reading;
 mod writing;
 

@@ -1,3 +1,5 @@
+//! A tracked reader of std is a source of bytes, which counts down its reads.
+
 use super::Tracked;
 use crate::byte_reader::{ByteReadFault, ByteReader};
 use std::io;

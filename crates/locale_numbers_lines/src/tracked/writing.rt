@@ -1,3 +1,5 @@
+//! A tracked writer of std is a sink of bytes.
+
 use super::Tracked;
 use crate::byte_writer::{ByteWriteFault, ByteWriter};
 use std::io;
