@@ -1,5 +1,5 @@
 -- Which tables the formatter of a key has, and what is answered where there are none.
-use Rattle.std.proofs.Common.{◌≡◌, ℕ, List, [], ◌∷◌, Some, Result, Ok, Err, is_ok, false, refl, sym, ap, ◌∙◌, subst, slice_get}
+use Rattle.std.proofs.Common.{◌≡◌, ℕ, List, [], ◌∷◌, Some, Result, Ok, Err, is_ok, false, refl, ap, ◌∙◌, slice_get}
 use Rattle.std.specs.Map.{keys_of}
 use Rattle.std.specs.Prelude.{option_map}
 use Rattle.fixed_decimal.specs.Number.{Number}
@@ -10,7 +10,6 @@ use Rattle.icu_decimal.specs.declared.options.DecimalFormatterOptions.{DecimalFo
 use Rattle.icu_decimal.specs.declared.options.GroupingStrategy.{GroupingStrategy}
 use Rattle.icu_decimal.specs.CompactTables.{CompactTables}
 use Rattle.icu_decimal.specs.FoundTables.{found_tables}
-use Rattle.icu_decimal.specs.HeldCompact.{compact_tables_of}
 use Rattle.icu_decimal.specs.Identifiers.{Identifier}
 use Rattle.icu_decimal.specs.PlainText.{Tables}
 use Rattle.icu_decimal.specs.Symbols.{Symbols}
@@ -19,14 +18,9 @@ use Rattle.locale_numbers_book.specs.Tables.{symbols_under, digits_under, chain_
 use Rattle.locale_numbers_cache.specs.Cached.{Cached, IsFirst}
 use Rattle.locale_numbers.specs.Answer.{answer_with, found_in, refused}
 use Rattle.locale_numbers.specs.CompactAnswer.{compact_with, found_compact}
-use Rattle.locale_numbers.specs.FormatterKeys.{HasKind, HasTables, answer_by, answer_of_kind, finds_kind}
+use Rattle.locale_numbers.specs.FormatterKeys.{answer_of_kind, finds_kind}
 use Rattle.locale_numbers.specs.declared.formatter_key.Kind.{Kind}
 use Rattle.locale_numbers.specs.declared.formatter_key.Kind.TheVariants.{Plain, Compact}
-use Rattle.locale_numbers.specs.declared.kept_formatter.KeptFormatter.{KeptFormatter}
-use Rattle.locale_numbers.specs.declared.kept_formatter.KeptFormatter.TheVariants as kept
-use Rattle.locale_numbers.specs.declared.kept_formatter.PlainFormatter.{PlainFormatter}
-use Rattle.locale_numbers_requests.specs.declared.PatternLength.{PatternLength}
-use Rattle.icu_decimal.specs.declared.CompactDecimalFormatter.{CompactDecimalFormatter}
 use Rattle.locale_numbers_requests.specs.declared.Refusal.TheVariants as refusal
 
 -- tables that answer as a book does are found as in the book
@@ -60,30 +54,6 @@ pub none_of_kind : (kind : Kind) (book : BookTables) (p : Preferences) (grouping
     → finds_kind kind book p grouping ≡ false → answer_of_kind kind book p grouping value ≡ refused refusal.Table
 none_of_kind Plain book p grouping value none = none_plain (found_in book p grouping) value none
 none_of_kind (Compact length) book p grouping value none = none_compact (found_compact length book p grouping) value none
-
--- ---- the formatter of a key answers as its tables do
-
-pub answers_as_found : (key : Kind) (book : BookTables) (p : Preferences) (grouping : GroupingStrategy) (formatter : KeptFormatter) (value : SignedValue Number)
-    → HasKind key book p grouping formatter → answer_by formatter value ≡ answer_of_kind key book p grouping value
-answers_as_found Plain book p grouping (kept.Plain plain) value has = sym (ap (λ found. answer_with found value) has.tables)
-answers_as_found Plain book p grouping (kept.Compact compact) value has = absurd has
-answers_as_found (Compact length) book p grouping (kept.Plain plain) value has = absurd has
-answers_as_found (Compact length) book p grouping (kept.Compact compact) value has = sym (ap (λ found. compact_with found value) has)
-
--- ---- and it is of the key's kind
-
-module _ (key : Kind) (book : BookTables) (p : Preferences) (grouping : GroupingStrategy) (formatter : KeptFormatter) (has : HasKind key book p grouping formatter) where
-  pub is_plain : (plain : PlainFormatter) → key ≡ Plain → formatter ≡ kept.Plain plain → HasTables (found_in book p grouping) plain
-  is_plain plain kind is = subst (λ k. HasKind k book p grouping (kept.Plain plain)) kind (subst (λ f. HasKind key book p grouping f) is has)
-
-  pub no_compact : (compact : CompactDecimalFormatter) → key ≡ Plain → formatter ≡ kept.Compact compact → ⊥
-  no_compact compact kind is = subst (λ k. HasKind k book p grouping (kept.Compact compact)) kind (subst (λ f. HasKind key book p grouping f) is has)
-
-  pub is_compact : (length : PatternLength) (compact : CompactDecimalFormatter) → key ≡ Compact length → formatter ≡ kept.Compact compact → found_compact length book p grouping ≡ Ok (compact_tables_of compact)
-  is_compact length compact kind is = subst (λ k. HasKind k book p grouping (kept.Compact compact)) kind (subst (λ f. HasKind key book p grouping f) is has)
-
-  pub no_plain : (length : PatternLength) (plain : PlainFormatter) → key ≡ Compact length → formatter ≡ kept.Plain plain → ⊥
-  no_plain length plain kind is = subst (λ k. HasKind k book p grouping (kept.Plain plain)) kind (subst (λ f. HasKind key book p grouping f) is has)
 
 -- the key of the first entry is the first key
 pub first_key : {K F : Type 0} (cache : Cached K F) (key : K) (kept : F) → slice_get cache.entries 0 ≡ Some (key, kept) → IsFirst key cache

@@ -1,5 +1,5 @@
 -- A text is cut at its last tab in one way, and a printed value has no tab: `specs/Printed.antt`.
-use Rattle.std.proofs.Common.{◌≡◌, ℕ, ◌<◌, List, [], ◌∷◌, ◌++◌, drop, get_or, map, refl, sym, ap, ◌∙◌, subst, arith}
+use Rattle.std.proofs.Common.{◌≡◌, ℕ, ◌<◌, List, [], ◌∷◌, ◌++◌, map, refl, subst, arith}
 use Rattle.std.specs.Int.Digits.{digits_of}
 use Rattle.fixed_decimal.specs.CompactText.{CompactValue, behind_compact_mark, compact_text_of}
 use Rattle.fixed_decimal.specs.Number.{fraction_digits, whole_digits}
@@ -14,26 +14,18 @@ no_tab_in : (c d : List ℕ) → HasNoTab (c ++ tab ∷ d) → ⊥
 no_tab_in [] d h = h.0 refl
 no_tab_in (x ∷ c) d h = no_tab_in c d h.1
 
-first_same : (x y : ℕ) (a b : List ℕ) → x ∷ a ≡ y ∷ b → x ≡ y
-first_same x y a b e = ap (λ (t : List ℕ). get_or t 0 0) e
-
-rest_same : (x y : ℕ) (a b : List ℕ) → x ∷ a ≡ y ∷ b → a ≡ b
-rest_same x y a b e = ap (λ (t : List ℕ). drop 1 t) e
-
 pub record AreSplitAlike (a b c d : List ℕ) : Type 0 where
   pub front : a ≡ c
   pub back : b ≡ d
 
 pub split_last : (a b c d : List ℕ) → HasNoTab b → HasNoTab d → a ++ tab ∷ b ≡ c ++ tab ∷ d → AreSplitAlike a b c d
-split_last [] b [] d f g e = record { front = refl; back = rest_same tab tab b d e }
-split_last [] b (y ∷ c) d f g e = absurd (no_tab_in c d (subst HasNoTab (rest_same tab y b (c ++ tab ∷ d) e) f))
-split_last (x ∷ a) b [] d f g e = absurd (no_tab_in a b (subst HasNoTab (sym (rest_same x tab (a ++ tab ∷ b) d e)) g))
+split_last [] b [] d f g e = record { front = refl; back = cc }
+split_last [] b (y ∷ c) d f g e = let rest : b ≡ c ++ tab ∷ d = cc in absurd (no_tab_in c d (subst HasNoTab rest f))
+split_last (x ∷ a) b [] d f g e = let rest : d ≡ a ++ tab ∷ b = cc in absurd (no_tab_in a b (subst HasNoTab rest g))
 split_last (x ∷ a) b (y ∷ c) d f g e =
-    let s = split_last a b c d f g (rest_same x y (a ++ tab ∷ b) (c ++ tab ∷ d) e) in
-    record {
-      front = ap (λ z. z ∷ a) (first_same x y (a ++ tab ∷ b) (c ++ tab ∷ d) e) ∙ ap (λ t. y ∷ t) s.front;
-      back = s.back;
-    }
+    let s = split_last a b c d f g cc in
+    let front : a ≡ c = s.front in
+    record { front = cc; back = s.back }
 
 joined_has_no_tab : (a b : List ℕ) → HasNoTab a → HasNoTab b → HasNoTab (a ++ b)
 joined_has_no_tab [] b f g = g

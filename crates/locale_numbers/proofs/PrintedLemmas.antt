@@ -1,5 +1,6 @@
 -- What a compact answer prints, read back, and sent back in the exact form: `specs/PrintedLaws.antt`.
 use Rattle.std.proofs.Common.{◌≡◌, ℕ, ◌==◌, Bool, true, false, cond, List, ◌∷◌, ◌++◌, None, Some, Ok, refl, sym, ap, ◌∙◌, subst, ⊎_elim}
+use Rattle.std.proofs.lemmas.Bool.{lt-ltb, ltb-true}
 use Rattle.fixed_decimal.specs.CompactText.{CompactValue, ReadsCompact, compact_text_of}
 use Rattle.fixed_decimal.specs.Number.{Number}
 use Rattle.fixed_decimal.specs.Rounding.{count_limit}
@@ -25,7 +26,7 @@ use Rattle.locale_numbers_requests.specs.Request.{Asked, tab}
 use Rattle.locale_numbers_requests.specs.declared.Refusal.TheVariants as refusal
 use Rattle.locale_numbers_requests.specs.declared.PatternLength.{PatternLength}
 use Rattle.locale_numbers_requests.specs.declared.SignAsked.TheVariants.{Keep}
-use Rattle.locale_numbers_answers.proofs.CompactReadingLemmas.{below_shown, below_test, reads_compact}
+use Rattle.locale_numbers_answers.proofs.CompactReadingLemmas.{reads_compact}
 use Rattle.locale_numbers.proofs.LastTabLemmas.{printed_has_no_tab, split_last}
 use Rattle.locale_numbers_answers.proofs.NumberBounds.{changed_is_decimal, reading_is_decimal}
 use Rattle.locale_numbers.proofs.ReadingTrips.{one_text, refused_no}
@@ -46,7 +47,7 @@ printed_by tables value text printed last same = go (can_be_shown tables value) 
         let s = split_last (compact_decimal_text tables value) (compact_text_of (value_shown tables value)) text printed (printed_has_no_tab (value_shown tables value)) last
         (one_text (text_and_value tables value) (text ++ tab ∷ printed) is) in
         record {
-          can = record { below = below_shown (shown_under 32768 tables.patterns.entries value.absolute.count) count_limit can };
+          can = record { below = ltb-true (shown_under 32768 tables.patterns.entries value.absolute.count) count_limit can };
           front = s.front;
           back = s.back;
         }
@@ -90,7 +91,7 @@ module _ (book : BookTables) (asked : Asked) (length : PatternLength) (tables : 
         ∙ ap (λ found. exact_to found Keep (compact_reading_of printed)) finds.found
         ∙ ap (exact_to (Ok tables) Keep) (read_back compact)
         ∙ ap (λ b. cond b (exact_written (exact_text tables shown.significand shown.exponent)) (refused refusal.Range))
-        (below_test (exact_place shown.significand.absolute.count shown.exponent) 65536 (in_range tables (number_shown asked read) finds.sound.rises is_printed.can))
+        (lt-ltb (exact_place shown.significand.absolute.count shown.exponent) 65536 (in_range tables (number_shown asked read) finds.sound.rises is_printed.can))
 
   pub size_is : ShownIsCompact → ShownFormIsShownValue → (v : ℕ) → PrintsSize book asked v → v ≡ shown_under 32768 tables.patterns.entries (number_shown asked read).absolute.count
   size_is compact value v p =

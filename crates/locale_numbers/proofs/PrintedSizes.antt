@@ -1,5 +1,6 @@
 -- The sizes of the values printed: their order, how far off they are, and which print themselves: `specs/PrintedLaws.antt`.
-use Rattle.std.proofs.Common.{◌≡◌, ℕ, ◌*◌, ◌≤◌, Some, Result, Ok, refl, sym, ap, ◌∙◌, subst}
+use Rattle.std.proofs.Common.{◌≡◌, ℕ, ◌*◌, ◌≤◌, Result, Ok, refl, sym, ap, ◌∙◌, subst}
+use Rattle.std.proofs.lemmas.Option.{same_Some}
 use Rattle.fixed_decimal.specs.Number.{Number}
 use Rattle.fixed_decimal.specs.Rounding.{distance}
 use Rattle.fixed_decimal.specs.SignedValue.{SignedValue}
@@ -9,7 +10,6 @@ use Rattle.icu_decimal.specs.KeptEntries.{CompactTable}
 use Rattle.icu_decimal.specs.ShownChoice.{shown_under}
 use Rattle.icu_decimal.specs.UnderTableLaws.{ShownValueShowsItself, TableKeepsOrder, TableShowsNear, TableShowsZero}
 use Rattle.icu_decimal.specs.declared.error.DataError.{DataError}
-use Rattle.icu_locale_core.specs.TagPreferences.{Preferences}
 use Rattle.locale_numbers_book.specs.Book.{BookTables}
 use Rattle.locale_numbers_answers.specs.Changing.{changed}
 use Rattle.locale_numbers.specs.Printed.{FindsCompact, PrintsSize, number_shown}
@@ -34,15 +34,12 @@ unrounded_size rounding sign n e = ap (λ r. (changed r sign n).absolute.count) 
 one_ok : (r : Result CompactTable DataError) (a b : CompactTable) → r ≡ Ok a → r ≡ Ok b → a ≡ b
 one_ok r a b f g = let same : ◌≡◌ {A = Result CompactTable DataError} (Ok a) (Ok b) = sym f ∙ g in cc
 
-one_some : (a b : Preferences) → Some a ≡ Some b → a ≡ b
-one_some a b e = cc
-
 module _ (book : BookTables) (one other : Asked) (length : PatternLength) (t u : CompactTables) (n m : SignedValue Number)
     (tag : one.tag ≡ other.tag) (finds : FindsCompact book one length t n) (more : FindsCompact book other length u m) where
   -- requests of one tag and form find the same patterns
   same_patterns : u.patterns ≡ t.patterns
   same_patterns =
-      let same : finds.preferences ≡ more.preferences = one_some finds.preferences more.preferences (sym finds.tag ∙ ap wanted_of tag ∙ more.tag) in
+      let same : finds.preferences ≡ more.preferences = same_Some finds.preferences more.preferences (sym finds.tag ∙ ap wanted_of tag ∙ more.tag) in
       one_ok (found_patterns length book more.preferences) u.patterns t.patterns
       (patterns_of_found length book more.preferences other.grouping u more.found)
       (subst (λ p. found_patterns length book p ≡ Ok t.patterns) same (patterns_of_found length book finds.preferences one.grouping t finds.found))

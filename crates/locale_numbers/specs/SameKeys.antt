@@ -1,19 +1,16 @@
 -- Keys of formatters whose parts are `==` are one value.
 -- Defined in docs/requests.md, "What a cache keeps".
 -- Cited by the impl of `CacheKey` of `FormatterKey`, whose law it proves.
-use Rattle.std.specs.Prelude.{◌≡◌, Bool, true, false, ◌&&◌, Option, None, Some, refl}
+use Rattle.std.specs.Prelude.{◌≡◌, Bool, true, ◌&&◌, Option, None, Some, refl}
 use Rattle.std.specs.Option.{option_eq}
 use Rattle.std.specs.Cmp.Lexicographic.{bytes_decides}
 use Rattle.std.proofs.Common.{ap}
+use Rattle.std.proofs.lemmas.Bool.{and_parts}
 use Rattle.icu_locale_core.specs.Subtags.{Text, same_text}
 use Rattle.icu_locale_core.specs.TagPreferences.{Subdivision, LocalePreferencesMeaning, Preferences}
 use Rattle.icu_decimal.specs.declared.options.GroupingStrategy.{GroupingStrategy}
 use Rattle.locale_numbers.specs.declared.formatter_key.FormatterKey.{FormatterKey}
 use Rattle.locale_numbers.specs.declared.formatter_key.Kind.{Kind}
-
-both : (a b : Bool) → a && b ≡ true → (a ≡ true) × (b ≡ true)
-both true b h = (refl, h)
-both false b h = cc
 
 texts : (s t : Option Text) → option_eq same_text s t ≡ true → s ≡ t
 texts None None h = refl
@@ -26,7 +23,7 @@ same_subdivision a b = same_text a.region b.region && same_text a.suffix b.suffi
 
 subdivision_is : (a b : Subdivision) → same_subdivision a b ≡ true → a ≡ b
 subdivision_is a b h =
-    let p = both (same_text a.region b.region) (same_text a.suffix b.suffix) h in
+    let p = and_parts (same_text a.region b.region) (same_text a.suffix b.suffix) h in
     let region : a.region ≡ b.region = (bytes_decides a.region b.region).0 p.0 in
     let suffix : a.suffix ≡ b.suffix = (bytes_decides a.suffix b.suffix).0 p.1 in
     λ i. record { region = region i; suffix = suffix i }
@@ -55,11 +52,11 @@ same_locale a b = same_text a.language b.language && same_behind_language a b
 
 locale_is : (a b : LocalePreferencesMeaning) → same_locale a b ≡ true → a ≡ b
 locale_is a b h =
-    let p = both (same_text a.language b.language) (same_behind_language a b) h in
-    let q = both (option_eq same_text a.script b.script) (same_behind_script a b) p.1 in
-    let r = both (option_eq same_text a.region b.region) (same_behind_region a b) q.1 in
-    let s = both (option_eq same_text a.variant b.variant) (same_subdivisions a b) r.1 in
-    let t = both (option_eq same_subdivision a.subdivision b.subdivision) (option_eq same_subdivision a.region_override b.region_override) s.1 in
+    let p = and_parts (same_text a.language b.language) (same_behind_language a b) h in
+    let q = and_parts (option_eq same_text a.script b.script) (same_behind_script a b) p.1 in
+    let r = and_parts (option_eq same_text a.region b.region) (same_behind_region a b) q.1 in
+    let s = and_parts (option_eq same_text a.variant b.variant) (same_subdivisions a b) r.1 in
+    let t = and_parts (option_eq same_subdivision a.subdivision b.subdivision) (option_eq same_subdivision a.region_override b.region_override) s.1 in
     let language : a.language ≡ b.language = (bytes_decides a.language b.language).0 p.0 in
     let script : a.script ≡ b.script = texts a.script b.script q.0 in
     let region : a.region ≡ b.region = texts a.region b.region r.0 in
@@ -73,7 +70,7 @@ same_preferences a b = same_locale a.locale b.locale && option_eq same_text a.nu
 
 preferences_are : (a b : Preferences) → same_preferences a b ≡ true → a ≡ b
 preferences_are a b h =
-    let p = both (same_locale a.locale b.locale) (option_eq same_text a.numbering_system b.numbering_system) h in
+    let p = and_parts (same_locale a.locale b.locale) (option_eq same_text a.numbering_system b.numbering_system) h in
     let locale : a.locale ≡ b.locale = locale_is a.locale b.locale p.0 in
     let system : a.numbering_system ≡ b.numbering_system = texts a.numbering_system b.numbering_system p.1 in
     λ i. record { locale = locale i; numbering_system = system i }
@@ -82,8 +79,8 @@ module _ (kinds : Kind → Kind → Bool) (groupings : GroupingStrategy → Grou
   -- keys whose preferences, kinds and groupings are `==` are one
   pub keys_are : (one other : FormatterKey) → same_preferences one.preferences other.preferences && (kinds one.kind other.kind && groupings one.grouping other.grouping) ≡ true → one ≡ other
   keys_are one other h =
-      let p = both (same_preferences one.preferences other.preferences) (kinds one.kind other.kind && groupings one.grouping other.grouping) h in
-      let q = both (kinds one.kind other.kind) (groupings one.grouping other.grouping) p.1 in
+      let p = and_parts (same_preferences one.preferences other.preferences) (kinds one.kind other.kind && groupings one.grouping other.grouping) h in
+      let q = and_parts (kinds one.kind other.kind) (groupings one.grouping other.grouping) p.1 in
       let preferences : one.preferences ≡ other.preferences = preferences_are one.preferences other.preferences p.0 in
       let kind : one.kind ≡ other.kind = kind_is one.kind other.kind q.0 in
       let grouping : one.grouping ≡ other.grouping = grouping_is one.grouping other.grouping q.1 in

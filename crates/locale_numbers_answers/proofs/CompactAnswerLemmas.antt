@@ -20,7 +20,7 @@ use Rattle.icu_decimal.proofs.TextLemmas.{text_in_unit, text_with_sign, unsigned
 use Rattle.locale_numbers_answers.specs.AnswerLine.{refused, written}
 use Rattle.locale_numbers_answers.specs.CompactAnswer.{can_be_shown, exact_answer, exact_written, is_in_range}
 use Rattle.locale_numbers_requests.specs.declared.Refusal.TheVariants as refusal
-use Rattle.locale_numbers_answers.proofs.CompactReadingLemmas.{below_test}
+use Rattle.std.proofs.lemmas.Bool.{lt-ltb}
 
 -- ---- exact forms
 
@@ -59,7 +59,7 @@ exact_none t d x is = none_as (written_under t d) (written_text t d) (exact_entr
 -- ---- the answers
 
 pub can_test : (t : CompactTables) (d : SignedValue Number) → CanShow t.patterns.entries d.absolute.count → can_be_shown t d ≡ true
-can_test t d can = below_test (shown_under 32768 t.patterns.entries d.absolute.count) count_limit can.below
+can_test t d can = lt-ltb (shown_under 32768 t.patterns.entries d.absolute.count) count_limit can.below
 
 pub by_test : (b : Bool) (text other : List ℕ) → b ≡ true → text ≡ cond b text other
 by_test true text other is = refl
@@ -70,4 +70,4 @@ pub exact_put : (t : CompactTables) (v : CompactValue) (shown : WithSign (InPatt
     → exact_formatted t v.significand v.exponent ≡ Some shown → written (text_of (exact_events shown)) ≡ exact_answer t v
 exact_put t v shown within is =
     ap exact_written (sym (exact_is t v.significand v.exponent shown is))
-    ∙ by_test (is_in_range v) (exact_written (exact_text t v.significand v.exponent)) (refused refusal.Range) (below_test (exact_place v.significand.absolute.count v.exponent) 65536 within)
+    ∙ by_test (is_in_range v) (exact_written (exact_text t v.significand v.exponent)) (refused refusal.Range) (lt-ltb (exact_place v.significand.absolute.count v.exponent) 65536 within)

@@ -1,6 +1,7 @@
 -- What the relations say of a compact text is what the function answers, and each text has one reading.
-use Rattle.std.proofs.Common.{◌≡◌, ◌==◌, ◌||◌, ◌&&◌, ◌<◌, ◌≤◌, nat_lt, Bool, true, false, cond, not, List, [], ◌∷◌, ◌++◌, ℕ, Option, Some, None, refl, sym, ap, ◌∙◌, subst, arith, inl, inr, ◌⊎◌, Result, Ok, Err, IfOk}
+use Rattle.std.proofs.Common.{◌≡◌, ◌==◌, ◌||◌, ◌&&◌, ◌<◌, nat_lt, Bool, true, false, cond, not, List, [], ◌∷◌, ◌++◌, ℕ, Option, Some, None, refl, sym, ap, ◌∙◌, subst, arith, inl, inr, ◌⊎◌, Result, Ok, Err, IfOk}
 use Rattle.std.specs.List.{list_all}
+use Rattle.std.proofs.lemmas.Bool.{le-ltb, lt-ltb, ltb-false, ltb-true}
 use Rattle.std.proofs.lemmas.Bool.Decides.{nat_tests}
 use Rattle.fixed_decimal.specs.CompactText.{CompactValue, IsBeyondCompact, IsNoCompactText, PassesExponent, ReadsCompact, SpellsCompact, StartsNoZero, behind_compact_mark}
 use Rattle.fixed_decimal.specs.NumberText.{AreDigits, capital_mark, digit_zero, small_mark, spelled}
@@ -112,12 +113,6 @@ spells_of text (mark ∷ tail) digits rest found = at (mark == compact_mark) (is
 
 -- ---- the function answers what the relations say
 
-pub below_test : (a b : ℕ) → a < b → nat_lt a b ≡ true
-below_test a b h = grind (arith, nat_tests)
-
-above_test : (a b : ℕ) → b ≤ a → nat_lt a b ≡ false
-above_test a b h = grind (arith, nat_tests)
-
 reading_by_parts : (text front digits : List ℕ) → SpellsCompact text front digits → compact_reading_of text ≡ with_exponent (reading_of front) digits
 reading_by_parts text front digits spells =
     let same = agree text front digits spells in
@@ -127,7 +122,7 @@ reading_by_parts text front digits spells =
 
 pub reads_compact : (text : List ℕ) (v : CompactValue) → ReadsCompact text v → compact_reading_of text ≡ compact_number v
 reads_compact text v read =
-    let within : nat_lt (spelled read.digits) 256 ≡ true = below_test (spelled read.digits) 256 (subst (λ x. x < 256) read.exponent read.fits) in
+    let within : nat_lt (spelled read.digits) 256 ≡ true = lt-ltb (spelled read.digits) 256 (subst (λ x. x < 256) read.exponent read.fits) in
     reading_by_parts text read.front read.digits read.spells
     ∙ ap (λ r. with_exponent r read.digits) (signed_number read.front v.significand read.significand)
     ∙ ap (λ b. cond b (compact_number (record { significand = v.significand; exponent = spelled read.digits })) compact_beyond) within
@@ -140,7 +135,7 @@ reads_compact_beyond text read = reading_by_parts text read.front read.digits re
     at (inl past) = ap (λ r. with_exponent r read.digits) (signed_beyond read.front past)
     at (inr passes) =
         ap (λ r. with_exponent r read.digits) (signed_number read.front passes.number passes.reads)
-        ∙ ap (λ b. cond b (compact_number (record { significand = passes.number; exponent = spelled read.digits })) compact_beyond) (above_test (spelled read.digits) 256 passes.above)
+        ∙ ap (λ b. cond b (compact_number (record { significand = passes.number; exponent = spelled read.digits })) compact_beyond) (le-ltb (spelled read.digits) 256 passes.above)
 
 pub reads_compact_nothing : (text : List ℕ) → IsNoCompactText text → compact_reading_of text ≡ compact_nothing
 reads_compact_nothing text lacks = at (exponent_in (from_mark text)) refl
@@ -157,12 +152,6 @@ compact_value text (Err cause) read = tt
 
 -- ---- each text has one reading
 
-pub below_shown : (a b : ℕ) → nat_lt a b ≡ true → a < b
-below_shown a b h = grind (arith, nat_tests)
-
-above_shown : (a b : ℕ) → nat_lt a b ≡ false → b ≤ a
-above_shown a b h = grind (arith, nat_tests)
-
 exponent_read : (text front digits : List ℕ) → SpellsCompact text front digits → (reading : Reading) → IsReading front reading → IsCompactReading text (with_exponent reading digits)
 exponent_read text front digits spells nothing lacks =
     λ other more h.
@@ -174,8 +163,8 @@ exponent_read text front digits spells (number value) reads = at (nat_lt (spelle
   where
     at : (b : Bool) → nat_lt (spelled digits) 256 ≡ b
         → IsCompactReading text (cond b (compact_number (record { significand = value; exponent = spelled digits })) compact_beyond)
-    at true within = record { front = front; digits = digits; spells = spells; significand = reads; exponent = refl; fits = below_shown (spelled digits) 256 within }
-    at false past = record { front = front; digits = digits; spells = spells; beyond = inr (record { number = value; reads = reads; above = above_shown (spelled digits) 256 past }) }
+    at true within = record { front = front; digits = digits; spells = spells; significand = reads; exponent = refl; fits = ltb-true (spelled digits) 256 within }
+    at false past = record { front = front; digits = digits; spells = spells; beyond = inr (record { number = value; reads = reads; above = ltb-false (spelled digits) 256 past }) }
 
 no_exponent : (text : List ℕ) → exponent_in (from_mark text) ≡ None → IsNoCompactText text
 no_exponent text none front digits spells =

@@ -1,12 +1,13 @@
 -- The parents of a book close no cycle, so its chains end: `specs/Laws.antt`.
 use Rattle.std.proofs.Common.{◌≡◌, Bool, true, false, not, List, [], ◌∷◌, ◌++◌, append_assoc, Option, None, Some, is_some, option_and_then, option_map, unwrap_or, refl, sym, ◌∙◌, subst}
+use Rattle.std.proofs.lemmas.List.{append-nil}
 use Rattle.std.proofs.lemmas.Option.{same_Some}
 use Rattle.serde_json.specs.Data.{Items, no_items, item}
 use Rattle.serde_json.specs.Find.{as_array}
 use Rattle.icu_locale_core.specs.TagPreferences.{DataLocaleMeaning}
 use Rattle.icu_decimal_chains.specs.Chains.{Follows, walk}
 use Rattle.locale_numbers_parents.specs.Parents.{Entry, IsParents, leads_to, listed_parent}
-use Rattle.locale_numbers_parents.proofs.ParentsLemmas.{append_none, cuts_none, no_parents, one_more, stays_open}
+use Rattle.locale_numbers_parents.proofs.ParentsLemmas.{cuts_none, no_parents, one_more, stays_open}
 use Rattle.locale_numbers_tables.specs.declared.BookError.TheVariants.{Shape, Tag, Duplicate, Cycle}
 use Rattle.locale_numbers_tables.specs.Entries.{all_of, field_at}
 use Rattle.locale_numbers_tables.specs.Faults.{compact_faults, digits_faults, first_broken, rules_faults, symbols_faults}
@@ -29,7 +30,7 @@ parts_of_fault before read pair true is sound = by (listed_parent before pair.0)
     by (Some parent) met h = absurd (cc)
 
 sound_items : (items : Items) (before rest : List Entry) → IsParents before → all_of parent_entry items ≡ Some rest → parents_faults before items ≡ None → IsParents (before ++ rest)
-sound_items no_items before rest is all sound = subst (λ (xs : List Entry). IsParents (before ++ xs)) (same_Some [] rest all) (subst IsParents (sym (append_none before)) is)
+sound_items no_items before rest is all sound = subst (λ (xs : List Entry). IsParents (before ++ xs)) (same_Some [] rest all) (subst IsParents (sym (append-nil before)) is)
 sound_items (item entry items) before rest is all sound = by (λ more es. sound_items items more es) (parent_entry entry) refl (all_of parent_entry items) refl all
   where
     by : ((more es : List Entry) → IsParents more → all_of parent_entry items ≡ Some es → parents_faults more items ≡ None → IsParents (more ++ es))

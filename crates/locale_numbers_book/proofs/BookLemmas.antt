@@ -3,6 +3,7 @@ use Rattle.std.proofs.Common.{◌≡◌, Bool, true, ◌||◌, Option, Some, Non
 use Rattle.std.specs.Prelude.{Result, Ok, Err, IfErr, IsErrAnd}
 use Rattle.std.specs.Option.{option_or}
 use Rattle.std.specs.Str.{bytes_eq}
+use Rattle.std.proofs.lemmas.Bool.{or_left, or_right}
 use Rattle.std.proofs.lemmas.Option.{same_Some}
 use Rattle.serde_json.specs.Data.{Data, Items, no_items}
 use Rattle.serde_json.specs.Find.{as_array}
@@ -19,7 +20,6 @@ use Rattle.locale_numbers_tables.specs.Telling.{IsTold}
 use Rattle.locale_numbers_book.specs.BookAllocation.{arrays_may_grow, book_may_grow}
 use Rattle.locale_numbers_tables.specs.RulesEntries.{rules_entry}
 use Rattle.locale_numbers_tables.proofs.FaultLemmas.{told_at, told_first}
-use Rattle.locale_numbers_tables.proofs.TableLemmas.{either, front_true}
 
 pub one_book : (value : Data) (book other : BookTables) → IsBook value book → IsBook value other → book ≡ other
 one_book value book other m n =
@@ -36,19 +36,19 @@ one_book value book other m n =
 -- one of the arrays begins so
 module _ (a b c d e f : Bool) where
   pub or_second : b ≡ true → (a || b || c || d || e || f) ≡ true
-  or_second h = front_true _ f (front_true _ e (front_true _ d (front_true _ c (either a b h))))
+  or_second h = or_left _ f (or_left _ e (or_left _ d (or_left _ c (or_right a b h))))
 
   pub or_third : c ≡ true → (a || b || c || d || e || f) ≡ true
-  or_third h = front_true _ f (front_true _ e (front_true _ d (either _ c h)))
+  or_third h = or_left _ f (or_left _ e (or_left _ d (or_right _ c h)))
 
   pub or_fourth : d ≡ true → (a || b || c || d || e || f) ≡ true
-  or_fourth h = front_true _ f (front_true _ e (either _ d h))
+  or_fourth h = or_left _ f (or_left _ e (or_right _ d h))
 
   pub or_fifth : e ≡ true → (a || b || c || d || e || f) ≡ true
-  or_fifth h = front_true _ f (either _ e h)
+  or_fifth h = or_left _ f (or_right _ e h)
 
   pub or_sixth : f ≡ true → (a || b || c || d || e || f) ≡ true
-  or_sixth h = either _ f h
+  or_sixth h = or_right _ f h
 
 -- the fault of the short patterns, that of the long ones, and that of the parents
 module _ (s d r h l p : Items) (e : BookError) (symbols : symbols_faults s ≡ None) (digits : digits_faults d ≡ None) (rules : rules_faults r ≡ None) where

@@ -3,7 +3,7 @@ use Rattle.std.proofs.Common.{◌≡◌, ◌<◌, ℕ, suc, Bool, true, false, c
 use Rattle.std.specs.List.{AllByRecursion}
 use Rattle.std.specs.Option.{option_and_then, option_or}
 use Rattle.std.specs.Prelude.{is_some, unwrap_or, nat_le}
-use Rattle.std.proofs.lemmas.Bool.{and_parts, ltb-true}
+use Rattle.std.proofs.lemmas.Bool.{and_parts, leb-true, ltb-true}
 use Rattle.serde_json.specs.Data.{Data, Items, no_items, item}
 use Rattle.serde_json.specs.Find.{as_array, as_number, as_u64, at}
 use Rattle.icu_decimal.specs.Entries.{Rises}
@@ -24,7 +24,7 @@ use Rattle.locale_numbers_tables.specs.Fields.{size_in, system_or_none_in}
 use Rattle.locale_numbers_tables.specs.Keys.{has_no_key_twice, same_key, without_key_twice}
 use Rattle.locale_numbers_book.specs.Laws.{AreSoundTables, BookTablesAreSound, IsSoundTable}
 use Rattle.locale_numbers_book.specs.ParentEntries.{parents_faults}
-use Rattle.locale_numbers_tables.proofs.CompactLemmas.{table_meant, true_le}
+use Rattle.locale_numbers_tables.proofs.CompactLemmas.{table_meant}
 
 -- ---- numbers of rows
 
@@ -93,7 +93,7 @@ types_rise : (least : ℕ) (rows : List Row) → rise_from least rows ≡ true �
 types_rise least [] rise = tt
 types_rise least (row ∷ rows) rise =
     let parts = and_parts (nat_le least row.0) (rise_from (suc row.0) rows) rise in
-    (true_le least row.0 parts.0, types_rise (suc row.0) rows parts.1)
+    (leb-true least row.0 parts.0, types_rise (suc row.0) rows parts.1)
 
 kept_small : (base : Option Patterns) (rows : List Row) → AreSmallRows rows → AreSmall (map entry_in (kept_of base (map of_type rows)))
 kept_small base [] small = tt

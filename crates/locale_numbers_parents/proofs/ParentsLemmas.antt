@@ -1,6 +1,7 @@
 -- Parents make chains that end: `specs/Parents.antt`.
-use Rattle.std.proofs.Common.{◌≡◌, ◌≤◌, true, false, List, [], ◌∷◌, ◌++◌, length, None, refl, sym, ap, subst, inl, inr, append_assoc}
+use Rattle.std.proofs.Common.{◌≡◌, ◌≤◌, true, false, List, [], ◌∷◌, ◌++◌, length, None, refl, sym, subst, inl, inr, append_assoc}
 use Rattle.std.proofs.lemmas.Bool.{cases_Bool}
+use Rattle.std.proofs.lemmas.List.{append-nil}
 use Rattle.icu_locale_core.specs.TagPreferences.{DataLocaleMeaning}
 use Rattle.icu_locale_core.specs.DataLocales.{truncated}
 use Rattle.icu_locale_core.proofs.SameLemmas.{same_data_locales}
@@ -14,12 +15,8 @@ use Rattle.locale_numbers_parents.proofs.PairsLemmas.{Ends, there, elsewhere, mo
 abbrev AllEnd : List Entry → Type 0
 AllEnd entries = Ends same_data_locale same_data_locales truncated entries
 
-pub append_none : {E : Type 0} (xs : List E) → xs ++ [] ≡ xs
-append_none [] = refl
-append_none (x ∷ xs) = ap (λ ys. x ∷ ys) (append_none xs)
-
 ends_from : (done left : List Entry) → IsParents (done ++ left) → AllEnd done → AllEnd (done ++ left)
-ends_from done [] is ends = subst AllEnd (sym (append_none done)) ends
+ends_from done [] is ends = subst AllEnd (sym (append-nil done)) ends
 ends_from done (e ∷ left) is ends =
     let more : AllEnd (done ++ e ∷ []) = more_end same_data_locale same_data_locales truncated done e.0 e.1 (is.once done e left refl) ends (is.open_ended done e left refl) in
     let moved : (done ++ e ∷ []) ++ left ≡ done ++ e ∷ left = append_assoc done (e ∷ []) left in

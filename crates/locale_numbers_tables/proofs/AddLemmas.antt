@@ -1,5 +1,5 @@
 -- One more entry in a table: `specs/Adding.antt`.
-use Rattle.std.proofs.Common.{◌≡◌, Bool, true, false, List, ◌++◌, Option, None, Some, is_some, option_map, if◌then◌else◌, refl, sym, ap, ◌∙◌}
+use Rattle.std.proofs.Common.{◌≡◌, Bool, true, false, List, ◌++◌, Option, None, Some, is_some, option_map, refl, ap, ◌∙◌}
 use Rattle.std.specs.List.{list_any}
 use Rattle.serde_json.specs.Data.{Data, Items, item, no_items}
 use Rattle.locale_numbers_tables.specs.declared.error.BookError.{BookError}

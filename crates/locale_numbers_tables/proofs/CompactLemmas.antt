@@ -3,18 +3,16 @@ use Rattle.std.proofs.Common.{◌≡◌, ◌≤◌, ℕ, suc, Bool, true, false,
 use Rattle.std.specs.BTreeMap.{insert_entry}
 use Rattle.std.specs.Ordering.{nat_cmp}
 use Rattle.std.specs.declared.cmp.Ordering.TheVariants.{Greater}
-use Rattle.std.proofs.lemmas.Bool.{and_parts, and_from, le-leb}
+use Rattle.std.proofs.lemmas.Bool.{and_parts, and_from, le-leb, leb-true, not-true}
 use Rattle.std.proofs.lemmas.Bool.Decides.{nat_tests}
 use Rattle.icu_decimal.specs.declared.error.DataError.{DataError}
 use Rattle.icu_decimal.specs.KeptEntries.{CompactTable, IsFaulty, IsTable, IsTableFault, NeverFalls, Patterns, TypePatterns, first_fault, table_of}
 use Rattle.icu_decimal.specs.KeptSteps.{kept_of}
 use Rattle.icu_decimal.proofs.KeptLemmas.{keeps_one, is_table, faulty_first}
+use Rattle.locale_numbers_parents.proofs.PairsLemmas.{none_from}
 use Rattle.locale_numbers_tables.specs.CompactEntries.{Row, never_fall_from, rise_from, table_made}
 
 -- ---- tables
-
-pub true_le : (a b : ℕ) → nat_le a b ≡ true → a ≤ b
-true_le a b h = grind (arith, nat_tests, h)
 
 order_tested : (least : ℕ) (xs : List TypePatterns) → NeverFalls least xs → never_fall_from least xs ≡ true
 order_tested least [] order = refl
@@ -24,7 +22,7 @@ test_orders : (least : ℕ) (xs : List TypePatterns) → never_fall_from least x
 test_orders least [] test = tt
 test_orders least (x ∷ xs) test =
     let parts = and_parts (nat_le least x.exponent) (never_fall_from x.exponent xs) test in
-    (true_le least x.exponent parts.0, test_orders x.exponent xs parts.1)
+    (leb-true least x.exponent parts.0, test_orders x.exponent xs parts.1)
 
 pub table_read : (zero : Option Patterns) (given : List TypePatterns) (table : CompactTable) → IsTable zero given table → table_made zero given ≡ Some table
 table_read zero given table is =
@@ -33,10 +31,6 @@ table_read zero given table is =
     let whole : table_of (kept_of zero given) ≡ table = ap table_of (sym same) ∙ sym is.whole in
     rw (order_tested 0 given is.order, none) (ap Some whole)
 
-none_of : {A : Type 0} (o : Option A) → not (is_some o) ≡ true → o ≡ None
-none_of None h = refl
-none_of (Some a) h = cc
-
 pub table_meant : (zero : Option Patterns) (given : List TypePatterns) (table : CompactTable) → table_made zero given ≡ Some table → IsTable zero given table
 table_meant zero given table made = by (never_fall_from 0 given) (not (is_some (first_fault (kept_of zero given)))) refl refl made
   where
@@ -44,7 +38,7 @@ table_meant zero given table made = by (never_fall_from 0 given) (not (is_some (
         → (if a && b then Some (table_of (kept_of zero given)) else None) ≡ Some table → IsTable zero given table
     by true true order sound same =
         let is : table_of (kept_of zero given) ≡ table = cc in
-        subst (IsTable zero given) is (is_table zero given (test_orders 0 given order) (none_of _ sound))
+        subst (IsTable zero given) is (is_table zero given (test_orders 0 given order) (none_from _ (not-true _ sound)))
     by true false order sound same = cc
     by false b order sound same = cc
 
@@ -74,10 +68,10 @@ no_table_made zero given DataError.Custom is memory falls above zeros = absurd i
 
 -- those behind are greater
 least_behind : (least : ℕ) (rows : List Row) (row : Row) (rest : List Row) → rise_from least (rows ++ row ∷ rest) ≡ true → least ≤ row.0
-least_behind least [] row rest rise = true_le least row.0 (and_parts (nat_le least row.0) (rise_from (suc row.0) rest) rise).0
+least_behind least [] row rest rise = leb-true least row.0 (and_parts (nat_le least row.0) (rise_from (suc row.0) rest) rise).0
 least_behind least (first ∷ rows) row rest rise =
     let parts = and_parts (nat_le least first.0) (rise_from (suc first.0) (rows ++ row ∷ rest)) rise in
-    let here = true_le least first.0 parts.0 in
+    let here = leb-true least first.0 parts.0 in
     let behind = least_behind (suc first.0) rows row rest parts.1 in
     omega (arith, here, behind)
 

@@ -1,7 +1,8 @@
 -- The first faulty entry, and the error that tells it: `specs/Faults.antt` and `specs/Telling.antt`.
-use Rattle.std.proofs.Common.{◌≡◌, ◌⊎◌, inl, inr, if◌then◌else◌, ◌+◌, Bool, true, false, ◌||◌, ◌&&◌, not, List, [], ◌∷◌, ◌++◌, map, Option, Some, None, is_some, refl, sym, ap, subst}
+use Rattle.std.proofs.Common.{◌≡◌, ◌⊎◌, inl, inr, if◌then◌else◌, Bool, true, false, ◌||◌, ◌&&◌, not, List, [], ◌∷◌, ◌++◌, map, Option, Some, None, is_some, refl, sym, ap, subst}
 use Rattle.std.specs.List.{list_any}
 use Rattle.std.specs.Option.{option_or}
+use Rattle.std.proofs.lemmas.Bool.{or_right}
 use Rattle.serde_json.specs.Data.{Data}
 use Rattle.locale_numbers_tables.specs.declared.error.BookError.{BookError}
 use Rattle.locale_numbers_tables.specs.declared.error.BookError.TheVariants.{Json, Shape, Tag, System, Text, Digits, Condition, Types, Exponents, Duplicate, Cycle, Memory}
@@ -12,7 +13,6 @@ use Rattle.locale_numbers_tables.specs.Keys.{table_at}
 use Rattle.locale_numbers_tables.specs.Allocation.{compact_may_grow, digits_may_grow, locale_may_grow, rules_may_grow, symbols_may_grow}
 use Rattle.locale_numbers_tables.specs.RulesEntries.{conditions_in}
 use Rattle.locale_numbers_tables.specs.Telling.{IsTold}
-use Rattle.locale_numbers_tables.proofs.TableLemmas.{either}
 
 -- ---- what is told
 
@@ -61,7 +61,7 @@ module _ {K V : Type 0} (same : K → K → Bool) where
 
 pub symbols_sound : (entry : Data) → symbols_fault entry ≡ None → symbols_may_grow entry ≡ true
 symbols_sound entry sound =
-    either (has_symbols_shape entry && locale_may_grow 0 entry) (not (is_some (symbols_fault entry))) (ap (λ o. not (is_some o)) sound)
+    or_right (has_symbols_shape entry && locale_may_grow 0 entry) (not (is_some (symbols_fault entry))) (ap (λ o. not (is_some o)) sound)
 
 pub digits_sound : (entry : Data) → digits_fault entry ≡ None → digits_may_grow entry ≡ true
 digits_sound entry sound = ap (λ o. not (is_some o)) sound

@@ -1,5 +1,6 @@
 -- One more entry of an array: `specs/Keys.antt` and `specs/Allocation.antt`.
-use Rattle.std.proofs.Common.{get_or, drop, drop-cons, add-one, ◌<◌, append_assoc, ◌≡◌, if◌then◌else◌, ℕ, ◌+◌, suc, Bool, true, false, ◌&&◌, ◌||◌, not, List, [], ◌∷◌, ◌++◌, length, Option, Some, None, is_some, option_map, refl, sym, ap, ◌∙◌, arith}
+use Rattle.std.proofs.Common.{get_or, drop, drop-cons, add-one, ◌<◌, append_assoc, ◌≡◌, if◌then◌else◌, ℕ, ◌+◌, suc, Bool, true, false, not, List, [], ◌∷◌, ◌++◌, length, Option, Some, None, is_some, option_map, refl, sym, ap, ◌∙◌, arith}
+use Rattle.std.proofs.Math.Bool.{and-false}
 use Rattle.std.proofs.lemmas.Bool.{and_parts}
 use Rattle.serde_json.specs.Data.{Data, Items}
 use Rattle.serde_json.specs.View.{items_view, view}
@@ -12,10 +13,6 @@ count-items [] = refl
 count-items (field ∷ fields) = let rest = count-items fields in omega arith
 
 -- ---- no key twice
-
-and_false : (a : Bool) → (a && false) ≡ false
-and_false true = refl
-and_false false = refl
 
 module _ {K V : Type 0} (same : K → K → Bool) (symmetric : (a b : K) → same a b ≡ same b a) where
   -- a key that stands behind others is found
@@ -38,7 +35,7 @@ module _ {K V : Type 0} (same : K → K → Bool) (symmetric : (a b : K) → sam
           → (b : Bool) → same key pair.0 ≡ b → is_some (if b then Some pair.1 else table_at same key pairs) ≡ true
           → has_no_key_twice same ((pair ∷ pairs) ++ (key, value) ∷ rest) ≡ false
       by again true e g = rw (found_behind pairs key pair.0 value rest (symmetric pair.0 key ∙ e)) refl
-      by again false e g = rw (again g) (and_false _)
+      by again false e g = rw (again g) (and-false _)
 
   -- a new key behind the others is found by itself alone
   absent_behind : (pairs : List (K × V)) (first key : K) (value : V) → same first key ≡ false
@@ -89,12 +86,3 @@ module _ {E : Type 0} (read : Data → Option E) where
   one_more values i value entry done below is reads all =
       let cons : drop i values ≡ value ∷ drop (i + 1) values = next_item values i value below is in
       all ∙ ap (λ xs. option_map (λ (rest : List E). done ++ rest) (all_of read (items_view xs))) cons ∙ rw reads (moved entry done (all_of read (items_view (drop (i + 1) values))))
-
--- ---- where memory may be wanting
-
-pub either : (a b : Bool) → b ≡ true → (a || b) ≡ true
-either true b h = refl
-either false b h = h
-
-pub front_true : (a b : Bool) → a ≡ true → (a || b) ≡ true
-front_true a b h = rw h refl
