@@ -11,7 +11,8 @@ use Rattle.locale_numbers.specs.Answer.{answer_in, answer_to, exact_to, refused}
 use Rattle.locale_numbers_answers.specs.Changing.{MayGrowRead, ReadsMore}
 use Rattle.locale_numbers.specs.CompactAnswer.{found_compact}
 use Rattle.locale_numbers_answers.specs.CompactReading.{compact_reading_of}
-use Rattle.locale_numbers.specs.FormatterKeys.{answer_of_kind, kind_of}
+use Rattle.locale_numbers.specs.FormatterKeys.{kind_of}
+use Rattle.locale_numbers.specs.KeptFormatters.{answer_of_kind}
 use Rattle.locale_numbers.specs.Front.{FitsForm, MayTakeBehind, MayTakeIn, MayTakeKeyed, answer_behind, answer_keyed, asked_behind, if_text}
 use Rattle.locale_numbers_answers.specs.NumberReading.{reading_of}
 use Rattle.locale_numbers_requests.specs.Request.{Asked}

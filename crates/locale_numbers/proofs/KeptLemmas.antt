@@ -18,7 +18,8 @@ use Rattle.locale_numbers_book.specs.Tables.{symbols_under, digits_under, chain_
 use Rattle.locale_numbers_cache.specs.Cached.{Cached, IsFirst}
 use Rattle.locale_numbers.specs.Answer.{answer_with, found_in, refused}
 use Rattle.locale_numbers.specs.CompactAnswer.{compact_with, found_compact}
-use Rattle.locale_numbers.specs.FormatterKeys.{answer_of_kind, finds_kind}
+use Rattle.locale_numbers.specs.FormatterKeys.{finds_kind}
+use Rattle.locale_numbers.specs.KeptFormatters.{answer_of_kind}
 use Rattle.locale_numbers.specs.declared.formatter_key.Kind.{Kind}
 use Rattle.locale_numbers.specs.declared.formatter_key.Kind.TheVariants.{Plain, Compact}
 use Rattle.locale_numbers_requests.specs.declared.Refusal.TheVariants as refusal

@@ -1,6 +1,7 @@
 -- The answer of a book to a line: the number written as the line asks, or the first word that refuses it.
 -- Defined in docs/requests.md, "Answer line".
 -- Cited by `answer` and by `run`.
+-- An answer goes through every part of a request, and the definition of each part is in a file of its own to import.
 use Rattle.std.specs.Prelude.{ℕ, List, Option, Some, None, Result}
 use Rattle.icu_decimal.specs.declared.error.DataError.{DataError}
 use Rattle.icu_decimal.specs.declared.options.GroupingStrategy.{GroupingStrategy}

@@ -1,6 +1,7 @@
 -- The answers of the compact forms for a book: the tables that it has for them.
 -- Defined in docs/requests.md, "Answer line", and docs/books.md, "Choosing tables".
 -- Cited by `answer` and `run`, through Answer.antt, and by the private `compact_formatter`.
+-- The tables of a book are named by types of four crates, each imported from its own.
 use Rattle.std.specs.Prelude.{Some, Result}
 use Rattle.icu_decimal.specs.declared.error.DataError.{DataError}
 use Rattle.icu_decimal.specs.declared.options.GroupingStrategy.{GroupingStrategy}

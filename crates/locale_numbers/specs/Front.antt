@@ -1,6 +1,7 @@
 -- What the front of a line asks, all that stands before its text: it is read as a line with no text.
 -- Defined in docs/requests.md, "Request line" and "What a cache keeps".
 -- Cited by the private steps of an answer.
+-- A front is a line without its text, so both what a line asks and what it is answered are imported.
 use Rattle.std.specs.Prelude.{◌≡◌, ◌⊎◌, ℕ, List, [], Option, Some, None, true, option_map, IfSome, if◌then◌else◌}
 use Rattle.std.specs.Str.{is_utf8}
 use Rattle.fixed_decimal.specs.CompactText.{ReadsLongCompact}

@@ -1,6 +1,7 @@
 -- Laws over the definitions alone, for readers of the clauses that cite them.
 -- Defined in docs/requests.md, "Answer line", and docs/numbers.md, "The text" and "Rounding".
 -- Cited by the functions of `laws`.
+-- Each law is about definitions of other files, of four members, so the imports are many.
 use Rattle.std.specs.Prelude.{◌≡◌, ◌↔◌, Bool, List, ℕ, ◌∷◌, ◌++◌, Result, true, Some, Ok}
 use Rattle.std.specs.Str.{IsUtf8}
 use Rattle.fixed_decimal.specs.Number.{Number}

@@ -8,6 +8,7 @@ pub mod Words
 pub mod Fault
 pub mod Program
 -- What private steps follow.
+pub mod KeptFormatters
 pub mod Front
 -- Statements of laws.
 pub mod SameKeys

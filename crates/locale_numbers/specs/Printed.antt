@@ -1,6 +1,7 @@
 -- What a request in a compact form prints: a compact text, and behind the last tab the value shown; and the request that sends this value.
 -- Defined in docs/requests.md, "Answer line", and docs/compact-text.md, "Laws".
 -- Cited by PrintedLaws.antt.
+-- It joins requests, tables and values shown, which are defined in three members and imported from each.
 use Rattle.std.specs.Prelude.{◌≡◌, ◌≢◌, ◌⊎◌, ◌*◌, ◌^◌, ℕ, List, ◌∷◌, ◌++◌, Some, Ok}
 use Rattle.std.specs.List.{AllByRecursion}
 use Rattle.fixed_decimal.specs.CompactText.{CompactValue}

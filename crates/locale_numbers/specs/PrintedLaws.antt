@@ -1,6 +1,7 @@
 -- Laws of the answers of the compact forms: the value printed, sent back in the exact form; the order of the values printed, and how far off they are.
 -- Defined in docs/requests.md, "Answer line", and docs/compact-text.md, "Laws".
 -- Cited by the functions of `laws`.
+-- Each law is about definitions of other files, of three members, so the imports are many.
 use Rattle.std.specs.Prelude.{◌≡◌, ◌↔◌, ◌==◌, ◌≤◌, ◌*◌, ℕ, if◌then◌else◌, List, Result, Some, Ok}
 use Rattle.serde_json.specs.Data.{Data}
 use Rattle.fixed_decimal.specs.Number.{Number}

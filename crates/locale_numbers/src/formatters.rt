@@ -2,7 +2,8 @@
 
 ghost use Rattle.std.specs.Prelude.{◌≡◌, ◌∷◌, ℕ, List, Option, Some, None, IfOk, IsTrue, OnOk, OnErr};
 ghost use Rattle.locale_numbers_book.specs.Book.{BookTables};
-ghost use Rattle.locale_numbers.specs.FormatterKeys.{IsMadeFor, finds};
+ghost use Rattle.locale_numbers.specs.FormatterKeys.{finds};
+ghost use Rattle.locale_numbers.specs.KeptFormatters.{IsMadeFor};
 ghost use Rattle.locale_numbers.specs.declared.formatter_key.FormatterKey.{FormatterKey};
 
 use crate::formatter_key::FormatterKey;

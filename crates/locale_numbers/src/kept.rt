@@ -19,7 +19,8 @@ pub(crate) struct Kept<'a, T: Tables> {
 impl<'a, T: Tables> Formatters<'a> for Kept<'a, T> {
     ghost use Rattle.std.specs.Prelude.{⊤, refl};
     ghost use Rattle.locale_numbers_cache.specs.Cached.{IsLatest, IsSound, made_over};
-    ghost use Rattle.locale_numbers.specs.FormatterKeys.{IsKeptFor, finds};
+    ghost use Rattle.locale_numbers.specs.FormatterKeys.{finds};
+    ghost use Rattle.locale_numbers.specs.KeptFormatters.{IsKeptFor};
 
     ghost book = { λ s. T.book s.maker.tables.now };
 

@@ -6,7 +6,8 @@ ghost use Rattle.icu_decimal.specs.HeldCompact.{compact_tables_of};
 ghost use Rattle.icu_decimal.specs.HeldTables.{tables_of};
 ghost use Rattle.locale_numbers.specs.Answer.{found_in};
 ghost use Rattle.locale_numbers.specs.CompactAnswer.{found_compact};
-ghost use Rattle.locale_numbers.specs.FormatterKeys.{IsMadeFor, KnowsAll, KnowsReadable, finds};
+ghost use Rattle.locale_numbers.specs.FormatterKeys.{finds};
+ghost use Rattle.locale_numbers.specs.KeptFormatters.{IsMadeFor, KnowsAll, KnowsReadable};
 
 use crate::formatter_key::{FormatterKey, Kind};
 use crate::formatters::Formatters;
@@ -117,7 +118,8 @@ fn formatter_by<'a, T: Tables>(
 
 /// One that is kept is asked once whether its symbols are readable.
 impl<'a, T: Tables> Maker<Hashed<FormatterKey>, KeptFormatter<'a>> for FormatterMaker<'a, T> {
-    ghost use Rattle.locale_numbers.specs.FormatterKeys.{finds, IsKeptFor};
+    ghost use Rattle.locale_numbers.specs.FormatterKeys.{finds};
+    ghost use Rattle.locale_numbers.specs.KeptFormatters.{IsKeptFor};
 
     ghost finds = { λ s key. finds (T.book s.tables.now) key };
 
@@ -140,7 +142,7 @@ pub(crate) struct MadeFormatter<'a, T: Tables> {
 /// Each is made when it is asked for.
 impl<'a, T: Tables> Formatters<'a> for MadeFormatter<'a, T> {
     ghost use Rattle.std.specs.Prelude.{⊤, MatchOption, refl};
-    ghost use Rattle.locale_numbers.specs.FormatterKeys.{IsMadeFor};
+    ghost use Rattle.locale_numbers.specs.KeptFormatters.{IsMadeFor};
 
     ghost book = { λ s. T.book s.tables.now };
 

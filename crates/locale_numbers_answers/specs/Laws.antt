@@ -1,6 +1,7 @@
 -- Laws over the definitions that an answer goes by: each text has one reading, and each rounding one end.
 -- Defined in docs/numbers.md, "The text", "Compact and scientific texts" and "Rounding".
 -- Cited by the functions of `laws`.
+-- Each law compares a function with the relations of `fixed_decimal`, and both are imported.
 use Rattle.std.specs.Prelude.{◌≡◌, ◌<◌, ◌↔◌, List, ℕ, ℤ}
 use Rattle.fixed_decimal.specs.CompactText.{IsBeyondCompact, IsNoCompactText, ReadsCompact}
 use Rattle.fixed_decimal.specs.Number.{Number, place}

@@ -1,6 +1,7 @@
 -- When a JSON value is a book, and which tables are in it.
 -- Defined in docs/books.md, "The form".
 -- Cited by `Book::from_json`.
+-- A book has six arrays, and the entry and the table of each are imported.
 use Rattle.std.specs.Prelude.{◌≡◌, ℕ, List, Option, Some, None, option_and_then}
 use Rattle.std.specs.Str.{bytes_eq}
 use Rattle.serde_json.specs.Data.{Data}

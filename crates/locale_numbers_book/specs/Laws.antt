@@ -2,6 +2,7 @@
 -- is a book, that its chains of parents end, and which tables the sample book has.
 -- Defined in docs/books.md, "Tags", "The form", "Parents", "Faults" and "The sample book".
 -- Cited by the functions of `laws.rt`.
+-- Each law is about definitions of other files, so the imports are many.
 use Rattle.std.specs.Prelude.{◌≡◌, ◌↔◌, List, Option, Some}
 use Rattle.std.specs.List.{AllByRecursion}
 use Rattle.std.specs.Bool.{Decides}

@@ -1,6 +1,7 @@
 -- What stands in a book under an identifier, of each of its tables.
 -- Defined in docs/books.md, "Choosing tables".
 -- Cited by the impls of `DataProvider` for `Book`, and by the answer to a line.
+-- A book has five tables, and the type and the key of each are imported.
 use Rattle.std.specs.Prelude.{ℕ, ◌==◌, length, List, Option, None, Some, Result, if◌then◌else◌}
 use Rattle.std.specs.Str.{bytes_eq}
 use Rattle.icu_locale_core.specs.DataLocales.{unknown_data}

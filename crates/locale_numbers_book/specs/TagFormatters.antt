@@ -2,6 +2,7 @@
 -- the tag prefers, with default options.
 -- Defined in docs/books.md, "Choosing tables" and "Formatters of a tag".
 -- Cited by the three makers of formatters of `Book`, and by the answer to a line.
+-- It finds tables of each kind and names each error, so it imports them all.
 use Rattle.std.specs.Prelude.{ℕ, Option, Some, None, Result, Ok, Err}
 use Rattle.icu_decimal.specs.CompactTables.{CompactTables}
 use Rattle.icu_decimal.specs.FoundCompactTables.{found_compact_tables}

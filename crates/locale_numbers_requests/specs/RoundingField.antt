@@ -1,6 +1,7 @@
 -- Which texts are a rounding, and what they round.
 -- Defined in docs/requests.md, "Rounding and sign".
 -- Cited by `answer` and `run`, through Request.antt.
+-- Each of the three words of a rounding is a type with cases, and the cases are imported beside it.
 use Rattle.std.specs.Prelude.{◌==◌, ◌&&◌, not, nat_le, ℕ, ℤ, pos, neg_ℤ, Bool, false, if◌then◌else◌, List, [], ◌∷◌, Option, Some, None, codes}
 use Rattle.std.specs.List.{list_all}
 use Rattle.std.specs.Str.{bytes_eq}

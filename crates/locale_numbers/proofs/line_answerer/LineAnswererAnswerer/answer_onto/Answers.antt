@@ -1,7 +1,8 @@
 use Rattle.std.proofs.Common.{◌≡◌, ◌++◌, map, refl, sym, ap, ◌∙◌}
 use Rattle.std.specs.Prelude.{string_bytes}
 use Rattle.locale_numbers_cache.specs.Cached.{IsLatest}
-use Rattle.locale_numbers.specs.FormatterKeys.{IsKeptFor, key_of}
+use Rattle.locale_numbers.specs.FormatterKeys.{key_of}
+use Rattle.locale_numbers.specs.KeptFormatters.{IsKeptFor}
 use Rattle.locale_numbers.specs.Front.{answer_behind, key_behind}
 use Rattle.locale_numbers.proofs.AnsweringLemmas.{on_ok_by, one_of}
 use Rattle.locale_numbers.proofs.FrontLemmas.{answer_of_line, fits_form, key_of_line, still_held}
