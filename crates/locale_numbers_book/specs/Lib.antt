@@ -1,15 +1,20 @@
-pub mod Wanted
-pub mod TagFormatters
+-- What a reader must believe: which JSON values are books, what is in them, and why the others are refused.
 pub mod Json
-pub mod ParentEntries
 pub mod Form
+pub mod ParentEntries
 pub mod Book
 pub mod SampleBook
 pub mod Refusal
-pub mod BookAllocation
+-- What a reader must believe: what is in a book under an identifier, and the formatters that it has for a tag.
 pub mod Tables
-pub mod Laws
+pub mod Wanted
+pub mod TagFormatters
+-- What private steps follow.
 pub mod Arrays
+pub mod BookAllocation
+-- Statements of laws.
+pub mod Laws
+-- Of the inner crate of tables: entries, fields and keys.
 pub use Rattle.locale_numbers_tables.specs.BookError
 pub use Rattle.locale_numbers_tables.specs.CompactEntries
 pub use Rattle.locale_numbers_tables.specs.Entries

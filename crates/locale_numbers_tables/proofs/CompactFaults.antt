@@ -5,7 +5,7 @@ use Rattle.serde_json.specs.Data.{Data}
 use Rattle.locale_numbers_tables.specs.declared.error.BookError.{BookError}
 use Rattle.locale_numbers_tables.specs.declared.error.BookError.TheVariants.{Shape, Tag, System, Text, Types, Exponents}
 use Rattle.locale_numbers_tables.specs.CompactEntries.{compact_of, has_plain_patterns, rise_from, rows_in, rows_of, zero_in}
-use Rattle.locale_numbers_tables.specs.CompactSteps.{has_table_shape, key_fault, table_fault}
+use Rattle.locale_numbers_tables.specs.CompactSteps.{has_table_shape, key_or_text_fault, table_fault}
 use Rattle.locale_numbers_tables.specs.Entries.{field_at, has_count, is_text_at}
 use Rattle.locale_numbers_tables.specs.Faults.{compact_fault, first_broken, has_locale}
 use Rattle.locale_numbers_tables.specs.Fields.{system_or_none_in}
@@ -59,23 +59,23 @@ by_shape true false b r z t s x u e shape = refl
 by_shape false a b r z t s x u e shape = refl
 
 module _ (entry : Data) where
-  as_table : compact_may_grow entry ≡ true → key_fault entry ≡ None → compact_fault entry ≡ table_fault entry
+  as_table : compact_may_grow entry ≡ true → key_or_text_fault entry ≡ None → compact_fault entry ≡ table_fault entry
   as_table frame key =
       by_table (has_count 4 entry) (is_text_at 0 entry) (is_text_at 1 entry) (is_some (field_at rows_in 2 entry)) (is_some (field_at zero_in 3 entry))
       (has_locale entry) (is_some (field_at system_or_none_in 1 entry)) (has_plain_patterns entry) (rise_from 0 (rows_of entry)) (is_some (compact_of entry)) frame key
 
-  pub sound_whole : compact_may_grow entry ≡ true → key_fault entry ≡ None → table_fault entry ≡ None → compact_fault entry ≡ None
+  pub sound_whole : compact_may_grow entry ≡ true → key_or_text_fault entry ≡ None → table_fault entry ≡ None → compact_fault entry ≡ None
   sound_whole frame key table = as_table frame key ∙ table
 
-  pub told_table : (e : BookError) → compact_may_grow entry ≡ true → key_fault entry ≡ None → IsTold (table_fault entry) e → IsTold (compact_fault entry) e
+  pub told_table : (e : BookError) → compact_may_grow entry ≡ true → key_or_text_fault entry ≡ None → IsTold (table_fault entry) e → IsTold (compact_fault entry) e
   told_table e frame key told = told_at _ _ e (sym (as_table frame key)) told
 
-  pub told_key : (e : BookError) → compact_may_grow entry ≡ true → has_table_shape entry ≡ true → IsTold (key_fault entry) e → IsTold (compact_fault entry) e
+  pub told_key : (e : BookError) → compact_may_grow entry ≡ true → has_table_shape entry ≡ true → IsTold (key_or_text_fault entry) e → IsTold (compact_fault entry) e
   told_key e frame shape told =
       told_at _ _ e
       (sym (by_key (has_count 4 entry) (is_text_at 0 entry) (is_text_at 1 entry) (is_some (field_at rows_in 2 entry)) (is_some (field_at zero_in 3 entry))
       (has_locale entry) (is_some (field_at system_or_none_in 1 entry)) (has_plain_patterns entry) (rise_from 0 (rows_of entry)) (is_some (compact_of entry)) frame shape))
-      (told_first (key_fault entry) _ e told)
+      (told_first (key_or_text_fault entry) _ e told)
 
   pub no_frame : compact_may_grow entry ≡ false → compact_fault entry ≡ Some Shape
   no_frame frame =

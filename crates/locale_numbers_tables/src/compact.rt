@@ -7,7 +7,7 @@ ghost use Rattle.serde_json.specs.View.{view, items_view};
 ghost use Rattle.icu_decimal.specs.KeptEntries.{of_type};
 ghost use Rattle.icu_decimal.specs.SlotsJson.{slots_of};
 ghost use Rattle.locale_numbers_tables.specs.CompactEntries.{row_in, rows_in, zero_in, rise_from, table_made, compact_of};
-ghost use Rattle.locale_numbers_tables.specs.CompactSteps.{has_table_shape, key_fault, table_fault, types_fault};
+ghost use Rattle.locale_numbers_tables.specs.CompactSteps.{has_table_shape, key_or_text_fault, table_fault, types_fault};
 ghost use Rattle.locale_numbers_tables.specs.Entries.{all_of, field_at, entry_key};
 ghost use Rattle.locale_numbers_tables.specs.Telling.{IsTold};
 ghost use Rattle.locale_numbers_tables.specs.Allocation.{compact_may_grow};
@@ -270,8 +270,8 @@ fn has_table_shape(alloc: Global, entry: &Value) -> Result<bool, AllocError>
 /// The locale and the system of an entry of plain patterns, or what is wrong with them.
 fn plain_key(alloc: Global, entry: &Value) -> Result<DataIdentifier, BookError>
     ensures key { IfOk result (λ key. entry_key (view entry.now) ≡ Some key) }
-    ensures sound { OnOk result (key_fault (view entry.now) ≡ None) }
-    ensures fault { IfErr result (λ fault. IsTold (key_fault (view entry.now)) fault) }
+    ensures sound { OnOk result (key_or_text_fault (view entry.now) ≡ None) }
+    ensures fault { IfErr result (λ fault. IsTold (key_or_text_fault (view entry.now)) fault) }
 {
     let Ok(found) = locale(alloc, entry, 0) else {
         return Err(BookError::Memory);
