@@ -10,6 +10,7 @@ pub mod Program
 -- What private steps follow.
 pub mod KeptFormatters
 pub mod Front
+pub mod LineState
 -- Statements of laws.
 pub mod SameKeys
 pub mod Laws

@@ -26,16 +26,13 @@ pub(crate) struct LineAnswerer<'a, T: Tables> {
 }
 
 impl<'a, T: Tables> Answerer for LineAnswerer<'a, T> {
-    ghost use Rattle.std.specs.Prelude.{map, IfSome, IsTrue};
-    ghost use Rattle.std.specs.List.{All};
-    ghost use Rattle.locale_numbers_cache.specs.Cached.{IsLatest, IsSound, made_over};
-    ghost use Rattle.locale_numbers_cache.specs.LastRead.{AreRead};
+    ghost use Rattle.std.specs.Prelude.{map};
+    ghost use Rattle.locale_numbers_cache.specs.Cached.{made_over};
     ghost use Rattle.locale_numbers.specs.Answer.{answer_of};
     ghost use Rattle.locale_numbers.specs.FormatterKeys.{finds, key_of};
-    ghost use Rattle.locale_numbers.specs.KeptFormatters.{IsKeptFor};
-    ghost use Rattle.locale_numbers.specs.Front.{HasKeyThat, front_of};
+    ghost use Rattle.locale_numbers.specs.LineState.{IsSoundState};
 
-    ghost is_ready = { λ s. IsSound (finds (T.book s.kept.maker.tables.now)) (IsKeptFor (T.book s.kept.maker.tables.now)) s.kept.formatters × All (AreRead front_of) s.read.pairs × (IsTrue s.is_held → IfSome s.read.latest (HasKeyThat (λ key. IsLatest (IsKeptFor (T.book s.kept.maker.tables.now)) key s.kept.formatters))) };
+    ghost is_ready = { λ s. IsSoundState (T.book s.kept.maker.tables.now) s.kept.formatters s.read s.is_held };
 
     ghost answer_of = { λ s line. answer_of (T.book s.kept.maker.tables.now) line };
 

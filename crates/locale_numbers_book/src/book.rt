@@ -1,14 +1,14 @@
 //! A book of tables.
 
-ghost use Rattle.std.specs.Prelude.{◌≡◌, true, IfOk, IsErrOf, IfErr, option_map, unwrap_or};
-ghost use Rattle.serde_json.specs.Data.{Data, no_items};
-ghost use Rattle.serde_json.specs.View.{items_view, view};
-ghost use Rattle.locale_numbers_book.specs.Arrays.{of_arrays};
+ghost use Rattle.std.specs.Prelude.{◌≡◌, true, IfOk, IsErrOf, IfErr};
+ghost use Rattle.serde_json.specs.Data.{Data};
+ghost use Rattle.serde_json.specs.View.{view};
+ghost use Rattle.locale_numbers_book.specs.Arrays.{fault_in, may_grow_in, value_of};
 ghost use Rattle.locale_numbers_book.specs.Book.{IsBook};
-ghost use Rattle.locale_numbers_book.specs.Form.{arrays_fault, book_fault};
+ghost use Rattle.locale_numbers_book.specs.Form.{book_fault};
 ghost use Rattle.locale_numbers_book.specs.Json.{Reads};
 ghost use Rattle.locale_numbers_book.specs.Refusal.{IsRefused};
-ghost use Rattle.locale_numbers_book.specs.BookAllocation.{arrays_may_grow, book_may_grow};
+ghost use Rattle.locale_numbers_book.specs.BookAllocation.{book_may_grow};
 ghost use Rattle.locale_numbers_tables.specs.Telling.{IsTold};
 
 use crate::json::{Arrays, arrays_of, parents_in, value_of};
@@ -59,9 +59,9 @@ impl Drop for Book {
 /// The book of these arrays, its tables hashed by this seed.
 #[tactic(auto, using(crate::proofs::BookLemmas::or_second, crate::proofs::BookLemmas::or_third, crate::proofs::BookLemmas::or_fourth, crate::proofs::BookLemmas::or_fifth, crate::proofs::BookLemmas::or_sixth))]
 fn tables_of(alloc: Global, seed: Seed, arrays: Arrays) -> Result<Book, BookError>
-    ensures value { IfOk result (IsBook (of_arrays (items_view arrays.symbols.items) (items_view arrays.digits.items) (items_view arrays.rules.items) (items_view arrays.short.items) (items_view arrays.long.items) (option_map (λ entries. items_view entries.items) arrays.parents))) }
-    ensures fault { IfErr result (λ fault. IsTold (arrays_fault (items_view arrays.symbols.items) (items_view arrays.digits.items) (items_view arrays.rules.items) (items_view arrays.short.items) (items_view arrays.long.items) (unwrap_or (option_map (λ entries. items_view entries.items) arrays.parents) no_items)) fault) }
-    ensures room { IsErrOf result BookError.Memory → arrays_may_grow (items_view arrays.symbols.items) (items_view arrays.digits.items) (items_view arrays.rules.items) (items_view arrays.short.items) (items_view arrays.long.items) (unwrap_or (option_map (λ entries. items_view entries.items) arrays.parents) no_items) ≡ true }
+    ensures value { IfOk result (IsBook (value_of arrays)) }
+    ensures fault { IfErr result (λ fault. IsTold (fault_in arrays) fault) }
+    ensures room { IsErrOf result BookError.Memory → may_grow_in arrays ≡ true }
 {
     let Arrays {
         symbols,

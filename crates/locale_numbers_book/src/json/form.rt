@@ -5,7 +5,7 @@ ghost use Rattle.std.specs.Vec.Iter.{into_iter_items};
 ghost use Rattle.serde_json.specs.Data.{array};
 ghost use Rattle.serde_json.specs.Find.{as_array};
 ghost use Rattle.serde_json.specs.View.{view, items_view};
-ghost use Rattle.locale_numbers_book.specs.Arrays.{of_arrays};
+ghost use Rattle.locale_numbers_book.specs.Arrays.{value_of};
 ghost use Rattle.locale_numbers_tables.specs.Entries.{field_at, has_count};
 ghost use Rattle.locale_numbers_book.specs.Form.{has_form, is_array_at, items_at};
 
@@ -88,8 +88,7 @@ fn next_items(alloc: Global, values: &mut IntoIter<Value>) -> Vec<Value>
 /// The arrays that values are.
 fn arrays_in(alloc: Global, values: Vec<Value>) -> Arrays
     requires { has_form (array (items_view values.items)) ≡ true }
-    ensures { array (items_view values.items) ≡ of_arrays (items_view result.symbols.items) (items_view result.digits.items) (items_view result.rules.items)
-        (items_view result.short.items) (items_view result.long.items) (option_map (λ entries. items_view entries.items) result.parents) }
+    ensures { array (items_view values.items) ≡ value_of result }
 {
     let mut values = values.into_iter();
     let symbols = next_items(alloc, &mut values);
@@ -110,8 +109,7 @@ fn arrays_in(alloc: Global, values: Vec<Value>) -> Arrays
 
 /// The five arrays or six that a value is, taken out of it, or none where it is of another form.
 pub fn arrays_of(alloc: Global, value: Value) -> Option<Arrays>
-    ensures some { IfSome result (λ arrays. view value ≡ of_arrays (items_view arrays.symbols.items) (items_view arrays.digits.items) (items_view arrays.rules.items)
-        (items_view arrays.short.items) (items_view arrays.long.items) (option_map (λ entries. items_view entries.items) arrays.parents)) }
+    ensures some { IfSome result (λ arrays. view value ≡ value_of arrays) }
     ensures none { result ≡ None → has_form (view value) ≡ false }
 {
     if !has_form(&value) {

@@ -1,0 +1,22 @@
+-- What is kept from one line of a run to the next, and that all of it is so.
+-- Defined in docs/requests.md, "What a cache keeps".
+-- Cited by the private steps of `run`.
+use Rattle.std.specs.Prelude.{Bool, Option, IfSome, IsTrue}
+use Rattle.std.specs.List.{All}
+use Rattle.locale_numbers_book.specs.Book.{BookTables}
+use Rattle.locale_numbers_cache.specs.Cached.{Cached, IsLatest, IsSound}
+use Rattle.locale_numbers_cache.specs.LastRead.{AreRead, Remembered}
+use Rattle.locale_numbers.specs.FormatterKeys.{finds}
+use Rattle.locale_numbers.specs.Front.{HasKeyThat, front_of}
+use Rattle.locale_numbers.specs.KeptFormatters.{IsKeptFor}
+use Rattle.locale_numbers.specs.declared.formatter_key.FormatterKey.{FormatterKey}
+use Rattle.locale_numbers.specs.declared.front.Front.{Front}
+use Rattle.locale_numbers.specs.declared.kept_formatter.KeptFormatter.{KeptFormatter}
+
+-- each formatter is the one of its key, and what was read of each front is what it asks; where it is noted so, the formatter that was
+-- found last is that of the front that came last
+abbrev pub IsSoundState : BookTables → Cached FormatterKey KeptFormatter → Remembered (Option Front) → Bool → Type 0
+IsSoundState book formatters read is_held =
+    IsSound (finds book) (IsKeptFor book) formatters
+    × All (AreRead front_of) read.pairs
+    × (IsTrue is_held → IfSome read.latest (HasKeyThat (λ key. IsLatest (IsKeptFor book) key formatters)))
