@@ -19,11 +19,11 @@ use locale_numbers_book::Book;
 use locale_numbers_requests::{Form, Refusal, as_text};
 use std::alloc::{AllocError, Global};
 
-/// Writes the answer to a text behind a front, behind what `out` holds. It is tested as UTF-8 only where no number is
-/// read.
-///
-/// `value` is where a number is read, and `is_held` says whether the formatter that was found last is the front's.
-/// `AllocError`: out of memory; a part of the answer may then stand there.
+// Writes the answer to a text behind a front, behind what `out` holds. It is tested as UTF-8 only where no number is
+// read.
+//
+// `value` is where a number is read, and `is_held` says whether the formatter that was found last is the front's.
+// `AllocError`: out of memory; a part of the answer may then stand there.
 pub(crate) fn answer_behind_front<'a, F: Formatters<'a>>(
     alloc: Global,
     value: &mut Decimal,

@@ -55,9 +55,9 @@ fn write_exact_answer_of_key<'a, F: Formatters<'a>>(
     }
 }
 
-/// Writes the answer to the text of an exact form, with the formatter of a key, behind what `out` holds.
-///
-/// `AllocError`: out of memory; a part of the answer may then stand there.
+// Writes the answer to the text of an exact form, with the formatter of a key, behind what `out` holds.
+//
+// `AllocError`: out of memory; a part of the answer may then stand there.
 pub(crate) fn answer_exact<'a, F: Formatters<'a>>(
     alloc: Global,
     formatters: &mut F,

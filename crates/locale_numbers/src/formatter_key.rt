@@ -8,7 +8,7 @@ use icu_decimal::options::GroupingStrategy;
 use locale_numbers_cache::CacheKey;
 use locale_numbers_requests::{Form, PatternLength};
 
-/// Which tables a form is written with.
+// Which tables a form is written with.
 #[derive(Clone, Copy, PartialEq, Eq, Hash)]
 pub(crate) enum Kind {
     /// Only symbols and digits.
@@ -17,7 +17,7 @@ pub(crate) enum Kind {
     Compact(PatternLength),
 }
 
-/// What a formatter is kept under: what a tag prefers, a kind and a grouping. Tags that prefer the same have one key.
+// What a formatter is kept under: what a tag prefers, a kind and a grouping. Tags that prefer the same have one key.
 #[derive(Clone, Copy, PartialEq, Eq, Hash)]
 pub(crate) struct FormatterKey {
     /// What the tag prefers, `rg` too.
@@ -36,7 +36,7 @@ impl CacheKey for FormatterKey {
     ghost same = { keys_are ⟦<Kind as PartialEq>⟧.eq ⟦<GroupingStrategy as PartialEq>⟧.eq (Prim.search (comparing, rules)) (Prim.search (comparing, rules)) };
 }
 
-/// The kind of tables that a form is written with.
+// The kind of tables that a form is written with.
 pub(crate) fn kind_of_form(form: Form) -> Kind
     ensures { result ≡ kind_of form }
 {

@@ -11,7 +11,7 @@ use crate::kept_formatter::KeptFormatter;
 use locale_numbers_cache::Hashed;
 use std::alloc::AllocError;
 
-/// One that hands out formatters, made now or kept from earlier lines.
+// One that hands out formatters, made now or kept from earlier lines.
 pub(crate) trait Formatters<'a> {
     // The book that has their tables, which no call changes.
     ghost book: { Self → BookTables };

@@ -15,7 +15,7 @@ use std::alloc::{AllocError, Global};
 
 const TAB: u8 = b'\t';
 
-/// What the front of a line asks, whatever its text.
+// What the front of a line asks, whatever its text.
 #[derive(Clone, Copy)]
 pub(crate) struct Front {
     /// What is written.
@@ -28,9 +28,9 @@ pub(crate) struct Front {
     pub key: Option<Hashed<FormatterKey>>,
 }
 
-/// The front of a line, which is all that stands before its text, and the text, which need not be UTF-8.
-///
-/// The front ends with the last tab. It asks what the line does, as a line with no text.
+// The front of a line, which is all that stands before its text, and the text, which need not be UTF-8.
+//
+// The front ends with the last tab. It asks what the line does, as a line with no text.
 pub(crate) fn cut_text(line: &[u8]) -> (&[u8], &[u8])
     ensures { request_of line.now ≡ asked_text result.1.now (request_of result.0.now) }
 {
@@ -55,9 +55,9 @@ fn hashed_key(
     }
 }
 
-/// What a front asks: it is read as a line with no text. `None` where it is none.
-///
-/// It may allocate for its tag. `AllocError`: out of memory.
+// What a front asks: it is read as a line with no text. `None` where it is none.
+//
+// It may allocate for its tag. `AllocError`: out of memory.
 pub(crate) fn read_front(alloc: Global, bytes: &[u8]) -> Result<Option<Front>, AllocError>
     ensures { IfOk result (λ front. front ≡ front_of bytes.now) }
 {
@@ -73,7 +73,7 @@ pub(crate) fn read_front(alloc: Global, bytes: &[u8]) -> Result<Option<Front>, A
     }))
 }
 
-/// A reader of fronts.
+// A reader of fronts.
 #[derive(Clone, Copy)]
 pub(crate) struct FrontReader {
     /// Where a tag may allocate.

@@ -9,11 +9,11 @@ use crate::formatters::Formatters;
 use locale_numbers_cache::Hashed;
 use std::alloc::AllocError;
 
-/// Sees to it that the formatter of a key is the one that was found last; `false` where the book lacks one of its
-/// tables.
-///
-/// `is_held` says whether it is. The condition is that it is so where this is said. It allocates only where it looks
-/// for it.
+// Sees to it that the formatter of a key is the one that was found last; `false` where the book lacks one of its
+// tables.
+//
+// `is_held` says whether it is. The condition is that it is so where this is said. It allocates only where it looks
+// for it.
 pub(crate) fn hold<'a, F: Formatters<'a>>(
     formatters: &mut F,
     key: &Hashed<FormatterKey>,

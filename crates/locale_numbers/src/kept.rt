@@ -7,7 +7,7 @@ use crate::tables::Tables;
 use locale_numbers_cache::{FormatterCache, Hashed};
 use std::alloc::AllocError;
 
-/// The formatters that were used last, and who makes others.
+// The formatters that were used last, and who makes others.
 #[derive(Drop)]
 pub(crate) struct Kept<'a, T: Tables> {
     /// One that makes those that are not kept.

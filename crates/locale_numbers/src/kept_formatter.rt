@@ -19,7 +19,7 @@ use locale_numbers_cache::{Hashed, Maker};
 use locale_numbers_requests::PatternLength;
 use std::alloc::AllocError;
 
-/// A formatter of plain numbers, and what is known of its symbols.
+// A formatter of plain numbers, and what is known of its symbols.
 #[derive(Clone, Copy)]
 pub(crate) struct PlainFormatter<'a> {
     /// The formatter.
@@ -28,7 +28,7 @@ pub(crate) struct PlainFormatter<'a> {
     pub is_readable: Option<bool>,
 }
 
-/// A formatter that is kept. It borrows its tables.
+// A formatter that is kept. It borrows its tables.
 #[derive(Clone, Copy)]
 pub(crate) enum KeptFormatter<'a> {
     /// One of plain numbers.
@@ -37,7 +37,7 @@ pub(crate) enum KeptFormatter<'a> {
     Compact(CompactDecimalFormatter<'a>),
 }
 
-/// One that makes the formatters of keys, with these tables.
+// One that makes the formatters of keys, with these tables.
 #[derive(Drop)]
 pub(crate) struct FormatterMaker<'a, T: Tables> {
     /// The tables.
@@ -49,7 +49,8 @@ pub(crate) fn plain_formatter<'a, T: Tables>(
     tables: &'a T,
     key: FormatterKey,
 ) -> Result<DecimalFormatter<'a>, DataError>
-    ensures { result_map_both tables_of (λ error. error) result ≡ found_in (T.book tables.now) key.preferences key.grouping }
+    ensures { result_map_both tables_of (λ error. error) result
+        ≡ found_in (T.book tables.now) key.preferences key.grouping }
 {
     DecimalFormatter::try_new_unstable(
         tables,
@@ -101,7 +102,8 @@ fn formatter_by<'a, T: Tables>(
     key: FormatterKey,
     asks: bool,
 ) -> Option<KeptFormatter<'a>>
-    ensures made { MatchOption result (finds (T.book tables.now) key ≡ false) (λ kept. IsMadeFor (T.book tables.now) key kept) }
+    ensures made { MatchOption result (finds (T.book tables.now) key ≡ false)
+        (λ kept. IsMadeFor (T.book tables.now) key kept) }
     ensures known { IsTrue asks → IfSome result KnowsAll }
 {
     match key.kind {
@@ -130,7 +132,7 @@ impl<'a, T: Tables> Maker<Hashed<FormatterKey>, KeptFormatter<'a>> for Formatter
     }
 }
 
-/// One that keeps the formatter that was found last, and no other.
+// One that keeps the formatter that was found last, and no other.
 #[derive(Drop)]
 pub(crate) struct MadeFormatter<'a, T: Tables> {
     /// The tables.

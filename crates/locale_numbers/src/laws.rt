@@ -99,7 +99,9 @@ pub fn rounded_is_written_again()
 /// What formatters are kept under is told apart exactly where preferences, kinds of tables or groupings differ: `en`
 /// and `en-x-foo` have one key under `plain` and `auto`, and another under `min2`.
 pub fn keys_are_told_apart()
-    ensures { TellsKeys (same_keys ⟦<DecimalFormatterPreferences as PartialEq>⟧.eq ⟦<Kind as PartialEq>⟧.eq ⟦<GroupingStrategy as PartialEq>⟧.eq) }
+    ensures { TellsKeys
+        (same_keys ⟦<DecimalFormatterPreferences as PartialEq>⟧.eq ⟦<Kind as PartialEq>⟧.eq
+        ⟦<GroupingStrategy as PartialEq>⟧.eq) }
 {
     equal_keys_are_one::<FormatterKey>();
 }

@@ -10,7 +10,7 @@ use locale_numbers_cache::ReadKeys;
 use locale_numbers_lines::Answerer;
 use std::alloc::{AllocError, Global};
 
-/// Formatters that are kept, the fronts that were read, and the number that was read last.
+// Formatters that are kept, the fronts that were read, and the number that was read last.
 #[derive(Drop)]
 pub(crate) struct LineAnswerer<'a, T: Tables> {
     /// Where lines allocate.

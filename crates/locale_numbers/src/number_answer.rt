@@ -69,10 +69,10 @@ fn write_answer_of_key<'a, F: Formatters<'a>>(
     write_answer_of_formatter(formatters.found(key), value, out)
 }
 
-/// Writes the answer to a number's text, with the formatter of a key, behind what `out` holds. `value` is read anew.
-///
-/// `is_held` says whether the formatter that was found last is the one of the key. `AllocError`: out of memory; a part
-/// of the answer may then stand there.
+// Writes the answer to a number's text, with the formatter of a key, behind what `out` holds. `value` is read anew.
+//
+// `is_held` says whether the formatter that was found last is the one of the key. `AllocError`: out of memory; a part
+// of the answer may then stand there.
 pub(crate) fn answer_number<'a, F: Formatters<'a>>(
     value: &mut Decimal,
     formatters: &mut F,

@@ -54,7 +54,8 @@ pub fn run<T: Tables, R: ByteReader, W: ByteWriter>(
     requires writer_well { W.failed writer.old ≡ false }
 
     // A line is answered as soon as it is whole: the reader is read only where all that it gave are.
-    requires prompt { MayReadOnceAnswered R.may_read R.remaining W.contents (answer_of (T.book tables.now)) reader.old writer.old }
+    requires prompt { MayReadOnceAnswered R.may_read R.remaining W.contents (answer_of (T.book tables.now)) reader.old
+        writer.old }
     ensures output { OnOk result (
         WritesAll (answer_of (T.book tables.now)) (R.remaining reader.old)
         (W.contents writer.old) (W.contents writer.new)) }

@@ -79,7 +79,8 @@ fn start_with<F: Files, R: ByteReader, W: ByteWriter>(
         MayReadOnceAnswered R.may_read R.remaining W.contents (answer_of book) reader.old writer.old }
 
     // No fault of a file, of a book or of the run is told before one of the words.
-    ensures usage { (result ≡ Err ProgramFault.Usage) ↔ (words_said (map (λ text. string_bytes text) texts.now) ≡ None) }
+    ensures usage { (result ≡ Err ProgramFault.Usage)
+        ↔ (words_said (map (λ text. string_bytes text) texts.now) ≡ None) }
     ensures output { OnOk result (OfSomeBook (λ book.
         WritesAll (answer_of book) (R.remaining reader.old)
         (W.contents writer.old) (W.contents writer.new))) }

@@ -6,10 +6,10 @@ ghost use Rattle.locale_numbers.specs.Words.{capacity_named, said_by, words_said
 use crate::fault::ProgramFault;
 use locale_numbers_requests::{are_digits, capped_number};
 
-/// How many formatters a run keeps where its words do not say.
+// How many formatters a run keeps where its words do not say.
 const USUAL_CAPACITY: usize = 16;
 
-/// The most formatters that a run may be told to keep.
+// The most formatters that a run may be told to keep.
 const MOST: u32 = 65535;
 
 /// What the words say that the program was started with: `b` says the book at the path `b` and a capacity of 16.

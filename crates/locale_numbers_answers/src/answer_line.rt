@@ -43,7 +43,7 @@ pub fn write_refusal_or_shape(
     }
 }
 
-/// Writes `ok`, a tab and the text of a value behind what `out` holds.
+// Writes `ok`, a tab and the text of a value behind what `out` holds.
 pub(crate) fn write_ok<T: Writeable>(out: &mut String, value: &T) -> Result<(), AllocError>
     ensures text { OnOk result (string_bytes out.new ≡ string_bytes out.old ++ written (text_of (T.events value.now))) }
     ensures err { OnErr result (Grows (string_bytes out.old) (string_bytes out.new)) }

@@ -102,10 +102,10 @@ impl<'o> Sink for AnswerSink<'o> {
     }
 }
 
-/// Writes the text of a value behind what `out` holds.
-///
-/// Where its hint tells the length, it allocates once; where there is room, not at all. After an error a part of the
-/// text may stand there.
+// Writes the text of a value behind what `out` holds.
+//
+// Where its hint tells the length, it allocates once; where there is room, not at all. After an error a part of the
+// text may stand there.
 #[tactic(auto, using(writeable::proofs::AnnotatedTextLemmas::text_of_bytes))]
 pub(crate) fn write_text_of<T: Writeable>(out: &mut String, value: &T) -> Result<(), AllocError>
     ensures text { OnOk result (string_bytes out.new ≡ string_bytes out.old ++ text_of (T.events value.now)) }
@@ -126,18 +126,22 @@ pub(crate) fn write_text_of<T: Writeable>(out: &mut String, value: &T) -> Result
     }
 }
 
-/// Writes a decimal, as a compact formatter writes it, behind what `out` holds, makes it what is shown, and returns the
-/// exponent shown.
-///
-/// Where there is room, it does not allocate. After an error a part of the text may stand there.
+// Writes a decimal, as a compact formatter writes it, behind what `out` holds, makes it what is shown, and returns the
+// exponent shown.
+//
+// Where there is room, it does not allocate. After an error a part of the text may stand there.
 pub(crate) fn write_number_shown(
     formatter: &CompactDecimalFormatter<'_>,
     value: &mut Decimal,
     out: &mut String,
 ) -> Result<u8, AllocError>
     requires { CanShow (compact_tables_of formatter.now).patterns.entries value.old.absolute.count }
-    ensures value { IfOk result (λ exponent. record { significand = value.new; exponent = exponent } ≡ value_shown (compact_tables_of formatter.now) value.old) }
-    ensures text { OnOk result (string_bytes out.new ≡ string_bytes out.old ++ compact_decimal_text (compact_tables_of formatter.now) value.old) }
+    ensures value { IfOk result
+        (λ exponent. record { significand = value.new; exponent = exponent }
+        ≡ value_shown (compact_tables_of formatter.now) value.old) }
+    ensures text { OnOk result
+        (string_bytes out.new
+        ≡ string_bytes out.old ++ compact_decimal_text (compact_tables_of formatter.now) value.old) }
     ensures err { OnErr result (Grows (string_bytes out.old) (string_bytes out.new)) }
     ensures room { HasRoom out.old (compact_decimal_text (compact_tables_of formatter.now) value.old) → IsOk result }
     ensures capacity { OnOk result (string_capacity out.old ≤ string_capacity out.new) }

@@ -47,7 +47,8 @@ fn write_tab_and_sign(out: &mut String, sign: Sign) -> Result<(), AllocError>
 // Writes an exponent with its mark, or nothing for 0, behind what `out` holds.
 #[tactic(auto, using(crate::proofs::ExponentLemmas::no_digits, crate::proofs::ExponentLemmas::one_digit, crate::proofs::ExponentLemmas::two_digits, crate::proofs::ExponentLemmas::three_digits))]
 fn write_exponent(out: &mut String, exponent: u8) -> Result<(), AllocError>
-    ensures text { OnOk result (string_bytes out.new ≡ string_bytes out.old ++ behind_compact_mark (map character (digits_of 10 exponent))) }
+    ensures text { OnOk result
+        (string_bytes out.new ≡ string_bytes out.old ++ behind_compact_mark (map character (digits_of 10 exponent))) }
     ensures err { OnErr result (Grows (string_bytes out.old) (string_bytes out.new)) }
     ensures room { HasRoom out.old (behind_compact_mark (map character (digits_of 10 exponent))) → IsOk result }
 {
@@ -85,7 +86,8 @@ fn write_tab_and_value_shown(
     ensures text { OnOk result (string_bytes out.new
         ≡ string_bytes out.old ++ tab ∷ compact_text_of (record { significand = significand.now; exponent = exponent })) }
     ensures err { OnErr result (Grows (string_bytes out.old) (string_bytes out.new)) }
-    ensures room { HasRoom out.old (tab ∷ compact_text_of (record { significand = significand.now; exponent = exponent })) → IsOk result }
+    ensures room { HasRoom out.old
+        (tab ∷ compact_text_of (record { significand = significand.now; exponent = exponent })) → IsOk result }
 {
     write_tab_and_decimal(out, significand)?;
     write_exponent(out, exponent)
@@ -99,11 +101,14 @@ fn write_ok_and_number_shown(
     out: &mut String,
 ) -> Result<u8, AllocError>
     requires { CanShow (compact_tables_of formatter.now).patterns.entries value.old.absolute.count }
-    ensures value { IfOk result (λ exponent. record { significand = value.new; exponent = exponent } ≡ value_shown (compact_tables_of formatter.now) value.old) }
+    ensures value { IfOk result
+        (λ exponent. record { significand = value.new; exponent = exponent }
+        ≡ value_shown (compact_tables_of formatter.now) value.old) }
     ensures text { OnOk result (string_bytes out.new
         ≡ string_bytes out.old ++ written (compact_decimal_text (compact_tables_of formatter.now) value.old)) }
     ensures err { OnErr result (Grows (string_bytes out.old) (string_bytes out.new)) }
-    ensures room { HasRoom out.old (written (compact_decimal_text (compact_tables_of formatter.now) value.old)) → IsOk result }
+    ensures room { HasRoom out.old (written (compact_decimal_text (compact_tables_of formatter.now) value.old))
+        → IsOk result }
     ensures capacity { OnOk result (string_capacity out.old ≤ string_capacity out.new) }
 {
     out.push_str("ok\t")?;

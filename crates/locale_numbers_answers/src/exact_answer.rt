@@ -46,7 +46,9 @@ pub fn write_exact_answer(
     ensures err { OnErr result (Grows (string_bytes out.old) (string_bytes out.new)) }
 
     // Where there is room for the answer, it does not allocate.
-    ensures room { HasRoom out.old (exact_answer (compact_tables_of formatter.now) (record { significand = significand.now; exponent = exponent })) → IsOk result }
+    ensures room { HasRoom out.old
+        (exact_answer (compact_tables_of formatter.now) (record { significand = significand.now; exponent = exponent }))
+        → IsOk result }
 {
     if !formatter.exponent_in_range(significand, exponent) {
         return write_refusal(out, Refusal::Range);

@@ -56,7 +56,7 @@ impl Drop for Book {
     }
 }
 
-/// The book of these arrays, its tables hashed by this seed.
+// The book of these arrays, its tables hashed by this seed.
 #[tactic(auto, using(crate::proofs::BookLemmas::or_second, crate::proofs::BookLemmas::or_third, crate::proofs::BookLemmas::or_fourth, crate::proofs::BookLemmas::or_fifth, crate::proofs::BookLemmas::or_sixth))]
 fn tables_of(alloc: Global, seed: Seed, arrays: Arrays) -> Result<Book, BookError>
     ensures value { IfOk result (IsBook (value_of arrays)) }
@@ -89,7 +89,7 @@ fn tables_of(alloc: Global, seed: Seed, arrays: Arrays) -> Result<Book, BookErro
     }
 }
 
-/// The book that a JSON value is.
+// The book that a JSON value is.
 #[tactic(auto, using(crate::proofs::BookLemmas::told_value, crate::proofs::BookLemmas::room_value))]
 fn book_of(alloc: Global, seed: Seed, value: Value) -> Result<Book, BookError>
     ensures value { IfOk result (IsBook (view value)) }

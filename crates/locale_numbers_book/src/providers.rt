@@ -122,7 +122,8 @@ impl ParentProvider for Book {
 
     fn chain_limit(&self) -> u128
         ensures value { result ≡ steps_in self.now.parents }
-        ensures cuts_none { (l : DataLocaleMeaning) → Follows (parent_under self.now) l (walk (parent_under self.now) result l) }
+        ensures cuts_none { (l : DataLocaleMeaning)
+            → Follows (parent_under self.now) l (walk (parent_under self.now) result l) }
     {
         match &self.parents {
             Some(parents) => parents.chain_limit(),

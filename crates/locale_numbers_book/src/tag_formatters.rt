@@ -26,7 +26,8 @@ fn preferences_of_tag(
     tag: &str,
 ) -> Result<DecimalFormatterPreferences, FormatterError>
     ensures value { IfOk result (λ preferences. wanted_of tag.now ≡ Some preferences) }
-    ensures fault { IfErr result (λ fault. (fault ≡ FormatterError.Memory) ⊎ ((fault ≡ FormatterError.Tag) × (wanted_of tag.now ≡ None))) }
+    ensures fault { IfErr result
+        (λ fault. (fault ≡ FormatterError.Memory) ⊎ ((fault ≡ FormatterError.Tag) × (wanted_of tag.now ≡ None))) }
     ensures room { tag_may_grow (pieces tag.now) ≡ false → ¬ (IsErrOf result FormatterError.Memory) }
     ensures single { (m : SingleMeaning) → MeansSingle (pieces tag.now) m → ¬ (IsErrOf result FormatterError.Memory) }
 {
@@ -94,8 +95,10 @@ fn compact_formatter<'b, L: Length>(
     alloc: Global,
     tag: &str,
 ) -> Result<CompactDecimalFormatter<'b>, FormatterError>
-    ensures value { IfOk result (λ formatter. compact_for (L.patterns book.now) book.now tag.now ≡ Ok (compact_tables_of formatter)) }
-    ensures fault { IfErr result (λ fault. (fault ≡ FormatterError.Memory) ⊎ (compact_for (L.patterns book.now) book.now tag.now ≡ Err fault)) }
+    ensures value { IfOk result
+        (λ formatter. compact_for (L.patterns book.now) book.now tag.now ≡ Ok (compact_tables_of formatter)) }
+    ensures fault { IfErr result
+        (λ fault. (fault ≡ FormatterError.Memory) ⊎ (compact_for (L.patterns book.now) book.now tag.now ≡ Err fault)) }
     ensures room { tag_may_grow (pieces tag.now) ≡ false → ¬ (IsErrOf result FormatterError.Memory) }
     ensures single { (m : SingleMeaning) → MeansSingle (pieces tag.now) m → ¬ (IsErrOf result FormatterError.Memory) }
 {
@@ -123,9 +126,11 @@ impl Book {
         tag: &str,
     ) -> Result<DecimalFormatter<'_>, FormatterError>
         ensures value { IfOk result (λ formatter. plain_for self.now tag.now ≡ Ok (tables_of formatter)) }
-        ensures fault { IfErr result (λ fault. (fault ≡ FormatterError.Memory) ⊎ (plain_for self.now tag.now ≡ Err fault)) }
+        ensures fault { IfErr result
+            (λ fault. (fault ≡ FormatterError.Memory) ⊎ (plain_for self.now tag.now ≡ Err fault)) }
         ensures room { tag_may_grow (pieces tag.now) ≡ false → ¬ (IsErrOf result FormatterError.Memory) }
-        ensures single { (m : SingleMeaning) → MeansSingle (pieces tag.now) m → ¬ (IsErrOf result FormatterError.Memory) }
+        ensures single { (m : SingleMeaning) → MeansSingle (pieces tag.now) m
+            → ¬ (IsErrOf result FormatterError.Memory) }
     {
         let preferences = preferences_of_tag(alloc, tag)?;
         let options = DecimalFormatterOptions::default();
@@ -146,9 +151,11 @@ impl Book {
         tag: &str,
     ) -> Result<CompactDecimalFormatter<'_>, FormatterError>
         ensures value { IfOk result (λ formatter. short_for self.now tag.now ≡ Ok (compact_tables_of formatter)) }
-        ensures fault { IfErr result (λ fault. (fault ≡ FormatterError.Memory) ⊎ (short_for self.now tag.now ≡ Err fault)) }
+        ensures fault { IfErr result
+            (λ fault. (fault ≡ FormatterError.Memory) ⊎ (short_for self.now tag.now ≡ Err fault)) }
         ensures room { tag_may_grow (pieces tag.now) ≡ false → ¬ (IsErrOf result FormatterError.Memory) }
-        ensures single { (m : SingleMeaning) → MeansSingle (pieces tag.now) m → ¬ (IsErrOf result FormatterError.Memory) }
+        ensures single { (m : SingleMeaning) → MeansSingle (pieces tag.now) m
+            → ¬ (IsErrOf result FormatterError.Memory) }
     {
         compact_formatter::<Short>(self, alloc, tag)
     }
@@ -163,9 +170,11 @@ impl Book {
         tag: &str,
     ) -> Result<CompactDecimalFormatter<'_>, FormatterError>
         ensures value { IfOk result (λ formatter. long_for self.now tag.now ≡ Ok (compact_tables_of formatter)) }
-        ensures fault { IfErr result (λ fault. (fault ≡ FormatterError.Memory) ⊎ (long_for self.now tag.now ≡ Err fault)) }
+        ensures fault { IfErr result
+            (λ fault. (fault ≡ FormatterError.Memory) ⊎ (long_for self.now tag.now ≡ Err fault)) }
         ensures room { tag_may_grow (pieces tag.now) ≡ false → ¬ (IsErrOf result FormatterError.Memory) }
-        ensures single { (m : SingleMeaning) → MeansSingle (pieces tag.now) m → ¬ (IsErrOf result FormatterError.Memory) }
+        ensures single { (m : SingleMeaning) → MeansSingle (pieces tag.now) m
+            → ¬ (IsErrOf result FormatterError.Memory) }
     {
         compact_formatter::<Long>(self, alloc, tag)
     }

@@ -54,7 +54,7 @@ impl<K: Copy> KeyPair<K> {
         last.known(bytes).is_some()
     }
 
-    /// Remembers the bytes with their key in the place that was not used last.
+    // Remembers the bytes with their key in the place that was not used last.
     fn keep(&mut self, bytes: &[u8], key: K) -> Result<(), AllocError>
         ensures last { OnOk result (self.new ≡ (Some (bytes.now, key), self.old.0)) }
         ensures err { OnErr result (self.new ≡ self.old) }

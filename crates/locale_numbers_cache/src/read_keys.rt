@@ -10,13 +10,13 @@ use std::alloc::{AllocError, Global};
 use std::hash::{FoldHasher, Hasher};
 use std::marker::Model;
 
-/// How many pairs of places there are.
+// How many pairs of places there are.
 const PAIRS: usize = 512;
 
-/// The longest bytes that are kept: longer ones are read each time.
+// The longest bytes that are kept: longer ones are read each time.
 const LONGEST: usize = 256;
 
-/// The pair of places of the bytes, by a hash of them: of bytes with one pair those of the last two are kept.
+// The pair of places of the bytes, by a hash of them: of bytes with one pair those of the last two are kept.
 fn pair_of(bytes: &[u8]) -> usize
     ensures value { result ≡ pair_at bytes.now }
     ensures within { result < 512 }
@@ -72,7 +72,7 @@ impl<K: Copy> ReadKeys<K> {
         })
     }
 
-    /// Whether these are the bytes that came last, and are kept: they are compared, with no hash.
+    // Whether these are the bytes that came last, and are kept: they are compared, with no hash.
     fn is_last(&self, bytes: &[u8]) -> bool
         ensures { IsTrue result → IsLastOf bytes.now self.now }
     {
@@ -82,7 +82,7 @@ impl<K: Copy> ReadKeys<K> {
         }
     }
 
-    /// Finds the key of bytes that did not come last, and makes it the latest.
+    // Finds the key of bytes that did not come last, and makes it the latest.
     fn find_other<R: KeyReader<K>>(&mut self, reader: &R, bytes: &[u8]) -> Result<(), AllocError>
         requires { All (AreRead (R.key_of reader.now)) self.old.pairs }
         ensures value { OnOk result (self.new.latest ≡ Some (R.key_of reader.now bytes.now)) }

@@ -72,7 +72,8 @@ fn stream<A: Answerer, R: ByteReader, W: ByteWriter>(
     requires room { 0 < length piece.old }
     requires reader_well { R.failed reader.old ≡ false }
     requires writer_well { W.failed writer.old ≡ false }
-    requires prompt { MayReadOnceAnswered R.may_read R.remaining W.contents (A.answer_of answerer.old) reader.old writer.old }
+    requires prompt { MayReadOnceAnswered R.may_read R.remaining W.contents (A.answer_of answerer.old) reader.old
+        writer.old }
     ensures outcome { let answer = A.answer_of answerer.old in
         let had = R.remaining reader.old in
         let held = W.contents writer.old in
@@ -146,7 +147,8 @@ pub fn run_with<A: Answerer, R: ByteReader, W: ByteWriter>(
     requires writer_well { W.failed writer.old ≡ false }
 
     // A line is answered as soon as it is whole: the reader is read only where all that it gave are.
-    requires prompt { MayReadOnceAnswered R.may_read R.remaining W.contents (A.answer_of answerer.old) reader.old writer.old }
+    requires prompt { MayReadOnceAnswered R.may_read R.remaining W.contents (A.answer_of answerer.old) reader.old
+        writer.old }
     ensures output { OnOk result (
         WritesAll (A.answer_of answerer.old) (R.remaining reader.old)
         (W.contents writer.old) (W.contents writer.new)) }

@@ -8,13 +8,15 @@ ghost use Rattle.locale_numbers_parents.specs.Parents.{CyclesAreMet, Entry, IsPa
 /// A chain of parents has at most as many steps as are taken: of `en-AU`, `en-001`, `en` two, where with two entries 14
 /// are.
 pub fn chains_are_short()
-    ensures { (entries : List Entry) (l : DataLocaleMeaning) (xs : List DataLocaleMeaning) → Follows (parent_step entries) l xs → length xs ≤ most_steps entries }
+    ensures { (entries : List Entry) (l : DataLocaleMeaning) (xs : List DataLocaleMeaning)
+        → Follows (parent_step entries) l xs → length xs ≤ most_steps entries }
 {}
 
 /// Under parents that close no cycle every chain ends, and the steps that are taken reach its end: `en-AU`, `en-001`,
 /// `en`.
 pub fn chains_end()
-    ensures { (entries : List Entry) → IsParents entries → (l : DataLocaleMeaning) → Follows (parent_step entries) l (walk (parent_step entries) (most_steps entries) l) }
+    ensures { (entries : List Entry) → IsParents entries → (l : DataLocaleMeaning)
+        → Follows (parent_step entries) l (walk (parent_step entries) (most_steps entries) l) }
 {}
 
 /// A new entry closes a cycle exactly where the chain of its parent, under the entries before it, meets its locale:

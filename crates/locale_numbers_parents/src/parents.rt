@@ -73,7 +73,8 @@ impl Parents {
     /// does not allocate.
     pub fn chain_limit(&self) -> u128
         ensures value { result ≡ most_steps self.now }
-        ensures cuts_none { (l : DataLocaleMeaning) → Follows (parent_step self.now) l (walk (parent_step self.now) result l) }
+        ensures cuts_none { (l : DataLocaleMeaning)
+            → Follows (parent_step self.now) l (walk (parent_step self.now) result l) }
     {
         5 * (self.pairs.len() as u128) + 4
     }
@@ -81,7 +82,8 @@ impl Parents {
     /// Whether the chain of the start meets the goal: that of `en-US` meets `en`. It does not allocate.
     pub fn leads_to(&self, start: DataLocale, goal: DataLocale) -> bool
         ensures value { result ≡ leads_to self.now start goal }
-        ensures follows { Follows (parent_step self.now) start (walk (parent_step self.now) (most_steps self.now) start) }
+        ensures follows { Follows (parent_step self.now) start
+            (walk (parent_step self.now) (most_steps self.now) start) }
     {
         let mut current = start;
         for _turn in 0..self.chain_limit() {

@@ -22,7 +22,7 @@ fn last_separator(text: &[u8], separator: u8) -> Option<usize>
     memrchr(separator, text)
 }
 
-/// The first piece of a text, and what stands behind its separator, where it ends with one.
+// The first piece of a text, and what stands behind its separator, where it ends with one.
 pub(crate) fn cut_field(text: &[u8], separator: u8) -> (&[u8], Option<&[u8]>)
     ensures { MatchOption result.1 (cut_at separator text.now ≡ result.0.now ∷ [])
         (λ rest. cut_at separator text.now ≡ result.0.now ∷ cut_at separator rest.now) }

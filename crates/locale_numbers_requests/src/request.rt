@@ -59,7 +59,7 @@ const FORMS: [(&[u8], Form); 6] = [
     (b"read", Form::Read),
 ];
 
-/// The form that a field names.
+// The form that a field names.
 fn form_named(word: &[u8]) -> Option<Form>
     ensures { result ≡ form_named word.now }
 {
@@ -74,28 +74,28 @@ const GROUPINGS: [(&[u8], GroupingStrategy); 4] = [
     (b"min2", GroupingStrategy::Min2),
 ];
 
-/// The grouping that a field names.
+// The grouping that a field names.
 fn grouping_named(word: &[u8]) -> Option<GroupingStrategy>
     ensures { result ≡ grouping_named word.now }
 {
     value_beside(&GROUPINGS, word)
 }
 
-/// Whether the sign is that of the text.
+// Whether the sign is that of the text.
 fn keeps_sign(sign: SignAsked) -> bool
     ensures { result ≡ keeps_sign sign }
 {
     matches!(sign, SignAsked::Keep)
 }
 
-/// Whether nothing is rounded.
+// Whether nothing is rounded.
 fn keeps_digits(rounding: RoundingAsked) -> bool
     ensures { result ≡ keeps_digits rounding }
 {
     matches!(rounding, RoundingAsked::Unrounded)
 }
 
-/// Whether a form takes a sign and a rounding.
+// Whether a form takes a sign and a rounding.
 fn takes(form: Form, sign: SignAsked, rounding: RoundingAsked) -> bool
     ensures { result ≡ takes form sign rounding }
 {
@@ -106,7 +106,7 @@ fn takes(form: Form, sign: SignAsked, rounding: RoundingAsked) -> bool
     }
 }
 
-/// Six fields of a line.
+// Six fields of a line.
 #[derive(Clone, Copy)]
 struct Fields<'a> {
     tag: &'a [u8],
@@ -117,7 +117,7 @@ struct Fields<'a> {
     text: &'a [u8],
 }
 
-/// The fields of a line, where they are six.
+// The fields of a line, where they are six.
 fn six_fields(line: &[u8]) -> Option<Fields<'_>>
     ensures six { IsSome result ↔ (length (fields line.now) ≡ 6) }
     ensures fields { IfSome result (λ six. fields line.now
@@ -176,7 +176,8 @@ pub fn read_request(line: &[u8]) -> Option<Request<'_>>
 
 /// Bytes as a text, where they are UTF-8.
 pub fn as_text(bytes: &[u8]) -> Option<&str>
-    ensures { MatchOption result (is_utf8 bytes.now ≡ false) (λ text. (is_utf8 bytes.now ≡ true) × (text.now ≡ bytes.now)) }
+    ensures { MatchOption result (is_utf8 bytes.now ≡ false)
+        (λ text. (is_utf8 bytes.now ≡ true) × (text.now ≡ bytes.now)) }
 {
     match str::from_utf8(bytes) {
         Ok(text) => Some(text),

@@ -121,8 +121,8 @@ fn three_words(field: &[u8]) -> Option<(&[u8], &[u8], &[u8])>
     }
 }
 
-/// What a field rounds, where it is known: `-`, or a position, a mode and an increment between commas, as
-/// `-2,half-even,5`.
+// What a field rounds, where it is known: `-`, or a position, a mode and an increment between commas, as
+// `-2,half-even,5`.
 pub(crate) fn rounding_named(field: &[u8]) -> Option<RoundingAsked>
     ensures { result ≡ rounding_named field.now }
 {

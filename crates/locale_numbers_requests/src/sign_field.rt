@@ -25,7 +25,7 @@ const SIGNS: [(&[u8], SignAsked); 6] = [
     (b"negative", SignAsked::Show(SignDisplay::Negative)),
 ];
 
-/// The sign that a field asks for.
+// The sign that a field asks for.
 pub(crate) fn sign_named(word: &[u8]) -> Option<SignAsked>
     ensures { result ≡ sign_named word.now }
 {

@@ -3,7 +3,7 @@
 ghost use Rattle.std.specs.Prelude.{◌≡◌, map};
 ghost use Rattle.locale_numbers_requests.specs.WordTable.{value_beside};
 
-/// The value beside a word in a table, or `None` where the word is not there. It does not allocate.
+// The value beside a word in a table, or `None` where the word is not there. It does not allocate.
 pub(crate) fn value_beside<T: Copy>(mut table: &[(&[u8], T)], word: &[u8]) -> Option<T>
     ensures { result ≡ value_beside (map (λ entry. (entry.0.now, entry.1)) table.entry.now) word.now }
 {

@@ -27,7 +27,7 @@ use std::collections::BTreeMap;
 // A type, its exponent and its patterns.
 type Row = (u8, (u8, PluralElements<Pattern>));
 
-/// The patterns that slots are, or none.
+// The patterns that slots are, or none.
 fn slots(alloc: Global, value: &Value) -> Result<Option<PluralElements<Pattern>>, AllocError>
     ensures { IfOk result (λ found. found ≡ slots_of (view value.now)) }
 {
@@ -38,7 +38,7 @@ fn slots(alloc: Global, value: &Value) -> Result<Option<PluralElements<Pattern>>
     }
 }
 
-/// The patterns of the slots at a place, or none.
+// The patterns of the slots at a place, or none.
 fn slots_at(
     alloc: Global,
     value: &Value,
@@ -52,7 +52,7 @@ fn slots_at(
     }
 }
 
-/// The type that a row is, or none.
+// The type that a row is, or none.
 fn row(alloc: Global, value: &Value) -> Result<Option<Row>, AllocError>
     ensures { IfOk result (λ found. found ≡ row_in (view value.now)) }
 {
@@ -71,7 +71,7 @@ fn row(alloc: Global, value: &Value) -> Result<Option<Row>, AllocError>
     }
 }
 
-/// The types of an array, where each item is one.
+// The types of an array, where each item is one.
 fn rows(alloc: Global, items: &[Value]) -> Result<Option<Vec<Row>>, AllocError>
     ensures { IfOk result (λ found. option_map (λ list. list.items) found ≡ all_of row_in (items_view items.now)) }
 {
@@ -85,7 +85,7 @@ fn rows(alloc: Global, items: &[Value]) -> Result<Option<Vec<Row>>, AllocError>
     Ok(Some(list))
 }
 
-/// The types of an entry, or none.
+// The types of an entry, or none.
 fn entry_rows(alloc: Global, entry: &Value) -> Result<Option<Vec<Row>>, AllocError>
     ensures { IfOk result (λ found. option_map (λ list. list.items) found ≡ field_at rows_in 2 (view entry.now)) }
 {
@@ -95,7 +95,7 @@ fn entry_rows(alloc: Global, entry: &Value) -> Result<Option<Vec<Row>>, AllocErr
     }
 }
 
-/// The zero patterns that a value is, which may be null, or none where it is neither.
+// The zero patterns that a value is, which may be null, or none where it is neither.
 fn zero(alloc: Global, value: &Value) -> Result<Option<Option<PluralElements<Pattern>>>, AllocError>
     ensures { IfOk result (λ found. found ≡ zero_in (view value.now)) }
 {
@@ -108,7 +108,7 @@ fn zero(alloc: Global, value: &Value) -> Result<Option<Option<PluralElements<Pat
     }
 }
 
-/// The zero patterns of an entry.
+// The zero patterns of an entry.
 fn entry_zero(
     alloc: Global,
     entry: &Value,
@@ -121,7 +121,7 @@ fn entry_zero(
     }
 }
 
-/// Whether types rise strictly.
+// Whether types rise strictly.
 fn types_rise(rows: &[Row]) -> bool
     ensures { result ≡ rise_from 0 rows.now }
 {
@@ -135,7 +135,7 @@ fn types_rise(rows: &[Row]) -> bool
     true
 }
 
-/// Puts a type into a map.
+// Puts a type into a map.
 fn put<V: Drop>(types: &mut BTreeMap<u8, V>, log10_type: u8, typed: V) -> Result<(), AllocError>
     ensures { OnOk result (types.new.entries ≡ insert_entry nat_cmp types.old.entries log10_type typed) }
 {
@@ -145,7 +145,7 @@ fn put<V: Drop>(types: &mut BTreeMap<u8, V>, log10_type: u8, typed: V) -> Result
     }
 }
 
-/// Types that rise, as a map.
+// Types that rise, as a map.
 fn map_of(
     alloc: Global,
     rows: Vec<Row>,
@@ -160,14 +160,15 @@ fn map_of(
     Ok(types)
 }
 
-/// The table of types that rise, or none.
+// The table of types that rise, or none.
 fn table(
     alloc: Global,
     rows: Vec<Row>,
     zero: Option<&PluralElements<Pattern>>,
 ) -> Result<Option<CompactPatterns>, AllocError>
     requires { rise_from 0 rows.items ≡ true }
-    ensures { IfOk result (λ found. found ≡ table_made (option_map (λ patterns. patterns.now) zero.entry) (map of_type rows.items)) }
+    ensures { IfOk result
+        (λ found. found ≡ table_made (option_map (λ patterns. patterns.now) zero.entry) (map of_type rows.items)) }
 {
     let types = map_of(alloc, rows)?;
     match CompactPatterns::new(alloc, types, zero) {
@@ -179,15 +180,17 @@ fn table(
     }
 }
 
-/// The table of types and of the patterns below them, or what is wrong with them.
+// The table of types and of the patterns below them, or what is wrong with them.
 fn table_from(
     alloc: Global,
     rows: Vec<Row>,
     zero: Option<&PluralElements<Pattern>>,
 ) -> Result<CompactPatterns, BookError>
-    ensures value { IfOk result (λ table. table_made (option_map (λ patterns. patterns.now) zero.entry) (map of_type rows.items) ≡ Some table) }
+    ensures value { IfOk result
+        (λ table. table_made (option_map (λ patterns. patterns.now) zero.entry) (map of_type rows.items) ≡ Some table) }
     ensures rise { OnOk result (rise_from 0 rows.items ≡ true) }
-    ensures fault { IfErr result (λ fault. IsTold (types_fault (option_map (λ patterns. patterns.now) zero.entry) rows.items) fault) }
+    ensures fault { IfErr result
+        (λ fault. IsTold (types_fault (option_map (λ patterns. patterns.now) zero.entry) rows.items) fault) }
 {
     if !types_rise(rows.as_slice()) {
         return Err(BookError::Types);
@@ -201,7 +204,7 @@ fn table_from(
     }
 }
 
-/// The table of an entry with these types, or what is wrong with it.
+// The table of an entry with these types, or what is wrong with it.
 fn table_with(alloc: Global, entry: &Value, rows: Vec<Row>) -> Result<CompactPatterns, BookError>
     requires { field_at rows_in 2 (view entry.now) ≡ Some rows.items }
     ensures value { IfOk result (λ table. compact_of (view entry.now) ≡ Some table) }
@@ -221,7 +224,7 @@ fn table_with(alloc: Global, entry: &Value, rows: Vec<Row>) -> Result<CompactPat
     }
 }
 
-/// The table of an entry, or what is wrong with its types and patterns.
+// The table of an entry, or what is wrong with its types and patterns.
 fn entry_table(alloc: Global, entry: &Value) -> Result<CompactPatterns, BookError>
     ensures value { IfOk result (λ table. compact_of (view entry.now) ≡ Some table) }
     ensures sound { OnOk result (table_fault (view entry.now) ≡ None) }
@@ -236,7 +239,7 @@ fn entry_table(alloc: Global, entry: &Value) -> Result<CompactPatterns, BookErro
     }
 }
 
-/// Whether types stand in an entry.
+// Whether types stand in an entry.
 fn has_rows(alloc: Global, entry: &Value) -> Result<bool, AllocError>
     ensures { IfOk result (λ holds. holds ≡ is_some (field_at rows_in 2 (view entry.now))) }
 {
@@ -246,7 +249,7 @@ fn has_rows(alloc: Global, entry: &Value) -> Result<bool, AllocError>
     }
 }
 
-/// Whether patterns below all types stand in an entry, or null.
+// Whether patterns below all types stand in an entry, or null.
 fn has_zero(alloc: Global, entry: &Value) -> Result<bool, AllocError>
     ensures { IfOk result (λ holds. holds ≡ is_some (field_at zero_in 3 (view entry.now))) }
 {
@@ -260,14 +263,14 @@ fn has_zero(alloc: Global, entry: &Value) -> Result<bool, AllocError>
     }
 }
 
-/// Whether types and patterns of an entry have their form.
+// Whether types and patterns of an entry have their form.
 fn has_table_shape(alloc: Global, entry: &Value) -> Result<bool, AllocError>
     ensures { IfOk result (λ holds. holds ≡ has_table_shape (view entry.now)) }
 {
     Ok(has_rows(alloc, entry)? && has_zero(alloc, entry)?)
 }
 
-/// The locale and the system of an entry of plain patterns, or what is wrong with them.
+// The locale and the system of an entry of plain patterns, or what is wrong with them.
 fn plain_key(alloc: Global, entry: &Value) -> Result<DataIdentifier, BookError>
     ensures key { IfOk result (λ key. entry_key (view entry.now) ≡ Some key) }
     ensures sound { OnOk result (key_or_text_fault (view entry.now) ≡ None) }
@@ -288,7 +291,7 @@ fn plain_key(alloc: Global, entry: &Value) -> Result<DataIdentifier, BookError>
     Ok(DataIdentifier::for_marker_attributes_and_locale(asked, locale))
 }
 
-/// Whether an entry has four fields, of which the first two are texts.
+// Whether an entry has four fields, of which the first two are texts.
 fn has_frame(entry: &Value) -> bool
     ensures { result ≡ compact_may_grow (view entry.now) }
 {

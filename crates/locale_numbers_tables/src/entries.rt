@@ -58,7 +58,7 @@ fn has_texts(entry: &Value) -> bool
         && has_text(entry, 8)
 }
 
-/// The texts of symbols.
+// The texts of symbols.
 fn symbol_texts(
     alloc: Global,
     entry: &Value,

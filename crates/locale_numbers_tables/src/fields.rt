@@ -47,7 +47,7 @@ pub fn is_text_at(entry: &Value, place: usize) -> bool
     text_at(entry, place).is_some()
 }
 
-/// The text at a place of an entry, where no tab and no line feed stands in it.
+// The text at a place of an entry, where no tab and no line feed stands in it.
 fn plain_text(entry: &Value, place: usize) -> Option<&str>
     ensures { option_map (λ text. text.now) result ≡ field_at plain_text_in place (view entry.now) }
 {
@@ -88,7 +88,7 @@ pub fn size(entry: &Value, place: usize) -> Option<u8>
     }
 }
 
-/// The locale that a text is, or none.
+// The locale that a text is, or none.
 fn read_locale(alloc: Global, text: &str) -> Result<Option<DataLocale>, AllocError>
     ensures value { IfOk result (λ locale. locale ≡ data_locale_of (pieces text.now)) }
 
@@ -132,7 +132,7 @@ fn is_small_alphanumeric(bytes: &[u8]) -> bool
         .all(|b| b.is_ascii_lowercase() || b.is_ascii_digit())
 }
 
-/// The system that a text names.
+// The system that a text names.
 fn read_system(text: &str) -> Option<TinyAsciiStr<8>>
     ensures { result ≡ system_named text.now }
 {
@@ -164,14 +164,14 @@ pub fn system_or_none(entry: &Value, place: usize) -> Option<TinyAsciiStr<8>>
     read_system(text)
 }
 
-/// The characters of a text.
+// The characters of a text.
 fn characters(alloc: Global, text: &str) -> Result<Vec<char>, AllocError>
     ensures { IfOk result (λ list. list.items ≡ chars text.now) }
 {
     text.chars().collect(alloc)
 }
 
-/// The characters as an array, where they are ten.
+// The characters as an array, where they are ten.
 fn ten_of(characters: &[char]) -> Option<[char; 10]>
     ensures { result ≡ ten_characters characters.now }
 {
@@ -183,7 +183,7 @@ fn ten_of(characters: &[char]) -> Option<[char; 10]>
     Some(digits)
 }
 
-/// How many characters a text has.
+// How many characters a text has.
 fn count_of(text: &str) -> usize
     ensures { result ≡ length (chars text.now) }
 {

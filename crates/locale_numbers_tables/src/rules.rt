@@ -17,7 +17,7 @@ use icu_locale_core::DataLocale;
 use serde_json::Value;
 use std::alloc::{AllocError, Global};
 
-/// The category that a pair names.
+// The category that a pair names.
 fn category(pair: &Value) -> Option<PluralCategory>
     ensures { result ≡ field_at category_in 0 (view pair.now) }
 {
@@ -25,7 +25,7 @@ fn category(pair: &Value) -> Option<PluralCategory>
     PluralCategory::get_for_cldr_bytes(word.as_bytes())
 }
 
-/// A category and its condition.
+// A category and its condition.
 fn condition(pair: &Value) -> Option<(PluralCategory, &str)>
     ensures { option_map (λ found. (found.0, found.1.now)) result ≡ condition_in (view pair.now) }
 {
@@ -37,14 +37,14 @@ fn condition(pair: &Value) -> Option<(PluralCategory, &str)>
     Some((category, text))
 }
 
-/// Whether two categories are the same one.
+// Whether two categories are the same one.
 fn is_same(category: PluralCategory, other: PluralCategory) -> bool
     ensures { result ≡ is_same category other }
 {
     category == other
 }
 
-/// Whether a category is among these.
+// Whether a category is among these.
 fn has_category(list: &[(PluralCategory, &str)], category: PluralCategory) -> bool
     ensures { result ≡ is_some (table_at is_same category (pairs_of list.now)) }
 {
@@ -56,12 +56,14 @@ fn has_category(list: &[(PluralCategory, &str)], category: PluralCategory) -> bo
     false
 }
 
-/// The categories and conditions of an array, where each is one and no category stands twice.
+// The categories and conditions of an array, where each is one and no category stands twice.
 fn conditions(
     alloc: Global,
     items: &[Value],
 ) -> Result<Option<Vec<(PluralCategory, &str)>>, AllocError>
-    ensures { IfOk result (λ found. option_map (λ list. pairs_of list.items) found ≡ table_in is_same condition_in (items_view items.now)) }
+    ensures { IfOk result
+        (λ found. option_map (λ list. pairs_of list.items) found
+        ≡ table_in is_same condition_in (items_view items.now)) }
 {
     let mut list: Vec<(PluralCategory, &str)> = Vec::new(alloc);
     for item in items {
@@ -84,12 +86,13 @@ pub fn array_at(entry: &Value, place: usize) -> Option<&[Value]>
     Some(items.as_slice())
 }
 
-/// The categories and conditions of an entry.
+// The categories and conditions of an entry.
 fn entry_conditions(
     alloc: Global,
     entry: &Value,
 ) -> Result<Option<Vec<(PluralCategory, &str)>>, AllocError>
-    ensures { IfOk result (λ found. option_map (λ list. pairs_of list.items) found ≡ field_at conditions_in 1 (view entry.now)) }
+    ensures { IfOk result
+        (λ found. option_map (λ list. pairs_of list.items) found ≡ field_at conditions_in 1 (view entry.now)) }
 {
     match array_at(entry, 1) {
         Some(items) => conditions(alloc, items),

@@ -42,7 +42,7 @@ pub struct Seed {
     first: SeededHasher,
 }
 
-/// A hasher that was fed these bytes of a digest.
+// A hasher that was fed these bytes of a digest.
 fn hasher_of(bytes: &[u8]) -> FoldHasher
     ensures { result ≡ folding.write folding.initial bytes.now }
 {
@@ -69,7 +69,10 @@ impl Seed {
     /// The seed of a text: the halves of its SHA-512 digest, each as one number. The hash of a key begins with the
     /// first and ends with the second. It does not allocate.
     pub fn of_text(text: &[u8]) -> Self
-        ensures value { (writes : HashWrites) → ⟦<SeededHasher as Hasher>⟧.finish (fold ⟦<SeededHasher as Hasher>⟧.write (⟦<Seed as BuildHasher>⟧.build_hasher result) writes) ≡ key_hash text.now writes }
+        ensures value { (writes : HashWrites)
+            → ⟦<SeededHasher as Hasher>⟧.finish
+            (fold ⟦<SeededHasher as Hasher>⟧.write (⟦<Seed as BuildHasher>⟧.build_hasher result) writes)
+            ≡ key_hash text.now writes }
     {
         Seed::of_digest(&Sha512::digest(text)[..])
     }

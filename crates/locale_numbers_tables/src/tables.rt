@@ -18,14 +18,18 @@ use indexmap::IndexMap;
 use serde_json::Value;
 use std::alloc::Global;
 
-/// Adds what an entry says, and lets the entry go.
+// Adds what an entry says, and lets the entry go.
 fn add_entry<V: Entry>(
     alloc: Global,
     table: &mut IndexMap<V::Key, V, Seed>,
     entry: Value,
 ) -> Result<(), BookError>
-    ensures added { OnOk result (Adds V.Key.eq V.meaning V.key_in V.fault_in (view entry) table.old.entries table.new.entries) }
-    ensures fault { IfErr result (λ fault. IsTold (first_fault_behind V.Key.eq V.key_in V.fault_in (map (λ pair. pair.0) table.old.entries) (item (view entry) no_items)) fault) }
+    ensures added { OnOk result
+        (Adds V.Key.eq V.meaning V.key_in V.fault_in (view entry) table.old.entries table.new.entries) }
+    ensures fault { IfErr result
+        (λ fault. IsTold
+        (first_fault_behind V.Key.eq V.key_in V.fault_in (map (λ pair. pair.0) table.old.entries)
+        (item (view entry) no_items)) fault) }
     ensures seeded { OnOk result (hasher_of table.new ≡ hasher_of table.old) }
     ensures grows { OnOk result (V.may_grow (view entry) ≡ true) }
     ensures room { IsErrOf result BookError.Memory → V.may_grow (view entry) ≡ true }
@@ -41,7 +45,7 @@ fn add_entry<V: Entry>(
     }
 }
 
-/// Adds what the entries of an array say to an empty table.
+// Adds what the entries of an array say to an empty table.
 fn fill<V: Entry>(
     alloc: Global,
     table: &mut IndexMap<V::Key, V, Seed>,
@@ -51,7 +55,8 @@ fn fill<V: Entry>(
     ensures value { OnOk result (table_in V.Key.eq V.meaning (items_view entries.items) ≡ Some table.new.entries) }
     ensures seeded { OnOk result (hasher_of table.new ≡ hasher_of table.old) }
     ensures sound { OnOk result (first_fault_behind V.Key.eq V.key_in V.fault_in [] (items_view entries.items) ≡ None) }
-    ensures fault { IfErr result (λ fault. IsTold (first_fault_behind V.Key.eq V.key_in V.fault_in [] (items_view entries.items)) fault) }
+    ensures fault { IfErr result
+        (λ fault. IsTold (first_fault_behind V.Key.eq V.key_in V.fault_in [] (items_view entries.items)) fault) }
     ensures room { IsErrOf result BookError.Memory → begins_with V.may_grow (items_view entries.items) ≡ true }
 {
     for entry in entries {
@@ -69,10 +74,12 @@ pub fn table_of<V: Entry>(
     seed: Seed,
     entries: Vec<Value>,
 ) -> Result<Table<V::Key, V>, BookError>
-    ensures value { IfOk result (λ table. table_in V.Key.eq V.meaning (items_view entries.items) ≡ Some table.map.entries) }
+    ensures value { IfOk result
+        (λ table. table_in V.Key.eq V.meaning (items_view entries.items) ≡ Some table.map.entries) }
     ensures seeded { IfOk result (λ table. hasher_of table.map ≡ seed) }
     ensures sound { OnOk result (first_fault_behind V.Key.eq V.key_in V.fault_in [] (items_view entries.items) ≡ None) }
-    ensures fault { IfErr result (λ fault. IsTold (first_fault_behind V.Key.eq V.key_in V.fault_in [] (items_view entries.items)) fault) }
+    ensures fault { IfErr result
+        (λ fault. IsTold (first_fault_behind V.Key.eq V.key_in V.fault_in [] (items_view entries.items)) fault) }
 
     // A fault of the first entry that is found before anything is allocated is never reported as out of memory.
     ensures room { IsErrOf result BookError.Memory → begins_with V.may_grow (items_view entries.items) ≡ true }

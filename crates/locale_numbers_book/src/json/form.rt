@@ -34,14 +34,15 @@ fn is_array_at(value: &Value, place: usize) -> bool
     }
 }
 
-/// Whether a value has five items, or six of which the last is an array.
+// Whether a value has five items, or six of which the last is an array.
 fn has_length(value: &Value) -> bool
-    ensures { result ≡ (has_count 5 (view value.now) || (has_count 6 (view value.now) && is_array_at 5 (view value.now))) }
+    ensures { result
+        ≡ (has_count 5 (view value.now) || (has_count 6 (view value.now) && is_array_at 5 (view value.now))) }
 {
     has_count(value, 5) || (has_count(value, 6) && is_array_at(value, 5))
 }
 
-/// Whether a value is an array of five arrays or six.
+// Whether a value is an array of five arrays or six.
 fn has_form(value: &Value) -> bool
     ensures { result ≡ has_form (view value.now) }
 {
@@ -53,7 +54,7 @@ fn has_form(value: &Value) -> bool
         && is_array_at(value, 4)
 }
 
-/// The items of an array.
+// The items of an array.
 fn items_of(value: Value) -> Option<Vec<Value>>
     ensures { option_map (λ items. items_view items.items) result ≡ as_array (view value) }
 {
@@ -63,9 +64,10 @@ fn items_of(value: Value) -> Option<Vec<Value>>
     }
 }
 
-/// The items of the next value, where it is an array.
+// The items of the next value, where it is an array.
 fn next_array(values: &mut IntoIter<Value>) -> Option<Vec<Value>>
-    ensures first { option_map (λ items. items_view items.items) result ≡ field_at as_array 0 (array (items_view (into_iter_items values.old))) }
+    ensures first { option_map (λ items. items_view items.items) result
+        ≡ field_at as_array 0 (array (items_view (into_iter_items values.old))) }
     ensures rest { into_iter_items values.new ≡ drop 1 (into_iter_items values.old) }
 {
     match values.next() {
@@ -74,7 +76,7 @@ fn next_array(values: &mut IntoIter<Value>) -> Option<Vec<Value>>
     }
 }
 
-/// The items of the array that comes next; none where no array does.
+// The items of the array that comes next; none where no array does.
 fn next_items(alloc: Global, values: &mut IntoIter<Value>) -> Vec<Value>
     ensures first { items_view result.items ≡ items_at 0 (array (items_view (into_iter_items values.old))) }
     ensures rest { into_iter_items values.new ≡ drop 1 (into_iter_items values.old) }
@@ -85,7 +87,7 @@ fn next_items(alloc: Global, values: &mut IntoIter<Value>) -> Vec<Value>
     }
 }
 
-/// The arrays that values are.
+// The arrays that values are.
 fn arrays_in(alloc: Global, values: Vec<Value>) -> Arrays
     requires { has_form (array (items_view values.items)) ≡ true }
     ensures { array (items_view values.items) ≡ value_of result }
