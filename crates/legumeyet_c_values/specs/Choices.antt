@@ -1,6 +1,7 @@
 -- What the options of a call stand for: each number names the entry of its list at that place, from 0 on.
 -- Defined in include/legumeyet.h, and docs/requests.md, "Rounding and sign".
 -- Cited by the exports that write numbers, and those that open formatters.
+-- The imports are many: each enum that a number stands for, and its cases.
 use Rattle.std.specs.Prelude.{◌≡◌, ℕ, ℤ, ◌==◌, List, [], ◌∷◌, Option, Some, None, slice_get}
 use Rattle.fixed_decimal.specs.Number.{Number, place}
 use Rattle.fixed_decimal.specs.SignChoice.{chosen_sign}

@@ -42,7 +42,7 @@ pub record IsScaled (mantissa exponent : ℤ) (value : SignedValue Number) : Typ
   pub is_whole : IsSignedWhole mantissa whole
   pub shifted : OnAbsolute (IsShifted exponent) whole value
 
--- its first digit would stand too high
+-- its first digit would be too high
 pub record IsTooHigh (mantissa exponent : ℤ) : Type 0 where
   pub whole : SignedValue Number
   pub is_whole : IsSignedWhole mantissa whole

@@ -1,4 +1,4 @@
-// What calls return.
+//! What calls return.
 
 ghost use Rattle.std.specs.Prelude.{◌≡◌, IfSome, IsNone};
 ghost use Rattle.legumeyet_c_values.specs.CallErrors.{answer_of, book_answer, book_text, number_of, text_of};
@@ -23,7 +23,7 @@ pub enum CallError {
     Table,
     /// The text is no decimal number.
     Number,
-    /// A digit of the number stands beyond the magnitudes -32768 to 32767.
+    /// A digit of the number is beyond the magnitudes -32768 to 32767.
     Limit,
     /// What the number is shown as reaches ten to the power 32768.
     Range,

@@ -1,4 +1,4 @@
-// The options of calls, by their numbers.
+//! The options of calls, by their numbers.
 
 ghost use Rattle.std.specs.Prelude.{◌≡◌};
 ghost use Rattle.legumeyet_c_values.specs.Choices.{Changes, RoundsAs, choice_of, choices_of, grouping_of, mode_of, sign_of, signed_as, width_of};

@@ -1,4 +1,4 @@
-// Parts as C has them.
+//! Parts as C has them.
 
 ghost use Rattle.std.specs.Prelude.{◌≡◌, map};
 ghost use Rattle.legumeyet_c_values.specs.Parts.{kind_of, listed_as, over};

@@ -1,4 +1,4 @@
-// The numbers that calls are given.
+//! The numbers that calls are given.
 
 ghost use Rattle.std.specs.Prelude.{◌≡◌, ◌+◌, ◌<◌, ◌≤◌, Some, None, true, false, IfOk, IfErr};
 ghost use Rattle.fixed_decimal.specs.CompactText.{ReadsCompact};
@@ -50,7 +50,7 @@ fn known(options: &Options) -> Result<Choices, CallError>
     options.choices().ok_or(CallError::UnknownOption)
 }
 
-// Whether a magnitude is not below the lowest one when it is moved by so many.
+// Whether a magnitude is not below the lowest one when it is moved by an exponent.
 fn is_above(magnitude: i16, by: i16) -> bool
     ensures within { result ≡ true → fall by ≤ place magnitude + rise by }
     ensures beyond { result ≡ false → place magnitude + rise by < fall by }

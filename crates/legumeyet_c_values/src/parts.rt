@@ -1,4 +1,4 @@
-// A text with its parts into what the caller gives.
+//! A text with its parts into what the caller gives.
 
 ghost use Rattle.std.specs.Prelude.{◌≡◌, ◌≤◌, ◌↔◌, length, IsTrue};
 ghost use Rattle.legumeyet_c_values.specs.Parts.{IsPutInParts, given, held_text, over};

@@ -1,4 +1,4 @@
-// A text into bytes of the caller's.
+//! A text into bytes of the caller's.
 
 ghost use Rattle.std.specs.Prelude.{◌≡◌};
 ghost use Rattle.writeable.specs.AnnotatedText.{text_of};
