@@ -1,6 +1,7 @@
 -- What a formatter of compact numbers writes for a number, its parts, the value that it shows, and an exact form, or why it writes nothing.
 -- Defined in include/legumeyet.h, and docs/compact-text.md, "The text" and "Exact forms".
 -- Cited by the exports of formatters of compact numbers.
+-- The imports are many: each text that a formatter writes has its definition in a file of its own.
 use Rattle.std.specs.Prelude.{◌≡◌, ◌≢◌, ◌⊎◌, ℕ, List, Option, Some, None}
 use Rattle.std.proofs.Common.{subst}
 use Rattle.fixed_decimal.specs.CompactText.{CompactValue, compact_text_of}

@@ -1,11 +1,13 @@
 -- What a formatter behind a handle writes for a value, a text or one with its parts, or why it writes nothing.
 -- Defined in include/legumeyet.h.
 -- Cited by the exports that write numbers; DecimalWriting.antt and CompactWriting.antt have what they say.
-use Rattle.std.specs.Prelude.{◌≡◌, ◌⊎◌, Option, Some, None, Result, Ok, Err}
+use Rattle.std.specs.Prelude.{◌≡◌, ◌⊎◌, ℕ, ℤ, List, Option, Some, None, Result, Ok, Err}
 use Rattle.fixed_decimal.specs.Number.{Number}
+use Rattle.fixed_decimal.specs.SignedText.{ReadsSigned}
 use Rattle.fixed_decimal.specs.SignedValue.{SignedValue}
-use Rattle.legumeyet_c_values.specs.Numbers.{Gives, IsChangeFault}
-use Rattle.legumeyet_c_values.specs.declared.Choices.{Choices}
+use Rattle.legumeyet_c_values.specs.Choices.{choices_of}
+use Rattle.legumeyet_c_values.specs.Numbers.{Gives, IsChangeFault, IsNumberFault, IsScaled, IsScaledFault}
+use Rattle.legumeyet_c_values.specs.declared.Options.{Options}
 use Rattle.legumeyet_c_values.specs.declared.CallError.{CallError}
 use Rattle.legumeyet_c_values.specs.declared.CallError.TheVariants.{Closed}
 
@@ -33,13 +35,23 @@ abbrev pub IsWritingFault : {T N : Type 0} → (T → N → CallError → Type 0
 IsWritingFault fails None is_given fault error = error ≡ Closed
 IsWritingFault fails (Some tables) is_given fault error = fault error ⊎ FailsGiven fails tables is_given error
 
--- ---- of a number that is given, changed as options say
+-- ---- of a number that a text spells, changed as options say
 
-abbrev pub WritesChanged : {T X : Type 0} → (T → SignedValue Number → X → Type 0) → Option T → Option Choices → (SignedValue Number → Type 0) → X → Type 0
-WritesChanged says tables choices is_given text = Writes says tables (Gives choices is_given) text
+abbrev pub WritesNumber : {T X : Type 0} → (T → SignedValue Number → X → Type 0) → Option T → Options → List ℕ → X → Type 0
+WritesNumber says tables options number text = Writes says tables (Gives (choices_of options) (ReadsSigned number)) text
 
-abbrev pub IsChangedFault : {T : Type 0} → (T → SignedValue Number → CallError → Type 0) → Option T → Option Choices → (SignedValue Number → Type 0) → (CallError → Type 0) → CallError → Type 0
-IsChangedFault fails tables choices is_given fault error = IsWritingFault fails tables (Gives choices is_given) (IsChangeFault choices fault) error
+abbrev pub IsNumberWritingFault : {T : Type 0} → (T → SignedValue Number → CallError → Type 0) → Option T → Options → List ℕ → CallError → Type 0
+IsNumberWritingFault fails tables options number error =
+    IsWritingFault fails tables (Gives (choices_of options) (ReadsSigned number)) (IsChangeFault (choices_of options) (IsNumberFault number)) error
+
+-- ---- of an integer times a power of ten, changed as options say
+
+abbrev pub WritesScaled : {T X : Type 0} → (T → SignedValue Number → X → Type 0) → Option T → Options → ℤ → ℤ → X → Type 0
+WritesScaled says tables options mantissa exponent text = Writes says tables (Gives (choices_of options) (IsScaled mantissa exponent)) text
+
+abbrev pub IsScaledWritingFault : {T : Type 0} → (T → SignedValue Number → CallError → Type 0) → Option T → Options → ℤ → ℤ → CallError → Type 0
+IsScaledWritingFault fails tables options mantissa exponent error =
+    IsWritingFault fails tables (Gives (choices_of options) (IsScaled mantissa exponent)) (IsChangeFault (choices_of options) (IsScaledFault mantissa exponent)) error
 
 -- ---- of a value that is there, or of why there is none
 

@@ -1,14 +1,11 @@
 //! Compact numbers with their parts: `legumeyet_compact_formatter_format_parts`.
 
 ghost use Rattle.std.specs.Prelude.{◌≡◌};
-ghost use Rattle.fixed_decimal.specs.SignedText.{ReadsSigned};
-ghost use Rattle.legumeyet_c_values.specs.Choices.{choices_of};
-ghost use Rattle.legumeyet_c_values.specs.Numbers.{IsNumberFault};
 ghost use Rattle.legumeyet_c_values.specs.Parts.{IsPutInParts, given};
 ghost use Rattle.legumeyet_c_values.specs.Putting.{Answers};
 ghost use Rattle.legumeyet_c.specs.CompactWriting.{IsCompactAnnotated, IsCompactPartsFault};
 ghost use Rattle.legumeyet_c.specs.Views.{compact_open};
-ghost use Rattle.legumeyet_c.specs.Writing.{IsChangedFault, WritesChanged};
+ghost use Rattle.legumeyet_c.specs.Writing.{IsNumberWritingFault, WritesNumber};
 
 use crate::compact_tables::HeldCompactTables;
 use crate::handles::CompactHandle;
@@ -59,7 +56,7 @@ pub extern "C" fn legumeyet_compact_formatter_format_parts(
     count: &mut usize,
 ) -> i32
     ensures same { compact_open formatter.new ≡ compact_open formatter.old }
-    ensures told { Answers (IsPutInParts (WritesChanged IsCompactAnnotated (compact_open formatter.old) (choices_of options.now) (ReadsSigned number.now)) (IsChangedFault IsCompactPartsFault (compact_open formatter.old) (choices_of options.now) (ReadsSigned number.now) (IsNumberFault number.now)) (given out.old length.old intervals.old count.old) (given out.new length.new intervals.new count.new)) result }
+    ensures told { Answers (IsPutInParts (WritesNumber IsCompactAnnotated (compact_open formatter.old) options.now number.now) (IsNumberWritingFault IsCompactPartsFault (compact_open formatter.old) options.now number.now) (given out.old length.old intervals.old count.old) (given out.new length.new intervals.new count.new)) result }
 {
     let number = number_of_text(alloc, number, options);
     let handle = &mut formatter.handle;

@@ -1,4 +1,4 @@
-// What compact numbers are written with: tables of one's own, or those of a book that is kept.
+//! What compact numbers are written with: tables of one's own, or those of a book that is kept.
 
 ghost use Rattle.std.specs.Prelude.{◌≡◌, IfOk};
 ghost use Rattle.icu_decimal.specs.HeldCompact.{compact_tables_of};

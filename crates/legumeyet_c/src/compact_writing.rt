@@ -1,15 +1,13 @@
 //! Compact numbers: `legumeyet_compact_formatter_format`, `_format_i64`, `_shown` and `_format_exact`.
 
 ghost use Rattle.std.specs.Prelude.{◌≡◌, IfOk, IfErr};
-ghost use Rattle.fixed_decimal.specs.SignedText.{ReadsSigned};
 ghost use Rattle.icu_decimal.specs.CompactText.{value_shown};
 ghost use Rattle.icu_decimal.specs.HeldCompact.{compact_tables_of};
 ghost use Rattle.legumeyet_c_values.specs.Choices.{choices_of};
-ghost use Rattle.legumeyet_c_values.specs.Numbers.{IsNumberFault, IsScaled, IsScaledFault};
 ghost use Rattle.legumeyet_c_values.specs.Putting.{Answers, IsPut};
 ghost use Rattle.legumeyet_c.specs.CompactWriting.{IsCompactFault, IsCompactText, IsExactFault, IsExactText, IsExactWritingFault, IsShowable, IsShownFault, IsShownText, WritesExact};
 ghost use Rattle.legumeyet_c.specs.Views.{compact_open};
-ghost use Rattle.legumeyet_c.specs.Writing.{IsChangedFault, WritesChanged};
+ghost use Rattle.legumeyet_c.specs.Writing.{IsNumberWritingFault, IsScaledWritingFault, WritesNumber, WritesScaled};
 
 use crate::compact_tables::HeldCompactTables;
 use crate::handles::CompactHandle;
@@ -143,7 +141,7 @@ pub extern "C" fn legumeyet_compact_formatter_format(
     length: &mut usize,
 ) -> i32
     ensures same { compact_open formatter.new ≡ compact_open formatter.old }
-    ensures told { Answers (IsPut (WritesChanged IsCompactText (compact_open formatter.old) (choices_of options.now) (ReadsSigned number.now)) (IsChangedFault IsCompactFault (compact_open formatter.old) (choices_of options.now) (ReadsSigned number.now) (IsNumberFault number.now)) out.old out.new length.old length.new) result }
+    ensures told { Answers (IsPut (WritesNumber IsCompactText (compact_open formatter.old) options.now number.now) (IsNumberWritingFault IsCompactFault (compact_open formatter.old) options.now number.now) out.old out.new length.old length.new) result }
 {
     let number = number_of_text(alloc, number, options);
     answer(write_behind::<CompactText>(alloc, &mut formatter.handle, &number, out, length))
@@ -151,7 +149,7 @@ pub extern "C" fn legumeyet_compact_formatter_format(
 
 /// Writes the number `mantissa` times ten to the power `exponent`: -11727 and 2 as `-1.2M` in short English.
 ///
-/// Returns as `legumeyet_compact_formatter_format`, but for 7; 8, where the first digit would stand above magnitude
+/// Returns as `legumeyet_compact_formatter_format`, but for 7; 8, where the first digit would be above magnitude
 /// 32767.
 #[unsafe(no_mangle)]
 pub extern "C" fn legumeyet_compact_formatter_format_i64(
@@ -164,7 +162,7 @@ pub extern "C" fn legumeyet_compact_formatter_format_i64(
     length: &mut usize,
 ) -> i32
     ensures same { compact_open formatter.new ≡ compact_open formatter.old }
-    ensures told { Answers (IsPut (WritesChanged IsCompactText (compact_open formatter.old) (choices_of options.now) (IsScaled mantissa exponent)) (IsChangedFault IsCompactFault (compact_open formatter.old) (choices_of options.now) (IsScaled mantissa exponent) (IsScaledFault mantissa exponent)) out.old out.new length.old length.new) result }
+    ensures told { Answers (IsPut (WritesScaled IsCompactText (compact_open formatter.old) options.now mantissa exponent) (IsScaledWritingFault IsCompactFault (compact_open formatter.old) options.now mantissa exponent) out.old out.new length.old length.new) result }
 {
     let number = number_of_i64(alloc, mantissa, exponent, options);
     answer(write_behind::<CompactText>(alloc, &mut formatter.handle, &number, out, length))
@@ -184,7 +182,7 @@ pub extern "C" fn legumeyet_compact_formatter_shown(
     length: &mut usize,
 ) -> i32
     ensures same { compact_open formatter.new ≡ compact_open formatter.old }
-    ensures told { Answers (IsPut (WritesChanged IsShownText (compact_open formatter.old) (choices_of options.now) (ReadsSigned number.now)) (IsChangedFault IsShownFault (compact_open formatter.old) (choices_of options.now) (ReadsSigned number.now) (IsNumberFault number.now)) out.old out.new length.old length.new) result }
+    ensures told { Answers (IsPut (WritesNumber IsShownText (compact_open formatter.old) options.now number.now) (IsNumberWritingFault IsShownFault (compact_open formatter.old) options.now number.now) out.old out.new length.old length.new) result }
 {
     let number = number_of_text(alloc, number, options);
     answer(write_behind::<ShownText>(alloc, &mut formatter.handle, &number, out, length))

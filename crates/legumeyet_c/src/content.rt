@@ -1,4 +1,4 @@
-// What an open handle has.
+//! What an open handle has.
 
 ghost use Rattle.std.specs.Prelude.{◌≡◌, IfSome, Some, None, true, refl};
 ghost use Rattle.legumeyet_c.specs.Kinds.{book_in, book_is, compact_in, compact_is, decimal_in, decimal_is, is_for_book, is_for_compact, is_for_decimal};

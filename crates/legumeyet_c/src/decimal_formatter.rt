@@ -1,15 +1,13 @@
 //! Formatters of plain numbers: `legumeyet_decimal_formatter_open`, `_close`, `_format` and `_format_i64`.
 
 ghost use Rattle.std.specs.Prelude.{◌≡◌, None};
-ghost use Rattle.fixed_decimal.specs.SignedText.{ReadsSigned};
 ghost use Rattle.locale_numbers.specs.TagFormatters.{plain_for};
-ghost use Rattle.legumeyet_c_values.specs.Choices.{choices_of, grouping_of};
-ghost use Rattle.legumeyet_c_values.specs.Numbers.{IsNumberFault, IsScaled, IsScaledFault};
+ghost use Rattle.legumeyet_c_values.specs.Choices.{grouping_of};
 ghost use Rattle.legumeyet_c_values.specs.Putting.{Answers, IsPut};
 ghost use Rattle.legumeyet_c.specs.DecimalWriting.{HasNoFault, IsDecimalText};
 ghost use Rattle.legumeyet_c.specs.Opening.{FindsDecimal, IsClosing, IsDecimalFault, IsDecimalFor, IsOpening};
 ghost use Rattle.legumeyet_c.specs.Views.{book_open, decimal_open};
-ghost use Rattle.legumeyet_c.specs.Writing.{IsChangedFault, WritesChanged};
+ghost use Rattle.legumeyet_c.specs.Writing.{IsNumberWritingFault, IsScaledWritingFault, WritesNumber, WritesScaled};
 
 use crate::decimal_tables::DecimalTables;
 use crate::handles::{BookHandle, DecimalHandle};
@@ -127,7 +125,7 @@ pub extern "C" fn legumeyet_decimal_formatter_format(
     length: &mut usize,
 ) -> i32
     ensures same { decimal_open formatter.new ≡ decimal_open formatter.old }
-    ensures told { Answers (IsPut (WritesChanged IsDecimalText (decimal_open formatter.old) (choices_of options.now) (ReadsSigned number.now)) (IsChangedFault HasNoFault (decimal_open formatter.old) (choices_of options.now) (ReadsSigned number.now) (IsNumberFault number.now)) out.old out.new length.old length.new) result }
+    ensures told { Answers (IsPut (WritesNumber IsDecimalText (decimal_open formatter.old) options.now number.now) (IsNumberWritingFault HasNoFault (decimal_open formatter.old) options.now number.now) out.old out.new length.old length.new) result }
 {
     let number = number_of_text(alloc, number, options);
     answer(write_behind::<DecimalText>(alloc, &mut formatter.handle, &number, out, length))
@@ -136,7 +134,7 @@ pub extern "C" fn legumeyet_decimal_formatter_format(
 /// Writes the number `mantissa` times ten to the power `exponent`: -123456 and -2 as `-1,234.56` in English, and 500
 /// and -2 as `5.00`.
 ///
-/// Returns as `legumeyet_decimal_formatter_format`, but for 7; 8, where the first digit would stand above magnitude
+/// Returns as `legumeyet_decimal_formatter_format`, but for 7; 8, where the first digit would be above magnitude
 /// 32767.
 #[unsafe(no_mangle)]
 pub extern "C" fn legumeyet_decimal_formatter_format_i64(
@@ -149,7 +147,7 @@ pub extern "C" fn legumeyet_decimal_formatter_format_i64(
     length: &mut usize,
 ) -> i32
     ensures same { decimal_open formatter.new ≡ decimal_open formatter.old }
-    ensures told { Answers (IsPut (WritesChanged IsDecimalText (decimal_open formatter.old) (choices_of options.now) (IsScaled mantissa exponent)) (IsChangedFault HasNoFault (decimal_open formatter.old) (choices_of options.now) (IsScaled mantissa exponent) (IsScaledFault mantissa exponent)) out.old out.new length.old length.new) result }
+    ensures told { Answers (IsPut (WritesScaled IsDecimalText (decimal_open formatter.old) options.now mantissa exponent) (IsScaledWritingFault HasNoFault (decimal_open formatter.old) options.now mantissa exponent) out.old out.new length.old length.new) result }
 {
     let number = number_of_i64(alloc, mantissa, exponent, options);
     answer(write_behind::<DecimalText>(alloc, &mut formatter.handle, &number, out, length))

@@ -1,4 +1,4 @@
-// What plain numbers are written with: tables of one's own, or those of a book that is kept.
+//! What plain numbers are written with: tables of one's own, or those of a book that is kept.
 
 ghost use Rattle.std.specs.Prelude.{◌≡◌, IfOk};
 ghost use Rattle.icu_decimal.specs.HeldTables.{tables_of};
@@ -9,7 +9,7 @@ use icu_decimal::provider::DecimalSymbols;
 use std::alloc::AllocError;
 use std::marker::Model;
 
-/// Symbols, digits, and when separators stand, in memory of their own.
+/// Symbols, digits, and when separators are written, in memory of their own.
 #[derive(Drop)]
 pub(crate) struct OwnedDecimalTables {
     symbols: DecimalSymbols,

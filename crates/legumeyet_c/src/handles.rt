@@ -1,4 +1,4 @@
-// Handles of one kind of content each, as C has them.
+//! Handles of one kind of content each, as C has them.
 
 ghost use Rattle.std.specs.Prelude.{◌≡◌, true};
 ghost use Rattle.legumeyet_c.specs.Kinds.{is_for_book, is_for_compact, is_for_decimal};
@@ -8,7 +8,7 @@ use crate::handle::Handle;
 /// A book, or a closed handle: `legumeyet_book`.
 #[repr(C)]
 pub struct BookHandle {
-    /// What stands behind it.
+    /// What is behind it.
     pub handle: Handle,
     ghost kind: { is_for_book handle.pointer.value ≡ true },
 }
@@ -16,7 +16,7 @@ pub struct BookHandle {
 /// A formatter of plain numbers, or a closed handle: `legumeyet_decimal_formatter`.
 #[repr(C)]
 pub struct DecimalHandle {
-    /// What stands behind it.
+    /// What is behind it.
     pub handle: Handle,
     ghost kind: { is_for_decimal handle.pointer.value ≡ true },
 }
@@ -24,7 +24,7 @@ pub struct DecimalHandle {
 /// A formatter of compact numbers, or a closed handle: `legumeyet_compact_formatter`.
 #[repr(C)]
 pub struct CompactHandle {
-    /// What stands behind it.
+    /// What is behind it.
     pub handle: Handle,
     ghost kind: { is_for_compact handle.pointer.value ≡ true },
 }

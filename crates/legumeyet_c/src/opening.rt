@@ -1,4 +1,4 @@
-// Handles opened and closed.
+//! Handles opened and closed.
 
 ghost use Rattle.std.specs.Prelude.{◌≡◌, ◌⊎◌, Err, None, true, IfOk, IfErr, IfSome};
 ghost use Rattle.legumeyet_c.specs.Kinds.{book_in, is_for_book};

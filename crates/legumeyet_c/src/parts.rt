@@ -1,14 +1,11 @@
 //! Numbers written with their parts: `legumeyet_decimal_formatter_format_parts`.
 
 ghost use Rattle.std.specs.Prelude.{◌≡◌, ◌≢◌, true, IfOk, IfErr};
-ghost use Rattle.fixed_decimal.specs.SignedText.{ReadsSigned};
-ghost use Rattle.legumeyet_c_values.specs.Choices.{choices_of};
-ghost use Rattle.legumeyet_c_values.specs.Numbers.{IsNumberFault};
 ghost use Rattle.legumeyet_c_values.specs.Parts.{IsPutInParts, given, held_text};
 ghost use Rattle.legumeyet_c_values.specs.Putting.{Answers};
 ghost use Rattle.legumeyet_c.specs.DecimalWriting.{IsDecimalAnnotated, WantsMemory};
 ghost use Rattle.legumeyet_c.specs.Views.{decimal_open};
-ghost use Rattle.legumeyet_c.specs.Writing.{IsChangedFault, IsValueFault, WritesChanged, WritesValue};
+ghost use Rattle.legumeyet_c.specs.Writing.{IsNumberWritingFault, IsValueFault, WritesNumber, WritesValue};
 
 use crate::content::Held;
 use crate::decimal_tables::DecimalTables;
@@ -61,7 +58,7 @@ impl Annotates for DecimalTables {
     ghost other = { memory_other };
 }
 
-// The text, with its parts, of a number, where there is one, with what stands behind a handle, which stays as it is.
+// The text, with its parts, of a number, where there is one, with what is behind a handle, which stays as it is.
 fn annotated_behind<T: Annotates>(
     alloc: Global,
     handle: &mut Handle,
@@ -83,7 +80,7 @@ fn annotated_behind<T: Annotates>(
     found
 }
 
-/// Writes a number, where there is one, and its parts, with what stands behind a handle, which stays as it is.
+/// Writes a number, where there is one, and its parts, with what is behind a handle, which stays as it is.
 pub(crate) fn write_parts<T: Annotates>(
     alloc: Global,
     handle: &mut Handle,
@@ -121,7 +118,7 @@ pub extern "C" fn legumeyet_decimal_formatter_format_parts(
     count: &mut usize,
 ) -> i32
     ensures same { decimal_open formatter.new ≡ decimal_open formatter.old }
-    ensures told { Answers (IsPutInParts (WritesChanged IsDecimalAnnotated (decimal_open formatter.old) (choices_of options.now) (ReadsSigned number.now)) (IsChangedFault WantsMemory (decimal_open formatter.old) (choices_of options.now) (ReadsSigned number.now) (IsNumberFault number.now)) (given out.old length.old intervals.old count.old) (given out.new length.new intervals.new count.new)) result }
+    ensures told { Answers (IsPutInParts (WritesNumber IsDecimalAnnotated (decimal_open formatter.old) options.now number.now) (IsNumberWritingFault WantsMemory (decimal_open formatter.old) options.now number.now) (given out.old length.old intervals.old count.old) (given out.new length.new intervals.new count.new)) result }
 {
     let number = number_of_text(alloc, number, options);
     let handle = &mut formatter.handle;

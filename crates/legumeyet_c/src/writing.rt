@@ -1,4 +1,4 @@
-// Numbers written with what stands behind a handle.
+//! Numbers written with what is behind a handle.
 
 ghost use Rattle.std.specs.Prelude.{◌≡◌, ◌≢◌, Some, true, IfErr};
 ghost use Rattle.legumeyet_c_values.specs.Putting.{IsPut};
@@ -52,7 +52,7 @@ fn write_value<F: Form>(
     }
 }
 
-/// Writes a number, where there is one, with what stands behind a handle, which stays as it is.
+/// Writes a number, where there is one, with what is behind a handle, which stays as it is.
 pub(crate) fn write_behind<F: Form>(
     alloc: Global,
     handle: &mut Handle,
