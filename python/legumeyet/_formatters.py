@@ -54,9 +54,19 @@ class Open:
     """What is open until it is closed, by `with`, by `close` or when it is no longer used. A call takes it from other threads."""
 
     _close: Any
+    _tag: Optional[Text] = None
 
     def __init__(self) -> None:
         self._handle, self._lock = Handle(), threading.Lock()
+
+    def __repr__(self) -> str:
+        """Its kind, of a formatter its tag, and whether it is open.
+
+        >>> book, english
+        (<Book, open>, <DecimalFormatter of 'en', open>)
+        """
+        of = "" if self._tag is None else f" of {self._tag!r}"
+        return f"<{type(self).__name__}{of}, {'open' if self._handle.is_open else 'closed'}>"
 
     def close(self) -> None:
         """Closes it. What is closed already stays so."""
@@ -133,7 +143,7 @@ class Formatter(Open):
     def format(self, number: Number, sign: Sign = Sign.KEEP, rounding: Rounding = Rounding.KEEP, position: int = 0) -> str:
         """The number's text. It is rounded at the position first: 0 is the ones, -2 the hundredths.
 
-        Raises `Error` 7 where the text is no number, 8 where a digit stands beyond the magnitudes -32768 to 32767, 9 where what is
+        Raises `Error` 7 where the text is no number, 8 where a digit is beyond the magnitudes -32768 to 32767, 9 where what is
         shown in compact form does, 2 where the formatter is closed, 1 where memory was refused.
 
         >>> english.format("9.65", Sign.ALWAYS, Rounding.HALF_EVEN, -1)
@@ -180,7 +190,7 @@ class DecimalFormatter(Formatter):
 
     def __init__(self, book: Book, tag: Text, grouping: Grouping = Grouping.AUTO) -> None:
         super().__init__()
-        given = encoded(tag)
+        given, self._tag = encoded(tag), tag
         with book._lock:
             expect_well(library.legumeyet_decimal_formatter_open(book._handle, given, len(given), Grouping(grouping), self._handle))
 
@@ -219,7 +229,7 @@ class CompactDecimalFormatter(Formatter):
 
     def __init__(self, book: Book, tag: Text, width: Width = Width.SHORT, grouping: Grouping = Grouping.MIN2) -> None:
         super().__init__()
-        given = encoded(tag)
+        given, self._tag = encoded(tag), tag
         asked = Width(width), Grouping(grouping)
         with book._lock:
             expect_well(library.legumeyet_compact_formatter_open(book._handle, given, len(given), *asked, self._handle))
@@ -236,7 +246,7 @@ class CompactDecimalFormatter(Formatter):
     def format_exact(self, number: str, sign: Sign = Sign.KEEP, rounding: Rounding = Rounding.KEEP, position: int = 0) -> str:
         """The text of a significand with an exponent, its digits as they are; it is the significand that is rounded.
 
-        Raises `Error` 7 where the text is no such number, 8 where a digit of the significand stands beyond the magnitudes -32768 to
+        Raises `Error` 7 where the text is no such number, 8 where a digit of the significand is beyond the magnitudes -32768 to
         32767, or the exponent is above 255, 9 where the magnitude of both together is above 32767, 13 where numbers of this magnitude
         have another exponent, 2 where the formatter is closed, 1 where memory was refused.
 

@@ -42,10 +42,19 @@ class Interval(ctypes.Structure):
     _fields_ = [("start", ctypes.c_size_t), ("end", ctypes.c_size_t), ("kind", ctypes.c_uint32)]
 
 
-def load() -> ctypes.CDLL:
+def found() -> ctypes.CDLL:
     """The library that LEGUMEYET_LIBRARY names, else the one beside this module, else the one that the machine has."""
     beside = os.path.join(os.path.dirname(os.path.abspath(__file__)), NAME)
-    library = ctypes.CDLL(os.environ.get("LEGUMEYET_LIBRARY") or (beside if os.path.exists(beside) else NAME))
+    try:
+        return ctypes.CDLL(os.environ.get("LEGUMEYET_LIBRARY") or (beside if os.path.exists(beside) else NAME))
+    except OSError as error:
+        how = "tools/build_c OUT makes the library, and LEGUMEYET_LIBRARY=OUT/liblegumeyet.so names it where it is not installed"
+        raise ImportError(f"{error}; {how}") from None
+
+
+def load() -> ctypes.CDLL:
+    """The library, with the types of its functions."""
+    library = found()
     handle, number, size = ctypes.POINTER(Handle), ctypes.c_uint32, ctypes.c_size_t
     given = [ctypes.c_char_p, size]
     written = [ctypes.c_char_p, size, ctypes.POINTER(size)]

@@ -2,14 +2,22 @@
 
 usage: python3 -m unittest discover -s python/tests
 """
+import contextlib
 import doctest
 import gc
+import io
+import os
+import pathlib
+import subprocess
+import sys
+import tempfile
 import threading
 import unittest
 from decimal import Decimal
 
 import legumeyet
 from legumeyet import Book, CompactDecimalFormatter, DecimalFormatter, Error, Grouping, Rounding, Sign, Width, _formatters, _library
+from legumeyet.__main__ import main
 
 JSON = """[[["en","","latn","-","","+","",".",",",3,3,1],["ar","","arab","-","","+","","٫","٬",3,3,1],
 ["bad","","latn","","","+","",".",",",3,3,1]],[["latn","0123456789"],["arab","٠١٢٣٤٥٦٧٨٩"]],
@@ -152,6 +160,30 @@ class Calls(unittest.TestCase):
         self.refused(2, CompactDecimalFormatter, self.book, "en")
         for call in (self.short.format, self.short.format_parts, self.short.shown, self.short.format_exact):
             self.refused(2, call, "1")
+
+    def test_names(self):
+        self.assertEqual(repr(self.short), "<CompactDecimalFormatter of 'en', open>")
+        self.short.close()
+        self.assertEqual(repr(self.short), "<CompactDecimalFormatter of 'en', closed>")
+
+    def test_program(self):
+        with tempfile.TemporaryDirectory() as folder:
+            book = f"{folder}/book.json"
+            pathlib.Path(book).write_text(JSON, encoding="utf-8")
+            for words, status, text in [
+                ([book, "en", "-987654.321", "1e3"], 0, "-987,654.321\n1,000\n"), (["--short", book, "en", "-1650"], 0, "-1.6K\n"),
+                (["--long", book, "en", "1650"], 0, "1.6 thousand\n"), ([book, "en", "5.", "5"], 1, "5\n"), ([book, "xx", "5"], 1, ""),
+                ([f"{folder}/none", "en", "5"], 1, ""),
+            ]:
+                out, error = io.StringIO(), io.StringIO()
+                with contextlib.redirect_stdout(out), contextlib.redirect_stderr(error):
+                    self.assertEqual((main(words), out.getvalue()), (status, text))
+                self.assertEqual(bool(error.getvalue()), status == 1)
+
+    def test_no_library(self):
+        how = {**os.environ, "LEGUMEYET_LIBRARY": "/none.so"}
+        ran = subprocess.run([sys.executable, "-c", "import legumeyet"], env=how, stderr=subprocess.PIPE, check=False)
+        self.assertIn(b"ImportError: /none.so", ran.stderr)
 
     def test_kept(self):
         book = Book(JSON)
