@@ -4,7 +4,7 @@ use std::fmt;
 /// Why a call was refused: its number, as legumeyet.h has it. `Display` says it in English.
 ///
 /// ```
-/// let error = legumeyet::Book::from_json(b"[]").err().unwrap();
+/// let error = legumeyet::Book::from_json(b"[]").unwrap_err();
 /// assert_eq!(error, legumeyet::Error::BOOK_SHAPE);
 /// assert_eq!(error.number(), 102);
 /// ```
@@ -20,7 +20,7 @@ impl Error {
     pub const TABLE: Error = Error(6);
     /// The text is no decimal number.
     pub const NUMBER: Error = Error(7);
-    /// A digit of the number stands beyond the magnitudes -32768 to 32767.
+    /// A digit of the number is beyond the magnitudes -32768 to 32767.
     pub const LIMIT: Error = Error(8);
     /// What is shown in compact form, or an exact form, reaches ten to the power 32768.
     pub const RANGE: Error = Error(9);
@@ -38,7 +38,7 @@ impl Error {
     pub const BOOK_TAG: Error = Error(103);
     /// A name of a numbering system is none.
     pub const BOOK_SYSTEM: Error = Error(104);
-    /// A tab or a line feed stands in the text of a symbol or a pattern.
+    /// A tab or a line feed is in the text of a symbol or a pattern.
     pub const BOOK_TEXT: Error = Error(105);
     /// The digits of a system are not ten characters, or a tab or a line feed is among them.
     pub const BOOK_DIGITS: Error = Error(106);

@@ -31,6 +31,7 @@ use std::ops::Range;
 use owned::{annotated, written, Owned};
 
 /// A book of tables.
+#[derive(Debug)]
 pub struct Book(Owned);
 
 impl Book {
@@ -55,6 +56,7 @@ impl Book {
 }
 
 /// The formatter of plain numbers for a locale tag. It may outlive the book.
+#[derive(Debug)]
 pub struct DecimalFormatter(Owned);
 
 impl DecimalFormatter {
@@ -115,6 +117,7 @@ impl DecimalFormatter {
 /// assert_eq!(english.format_exact("-1.20c6", &Options::default())?, "-1.20M");
 /// # Ok::<(), legumeyet::Error>(())
 /// ```
+#[derive(Debug)]
 pub struct CompactDecimalFormatter(Owned);
 
 impl CompactDecimalFormatter {

@@ -1,5 +1,6 @@
 use crate::{sys, Error, Kind};
 use std::cell::UnsafeCell;
+use std::fmt;
 use std::ops::Range;
 
 /// A handle that is closed when it is dropped. It is not `Sync`: one call at a time has it.
@@ -25,6 +26,12 @@ impl Owned {
     /// The handle, for one call, which calls nothing back.
     pub(crate) fn at(&self) -> *mut sys::Handle {
         self.handle.get()
+    }
+}
+
+impl fmt::Debug for Owned {
+    fn fmt(&self, out: &mut fmt::Formatter<'_>) -> fmt::Result {
+        out.write_str("..")
     }
 }
 
