@@ -19,15 +19,15 @@
  * Texts are UTF-8, a pointer and a length in bytes, with no NUL behind them. A pointer is never null; of a text of length 0 it is any
  * pointer that is not null.
  *
- * A handle is memory of the caller's. Zeroed memory is a closed handle. A handle is not copied, and is closed once. What stands in it
- * is not for callers. It may be used in another thread than the one that opened it, by one call at a time. Handles are free of each
+ * A handle is memory of the caller's. Zeroed memory is a closed handle. A handle is not copied, and is closed once. Its fields are
+ * not for callers. It may be used in another thread than the one that opened it, by one call at a time. Handles are free of each
  * other: a formatter has the tables that it needs, so its book may be closed before it.
  *
  * A program that uses a book until it ends may keep it, by legumeyet_book_keep. Formatters of a kept book borrow its tables: they are
  * opened sooner, hold less memory and write faster.
  *
  * A call that returns a number other than 0 leaves its handles as they were. Where several numbers apply, it returns the one that
- * stands first in its list.
+ * is first in its list.
  *
  * A call that takes `out`, `room` and `length` writes the text to the front of the `room` bytes at `out`, and its length in bytes to
  * `length`; bytes behind the text stay as they were. Where the text is longer than `room` it returns LEGUMEYET_TOO_SMALL, the `room`
@@ -58,7 +58,7 @@ enum {
     LEGUMEYET_TAG = 5,          /* the text is no locale tag, as `e` */
     LEGUMEYET_TABLE = 6,        /* the book lacks a table for the tag */
     LEGUMEYET_NUMBER = 7,       /* the text is no decimal number, as `5.` */
-    LEGUMEYET_LIMIT = 8,        /* a digit of the number stands beyond the magnitudes -32768 to 32767 */
+    LEGUMEYET_LIMIT = 8,        /* a digit of the number is beyond the magnitudes -32768 to 32767 */
     LEGUMEYET_RANGE = 9,        /* what the number is shown as in compact form, or an exact form, reaches ten to the power 32768 */
     LEGUMEYET_UTF8 = 10,        /* the text is not UTF-8 */
     LEGUMEYET_UNREADABLE = 11,  /* under the formatter's symbols two numbers may have one text */
@@ -69,7 +69,7 @@ enum {
     LEGUMEYET_BOOK_SHAPE = 102,     /* the value is not five arrays or six, as `[]`, or an entry has not its form */
     LEGUMEYET_BOOK_TAG = 103,       /* a locale, or the parent of one, is refused, as `e` */
     LEGUMEYET_BOOK_SYSTEM = 104,    /* a name of a numbering system is not 3 to 8 lower-case letters and digits */
-    LEGUMEYET_BOOK_TEXT = 105,      /* a tab or a line feed stands in the text of a symbol or a pattern */
+    LEGUMEYET_BOOK_TEXT = 105,      /* a tab or a line feed is in the text of a symbol or a pattern */
     LEGUMEYET_BOOK_DIGITS = 106,    /* the digits of a system are not ten characters, or a tab or a line feed is among them */
     LEGUMEYET_BOOK_CONDITION = 107, /* the condition of a plural category is not one */
     LEGUMEYET_BOOK_TYPES = 108,     /* the types of patterns do not rise */
@@ -223,7 +223,7 @@ int32_t legumeyet_decimal_formatter_format(legumeyet_decimal_formatter *formatte
 /*
  * Writes the number `mantissa` times ten to the power `exponent`: -123456 and -2 as `-1,234.56` in English, 5 and 3 as `5,000`.
  *
- * With a negative exponent so many fraction digits are shown: 500 and -2 as `5.00`.
+ * With a negative exponent the digits down to that power are shown: 500 and -2 as `5.00`.
  *
  * Returns as legumeyet_decimal_formatter_format, but for LEGUMEYET_NUMBER.
  */
@@ -235,7 +235,7 @@ int32_t legumeyet_decimal_formatter_format_i64(legumeyet_decimal_formatter *form
  * minus sign at 0 to 1, the integer at 1 to 6, the group at 2 to 3, the decimal at 6 to 7 and the fraction at 7 to 8.
  *
  * `count` is how many parts there are. Where they are more than `intervals_room` the call returns LEGUMEYET_TOO_SMALL too, and the
- * first `intervals_room` of them stand at `intervals`; those behind the last part stay as they were. Where it returns
+ * first `intervals_room` of them are at `intervals`; those behind the last part stay as they were. Where it returns
  * LEGUMEYET_TOO_SMALL, `length` and `count` are what both need. Any other error leaves all as it was.
  *
  * Returns as legumeyet_decimal_formatter_format; LEGUMEYET_MEMORY of any number.
@@ -300,7 +300,7 @@ int32_t legumeyet_compact_formatter_format_parts(legumeyet_compact_formatter *fo
 
 /*
  * Writes the value that the text of a number shows, so that a chart can place its label: of `-1172700` in short English `-1.2c6`, which
- * is -1.2 times ten to the power 6. Without an exponent it is the number alone: `950`.
+ * is -1.2 times ten to the power 6. Where the exponent is 0 it is only the number: `950`.
  *
  * Returns as legumeyet_compact_formatter_format; LEGUMEYET_MEMORY also where what is shown has more than eight digits.
  */
