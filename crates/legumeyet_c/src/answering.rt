@@ -41,7 +41,9 @@ pub extern "C" fn legumeyet_book_answer(
     length: &mut usize,
 ) -> i32
     ensures same { book_open book.new ≡ book_open book.old }
-    ensures told { Answers (IsPut (SaysAnswer (book_open book.old) line.now) (IsAnswerFault (book_open book.old)) out.old out.new length.old length.new) result }
+    ensures told { Answers
+        (IsPut (SaysAnswer (book_open book.old) line.now) (IsAnswerFault (book_open book.old)) out.old out.new
+        length.old length.new) result }
 {
     match answer_behind(alloc, book, line) {
         Ok(text) => answer(put_bytes(text.as_slice(), out, length)),

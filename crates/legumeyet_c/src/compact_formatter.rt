@@ -23,8 +23,10 @@ fn formatter_in<'b>(
     tag: &str,
     width: Width,
 ) -> Result<CompactDecimalFormatter<'b>, FormatterError>
-    ensures value { IfOk result (λ formatter. compact_for_width width book.now tag.now ≡ Ok (compact_tables_of formatter)) }
-    ensures fault { IfErr result (λ fault. (fault ≡ FormatterError.Memory) ⊎ (compact_for_width width book.now tag.now ≡ Err fault)) }
+    ensures value { IfOk result
+        (λ formatter. compact_for_width width book.now tag.now ≡ Ok (compact_tables_of formatter)) }
+    ensures fault { IfErr result
+        (λ fault. (fault ≡ FormatterError.Memory) ⊎ (compact_for_width width book.now tag.now ≡ Err fault)) }
 {
     match width {
         Width::Short => book.short_formatter(alloc, tag),
@@ -82,7 +84,10 @@ pub extern "C" fn legumeyet_compact_formatter_open(
     formatter: &mut CompactHandle,
 ) -> i32
     ensures same { book_open book.new ≡ book_open book.old }
-    ensures told { Answers (IsOpening (FindsCompact (book_open book.old) (width_of width) (grouping_of grouping) tag.now) (IsCompactFault (book_open book.old) (width_of width) (grouping_of grouping) tag.now) (compact_open formatter.old) (compact_open formatter.new)) result }
+    ensures told { Answers
+        (IsOpening (FindsCompact (book_open book.old) (width_of width) (grouping_of grouping) tag.now)
+        (IsCompactFault (book_open book.old) (width_of width) (grouping_of grouping) tag.now)
+        (compact_open formatter.old) (compact_open formatter.new)) result }
 {
     let choice = choice_by(width, grouping);
     let (book, formatter) = (&mut book.handle, &mut formatter.handle);

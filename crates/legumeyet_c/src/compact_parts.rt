@@ -56,7 +56,11 @@ pub extern "C" fn legumeyet_compact_formatter_format_parts(
     count: &mut usize,
 ) -> i32
     ensures same { compact_open formatter.new ≡ compact_open formatter.old }
-    ensures told { Answers (IsPutInParts (WritesNumber IsCompactAnnotated (compact_open formatter.old) options.now number.now) (IsNumberWritingFault IsCompactPartsFault (compact_open formatter.old) options.now number.now) (given out.old length.old intervals.old count.old) (given out.new length.new intervals.new count.new)) result }
+    ensures told { Answers
+        (IsPutInParts (WritesNumber IsCompactAnnotated (compact_open formatter.old) options.now number.now)
+        (IsNumberWritingFault IsCompactPartsFault (compact_open formatter.old) options.now number.now)
+        (given out.old length.old intervals.old count.old) (given out.new length.new intervals.new count.new))
+        result }
 {
     let number = number_of_text(alloc, number, options);
     let handle = &mut formatter.handle;

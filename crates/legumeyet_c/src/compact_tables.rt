@@ -12,7 +12,7 @@ use icu_decimal::provider::CompactPatterns;
 use std::alloc::{AllocError, Global};
 use std::marker::Model;
 
-/// What plain numbers are written with, plural rules, and a table of patterns, in memory of their own.
+// What plain numbers are written with, plural rules, and a table of patterns, in memory of their own.
 #[derive(Drop)]
 pub(crate) struct OwnedCompactTables {
     plain: OwnedDecimalTables,
@@ -29,7 +29,7 @@ impl Model for OwnedCompactTables {
 }
 
 impl OwnedCompactTables {
-    /// The tables that a formatter borrows, with a strategy of their own. `AllocError`: out of memory.
+    // The tables that a formatter borrows, with a strategy of their own. `AllocError`: out of memory.
     pub(crate) fn of(
         alloc: Global,
         formatter: &CompactDecimalFormatter<'_>,
@@ -47,7 +47,7 @@ impl OwnedCompactTables {
         })
     }
 
-    /// The formatter that writes with them. It does not allocate.
+    // The formatter that writes with them. It does not allocate.
     pub(crate) fn formatter(&self) -> CompactDecimalFormatter<'_>
         ensures { compact_tables_of result ≡ self.now }
     {
@@ -81,7 +81,7 @@ impl Model for HeldCompactTables {
 }
 
 impl HeldCompactTables {
-    /// A copy of the tables that a formatter borrows, with a strategy of their own. `AllocError`: out of memory.
+    // A copy of the tables that a formatter borrows, with a strategy of their own. `AllocError`: out of memory.
     pub(crate) fn of(
         alloc: Global,
         formatter: &CompactDecimalFormatter<'_>,
@@ -95,7 +95,7 @@ impl HeldCompactTables {
         })
     }
 
-    /// The tables that a formatter borrows for the rest of the run, with a strategy of their own. It does not allocate.
+    // The tables that a formatter borrows for the rest of the run, with a strategy of their own. It does not allocate.
     pub(crate) fn kept(
         formatter: &CompactDecimalFormatter<'static>,
         strategy: GroupingStrategy,
@@ -109,7 +109,7 @@ impl HeldCompactTables {
         }
     }
 
-    /// The formatter that writes with them. It does not allocate.
+    // The formatter that writes with them. It does not allocate.
     pub(crate) fn formatter(&self) -> CompactDecimalFormatter<'_>
         ensures { compact_tables_of result ≡ self.now }
     {

@@ -19,7 +19,7 @@ use legumeyet_c_values::{
 };
 use std::alloc::{AllocError, Global};
 
-/// The compact text of a number.
+// The compact text of a number.
 pub(crate) struct CompactText;
 
 impl Form for CompactText {
@@ -66,7 +66,7 @@ fn shown_by(
     ))
 }
 
-/// The value that this text shows.
+// The value that this text shows.
 pub(crate) struct ShownText;
 
 impl Form for ShownText {
@@ -95,7 +95,7 @@ impl Form for ShownText {
     }
 }
 
-/// The text of a significand with an exponent.
+// The text of a significand with an exponent.
 pub(crate) struct ExactText;
 
 impl Form for ExactText {
@@ -141,7 +141,10 @@ pub extern "C" fn legumeyet_compact_formatter_format(
     length: &mut usize,
 ) -> i32
     ensures same { compact_open formatter.new ≡ compact_open formatter.old }
-    ensures told { Answers (IsPut (WritesNumber IsCompactText (compact_open formatter.old) options.now number.now) (IsNumberWritingFault IsCompactFault (compact_open formatter.old) options.now number.now) out.old out.new length.old length.new) result }
+    ensures told { Answers
+        (IsPut (WritesNumber IsCompactText (compact_open formatter.old) options.now number.now)
+        (IsNumberWritingFault IsCompactFault (compact_open formatter.old) options.now number.now) out.old out.new
+        length.old length.new) result }
 {
     let number = number_of_text(alloc, number, options);
     answer(write_behind::<CompactText>(alloc, &mut formatter.handle, &number, out, length))
@@ -162,7 +165,10 @@ pub extern "C" fn legumeyet_compact_formatter_format_i64(
     length: &mut usize,
 ) -> i32
     ensures same { compact_open formatter.new ≡ compact_open formatter.old }
-    ensures told { Answers (IsPut (WritesScaled IsCompactText (compact_open formatter.old) options.now mantissa exponent) (IsScaledWritingFault IsCompactFault (compact_open formatter.old) options.now mantissa exponent) out.old out.new length.old length.new) result }
+    ensures told { Answers
+        (IsPut (WritesScaled IsCompactText (compact_open formatter.old) options.now mantissa exponent)
+        (IsScaledWritingFault IsCompactFault (compact_open formatter.old) options.now mantissa exponent) out.old
+        out.new length.old length.new) result }
 {
     let number = number_of_i64(alloc, mantissa, exponent, options);
     answer(write_behind::<CompactText>(alloc, &mut formatter.handle, &number, out, length))
@@ -182,7 +188,10 @@ pub extern "C" fn legumeyet_compact_formatter_shown(
     length: &mut usize,
 ) -> i32
     ensures same { compact_open formatter.new ≡ compact_open formatter.old }
-    ensures told { Answers (IsPut (WritesNumber IsShownText (compact_open formatter.old) options.now number.now) (IsNumberWritingFault IsShownFault (compact_open formatter.old) options.now number.now) out.old out.new length.old length.new) result }
+    ensures told { Answers
+        (IsPut (WritesNumber IsShownText (compact_open formatter.old) options.now number.now)
+        (IsNumberWritingFault IsShownFault (compact_open formatter.old) options.now number.now) out.old out.new
+        length.old length.new) result }
 {
     let number = number_of_text(alloc, number, options);
     answer(write_behind::<ShownText>(alloc, &mut formatter.handle, &number, out, length))
@@ -205,7 +214,10 @@ pub extern "C" fn legumeyet_compact_formatter_format_exact(
     length: &mut usize,
 ) -> i32
     ensures same { compact_open formatter.new ≡ compact_open formatter.old }
-    ensures told { Answers (IsPut (WritesExact (compact_open formatter.old) (choices_of options.now) number.now) (IsExactWritingFault (compact_open formatter.old) (choices_of options.now) number.now) out.old out.new length.old length.new) result }
+    ensures told { Answers
+        (IsPut (WritesExact (compact_open formatter.old) (choices_of options.now) number.now)
+        (IsExactWritingFault (compact_open formatter.old) (choices_of options.now) number.now) out.old out.new
+        length.old length.new) result }
 {
     let number = compact_of_text(alloc, number, options);
     answer(write_behind::<ExactText>(alloc, &mut formatter.handle, &number, out, length))

@@ -22,7 +22,7 @@ pub enum Content {
     Nothing,
 }
 
-/// What the handles of one kind have open.
+// What the handles of one kind have open.
 pub(crate) trait Held: Drop {
     ghost use Rattle.std.specs.Prelude.{Bool, Option};
     ghost use Rattle.legumeyet_c.specs.declared.content.Content.{Content};
@@ -50,7 +50,7 @@ pub(crate) trait Held: Drop {
     ghost held_is: { (content : Content) → is_for (Some content) ≡ true → (held : Self) × (held_in (Some content) ≡ Some held) };
 }
 
-/// The book of a content, where it is kept.
+// The book of a content, where it is kept.
 pub(crate) fn kept_in(content: &Content) -> Option<&'static Book>
     ensures { IfSome result (λ kept. book_in (Some content.now) ≡ Some kept.now) }
 {

@@ -52,7 +52,7 @@ impl Found for DecimalTables {
     }
 }
 
-/// The text of a number.
+// The text of a number.
 pub(crate) struct DecimalText;
 
 impl Form for DecimalText {
@@ -89,7 +89,10 @@ pub extern "C" fn legumeyet_decimal_formatter_open(
     formatter: &mut DecimalHandle,
 ) -> i32
     ensures same { book_open book.new ≡ book_open book.old }
-    ensures told { Answers (IsOpening (FindsDecimal (book_open book.old) (grouping_of grouping) tag.now) (IsDecimalFault (book_open book.old) (grouping_of grouping) tag.now) (decimal_open formatter.old) (decimal_open formatter.new)) result }
+    ensures told { Answers
+        (IsOpening (FindsDecimal (book_open book.old) (grouping_of grouping) tag.now)
+        (IsDecimalFault (book_open book.old) (grouping_of grouping) tag.now) (decimal_open formatter.old)
+        (decimal_open formatter.new)) result }
 {
     let strategy = grouping_by(grouping);
     let (book, formatter) = (&mut book.handle, &mut formatter.handle);
@@ -125,7 +128,10 @@ pub extern "C" fn legumeyet_decimal_formatter_format(
     length: &mut usize,
 ) -> i32
     ensures same { decimal_open formatter.new ≡ decimal_open formatter.old }
-    ensures told { Answers (IsPut (WritesNumber IsDecimalText (decimal_open formatter.old) options.now number.now) (IsNumberWritingFault HasNoFault (decimal_open formatter.old) options.now number.now) out.old out.new length.old length.new) result }
+    ensures told { Answers
+        (IsPut (WritesNumber IsDecimalText (decimal_open formatter.old) options.now number.now)
+        (IsNumberWritingFault HasNoFault (decimal_open formatter.old) options.now number.now) out.old out.new
+        length.old length.new) result }
 {
     let number = number_of_text(alloc, number, options);
     answer(write_behind::<DecimalText>(alloc, &mut formatter.handle, &number, out, length))
@@ -147,7 +153,10 @@ pub extern "C" fn legumeyet_decimal_formatter_format_i64(
     length: &mut usize,
 ) -> i32
     ensures same { decimal_open formatter.new ≡ decimal_open formatter.old }
-    ensures told { Answers (IsPut (WritesScaled IsDecimalText (decimal_open formatter.old) options.now mantissa exponent) (IsScaledWritingFault HasNoFault (decimal_open formatter.old) options.now mantissa exponent) out.old out.new length.old length.new) result }
+    ensures told { Answers
+        (IsPut (WritesScaled IsDecimalText (decimal_open formatter.old) options.now mantissa exponent)
+        (IsScaledWritingFault HasNoFault (decimal_open formatter.old) options.now mantissa exponent) out.old out.new
+        length.old length.new) result }
 {
     let number = number_of_i64(alloc, mantissa, exponent, options);
     answer(write_behind::<DecimalText>(alloc, &mut formatter.handle, &number, out, length))

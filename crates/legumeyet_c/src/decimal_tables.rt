@@ -9,7 +9,7 @@ use icu_decimal::provider::DecimalSymbols;
 use std::alloc::AllocError;
 use std::marker::Model;
 
-/// Symbols, digits, and when separators are written, in memory of their own.
+// Symbols, digits, and when separators are written, in memory of their own.
 #[derive(Drop)]
 pub(crate) struct OwnedDecimalTables {
     symbols: DecimalSymbols,
@@ -26,7 +26,7 @@ impl Model for OwnedDecimalTables {
 }
 
 impl OwnedDecimalTables {
-    /// The tables that a formatter borrows, with a strategy of their own. `AllocError`: out of memory.
+    // The tables that a formatter borrows, with a strategy of their own. `AllocError`: out of memory.
     pub(crate) fn of(
         formatter: &DecimalFormatter<'_>,
         strategy: GroupingStrategy,
@@ -41,7 +41,7 @@ impl OwnedDecimalTables {
         })
     }
 
-    /// The formatter that writes with them. It does not allocate.
+    // The formatter that writes with them. It does not allocate.
     pub(crate) fn formatter(&self) -> DecimalFormatter<'_>
         ensures { tables_of result ≡ self.now }
     {
@@ -75,7 +75,7 @@ impl Model for DecimalTables {
     ghost view = { λ t. decimal_at t.place };
 }
 
-/// The same formatter with another strategy. It does not allocate.
+// The same formatter with another strategy. It does not allocate.
 pub(crate) fn with_strategy<'b>(
     formatter: &DecimalFormatter<'b>,
     strategy: GroupingStrategy,
@@ -87,7 +87,7 @@ pub(crate) fn with_strategy<'b>(
 }
 
 impl DecimalTables {
-    /// A copy of the tables that a formatter borrows, with a strategy of their own. `AllocError`: out of memory.
+    // A copy of the tables that a formatter borrows, with a strategy of their own. `AllocError`: out of memory.
     pub(crate) fn of(
         formatter: &DecimalFormatter<'_>,
         strategy: GroupingStrategy,
@@ -100,7 +100,7 @@ impl DecimalTables {
         })
     }
 
-    /// The tables that a formatter borrows for the rest of the run, with a strategy of their own. It does not allocate.
+    // The tables that a formatter borrows for the rest of the run, with a strategy of their own. It does not allocate.
     pub(crate) fn kept(
         formatter: &DecimalFormatter<'static>,
         strategy: GroupingStrategy,
@@ -112,7 +112,7 @@ impl DecimalTables {
         }
     }
 
-    /// The formatter that writes with them. It does not allocate.
+    // The formatter that writes with them. It does not allocate.
     pub(crate) fn formatter(&self) -> DecimalFormatter<'_>
         ensures { tables_of result ≡ self.now }
     {

@@ -83,7 +83,7 @@ fn content_of(handle: Handle, alloc: Global) -> Option<Box<Content>>
 }
 
 impl Handle {
-    /// Takes the content out, and leaves the handle closed.
+    // Takes the content out, and leaves the handle closed.
     pub(crate) fn take(&mut self, alloc: Global) -> Option<Box<Content>>
         ensures value { option_map (λ content. content.value) result ≡ self.old.pointer.value }
         ensures closed { self.new.pointer.value ≡ None }
@@ -95,7 +95,7 @@ impl Handle {
         content_of(std::mem::replace(self, closed), alloc)
     }
 
-    /// Puts a content in, and lets go of what was there.
+    // Puts a content in, and lets go of what was there.
     pub(crate) fn put(&mut self, alloc: Global, content: Box<Content>)
         ensures { self.new.pointer.value ≡ Some content.value }
     {

@@ -14,7 +14,8 @@ pub const VERSION: u32 = 1;
 /// Returns 0; 4, where no call returns the number; 3, the text needs more room.
 #[unsafe(no_mangle)]
 pub extern "C" fn legumeyet_error_text(error: i32, out: &mut [u8], length: &mut usize) -> i32
-    ensures { Answers (IsPut (SaysError error) (IsInformationFault error) out.old out.new length.old length.new) result }
+    ensures { Answers (IsPut (SaysError error) (IsInformationFault error) out.old out.new length.old length.new)
+        result }
 {
     match error_of(error) {
         Some(error) => answer(put(&error.text(), out, length)),

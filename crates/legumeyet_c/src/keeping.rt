@@ -18,7 +18,8 @@ fn keep(alloc: Global, content: Box<Content>) -> (Box<Content>, Result<(), CallE
     requires { is_for_book (Some content.value) ≡ true }
     ensures kind { is_for_book (Some result.0.value) ≡ true }
     ensures same { book_in (Some result.0.value) ≡ book_in (Some content.value) }
-    ensures told { IsKeeping (book_in (Some content.value)) (is_kept (Some content.value)) (is_kept (Some result.0.value)) result.1 }
+    ensures told { IsKeeping (book_in (Some content.value)) (is_kept (Some content.value))
+        (is_kept (Some result.0.value)) result.1 }
 {
     if let Content::Kept(_) = &*content {
         return (content, Ok(()));
@@ -38,7 +39,8 @@ fn keep_behind(alloc: Global, book: &mut Handle) -> Result<(), CallError>
     requires { is_for_book book.old.pointer.value ≡ true }
     ensures kind { is_for_book book.new.pointer.value ≡ true }
     ensures same { book_in book.new.pointer.value ≡ book_in book.old.pointer.value }
-    ensures told { IsKeeping (book_in book.old.pointer.value) (is_kept book.old.pointer.value) (is_kept book.new.pointer.value) result }
+    ensures told { IsKeeping (book_in book.old.pointer.value) (is_kept book.old.pointer.value)
+        (is_kept book.new.pointer.value) result }
 {
     let Some(content) = book.take(alloc) else {
         return Err(CallError::Closed);

@@ -10,7 +10,7 @@ use legumeyet_c_values::CallError;
 use locale_numbers::{Book, FormatterError};
 use std::alloc::Global;
 
-/// What a book has for a tag: a copy, or what is borrowed of a book that is kept.
+// What a book has for a tag: a copy, or what is borrowed of a book that is kept.
 pub(crate) trait Found: Held {
     ghost use Rattle.std.specs.Prelude.{List, Result, ℕ};
     ghost use Rattle.locale_numbers.specs.Book.{BookTables};
@@ -84,7 +84,8 @@ fn find_behind<T: Found>(
     requires { is_for_book book.old.pointer.value ≡ true }
     ensures same { book.new.pointer.value ≡ book.old.pointer.value }
     ensures value { IfOk result (λ tables. Finds T.finds (book_in book.old.pointer.value) choice tag.now tables) }
-    ensures fault { IfErr result (λ error. IsFindingFault T.found (book_in book.old.pointer.value) choice tag.now error) }
+    ensures fault { IfErr result
+        (λ error. IsFindingFault T.found (book_in book.old.pointer.value) choice tag.now error) }
 {
     let Some(content) = book.take(alloc) else {
         return Err(CallError::Closed);
@@ -100,7 +101,7 @@ fn find_behind<T: Found>(
     found
 }
 
-/// Puts a content behind a handle, and closes what it had open. The error that is given: out of memory.
+// Puts a content behind a handle, and closes what it had open. The error that is given: out of memory.
 pub(crate) fn put_behind<T: Held>(
     alloc: Global,
     handle: &mut Handle,
@@ -109,7 +110,8 @@ pub(crate) fn put_behind<T: Held>(
 ) -> Result<(), CallError>
     requires { T.is_for handle.old.pointer.value ≡ true }
     ensures kind { T.is_for handle.new.pointer.value ≡ true }
-    ensures told { IsOpening (λ opened. opened ≡ held) (λ error. error ≡ fault) (T.held_in handle.old.pointer.value) (T.held_in handle.new.pointer.value) result }
+    ensures told { IsOpening (λ opened. opened ≡ held) (λ error. error ≡ fault) (T.held_in handle.old.pointer.value)
+        (T.held_in handle.new.pointer.value) result }
 {
     match Box::new(alloc, held.into_content()) {
         Ok(content) => {
@@ -120,8 +122,8 @@ pub(crate) fn put_behind<T: Held>(
     }
 }
 
-/// Opens a handle with what the book behind another one has for a tag, where a choice is known; the book stays as it
-/// is.
+// Opens a handle with what the book behind another one has for a tag, where a choice is known; the book stays as it
+// is.
 pub(crate) fn open<T: Found>(
     alloc: Global,
     book: &mut Handle,
@@ -133,7 +135,9 @@ pub(crate) fn open<T: Found>(
     requires kind { T.is_for handle.old.pointer.value ≡ true }
     ensures same { book.new.pointer.value ≡ book.old.pointer.value }
     ensures kind { T.is_for handle.new.pointer.value ≡ true }
-    ensures told { IsOpening (Finds T.finds (book_in book.old.pointer.value) choice tag.now) (IsFindingFault T.found (book_in book.old.pointer.value) choice tag.now) (T.held_in handle.old.pointer.value) (T.held_in handle.new.pointer.value) result }
+    ensures told { IsOpening (Finds T.finds (book_in book.old.pointer.value) choice tag.now)
+        (IsFindingFault T.found (book_in book.old.pointer.value) choice tag.now) (T.held_in handle.old.pointer.value)
+        (T.held_in handle.new.pointer.value) result }
 {
     match find_behind::<T>(alloc, book, choice, tag) {
         Ok(tables) => put_behind(alloc, handle, tables, CallError::Memory),
@@ -141,7 +145,7 @@ pub(crate) fn open<T: Found>(
     }
 }
 
-/// Closes a handle. `Closed`: it was closed already.
+// Closes a handle. `Closed`: it was closed already.
 pub(crate) fn close<T: Held>(alloc: Global, handle: &mut Handle) -> Result<(), CallError>
     requires { T.is_for handle.old.pointer.value ≡ true }
     ensures closed { handle.new.pointer.value ≡ None }

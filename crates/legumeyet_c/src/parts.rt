@@ -17,7 +17,7 @@ use legumeyet_c_values::{CallError, Interval, Options, answer, number_of_text, p
 use std::alloc::Global;
 use writeable::{PartsSink, Writeable};
 
-/// Tables whose texts of numbers have parts.
+// Tables whose texts of numbers have parts.
 pub(crate) trait Annotates: Held {
     ghost use Rattle.legumeyet_c_values.specs.declared.CallError.{CallError};
     ghost use Rattle.fixed_decimal.specs.Number.{Number};
@@ -66,7 +66,8 @@ fn annotated_behind<T: Annotates>(
 ) -> Result<PartsSink, CallError>
     requires { T.is_for handle.old.pointer.value ≡ true }
     ensures same { handle.new.pointer.value ≡ handle.old.pointer.value }
-    ensures value { IfOk result (λ sink. WritesValue T.says (T.held_in handle.old.pointer.value) number.now (held_text sink)) }
+    ensures value { IfOk result
+        (λ sink. WritesValue T.says (T.held_in handle.old.pointer.value) number.now (held_text sink)) }
     ensures fault { IfErr result (λ error. IsValueFault T.fails (T.held_in handle.old.pointer.value) number.now error) }
 {
     let Some(content) = handle.take(alloc) else {
@@ -80,7 +81,7 @@ fn annotated_behind<T: Annotates>(
     found
 }
 
-/// Writes a number, where there is one, and its parts, with what is behind a handle, which stays as it is.
+// Writes a number, where there is one, and its parts, with what is behind a handle, which stays as it is.
 pub(crate) fn write_parts<T: Annotates>(
     alloc: Global,
     handle: &mut Handle,
@@ -93,7 +94,9 @@ pub(crate) fn write_parts<T: Annotates>(
     requires kind { T.is_for handle.old.pointer.value ≡ true }
     requires other { IfErr number.now (λ error. error ≢ CallError.TooSmall) }
     ensures same { handle.new.pointer.value ≡ handle.old.pointer.value }
-    ensures told { IsPutInParts (WritesValue T.says (T.held_in handle.old.pointer.value) number.now) (IsValueFault T.fails (T.held_in handle.old.pointer.value) number.now) (given out.old length.old intervals.old count.old) (given out.new length.new intervals.new count.new) result }
+    ensures told { IsPutInParts (WritesValue T.says (T.held_in handle.old.pointer.value) number.now)
+        (IsValueFault T.fails (T.held_in handle.old.pointer.value) number.now)
+        (given out.old length.old intervals.old count.old) (given out.new length.new intervals.new count.new) result }
 {
     match annotated_behind::<T>(alloc, handle, number) {
         Ok(sink) => put_parts(&sink, out, length, intervals, count),
@@ -118,7 +121,11 @@ pub extern "C" fn legumeyet_decimal_formatter_format_parts(
     count: &mut usize,
 ) -> i32
     ensures same { decimal_open formatter.new ≡ decimal_open formatter.old }
-    ensures told { Answers (IsPutInParts (WritesNumber IsDecimalAnnotated (decimal_open formatter.old) options.now number.now) (IsNumberWritingFault WantsMemory (decimal_open formatter.old) options.now number.now) (given out.old length.old intervals.old count.old) (given out.new length.new intervals.new count.new)) result }
+    ensures told { Answers
+        (IsPutInParts (WritesNumber IsDecimalAnnotated (decimal_open formatter.old) options.now number.now)
+        (IsNumberWritingFault WantsMemory (decimal_open formatter.old) options.now number.now)
+        (given out.old length.old intervals.old count.old) (given out.new length.new intervals.new count.new))
+        result }
 {
     let number = number_of_text(alloc, number, options);
     let handle = &mut formatter.handle;

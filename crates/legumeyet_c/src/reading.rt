@@ -64,7 +64,9 @@ pub extern "C" fn legumeyet_decimal_formatter_read(
     length: &mut usize,
 ) -> i32
     ensures same { decimal_open formatter.new ≡ decimal_open formatter.old }
-    ensures told { Answers (IsPut (SaysRead (decimal_open formatter.old) text.now) (IsReadFault (decimal_open formatter.old) text.now) out.old out.new length.old length.new) result }
+    ensures told { Answers
+        (IsPut (SaysRead (decimal_open formatter.old) text.now) (IsReadFault (decimal_open formatter.old) text.now)
+        out.old out.new length.old length.new) result }
 {
     match read_behind(alloc, formatter, text) {
         Ok(value) => answer(put(&value, out, length)),

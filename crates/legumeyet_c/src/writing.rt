@@ -9,7 +9,7 @@ use crate::handle::Handle;
 use legumeyet_c_values::CallError;
 use std::alloc::Global;
 
-/// What is written of a number: its text, or another one. A type that holds nothing stands for it.
+// What is written of a number: its text, or another one. A type that holds nothing stands for it.
 pub(crate) trait Form {
     ghost use Rattle.std.specs.Prelude.{List, ℕ};
     ghost use Rattle.legumeyet_c_values.specs.declared.CallError.{CallError};
@@ -44,7 +44,8 @@ fn write_value<F: Form>(
     length: &mut usize,
 ) -> Result<(), CallError>
     requires { IfErr number.now (λ error. error ≢ CallError.TooSmall) }
-    ensures { IsPut (WritesValue F.says (Some tables.now) number.now) (IsValueFault F.fails (Some tables.now) number.now) out.old out.new length.old length.new result }
+    ensures { IsPut (WritesValue F.says (Some tables.now) number.now)
+        (IsValueFault F.fails (Some tables.now) number.now) out.old out.new length.old length.new result }
 {
     match number {
         Ok(value) => F::write(tables, value, out, length),
@@ -52,7 +53,7 @@ fn write_value<F: Form>(
     }
 }
 
-/// Writes a number, where there is one, with what is behind a handle, which stays as it is.
+// Writes a number, where there is one, with what is behind a handle, which stays as it is.
 pub(crate) fn write_behind<F: Form>(
     alloc: Global,
     handle: &mut Handle,
@@ -63,7 +64,9 @@ pub(crate) fn write_behind<F: Form>(
     requires kind { F.Tables.is_for handle.old.pointer.value ≡ true }
     requires other { IfErr number.now (λ error. error ≢ CallError.TooSmall) }
     ensures same { handle.new.pointer.value ≡ handle.old.pointer.value }
-    ensures told { IsPut (WritesValue F.says (F.Tables.held_in handle.old.pointer.value) number.now) (IsValueFault F.fails (F.Tables.held_in handle.old.pointer.value) number.now) out.old out.new length.old length.new result }
+    ensures told { IsPut (WritesValue F.says (F.Tables.held_in handle.old.pointer.value) number.now)
+        (IsValueFault F.fails (F.Tables.held_in handle.old.pointer.value) number.now) out.old out.new length.old
+        length.new result }
 {
     let Some(content) = handle.take(alloc) else {
         return Err(CallError::Closed);

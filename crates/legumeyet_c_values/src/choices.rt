@@ -107,7 +107,7 @@ pub fn choice_by(width: u32, grouping: u32) -> Option<(Width, GroupingStrategy)>
 }
 
 impl Options {
-    /// What the numbers stand for, where each is known.
+    // What the numbers stand for, where each is known.
     pub(crate) fn choices(&self) -> Option<Choices>
         ensures { result ≡ choices_of self.now }
     {
@@ -142,8 +142,8 @@ fn signed(value: Decimal, sign: Option<SignDisplay>) -> Decimal
 }
 
 impl Choices {
-    /// The number rounded, and then with the sign that is chosen by what that left: 9.75 at -1 to the even one, with
-    /// `Always`, is `+9.8`. It does not allocate.
+    // The number rounded, and then with the sign that is chosen by what that left: 9.75 at -1 to the even one, with
+    // `Always`, is `+9.8`. It does not allocate.
     pub(crate) fn changed(self, value: Decimal) -> Decimal
         ensures { Changes self value result }
     {

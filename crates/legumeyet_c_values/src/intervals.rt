@@ -51,7 +51,7 @@ fn interval_by(listed: (usize, usize, Part)) -> Interval
     }
 }
 
-/// Lists parts at the front of the caller's intervals, as many as have room there; those behind them stay as they were.
+// Lists parts at the front of the caller's intervals, as many as have room there; those behind them stay as they were.
 pub(crate) fn list_parts(parts: &[(usize, usize, Part)], intervals: &mut [Interval])
     ensures { intervals.new ≡ over (map listed_as parts.now) intervals.old }
 {

@@ -110,7 +110,8 @@ pub fn number_of_i64(
     options: &Options,
 ) -> Result<Decimal, CallError>
     ensures value { IfOk result (λ value. Gives (choices_of options.now) (IsScaled mantissa exponent) value) }
-    ensures fault { IfErr result (λ error. IsChangeFault (choices_of options.now) (IsScaledFault mantissa exponent) error) }
+    ensures fault { IfErr result
+        (λ error. IsChangeFault (choices_of options.now) (IsScaledFault mantissa exponent) error) }
 {
     let choices = known(options)?;
     let value = scaled(alloc, mantissa, exponent)?;
@@ -124,7 +125,8 @@ pub fn compact_of_text(
     options: &Options,
 ) -> Result<CompactDecimal, CallError>
     ensures value { IfOk result (λ value. GivesCompact (choices_of options.now) text.now value) }
-    ensures fault { IfErr result (λ error. IsChangeFault (choices_of options.now) (IsCompactNumberFault text.now) error) }
+    ensures fault { IfErr result
+        (λ error. IsChangeFault (choices_of options.now) (IsCompactNumberFault text.now) error) }
 {
     let choices = known(options)?;
     let value = read_compact(alloc, text)?;

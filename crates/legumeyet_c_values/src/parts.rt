@@ -24,7 +24,8 @@ pub fn put_parts(
     intervals: &mut [Interval],
     count: &mut usize,
 ) -> Result<(), CallError>
-    ensures { IsPutInParts (λ text. text ≡ held_text sink.now) (λ error. ⊥) (given out.old length.old intervals.old count.old) (given out.new length.new intervals.new count.new) result }
+    ensures { IsPutInParts (λ text. text ≡ held_text sink.now) (λ error. ⊥)
+        (given out.old length.old intervals.old count.old) (given out.new length.new intervals.new count.new) result }
 {
     let text = sink.text();
     let parts = sink.parts();

@@ -11,7 +11,8 @@ use writeable_bytes::{copy_to_slice, write_to_slice};
 /// Writes the text of a value to the front of the bytes, and tells its length. `TooSmall`: the text is longer than the
 /// bytes.
 pub fn put<T: Writeable>(value: &T, out: &mut [u8], length: &mut usize) -> Result<(), CallError>
-    ensures { IsPut (λ text. text ≡ text_of (T.events value.now)) (λ error. ⊥) out.old out.new length.old length.new result }
+    ensures { IsPut (λ text. text ≡ text_of (T.events value.now)) (λ error. ⊥) out.old out.new length.old length.new
+        result }
 {
     match write_to_slice(value, out) {
         Ok(written) => {
