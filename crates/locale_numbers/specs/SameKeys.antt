@@ -8,6 +8,7 @@ use Rattle.std.proofs.Common.{ap}
 use Rattle.std.proofs.lemmas.Bool.{and_parts}
 use Rattle.icu_locale_core.specs.Subtags.{Text, same_text}
 use Rattle.icu_locale_core.specs.TagPreferences.{Subdivision, LocalePreferencesMeaning, Preferences}
+use Rattle.icu_locale_core.specs.SamePreferences.{same_subdivision, same_locale}
 use Rattle.icu_decimal.specs.declared.options.GroupingStrategy.{GroupingStrategy}
 use Rattle.locale_numbers.specs.declared.formatter_key.FormatterKey.{FormatterKey}
 use Rattle.locale_numbers.specs.declared.formatter_key.Kind.{Kind}
@@ -17,9 +18,6 @@ texts None None h = refl
 texts None (Some t) h = cc
 texts (Some s) None h = cc
 texts (Some s) (Some t) h = ap Some ((bytes_decides s t).0 h)
-
-abbrev same_subdivision : Subdivision → Subdivision → Bool
-same_subdivision a b = same_text a.region b.region && same_text a.suffix b.suffix
 
 subdivision_is : (a b : Subdivision) → same_subdivision a b ≡ true → a ≡ b
 subdivision_is a b h =
@@ -34,7 +32,7 @@ subdivisions None (Some t) h = cc
 subdivisions (Some s) None h = cc
 subdivisions (Some s) (Some t) h = ap Some (subdivision_is s t h)
 
--- the parts of a locale, the later ones first
+-- the parts of `same_locale`, the later ones first
 abbrev same_subdivisions : LocalePreferencesMeaning → LocalePreferencesMeaning → Bool
 same_subdivisions a b = option_eq same_subdivision a.subdivision b.subdivision && option_eq same_subdivision a.region_override b.region_override
 
@@ -46,9 +44,6 @@ same_behind_script a b = option_eq same_text a.region b.region && same_behind_re
 
 abbrev same_behind_language : LocalePreferencesMeaning → LocalePreferencesMeaning → Bool
 same_behind_language a b = option_eq same_text a.script b.script && same_behind_script a b
-
-abbrev same_locale : LocalePreferencesMeaning → LocalePreferencesMeaning → Bool
-same_locale a b = same_text a.language b.language && same_behind_language a b
 
 locale_is : (a b : LocalePreferencesMeaning) → same_locale a b ≡ true → a ≡ b
 locale_is a b h =

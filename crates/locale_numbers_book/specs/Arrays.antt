@@ -26,8 +26,8 @@ abbrev pub parents_of : Arrays → Option Items
 parents_of arrays = option_map (λ entries. items_view entries.items) arrays.parents
 
 -- the value that they were taken from
-abbrev pub value_of : Arrays → Data
-value_of arrays =
+abbrev pub value_of_arrays : Arrays → Data
+value_of_arrays arrays =
     of_arrays (items_view arrays.symbols.items) (items_view arrays.digits.items) (items_view arrays.rules.items)
     (items_view arrays.short.items) (items_view arrays.long.items) (parents_of arrays)
 

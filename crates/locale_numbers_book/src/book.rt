@@ -3,7 +3,7 @@
 ghost use Rattle.std.specs.Prelude.{◌≡◌, true, IfOk, IsErrOf, IfErr};
 ghost use Rattle.serde_json.specs.Data.{Data};
 ghost use Rattle.serde_json.specs.View.{view};
-ghost use Rattle.locale_numbers_book.specs.Arrays.{fault_in, may_grow_in, value_of};
+ghost use Rattle.locale_numbers_book.specs.Arrays.{fault_in, may_grow_in, value_of_arrays};
 ghost use Rattle.locale_numbers_book.specs.Book.{IsBook};
 ghost use Rattle.locale_numbers_book.specs.Form.{book_fault};
 ghost use Rattle.locale_numbers_book.specs.Json.{Reads};
@@ -59,7 +59,7 @@ impl Drop for Book {
 // The book of these arrays, its tables hashed by this seed.
 #[tactic(auto, using(crate::proofs::BookLemmas::or_second, crate::proofs::BookLemmas::or_third, crate::proofs::BookLemmas::or_fourth, crate::proofs::BookLemmas::or_fifth, crate::proofs::BookLemmas::or_sixth))]
 fn tables_of(alloc: Global, seed: Seed, arrays: Arrays) -> Result<Book, BookError>
-    ensures value { IfOk result (IsBook (value_of arrays)) }
+    ensures value { IfOk result (IsBook (value_of_arrays arrays)) }
     ensures fault { IfErr result (λ fault. IsTold (fault_in arrays) fault) }
     ensures room { IsErrOf result BookError.Memory → may_grow_in arrays ≡ true }
 {

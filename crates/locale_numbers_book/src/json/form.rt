@@ -5,7 +5,7 @@ ghost use Rattle.std.specs.Vec.Iter.{into_iter_items};
 ghost use Rattle.serde_json.specs.Data.{array};
 ghost use Rattle.serde_json.specs.Find.{as_array};
 ghost use Rattle.serde_json.specs.View.{view, items_view};
-ghost use Rattle.locale_numbers_book.specs.Arrays.{value_of};
+ghost use Rattle.locale_numbers_book.specs.Arrays.{value_of_arrays};
 ghost use Rattle.locale_numbers_tables.specs.Entries.{field_at, has_count};
 ghost use Rattle.locale_numbers_book.specs.Form.{has_form, is_array_at, items_at};
 
@@ -90,7 +90,7 @@ fn next_items(alloc: Global, values: &mut IntoIter<Value>) -> Vec<Value>
 // The arrays that values are.
 fn arrays_in(alloc: Global, values: Vec<Value>) -> Arrays
     requires { has_form (array (items_view values.items)) ≡ true }
-    ensures { array (items_view values.items) ≡ value_of result }
+    ensures { array (items_view values.items) ≡ value_of_arrays result }
 {
     let mut values = values.into_iter();
     let symbols = next_items(alloc, &mut values);
@@ -111,7 +111,7 @@ fn arrays_in(alloc: Global, values: Vec<Value>) -> Arrays
 
 /// The five arrays or six that a value is, taken out of it, or none where it is of another form.
 pub fn arrays_of(alloc: Global, value: Value) -> Option<Arrays>
-    ensures some { IfSome result (λ arrays. view value ≡ value_of arrays) }
+    ensures some { IfSome result (λ arrays. view value ≡ value_of_arrays arrays) }
     ensures none { result ≡ None → has_form (view value) ≡ false }
 {
     if !has_form(&value) {
