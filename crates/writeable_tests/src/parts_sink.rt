@@ -3,6 +3,7 @@ ghost use Rattle.std.specs.Prelude.{◌≡◌, false};
 
 use crate::fakes::{INNER, OUTER, Pair};
 use std::alloc::{AllocError, Global};
+use std::process::Abort;
 use std::test::Fail;
 use writeable::{Affixed, Error, PartsSink, Sink, Writeable};
 
@@ -46,36 +47,67 @@ fn texts(alloc: Global, sink: &PartsSink) -> Result<String, AllocError> {
     Ok(listed)
 }
 
+// Scripts, with the text that each writes, its parts, and these with their texts.
+const SCRIPTS: [(&str, &str, &str, &str); 11] = [
+    ("(a[,]b)", "a,b", " 0-3A 1-2B", " A=a,b B=,"),
+    ("a[,]", "a,", " 1-2B", " B=,"),
+    // a part without bytes
+    ("()a", "a", "", ""),
+    ("(a[])", "a", " 0-1A", " A=a"),
+    // a part that is still open, then closed, and a closed one inside an open one
+    ("(a", "a", "", ""),
+    ("(a)", "a", " 0-1A", " A=a"),
+    ("(a[b]", "ab", " 1-2B", " B=b"),
+    // only a close: nothing happens
+    (")(a))b", "ab", " 0-1A", " A=a"),
+    // two parts at one start, in order of opening
+    ("([a])", "a", " 0-1A 0-1B", " A=a B=a"),
+    (
+        "(a[b])(c)[d]",
+        "abcd",
+        " 0-2A 1-2B 2-3A 3-4B",
+        " A=ab B=b A=c B=d",
+    ),
+    // bytes, not characters
+    ("١[٬]", "١٬", " 2-4B", " B=٬"),
+];
+
+// Compares two texts, the first of which is dropped.
+fn expect_same(rt: &impl Abort, found: String, want: &str, script: &str) {
+    assert_eq!(rt; found.as_str(), want, "{script}");
+}
+
+// Compares what a sink holds and lists.
+fn expect_held(
+    rt: &impl Abort,
+    alloc: Global,
+    sink: &PartsSink,
+    row: &(&str, &str, &str, &str),
+) -> Result<(), Fail> {
+    let (script, text, parts, part_texts) = row;
+    assert_eq!(rt; sink.text(), *text, "{script}");
+    assert!(rt; !sink.has_refused());
+    expect_same(rt, listing(alloc, sink)?, parts, script);
+    expect_same(rt, texts(alloc, sink)?, part_texts, script);
+    Ok(())
+}
+
+// Writes a script to a sink, and compares what it then holds and lists.
+fn expect_listed(
+    rt: &impl Abort,
+    alloc: Global,
+    row: &(&str, &str, &str, &str),
+) -> Result<(), Fail> {
+    let sink = written(alloc, row.0)?;
+    let compared = expect_held(rt, alloc, &sink, row);
+    drop(sink);
+    compared
+}
+
 #[test]
 fn lists_closed_parts_with_bytes(rt: HostRuntime) -> Result<(), Fail> {
-    for (script, text, parts, part_texts) in [
-        ("(a[,]b)", "a,b", " 0-3A 1-2B", " A=a,b B=,"),
-        ("a[,]", "a,", " 1-2B", " B=,"),
-        // a part without bytes
-        ("()a", "a", "", ""),
-        ("(a[])", "a", " 0-1A", " A=a"),
-        // a part that is still open, then closed, and a closed one inside an open one
-        ("(a", "a", "", ""),
-        ("(a)", "a", " 0-1A", " A=a"),
-        ("(a[b]", "ab", " 1-2B", " B=b"),
-        // only a close: nothing happens
-        (")(a))b", "ab", " 0-1A", " A=a"),
-        // two parts at one start, in order of opening
-        ("([a])", "a", " 0-1A 0-1B", " A=a B=a"),
-        (
-            "(a[b])(c)[d]",
-            "abcd",
-            " 0-2A 1-2B 2-3A 3-4B",
-            " A=ab B=b A=c B=d",
-        ),
-        // bytes, not characters
-        ("١[٬]", "١٬", " 2-4B", " B=٬"),
-    ] {
-        let sink = written(rt.alloc(), script)?;
-        assert_eq!(rt; sink.text(), text, "{script}");
-        assert_eq!(rt; listing(rt.alloc(), &sink)?.as_str(), parts, "{script}");
-        assert_eq!(rt; texts(rt.alloc(), &sink)?.as_str(), part_texts, "{script}");
-        assert!(rt; !sink.has_refused());
+    for row in &SCRIPTS {
+        expect_listed(&rt, rt.alloc(), row)?;
     }
     Ok(())
 }

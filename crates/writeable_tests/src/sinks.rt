@@ -3,6 +3,7 @@ ghost use Rattle.std.specs.Prelude.{◌≡◌, false};
 
 use crate::fakes::{OUTER, Pair, Short};
 use std::alloc::{AllocError, Global};
+use std::process::Abort;
 use std::test::Fail;
 use writeable::{CountSink, Error, Sink, TextSink, Writeable};
 
@@ -78,46 +79,59 @@ fn counted<T: Writeable>(value: &T) -> Result<(u64, bool), Error> {
     Ok((sink.count(), sink.has_refused()))
 }
 
+// Texts, with the count of their bytes, which are not their characters.
+const COUNTS: [(&str, u64); 3] = [("", 0), ("a,b", 3), ("١٬٢", 6)];
+
 #[test]
 fn counts_of_bytes(rt: HostRuntime) {
     assert_eq!(rt; CountSink::new().count(), 0);
-    for (text, want) in [
-        ("", 0),
-        ("a,b", 3),
-        // bytes, not characters
-        ("١٬٢", 6),
-    ] {
-        assert_eq!(rt; counted(&text), Ok((want, false)), "{text}");
+    for (text, want) in &COUNTS {
+        assert_eq!(rt; counted(text), Ok((*want, false)), "{text}");
     }
     assert_eq!(rt; counted(&Pair), Ok((3, false)));
     assert_eq!(rt; counted_call_by_call(), Ok(5));
 }
 
+// How many calls a sink takes, and whether it so takes `Pair`, which makes seven.
+const CALLS_OF_A_PAIR: [(usize, bool); 6] = [
+    (0, false),
+    (1, false),
+    (3, false),
+    (6, false),
+    (7, true),
+    (8, true),
+];
+
+// The same of its text only, which makes three.
+const CALLS_OF_ITS_TEXT: [(usize, bool); 3] = [(0, false), (2, false), (3, true)];
+
+// A sink that takes so many calls.
+fn short(calls: usize) -> Short
+    ensures { result.refused ≡ false }
+{
+    Short {
+        calls,
+        refused: false,
+    }
+}
+
+// Compares what a call returned, and what its sink says then.
+fn expect_taken(rt: &impl Abort, returned: Result<(), Error>, sink: &Short, row: (usize, bool)) {
+    let (calls, is_taken) = row;
+    assert_eq!(rt; returned.is_ok(), is_taken, "{calls} calls");
+    assert_eq!(rt; sink.has_refused(), !is_taken, "{calls} calls");
+}
+
 #[test]
 fn a_value_is_refused_where_the_sink_refuses(rt: HostRuntime) {
-    // `Pair` makes seven calls
-    for (calls, want) in [
-        (0, Err(Error)),
-        (1, Err(Error)),
-        (3, Err(Error)),
-        (6, Err(Error)),
-        (7, Ok(())),
-        (8, Ok(())),
-    ] {
-        let mut sink = Short {
-            calls,
-            refused: false,
-        };
-        assert_eq!(rt; Pair.write_to(&mut sink), want, "{calls} calls");
-        assert_eq!(rt; sink.has_refused(), want.is_err(), "{calls} calls");
+    for row in &CALLS_OF_A_PAIR {
+        let mut sink = short(row.0);
+        let returned = Pair.write_to(&mut sink);
+        expect_taken(&rt, returned, &sink, *row);
     }
-    // only its text: three
-    for (calls, want) in [(0, Err(Error)), (2, Err(Error)), (3, Ok(()))] {
-        let mut sink = Short {
-            calls,
-            refused: false,
-        };
-        assert_eq!(rt; Pair.write_text(&mut sink), want, "{calls} calls");
-        assert_eq!(rt; sink.has_refused(), want.is_err(), "{calls} calls");
+    for row in &CALLS_OF_ITS_TEXT {
+        let mut sink = short(row.0);
+        let returned = Pair.write_text(&mut sink);
+        expect_taken(&rt, returned, &sink, *row);
     }
 }
