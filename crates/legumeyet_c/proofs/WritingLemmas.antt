@@ -11,9 +11,9 @@ use Rattle.legumeyet_c.specs.Reading.{IsReadFault, IsUnread}
 use Rattle.legumeyet_c.specs.Writing.{IsValueFault, IsWritingFault, Writes, WritesValue}
 
 -- what was written by tables was written by the handle that has them open
-pub open_put : {T N : Type 0} (says : T → N → List ℕ → Type 0) (fails : T → N → CallError → Type 0) (open_tables : Option T) (tables : T) (value : Result N CallError)
+pub open_put : {T N : Type 0} (says : T → N → List ℕ → Type 0) (fails : T → N → CallError → Type 0) (open_tables tables : Option T) (value : Result N CallError)
     (before after : List ℕ) (was told : ℕ) (outcome : Result (Unit {0}) CallError)
-    → open_tables ≡ Some tables → IsPut (WritesValue says (Some tables) value) (IsValueFault fails (Some tables) value) before after was told outcome
+    → open_tables ≡ tables → IsPut (WritesValue says tables value) (IsValueFault fails tables value) before after was told outcome
     → IsPut (WritesValue says open_tables value) (IsValueFault fails open_tables value) before after was told outcome
 open_put {T} says fails open_tables tables value before after was told outcome is put =
     subst (λ (o : Option T). IsPut (WritesValue says o value) (IsValueFault fails o value) before after was told outcome) (sym is) put

@@ -1,6 +1,6 @@
 //! Answers to request lines: `legumeyet_book_answer`.
 
-ghost use Rattle.std.specs.Prelude.{◌≡◌, IfOk, IfErr};
+ghost use Rattle.std.specs.Prelude.{◌≡◌, Some, IfOk, IfErr};
 ghost use Rattle.legumeyet_c_values.specs.Putting.{Answers, IsPut};
 ghost use Rattle.legumeyet_c.specs.Answering.{IsAnswerFault, SaysAnswer};
 ghost use Rattle.legumeyet_c.specs.Views.{book_open};
@@ -11,6 +11,17 @@ use legumeyet_c_values::{CallError, answer, put_bytes};
 use locale_numbers::Book;
 use std::alloc::Global;
 
+// The answer of a book.
+fn answer_of(alloc: Global, book: &Book, line: &[u8]) -> Result<Vec<u8>, CallError>
+    ensures value { IfOk result (λ text. SaysAnswer (Some book.now) line.now text.items) }
+    ensures fault { IfErr result (λ error. IsAnswerFault (Some book.now) error) }
+{
+    match locale_numbers::answer(alloc, book, line) {
+        Ok(text) => Ok(text),
+        Err(_) => Err(CallError::Memory),
+    }
+}
+
 // The answer of the book behind a handle, which stays as it is.
 fn answer_behind(alloc: Global, book: &mut BookHandle, line: &[u8]) -> Result<Vec<u8>, CallError>
     ensures same { book_open book.new ≡ book_open book.old }
@@ -20,9 +31,9 @@ fn answer_behind(alloc: Global, book: &mut BookHandle, line: &[u8]) -> Result<Ve
     let Some(content) = book.handle.take(alloc) else {
         return Err(CallError::Closed);
     };
-    let found = match locale_numbers::answer(alloc, Book::held_by(&content), line) {
-        Ok(text) => Ok(text),
-        Err(_) => Err(CallError::Memory),
+    let found = match Book::held_by(&content) {
+        Some(held) => answer_of(alloc, held, line),
+        None => Err(CallError::Closed),
     };
     book.handle.put(alloc, content);
     found

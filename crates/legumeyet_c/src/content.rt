@@ -1,7 +1,7 @@
 //! What an open handle has.
 
-ghost use Rattle.std.specs.Prelude.{◌≡◌, IfSome, Some, None, true, refl};
-ghost use Rattle.legumeyet_c.specs.Kinds.{book_in, book_is, compact_in, compact_is, decimal_in, decimal_is, is_for_book, is_for_compact, is_for_decimal};
+ghost use Rattle.std.specs.Prelude.{◌≡◌, IfSome, Some, None, option_map, refl};
+ghost use Rattle.legumeyet_c.specs.Kinds.{book_in, compact_in, decimal_in};
 
 use crate::compact_tables::HeldCompactTables;
 use crate::decimal_tables::DecimalTables;
@@ -24,30 +24,22 @@ pub enum Content {
 
 // What the handles of one kind have open.
 pub(crate) trait Held: Drop {
-    ghost use Rattle.std.specs.Prelude.{Bool, Option};
+    ghost use Rattle.std.specs.Prelude.{Option};
     ghost use Rattle.legumeyet_c.specs.declared.content.Content.{Content};
 
-    // such a handle may have this open
-    ghost is_for: { Option Content → Bool };
-
-    // what it has open then
+    // what it has open: nothing where it is closed, or has a content of another kind
     ghost held_in: { Option Content → Option Self };
 
-    /// What a content has.
-    fn held_by(content: &Content) -> &Self
-        requires { is_for (Some content.now) ≡ true }
-        ensures { held_in (Some content.now) ≡ Some result.now };
+    /// What a content has, where it is of this kind.
+    fn held_by(content: &Content) -> Option<&Self>
+        ensures { option_map (λ held. held.now) result ≡ held_in (Some content.now) };
 
     /// The content that has it.
     fn into_content(self) -> Content
-        ensures kind { is_for (Some result) ≡ true }
         ensures held { held_in (Some result) ≡ Some self };
 
-    // a closed one may be closed, and has nothing open
-    ghost closed: { (is_for None ≡ true) × (held_in None ≡ None) };
-
-    // an open one has something open
-    ghost held_is: { (content : Content) → is_for (Some content) ≡ true → (held : Self) × (held_in (Some content) ≡ Some held) };
+    // a closed one has nothing open
+    ghost closed: { held_in None ≡ None };
 }
 
 // The book of a content, where it is kept.
@@ -61,15 +53,13 @@ pub(crate) fn kept_in(content: &Content) -> Option<&'static Book>
 }
 
 impl Held for Book {
-    ghost is_for = { is_for_book };
-
     ghost held_in = { book_in };
 
-    fn held_by(content: &Content) -> &Book {
+    fn held_by(content: &Content) -> Option<&Book> {
         match content {
-            Content::Book(book) => book,
-            Content::Kept(book) => *book,
-            Content::Decimal(_) | Content::Compact(_) | Content::Nothing => unreachable!(),
+            Content::Book(book) => Some(book),
+            Content::Kept(book) => Some(*book),
+            Content::Decimal(_) | Content::Compact(_) | Content::Nothing => None,
         }
     }
 
@@ -77,22 +67,16 @@ impl Held for Book {
         Content::Book(self)
     }
 
-    ghost closed = { (refl, refl) };
-
-    ghost held_is = { book_is };
+    ghost closed = { refl };
 }
 
 impl Held for DecimalTables {
-    ghost is_for = { is_for_decimal };
-
     ghost held_in = { decimal_in };
 
-    fn held_by(content: &Content) -> &DecimalTables {
+    fn held_by(content: &Content) -> Option<&DecimalTables> {
         match content {
-            Content::Decimal(tables) => tables,
-            Content::Book(_) | Content::Kept(_) | Content::Compact(_) | Content::Nothing => {
-                unreachable!()
-            }
+            Content::Decimal(tables) => Some(tables),
+            Content::Book(_) | Content::Kept(_) | Content::Compact(_) | Content::Nothing => None,
         }
     }
 
@@ -100,22 +84,16 @@ impl Held for DecimalTables {
         Content::Decimal(self)
     }
 
-    ghost closed = { (refl, refl) };
-
-    ghost held_is = { decimal_is };
+    ghost closed = { refl };
 }
 
 impl Held for HeldCompactTables {
-    ghost is_for = { is_for_compact };
-
     ghost held_in = { compact_in };
 
-    fn held_by(content: &Content) -> &HeldCompactTables {
+    fn held_by(content: &Content) -> Option<&HeldCompactTables> {
         match content {
-            Content::Compact(tables) => tables,
-            Content::Book(_) | Content::Kept(_) | Content::Decimal(_) | Content::Nothing => {
-                unreachable!()
-            }
+            Content::Compact(tables) => Some(tables),
+            Content::Book(_) | Content::Kept(_) | Content::Decimal(_) | Content::Nothing => None,
         }
     }
 
@@ -123,7 +101,5 @@ impl Held for HeldCompactTables {
         Content::Compact(self)
     }
 
-    ghost closed = { (refl, refl) };
-
-    ghost held_is = { compact_is };
+    ghost closed = { refl };
 }

@@ -1,7 +1,5 @@
-//! Handles of one kind of content each, as C has them.
-
-ghost use Rattle.std.specs.Prelude.{◌≡◌, true};
-ghost use Rattle.legumeyet_c.specs.Kinds.{is_for_book, is_for_compact, is_for_decimal};
+//! Handles of one kind of content each, as C has them. C may pass one for another, so a handle may have any content,
+//! and is closed to the calls of another kind.
 
 use crate::handle::Handle;
 
@@ -10,7 +8,6 @@ use crate::handle::Handle;
 pub struct BookHandle {
     /// What is behind it.
     pub handle: Handle,
-    ghost kind: { is_for_book handle.pointer.value ≡ true },
 }
 
 /// A formatter of plain numbers, or a closed handle: `legumeyet_decimal_formatter`.
@@ -18,7 +15,6 @@ pub struct BookHandle {
 pub struct DecimalHandle {
     /// What is behind it.
     pub handle: Handle,
-    ghost kind: { is_for_decimal handle.pointer.value ≡ true },
 }
 
 /// A formatter of compact numbers, or a closed handle: `legumeyet_compact_formatter`.
@@ -26,5 +22,4 @@ pub struct DecimalHandle {
 pub struct CompactHandle {
     /// What is behind it.
     pub handle: Handle,
-    ghost kind: { is_for_compact handle.pointer.value ≡ true },
 }

@@ -1,8 +1,8 @@
 //! Books kept for the rest of the run: `legumeyet_book_keep`.
 
-ghost use Rattle.std.specs.Prelude.{◌≡◌, Some, true};
+ghost use Rattle.std.specs.Prelude.{◌≡◌, Some};
 ghost use Rattle.legumeyet_c_values.specs.Putting.{Answers};
-ghost use Rattle.legumeyet_c.specs.Kinds.{book_in, is_for_book, is_kept};
+ghost use Rattle.legumeyet_c.specs.Kinds.{book_in, is_kept};
 ghost use Rattle.legumeyet_c.specs.Opening.{IsKeeping};
 ghost use Rattle.legumeyet_c.specs.Views.{book_kept, book_open};
 
@@ -13,21 +13,26 @@ use legumeyet_c_values::{CallError, answer};
 use locale_numbers::Book;
 use std::alloc::Global;
 
-// The content with its book kept, and the content as it was where memory is refused.
+// The content with its book kept, and the content as it was where memory is refused or it has no book.
 fn keep(alloc: Global, content: Box<Content>) -> (Box<Content>, Result<(), CallError>)
-    requires { is_for_book (Some content.value) ≡ true }
-    ensures kind { is_for_book (Some result.0.value) ≡ true }
     ensures same { book_in (Some result.0.value) ≡ book_in (Some content.value) }
     ensures told { IsKeeping (book_in (Some content.value)) (is_kept (Some content.value))
         (is_kept (Some result.0.value)) result.1 }
 {
-    if let Content::Kept(_) = &*content {
-        return (content, Ok(()));
+    match &*content {
+        Content::Kept(_) => return (content, Ok(())),
+        Content::Book(_) => (),
+        Content::Decimal(_) | Content::Compact(_) | Content::Nothing => {
+            return (content, Err(CallError::Closed));
+        }
     }
     match Box::new(alloc, Content::Nothing) {
         Ok(mut block) => {
             let leaked: &'static Content = Box::leak(content);
-            let _ = Box::replace(&mut block, Content::Kept(Book::held_by(leaked)));
+            let Some(book) = Book::held_by(leaked) else {
+                unreachable!()
+            };
+            let _ = Box::replace(&mut block, Content::Kept(book));
             (block, Ok(()))
         }
         Err(_) => (content, Err(CallError::Memory)),
@@ -36,8 +41,6 @@ fn keep(alloc: Global, content: Box<Content>) -> (Box<Content>, Result<(), CallE
 
 // Keeps the book behind a handle.
 fn keep_behind(alloc: Global, book: &mut Handle) -> Result<(), CallError>
-    requires { is_for_book book.old.pointer.value ≡ true }
-    ensures kind { is_for_book book.new.pointer.value ≡ true }
     ensures same { book_in book.new.pointer.value ≡ book_in book.old.pointer.value }
     ensures told { IsKeeping (book_in book.old.pointer.value) (is_kept book.old.pointer.value)
         (is_kept book.new.pointer.value) result }

@@ -1,5 +1,6 @@
 //! The C API: books and formatters behind handles, and texts in bytes of the caller's. `include/legumeyet.h` says what
-//! each call does.
+//! each call does. A handle that has something of another kind open is closed to a call, which returns 2 and leaves the
+//! handle as it was.
 //!
 //! ```c
 //! legumeyet_book_open(json, json_length, &book);

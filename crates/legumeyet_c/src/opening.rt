@@ -1,7 +1,7 @@
 //! Handles opened and closed.
 
-ghost use Rattle.std.specs.Prelude.{◌≡◌, ◌⊎◌, Err, None, true, IfOk, IfErr, IfSome};
-ghost use Rattle.legumeyet_c.specs.Kinds.{book_in, is_for_book};
+ghost use Rattle.std.specs.Prelude.{◌≡◌, ◌⊎◌, Err, None, IfOk, IfErr, IfSome};
+ghost use Rattle.legumeyet_c.specs.Kinds.{book_in};
 ghost use Rattle.legumeyet_c.specs.Opening.{Finds, IsClosing, IsFindingFault, IsOpening, IsTagFault};
 
 use crate::content::{Held, kept_in};
@@ -81,7 +81,6 @@ fn find_behind<T: Found>(
     choice: Option<T::Choice>,
     tag: &[u8],
 ) -> Result<T, CallError>
-    requires { is_for_book book.old.pointer.value ≡ true }
     ensures same { book.new.pointer.value ≡ book.old.pointer.value }
     ensures value { IfOk result (λ tables. Finds T.finds (book_in book.old.pointer.value) choice tag.now tables) }
     ensures fault { IfErr result
@@ -90,27 +89,24 @@ fn find_behind<T: Found>(
     let Some(content) = book.take(alloc) else {
         return Err(CallError::Closed);
     };
-    let found = match choice {
-        Some(choice) => {
-            let kept = kept_in(&content);
-            find_for::<T>(alloc, Book::held_by(&content), kept, choice, tag)
-        }
-        None => Err(CallError::UnknownOption),
+    let found = match (Book::held_by(&content), choice) {
+        (Some(held), Some(choice)) => { find_for::<T>(alloc, held, kept_in(&content), choice, tag) }
+        (Some(_), None) => Err(CallError::UnknownOption),
+        (None, _) => Err(CallError::Closed),
     };
     book.put(alloc, content);
     found
 }
 
-// Puts a content behind a handle, and closes what it had open. The error that is given: out of memory.
+// Puts a content behind a handle, and closes what it had open, of whatever kind. The error that is given: out of
+// memory.
 pub(crate) fn put_behind<T: Held>(
     alloc: Global,
     handle: &mut Handle,
     held: T,
     fault: CallError,
 ) -> Result<(), CallError>
-    requires { T.is_for handle.old.pointer.value ≡ true }
-    ensures kind { T.is_for handle.new.pointer.value ≡ true }
-    ensures told { IsOpening (λ opened. opened ≡ held) (λ error. error ≡ fault) (T.held_in handle.old.pointer.value)
+    ensures { IsOpening (λ opened. opened ≡ held) (λ error. error ≡ fault) (T.held_in handle.old.pointer.value)
         (T.held_in handle.new.pointer.value) result }
 {
     match Box::new(alloc, held.into_content()) {
@@ -131,10 +127,7 @@ pub(crate) fn open<T: Found>(
     tag: &[u8],
     handle: &mut Handle,
 ) -> Result<(), CallError>
-    requires book { is_for_book book.old.pointer.value ≡ true }
-    requires kind { T.is_for handle.old.pointer.value ≡ true }
     ensures same { book.new.pointer.value ≡ book.old.pointer.value }
-    ensures kind { T.is_for handle.new.pointer.value ≡ true }
     ensures told { IsOpening (Finds T.finds (book_in book.old.pointer.value) choice tag.now)
         (IsFindingFault T.found (book_in book.old.pointer.value) choice tag.now) (T.held_in handle.old.pointer.value)
         (T.held_in handle.new.pointer.value) result }
@@ -145,14 +138,19 @@ pub(crate) fn open<T: Found>(
     }
 }
 
-// Closes a handle. `Closed`: it was closed already.
+// Closes a handle. `Closed`: it was closed already, or has a content of another kind, which it keeps.
 pub(crate) fn close<T: Held>(alloc: Global, handle: &mut Handle) -> Result<(), CallError>
-    requires { T.is_for handle.old.pointer.value ≡ true }
-    ensures closed { handle.new.pointer.value ≡ None }
+    ensures closed { T.held_in handle.new.pointer.value ≡ None }
     ensures told { IsClosing (T.held_in handle.old.pointer.value) result }
+    ensures same { IfErr result (λ error. handle.new.pointer.value ≡ handle.old.pointer.value) }
 {
-    match handle.take(alloc) {
-        Some(_) => Ok(()),
-        None => Err(CallError::Closed),
+    let Some(content) = handle.take(alloc) else {
+        return Err(CallError::Closed);
+    };
+    if T::held_by(&content).is_none() {
+        handle.put(alloc, content);
+        return Err(CallError::Closed);
     }
+    drop(content);
+    Ok(())
 }

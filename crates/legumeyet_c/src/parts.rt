@@ -1,6 +1,6 @@
 //! Numbers written with their parts: `legumeyet_decimal_formatter_format_parts`.
 
-ghost use Rattle.std.specs.Prelude.{◌≡◌, ◌≢◌, true, IfOk, IfErr};
+ghost use Rattle.std.specs.Prelude.{◌≡◌, ◌≢◌, IfOk, IfErr};
 ghost use Rattle.legumeyet_c_values.specs.Parts.{IsPutInParts, given, held_text};
 ghost use Rattle.legumeyet_c_values.specs.Putting.{Answers};
 ghost use Rattle.legumeyet_c.specs.DecimalWriting.{IsDecimalAnnotated, WantsMemory};
@@ -64,7 +64,6 @@ fn annotated_behind<T: Annotates>(
     handle: &mut Handle,
     number: &Result<Decimal, CallError>,
 ) -> Result<PartsSink, CallError>
-    requires { T.is_for handle.old.pointer.value ≡ true }
     ensures same { handle.new.pointer.value ≡ handle.old.pointer.value }
     ensures value { IfOk result
         (λ sink. WritesValue T.says (T.held_in handle.old.pointer.value) number.now (held_text sink)) }
@@ -73,9 +72,10 @@ fn annotated_behind<T: Annotates>(
     let Some(content) = handle.take(alloc) else {
         return Err(CallError::Closed);
     };
-    let found = match number {
-        Ok(value) => T::held_by(&content).annotated(alloc, value),
-        Err(error) => Err(*error),
+    let found = match (T::held_by(&content), number) {
+        (Some(tables), Ok(value)) => tables.annotated(alloc, value),
+        (Some(_), Err(error)) => Err(*error),
+        (None, _) => Err(CallError::Closed),
     };
     handle.put(alloc, content);
     found
@@ -91,8 +91,7 @@ pub(crate) fn write_parts<T: Annotates>(
     intervals: &mut [Interval],
     count: &mut usize,
 ) -> Result<(), CallError>
-    requires kind { T.is_for handle.old.pointer.value ≡ true }
-    requires other { IfErr number.now (λ error. error ≢ CallError.TooSmall) }
+    requires { IfErr number.now (λ error. error ≢ CallError.TooSmall) }
     ensures same { handle.new.pointer.value ≡ handle.old.pointer.value }
     ensures told { IsPutInParts (WritesValue T.says (T.held_in handle.old.pointer.value) number.now)
         (IsValueFault T.fails (T.held_in handle.old.pointer.value) number.now)

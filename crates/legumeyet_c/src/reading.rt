@@ -44,7 +44,10 @@ fn read_behind(
     let Some(content) = formatter.handle.take(alloc) else {
         return Err(CallError::Closed);
     };
-    let found = read_with(alloc, DecimalTables::held_by(&content), text);
+    let found = match DecimalTables::held_by(&content) {
+        Some(tables) => read_with(alloc, tables, text),
+        None => Err(CallError::Closed),
+    };
     formatter.handle.put(alloc, content);
     found
 }

@@ -1,10 +1,10 @@
 //! Numbers written with what is behind a handle.
 
-ghost use Rattle.std.specs.Prelude.{◌≡◌, ◌≢◌, Some, true, IfErr};
+ghost use Rattle.std.specs.Prelude.{◌≡◌, ◌≢◌, Some, IfErr};
 ghost use Rattle.legumeyet_c_values.specs.Putting.{IsPut};
 ghost use Rattle.legumeyet_c.specs.Writing.{IsValueFault, WritesValue};
 
-use crate::content::Held;
+use crate::content::{Content, Held};
 use crate::handle::Handle;
 use legumeyet_c_values::CallError;
 use std::alloc::Global;
@@ -53,6 +53,24 @@ fn write_value<F: Form>(
     }
 }
 
+// Writes a number, where there is one, with what a content has.
+fn write_held<F: Form>(
+    content: &Content,
+    number: &Result<F::Number, CallError>,
+    out: &mut [u8],
+    length: &mut usize,
+) -> Result<(), CallError>
+    requires { IfErr number.now (λ error. error ≢ CallError.TooSmall) }
+    ensures { IsPut (WritesValue F.says (F.Tables.held_in (Some content.now)) number.now)
+        (IsValueFault F.fails (F.Tables.held_in (Some content.now)) number.now) out.old out.new length.old length.new
+        result }
+{
+    match F::Tables::held_by(content) {
+        Some(tables) => write_value::<F>(tables, number, out, length),
+        None => Err(CallError::Closed),
+    }
+}
+
 // Writes a number, where there is one, with what is behind a handle, which stays as it is.
 pub(crate) fn write_behind<F: Form>(
     alloc: Global,
@@ -61,8 +79,7 @@ pub(crate) fn write_behind<F: Form>(
     out: &mut [u8],
     length: &mut usize,
 ) -> Result<(), CallError>
-    requires kind { F.Tables.is_for handle.old.pointer.value ≡ true }
-    requires other { IfErr number.now (λ error. error ≢ CallError.TooSmall) }
+    requires { IfErr number.now (λ error. error ≢ CallError.TooSmall) }
     ensures same { handle.new.pointer.value ≡ handle.old.pointer.value }
     ensures told { IsPut (WritesValue F.says (F.Tables.held_in handle.old.pointer.value) number.now)
         (IsValueFault F.fails (F.Tables.held_in handle.old.pointer.value) number.now) out.old out.new length.old
@@ -71,7 +88,7 @@ pub(crate) fn write_behind<F: Form>(
     let Some(content) = handle.take(alloc) else {
         return Err(CallError::Closed);
     };
-    let written = write_value::<F>(F::Tables::held_by(&content), number, out, length);
+    let written = write_held::<F>(&content, number, out, length);
     handle.put(alloc, content);
     written
 }

@@ -18,7 +18,7 @@ returns-in-Ok c =
           (λ x is. subst (SaysBook c.args.json.now) (sym is)
           (record { value = c.in-Ok.ensures.value.0; reads = c.in-Ok.ensures.value.1; is_book = c.in-Ok.ensures.value.2 }))
           (λ error is. record { fault = Memory; refused = tt; told = is })
-          c.put_behind.ensures.told;
+          c.put_behind.ensures;
     }
 
 pub returns-in-Err : goal.returns-in-Err

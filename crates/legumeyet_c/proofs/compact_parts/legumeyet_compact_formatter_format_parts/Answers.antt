@@ -11,8 +11,8 @@ use Rattle.legumeyet_c.specs.Views.{compact_open}
 use Rattle.legumeyet_c.proofs.WritingLemmas.{value_fault, value_says}
 use Rattle.legumeyet_c.proofs.compact_parts.legumeyet_compact_formatter_format_parts.Goals as goal
 
-pub write_parts-requires-clause-other : goal.write_parts-requires-clause-other
-write_parts-requires-clause-other c =
+pub write_parts-requires : goal.write_parts-requires
+write_parts-requires c =
     other_fault c.number_of_text-number.result c.number_of_text-number.ensures.fault
     (λ error caused. number_fault_other (choices_of c.args.options.now) c.args.number.now error caused)
 

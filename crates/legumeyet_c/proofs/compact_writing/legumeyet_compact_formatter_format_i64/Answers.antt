@@ -10,8 +10,8 @@ use Rattle.legumeyet_c.specs.Views.{compact_open}
 use Rattle.legumeyet_c.proofs.WritingLemmas.{value_fault, value_says}
 use Rattle.legumeyet_c.proofs.compact_writing.legumeyet_compact_formatter_format_i64.Goals as goal
 
-pub write_behind-requires-clause-other : goal.write_behind-requires-clause-other
-write_behind-requires-clause-other c =
+pub write_behind-requires : goal.write_behind-requires
+write_behind-requires c =
     let mantissa = to_z-of_z w64 c.args.mantissa c.ranges.mantissa in
     let exponent = to_z-of_z w16 c.args.exponent c.ranges.exponent in
     other_fault c.number_of_i64-number.result (simp (mantissa, exponent) at c.number_of_i64-number.ensures.fault)

@@ -11,8 +11,8 @@ use Rattle.legumeyet_c.specs.Views.{compact_open}
 use Rattle.legumeyet_c.proofs.WritingLemmas.{value_fault, value_says}
 use Rattle.legumeyet_c.proofs.compact_writing.legumeyet_compact_formatter_shown.Goals as goal
 
-pub write_behind-requires-clause-other : goal.write_behind-requires-clause-other
-write_behind-requires-clause-other c =
+pub write_behind-requires : goal.write_behind-requires
+write_behind-requires c =
     other_fault c.number_of_text-number.result (c.number_of_text-number.ensures.fault)
     (λ error caused. number_fault_other (choices_of c.args.options.now) c.args.number.now error caused)
 

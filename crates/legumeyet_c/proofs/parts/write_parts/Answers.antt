@@ -16,5 +16,5 @@ returns-in-Ok-clause-told g c =
 pub returns-in-Err-clause-told : goal.returns-in-Err-clause-told
 returns-in-Err-clause-told g c =
     let open_tables = g.T.Held.held_in c.args.handle.now.pointer.value in
-    let other = value_fault_other g.T.Annotates.fails open_tables c.args.number.now c.in-Err.error g.met.T.Annotates.other c.requires.other c.in-Err.ensures.fault in
+    let other = value_fault_other g.T.Annotates.fails open_tables c.args.number.now c.in-Err.error g.met.T.Annotates.other c.requires c.in-Err.ensures.fault in
     parts_refused _ _ _ _ other c.in-Err.ensures.fault

@@ -9,5 +9,5 @@ returns-in_default-clause-told g c =
 
 pub returns-clause-told : goal.returns-clause-told
 returns-clause-told g c =
-    open_put g.F.Form.says g.F.Form.fails (g.F.Tables.Held.held_in c.args.handle.now.pointer.value) c.held_by.result.now c.args.number.now _ _ _ _ _ (search rules)
-    c.write_value-written.ensures
+    open_put g.F.Form.says g.F.Form.fails (g.F.Tables.Held.held_in c.args.handle.now.pointer.value) _ c.args.number.now _ _ _ _ _ (search rules)
+    c.write_held-written.ensures
