@@ -344,6 +344,62 @@ static void unpromised(void) {
     expect_text("the greatest room", legumeyet_decimal_formatter_format(&english, TEXT("1"), &AS_GIVEN, out, SIZE_MAX, &length), "1");
 }
 
+/* Each call of a formatter of plain numbers, on a handle that has none open. */
+static void no_decimal(legumeyet_decimal_formatter *other) {
+    legumeyet_interval none;
+    size_t count = 77;
+    expect_error("a number", legumeyet_decimal_formatter_format(other, TEXT("1"), &AS_GIVEN, out, ROOM, &length), LEGUMEYET_CLOSED);
+    expect_error("an integer", legumeyet_decimal_formatter_format_i64(other, 1, 0, &AS_GIVEN, out, ROOM, &length), LEGUMEYET_CLOSED);
+    expect_error("parts", legumeyet_decimal_formatter_format_parts(other, TEXT("1"), &AS_GIVEN, out, ROOM, &length, &none, 1, &count),
+                 LEGUMEYET_CLOSED);
+    expect("the count of a refused call", (int64_t)count, 77);
+    expect_error("a text", read_back(other, "1"), LEGUMEYET_CLOSED);
+    expect("a close", legumeyet_decimal_formatter_close(other), LEGUMEYET_CLOSED);
+}
+
+static void no_compact(legumeyet_compact_formatter *other) {
+    legumeyet_interval none;
+    size_t count = 77;
+    expect_error("a number", legumeyet_compact_formatter_format(other, TEXT("1"), &AS_GIVEN, out, ROOM, &length), LEGUMEYET_CLOSED);
+    expect_error("an integer", legumeyet_compact_formatter_format_i64(other, 1, 0, &AS_GIVEN, out, ROOM, &length), LEGUMEYET_CLOSED);
+    expect_error("parts", legumeyet_compact_formatter_format_parts(other, TEXT("1"), &AS_GIVEN, out, ROOM, &length, &none, 1, &count),
+                 LEGUMEYET_CLOSED);
+    expect("the count of a refused call", (int64_t)count, 77);
+    expect_error("the value shown", legumeyet_compact_formatter_shown(other, TEXT("1"), &AS_GIVEN, out, ROOM, &length), LEGUMEYET_CLOSED);
+    expect_error("an exact form", legumeyet_compact_formatter_format_exact(other, TEXT("1c3"), &AS_GIVEN, out, ROOM, &length), LEGUMEYET_CLOSED);
+    expect("a close", legumeyet_compact_formatter_close(other), LEGUMEYET_CLOSED);
+}
+
+static void no_book(legumeyet_book *other) {
+    expect("a formatter", legumeyet_decimal_formatter_open(other, TEXT("en"), 0, &closed), LEGUMEYET_CLOSED);
+    expect("it stayed closed", legumeyet_decimal_formatter_close(&closed), LEGUMEYET_CLOSED);
+    expect("a compact one", open_compact(other, "en", 0, 0, &closed_compact), LEGUMEYET_CLOSED);
+    expect("it stayed closed", legumeyet_compact_formatter_close(&closed_compact), LEGUMEYET_CLOSED);
+    expect_error("a line", legumeyet_book_answer(other, TEXT("en\tplain\tauto\tkeep\t-\t1"), out, ROOM, &length), LEGUMEYET_CLOSED);
+    expect("a book to keep", legumeyet_book_keep(other), LEGUMEYET_CLOSED);
+    expect("a close", legumeyet_book_close(other), LEGUMEYET_CLOSED);
+}
+
+/* A handle that has something of another type open is closed to a call, and what it has stays open. */
+static void casts(void) {
+    legumeyet_decimal_formatter plain = {0};
+    no_decimal((void *)&book);
+    no_compact((void *)&book);
+    expect_text("the book", answer("en\tplain\tauto\tkeep\t-\t1234"), "ok\t1,234");
+    no_book((void *)&english);
+    no_compact((void *)&english);
+    expect_text("the formatter", format("1234", AS_GIVEN), "1,234");
+    no_book((void *)&short_english);
+    no_decimal((void *)&short_english);
+    expect_text("the compact formatter", format_short("1650", AS_GIVEN), "1.6K");
+    expect("plain", legumeyet_decimal_formatter_open(&book, TEXT("en"), 0, &plain), LEGUMEYET_OK);
+    expect("a tag over it", open_compact(&book, "e", 0, 0, (void *)&plain), LEGUMEYET_TAG);
+    expect_text("it stayed open", legumeyet_decimal_formatter_format(&plain, TEXT("1234"), &AS_GIVEN, out, ROOM, &length), "1,234");
+    expect("a compact one over it", open_compact(&book, "en", 0, 0, (void *)&plain), LEGUMEYET_OK);
+    no_decimal(&plain);
+    expect("a close", legumeyet_compact_formatter_close((void *)&plain), LEGUMEYET_OK);
+}
+
 static void closes(void) {
     legumeyet_interval none;
     size_t count = 0;
@@ -395,6 +451,7 @@ int main(void) {
     answers();
     rooms();
     unpromised();
+    casts();
     closes();
     texts();
     return wrong == 0 ? 0 : 1;

@@ -21,7 +21,9 @@
  *
  * A handle is memory of the caller's. Zeroed memory is a closed handle. A handle is not copied, and is closed once. Its fields are
  * not for callers. It may be used in another thread than the one that opened it, by one call at a time. Handles are free of each
- * other: a formatter has the tables that it needs, so its book may be closed before it.
+ * other: a formatter has the tables that it needs, so its book may be closed before it. A handle that has something of another type
+ * open, as a book's that is cast to a formatter's, is closed to a call: LEGUMEYET_CLOSED, and what it has stays open. Only a call that
+ * opens the handle closes what it had.
  *
  * A program that uses a book until it ends may keep it, by legumeyet_book_keep. Formatters of a kept book borrow its tables: they are
  * opened sooner, hold less memory and write faster.
@@ -52,7 +54,7 @@ extern "C" {
 enum {
     LEGUMEYET_OK = 0,           /* all is well */
     LEGUMEYET_MEMORY = 1,       /* memory was refused */
-    LEGUMEYET_CLOSED = 2,       /* the handle is closed */
+    LEGUMEYET_CLOSED = 2,       /* the handle is closed, or has something of another type open */
     LEGUMEYET_TOO_SMALL = 3,    /* the text needs more room; how much was written to `length` */
     LEGUMEYET_OPTION = 4,       /* an option is none of its numbers, as a grouping of 4 */
     LEGUMEYET_TAG = 5,          /* the text is no locale tag, as `e` */
