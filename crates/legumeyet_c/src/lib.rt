@@ -1,6 +1,6 @@
 //! The C API: books and formatters behind handles, and texts in bytes of the caller's. `include/legumeyet.h` says what
-//! each call does. A handle that has something of another kind open is closed to a call, which returns 2 and leaves the
-//! handle as it was.
+//! each call does. A handle that has something of another kind open is closed to a call: 2, and it stays as it was,
+//! unless the call opens it.
 //!
 //! ```c
 //! legumeyet_book_open(json, json_length, &book);
