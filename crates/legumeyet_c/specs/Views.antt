@@ -1,4 +1,4 @@
--- What the handle of each kind has open: nothing where it is closed.
+-- What the handle of each type has open: of its own kind, where nothing is open to a call of that type else; and of any kind.
 -- Defined in docs/c-api.md, "Handles".
 -- Cited by each export that takes a handle.
 use Rattle.std.specs.Prelude.{Bool, Option}
@@ -6,6 +6,7 @@ use Rattle.icu_decimal.specs.CompactTables.{CompactTables}
 use Rattle.icu_decimal.specs.PlainText.{Tables}
 use Rattle.locale_numbers.specs.Book.{BookTables}
 use Rattle.legumeyet_c.specs.Kinds.{book_in, compact_in, decimal_in, is_kept}
+use Rattle.legumeyet_c.specs.declared.content.Content.{Content}
 use Rattle.legumeyet_c.specs.declared.handles.BookHandle.{BookHandle}
 use Rattle.legumeyet_c.specs.declared.handles.CompactHandle.{CompactHandle}
 use Rattle.legumeyet_c.specs.declared.handles.DecimalHandle.{DecimalHandle}
@@ -21,3 +22,14 @@ decimal_open handle = decimal_in handle.handle.pointer.value
 
 abbrev pub compact_open : CompactHandle → Option CompactTables
 compact_open handle = compact_in handle.handle.pointer.value
+
+-- ---- of any kind
+
+abbrev pub book_content : BookHandle → Option Content
+book_content handle = handle.handle.pointer.value
+
+abbrev pub decimal_content : DecimalHandle → Option Content
+decimal_content handle = handle.handle.pointer.value
+
+abbrev pub compact_content : CompactHandle → Option Content
+compact_content handle = handle.handle.pointer.value

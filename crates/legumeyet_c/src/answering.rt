@@ -3,7 +3,7 @@
 ghost use Rattle.std.specs.Prelude.{◌≡◌, Some, IfOk, IfErr};
 ghost use Rattle.legumeyet_c_values.specs.Putting.{Answers, IsPut};
 ghost use Rattle.legumeyet_c.specs.Answering.{IsAnswerFault, SaysAnswer};
-ghost use Rattle.legumeyet_c.specs.Views.{book_open};
+ghost use Rattle.legumeyet_c.specs.Views.{book_content, book_open};
 
 use crate::content::Held;
 use crate::handles::BookHandle;
@@ -24,7 +24,7 @@ fn answer_of(alloc: Global, book: &Book, line: &[u8]) -> Result<Vec<u8>, CallErr
 
 // The answer of the book behind a handle, which stays as it is.
 fn answer_behind(alloc: Global, book: &mut BookHandle, line: &[u8]) -> Result<Vec<u8>, CallError>
-    ensures same { book_open book.new ≡ book_open book.old }
+    ensures same { book_content book.new ≡ book_content book.old }
     ensures value { IfOk result (λ text. SaysAnswer (book_open book.old) line.now text.items) }
     ensures fault { IfErr result (λ error. IsAnswerFault (book_open book.old) error) }
 {
@@ -51,7 +51,7 @@ pub extern "C" fn legumeyet_book_answer(
     out: &mut [u8],
     length: &mut usize,
 ) -> i32
-    ensures same { book_open book.new ≡ book_open book.old }
+    ensures same { book_content book.new ≡ book_content book.old }
     ensures told { Answers
         (IsPut (SaysAnswer (book_open book.old) line.now) (IsAnswerFault (book_open book.old)) out.old out.new
         length.old length.new) result }

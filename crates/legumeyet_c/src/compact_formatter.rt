@@ -5,7 +5,7 @@ ghost use Rattle.icu_decimal.specs.HeldCompact.{compact_tables_of};
 ghost use Rattle.legumeyet_c_values.specs.Choices.{grouping_of, width_of};
 ghost use Rattle.legumeyet_c_values.specs.Putting.{Answers};
 ghost use Rattle.legumeyet_c.specs.Opening.{FindsCompact, IsClosing, IsCompactFault, IsCompactFor, IsOpening, compact_for_width};
-ghost use Rattle.legumeyet_c.specs.Views.{book_open, compact_open};
+ghost use Rattle.legumeyet_c.specs.Views.{book_content, book_open, compact_open};
 
 use crate::compact_tables::HeldCompactTables;
 use crate::handles::{BookHandle, CompactHandle};
@@ -83,7 +83,7 @@ pub extern "C" fn legumeyet_compact_formatter_open(
     grouping: u32,
     formatter: &mut CompactHandle,
 ) -> i32
-    ensures same { book_open book.new ≡ book_open book.old }
+    ensures same { book_content book.new ≡ book_content book.old }
     ensures told { Answers
         (IsOpening (FindsCompact (book_open book.old) (width_of width) (grouping_of grouping) tag.now)
         (IsCompactFault (book_open book.old) (width_of width) (grouping_of grouping) tag.now)

@@ -4,7 +4,7 @@ ghost use Rattle.std.specs.Prelude.{◌≡◌};
 ghost use Rattle.legumeyet_c_values.specs.Parts.{IsPutInParts, given};
 ghost use Rattle.legumeyet_c_values.specs.Putting.{Answers};
 ghost use Rattle.legumeyet_c.specs.CompactWriting.{IsCompactAnnotated, IsCompactPartsFault};
-ghost use Rattle.legumeyet_c.specs.Views.{compact_open};
+ghost use Rattle.legumeyet_c.specs.Views.{compact_content, compact_open};
 ghost use Rattle.legumeyet_c.specs.Writing.{IsNumberWritingFault, WritesNumber};
 
 use crate::compact_tables::HeldCompactTables;
@@ -55,7 +55,7 @@ pub extern "C" fn legumeyet_compact_formatter_format_parts(
     intervals: &mut [Interval],
     count: &mut usize,
 ) -> i32
-    ensures same { compact_open formatter.new ≡ compact_open formatter.old }
+    ensures same { compact_content formatter.new ≡ compact_content formatter.old }
     ensures told { Answers
         (IsPutInParts (WritesNumber IsCompactAnnotated (compact_open formatter.old) options.now number.now)
         (IsNumberWritingFault IsCompactPartsFault (compact_open formatter.old) options.now number.now)

@@ -6,7 +6,7 @@ ghost use Rattle.icu_decimal.specs.HeldCompact.{compact_tables_of};
 ghost use Rattle.legumeyet_c_values.specs.Choices.{choices_of};
 ghost use Rattle.legumeyet_c_values.specs.Putting.{Answers, IsPut};
 ghost use Rattle.legumeyet_c.specs.CompactWriting.{IsCompactFault, IsCompactText, IsExactFault, IsExactText, IsExactWritingFault, IsShowable, IsShownFault, IsShownText, WritesExact};
-ghost use Rattle.legumeyet_c.specs.Views.{compact_open};
+ghost use Rattle.legumeyet_c.specs.Views.{compact_content, compact_open};
 ghost use Rattle.legumeyet_c.specs.Writing.{IsNumberWritingFault, IsScaledWritingFault, WritesNumber, WritesScaled};
 
 use crate::compact_tables::HeldCompactTables;
@@ -140,7 +140,7 @@ pub extern "C" fn legumeyet_compact_formatter_format(
     out: &mut [u8],
     length: &mut usize,
 ) -> i32
-    ensures same { compact_open formatter.new ≡ compact_open formatter.old }
+    ensures same { compact_content formatter.new ≡ compact_content formatter.old }
     ensures told { Answers
         (IsPut (WritesNumber IsCompactText (compact_open formatter.old) options.now number.now)
         (IsNumberWritingFault IsCompactFault (compact_open formatter.old) options.now number.now) out.old out.new
@@ -164,7 +164,7 @@ pub extern "C" fn legumeyet_compact_formatter_format_i64(
     out: &mut [u8],
     length: &mut usize,
 ) -> i32
-    ensures same { compact_open formatter.new ≡ compact_open formatter.old }
+    ensures same { compact_content formatter.new ≡ compact_content formatter.old }
     ensures told { Answers
         (IsPut (WritesScaled IsCompactText (compact_open formatter.old) options.now mantissa exponent)
         (IsScaledWritingFault IsCompactFault (compact_open formatter.old) options.now mantissa exponent) out.old
@@ -187,7 +187,7 @@ pub extern "C" fn legumeyet_compact_formatter_shown(
     out: &mut [u8],
     length: &mut usize,
 ) -> i32
-    ensures same { compact_open formatter.new ≡ compact_open formatter.old }
+    ensures same { compact_content formatter.new ≡ compact_content formatter.old }
     ensures told { Answers
         (IsPut (WritesNumber IsShownText (compact_open formatter.old) options.now number.now)
         (IsNumberWritingFault IsShownFault (compact_open formatter.old) options.now number.now) out.old out.new
@@ -213,7 +213,7 @@ pub extern "C" fn legumeyet_compact_formatter_format_exact(
     out: &mut [u8],
     length: &mut usize,
 ) -> i32
-    ensures same { compact_open formatter.new ≡ compact_open formatter.old }
+    ensures same { compact_content formatter.new ≡ compact_content formatter.old }
     ensures told { Answers
         (IsPut (WritesExact (compact_open formatter.old) (choices_of options.now) number.now)
         (IsExactWritingFault (compact_open formatter.old) (choices_of options.now) number.now) out.old out.new

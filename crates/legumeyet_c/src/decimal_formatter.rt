@@ -6,7 +6,7 @@ ghost use Rattle.legumeyet_c_values.specs.Choices.{grouping_of};
 ghost use Rattle.legumeyet_c_values.specs.Putting.{Answers, IsPut};
 ghost use Rattle.legumeyet_c.specs.DecimalWriting.{HasNoFault, IsDecimalText};
 ghost use Rattle.legumeyet_c.specs.Opening.{FindsDecimal, IsClosing, IsDecimalFault, IsDecimalFor, IsOpening};
-ghost use Rattle.legumeyet_c.specs.Views.{book_open, decimal_open};
+ghost use Rattle.legumeyet_c.specs.Views.{book_content, book_open, decimal_content, decimal_open};
 ghost use Rattle.legumeyet_c.specs.Writing.{IsNumberWritingFault, IsScaledWritingFault, WritesNumber, WritesScaled};
 
 use crate::decimal_tables::DecimalTables;
@@ -88,7 +88,7 @@ pub extern "C" fn legumeyet_decimal_formatter_open(
     grouping: u32,
     formatter: &mut DecimalHandle,
 ) -> i32
-    ensures same { book_open book.new ≡ book_open book.old }
+    ensures same { book_content book.new ≡ book_content book.old }
     ensures told { Answers
         (IsOpening (FindsDecimal (book_open book.old) (grouping_of grouping) tag.now)
         (IsDecimalFault (book_open book.old) (grouping_of grouping) tag.now) (decimal_open formatter.old)
@@ -127,7 +127,7 @@ pub extern "C" fn legumeyet_decimal_formatter_format(
     out: &mut [u8],
     length: &mut usize,
 ) -> i32
-    ensures same { decimal_open formatter.new ≡ decimal_open formatter.old }
+    ensures same { decimal_content formatter.new ≡ decimal_content formatter.old }
     ensures told { Answers
         (IsPut (WritesNumber IsDecimalText (decimal_open formatter.old) options.now number.now)
         (IsNumberWritingFault HasNoFault (decimal_open formatter.old) options.now number.now) out.old out.new
@@ -152,7 +152,7 @@ pub extern "C" fn legumeyet_decimal_formatter_format_i64(
     out: &mut [u8],
     length: &mut usize,
 ) -> i32
-    ensures same { decimal_open formatter.new ≡ decimal_open formatter.old }
+    ensures same { decimal_content formatter.new ≡ decimal_content formatter.old }
     ensures told { Answers
         (IsPut (WritesScaled IsDecimalText (decimal_open formatter.old) options.now mantissa exponent)
         (IsScaledWritingFault HasNoFault (decimal_open formatter.old) options.now mantissa exponent) out.old out.new

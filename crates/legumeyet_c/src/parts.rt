@@ -4,7 +4,7 @@ ghost use Rattle.std.specs.Prelude.{◌≡◌, ◌≢◌, IfOk, IfErr};
 ghost use Rattle.legumeyet_c_values.specs.Parts.{IsPutInParts, given, held_text};
 ghost use Rattle.legumeyet_c_values.specs.Putting.{Answers};
 ghost use Rattle.legumeyet_c.specs.DecimalWriting.{IsDecimalAnnotated, WantsMemory};
-ghost use Rattle.legumeyet_c.specs.Views.{decimal_open};
+ghost use Rattle.legumeyet_c.specs.Views.{decimal_content, decimal_open};
 ghost use Rattle.legumeyet_c.specs.Writing.{IsNumberWritingFault, IsValueFault, WritesNumber, WritesValue};
 
 use crate::content::Held;
@@ -119,7 +119,7 @@ pub extern "C" fn legumeyet_decimal_formatter_format_parts(
     intervals: &mut [Interval],
     count: &mut usize,
 ) -> i32
-    ensures same { decimal_open formatter.new ≡ decimal_open formatter.old }
+    ensures same { decimal_content formatter.new ≡ decimal_content formatter.old }
     ensures told { Answers
         (IsPutInParts (WritesNumber IsDecimalAnnotated (decimal_open formatter.old) options.now number.now)
         (IsNumberWritingFault WantsMemory (decimal_open formatter.old) options.now number.now)

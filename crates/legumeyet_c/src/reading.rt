@@ -4,7 +4,7 @@ ghost use Rattle.std.specs.Prelude.{◌≡◌, IfOk, IfErr};
 ghost use Rattle.icu_decimal.specs.PlainReading.{decimal};
 ghost use Rattle.legumeyet_c_values.specs.Putting.{Answers, IsPut};
 ghost use Rattle.legumeyet_c.specs.Reading.{HasReading, IsReadFault, IsUnread, ReadsBack, SaysRead};
-ghost use Rattle.legumeyet_c.specs.Views.{decimal_open};
+ghost use Rattle.legumeyet_c.specs.Views.{decimal_content, decimal_open};
 
 use crate::content::Held;
 use crate::decimal_tables::DecimalTables;
@@ -37,7 +37,7 @@ fn read_behind(
     formatter: &mut DecimalHandle,
     text: &[u8],
 ) -> Result<Decimal, CallError>
-    ensures same { decimal_open formatter.new ≡ decimal_open formatter.old }
+    ensures same { decimal_content formatter.new ≡ decimal_content formatter.old }
     ensures value { IfOk result (λ value. ReadsBack (decimal_open formatter.old) text.now value) }
     ensures fault { IfErr result (λ error. IsReadFault (decimal_open formatter.old) text.now error) }
 {
@@ -66,7 +66,7 @@ pub extern "C" fn legumeyet_decimal_formatter_read(
     out: &mut [u8],
     length: &mut usize,
 ) -> i32
-    ensures same { decimal_open formatter.new ≡ decimal_open formatter.old }
+    ensures same { decimal_content formatter.new ≡ decimal_content formatter.old }
     ensures told { Answers
         (IsPut (SaysRead (decimal_open formatter.old) text.now) (IsReadFault (decimal_open formatter.old) text.now)
         out.old out.new length.old length.new) result }
