@@ -3,7 +3,7 @@
 ghost use Rattle.std.specs.Prelude.{◌≡◌, None};
 ghost use Rattle.legumeyet_c_values.specs.Putting.{Answers};
 ghost use Rattle.legumeyet_c.specs.Opening.{IsBookFault, IsClosing, IsOpening, SaysBook};
-ghost use Rattle.legumeyet_c.specs.Views.{book_open};
+ghost use Rattle.legumeyet_c.specs.Views.{book_content, book_open};
 
 use crate::handles::BookHandle;
 use crate::opening::{close, put_behind};
@@ -35,6 +35,7 @@ pub extern "C" fn legumeyet_book_open(alloc: Global, json: &[u8], book: &mut Boo
 #[unsafe(no_mangle)]
 pub extern "C" fn legumeyet_book_close(alloc: Global, book: &mut BookHandle) -> i32
     ensures closed { book_open book.new ≡ None }
+    ensures same { book_open book.old ≡ None → book_content book.new ≡ book_content book.old }
     ensures told { Answers (IsClosing (book_open book.old)) result }
 {
     answer(close::<Book>(alloc, &mut book.handle))

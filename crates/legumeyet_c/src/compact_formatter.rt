@@ -5,7 +5,7 @@ ghost use Rattle.icu_decimal.specs.HeldCompact.{compact_tables_of};
 ghost use Rattle.legumeyet_c_values.specs.Choices.{grouping_of, width_of};
 ghost use Rattle.legumeyet_c_values.specs.Putting.{Answers};
 ghost use Rattle.legumeyet_c.specs.Opening.{FindsCompact, IsClosing, IsCompactFault, IsCompactFor, IsOpening, compact_for_width};
-ghost use Rattle.legumeyet_c.specs.Views.{book_content, book_open, compact_open};
+ghost use Rattle.legumeyet_c.specs.Views.{book_content, book_open, compact_content, compact_open};
 
 use crate::compact_tables::HeldCompactTables;
 use crate::handles::{BookHandle, CompactHandle};
@@ -103,6 +103,7 @@ pub extern "C" fn legumeyet_compact_formatter_close(
     formatter: &mut CompactHandle,
 ) -> i32
     ensures closed { compact_open formatter.new ≡ None }
+    ensures same { compact_open formatter.old ≡ None → compact_content formatter.new ≡ compact_content formatter.old }
     ensures told { Answers (IsClosing (compact_open formatter.old)) result }
 {
     answer(close::<HeldCompactTables>(alloc, &mut formatter.handle))

@@ -108,6 +108,7 @@ pub extern "C" fn legumeyet_decimal_formatter_close(
     formatter: &mut DecimalHandle,
 ) -> i32
     ensures closed { decimal_open formatter.new ≡ None }
+    ensures same { decimal_open formatter.old ≡ None → decimal_content formatter.new ≡ decimal_content formatter.old }
     ensures told { Answers (IsClosing (decimal_open formatter.old)) result }
 {
     answer(close::<DecimalTables>(alloc, &mut formatter.handle))

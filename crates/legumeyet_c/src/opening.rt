@@ -142,7 +142,7 @@ pub(crate) fn open<T: Found>(
 pub(crate) fn close<T: Held>(alloc: Global, handle: &mut Handle) -> Result<(), CallError>
     ensures closed { T.held_in handle.new.pointer.value ≡ None }
     ensures told { IsClosing (T.held_in handle.old.pointer.value) result }
-    ensures same { IfErr result (λ error. handle.new.pointer.value ≡ handle.old.pointer.value) }
+    ensures same { T.held_in handle.old.pointer.value ≡ None → handle.new.pointer.value ≡ handle.old.pointer.value }
 {
     let Some(content) = handle.take(alloc) else {
         return Err(CallError::Closed);
