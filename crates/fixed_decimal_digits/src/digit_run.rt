@@ -24,7 +24,8 @@ impl<'l> Model for DigitRun<'l> {
 
     ghost view = { λ run. take run.left (drop run.next run.digits.now.items) };
 
-    ghost invariant = { λ run. (run.next + run.left ≤ length run.digits.now.items) × ((run.next + run.left < 2 ^ 64) × (run.left < 2 ^ 63)) };
+    ghost invariant = { λ run. (run.next + run.left ≤ length run.digits.now.items)
+        × ((run.next + run.left < 2 ^ 64) × (run.left < 2 ^ 63)) };
 }
 
 impl Digits {

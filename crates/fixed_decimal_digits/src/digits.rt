@@ -37,7 +37,10 @@ impl Model for Digits {
 
     ghost Value = { DigitList };
 
-    ghost view = { λ a. record { items = digits_in a.kept.items a.count; capacity = min (2 * a.kept.capacity) (2 ^ 64 - 1) } };
+    ghost view = { λ a. record {
+      items = digits_in a.kept.items a.count;
+      capacity = min (2 * a.kept.capacity) (2 ^ 64 - 1);
+    } };
 
     ghost invariant = { λ a. IsPacked a.kept.items a.count × (4 ≤ a.kept.capacity) };
 }

@@ -242,7 +242,8 @@ impl Writeable for UnsignedDecimal {
     ghost use Rattle.fixed_decimal_unsigned.specs.Number.{whole_digits, fraction_digits};
     ghost use Rattle.fixed_decimal_unsigned.specs.NumberText.{character, behind_point, text_of};
 
-    ghost events = { λ v. bytes (map character (whole_digits v)) ++ bytes (behind_point (map character (fraction_digits v))) };
+    ghost events = { λ v. bytes (map character (whole_digits v))
+        ++ bytes (behind_point (map character (fraction_digits v))) };
 
     #[tactic(auto, using(crate::proofs::WritingLemmas::text_events))]
     fn write_to<S: Sink>(&self, sink: &mut S) -> Result<(), Error> {

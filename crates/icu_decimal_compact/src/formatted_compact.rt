@@ -34,7 +34,11 @@ impl<'l> Model for FormattedUnsignedCompactDecimal<'l> {
 
     ghost use Rattle.icu_decimal_formatter.specs.HeldTables.{tables_of};
 
-    ghost view = { λ s. record { plain = record { number = s.number; tables = tables_of s.plain.now }; exponent = s.exponent; pattern = option_map (λ p. p.now) s.pattern } };
+    ghost view = { λ s. record {
+      plain = record { number = s.number; tables = tables_of s.plain.now };
+      exponent = s.exponent;
+      pattern = option_map (λ p. p.now) s.pattern;
+    } };
 }
 
 impl<'l> FormattedUnsignedCompactDecimal<'l> {

@@ -30,7 +30,16 @@ impl<T> Model for PluralElements<T> {
 
     ghost Value = { Elements T };
 
-    ghost view = { λ s. record { explicit_zero = s.explicit_zero; explicit_one = s.explicit_one; zero = s.zero; one = s.one; two = s.two; few = s.few; many = s.many; other = s.other } };
+    ghost view = { λ s. record {
+      explicit_zero = s.explicit_zero;
+      explicit_one = s.explicit_one;
+      zero = s.zero;
+      one = s.one;
+      two = s.two;
+      few = s.few;
+      many = s.many;
+      other = s.other;
+    } };
 }
 
 impl<T> PluralElements<T> {

@@ -117,7 +117,8 @@ impl<'l, T: PartialEq> PartialEq for Interpolated<'l, T> {
 
     ghost eq = { λ a b. T.eq a.value b.value && option_eq same_pattern a.pattern b.pattern };
 
-    ghost laws = { and_per (on_per (λ s. s.value) T.laws) (on_per (λ s. s.pattern) (partial_equiv_from_equiv (options_equiv same_pattern_equiv))) };
+    ghost laws = { and_per (on_per (λ s. s.value) T.laws) (on_per (λ s. s.pattern)
+        (partial_equiv_from_equiv (options_equiv same_pattern_equiv))) };
 
     fn eq(&self, other: &Self) -> bool {
         self.value == other.value && have_same_pattern(self.pattern, other.pattern)
@@ -129,5 +130,6 @@ impl<'l, T: Eq> Eq for Interpolated<'l, T> {
     ghost use Rattle.std.specs.Cmp.Lexicographic.{options_equiv};
     ghost use Rattle.icu_decimal_patterns.specs.SamePattern.{same_pattern_equiv};
 
-    ghost laws = { and_equiv (on_equiv (λ s. s.value) T.Eq.laws) (on_equiv (λ s. s.pattern) (options_equiv same_pattern_equiv)) };
+    ghost laws = { and_equiv (on_equiv (λ s. s.value) T.Eq.laws)
+        (on_equiv (λ s. s.pattern) (options_equiv same_pattern_equiv)) };
 }

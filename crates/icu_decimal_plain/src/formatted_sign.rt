@@ -222,7 +222,8 @@ impl<'l, T: PartialEq> PartialEq for FormattedSign<'l, T> {
 
     ghost eq = { λ a b. T.eq a.value b.value && option_eq same_affixes a.affixes b.affixes };
 
-    ghost laws = { and_per (on_per (λ s. s.value) T.laws) (on_per (λ s. s.affixes) (partial_equiv_from_equiv (options_equiv same_affixes_equiv))) };
+    ghost laws = { and_per (on_per (λ s. s.value) T.laws) (on_per (λ s. s.affixes)
+        (partial_equiv_from_equiv (options_equiv same_affixes_equiv))) };
 
     fn eq(&self, other: &Self) -> bool {
         self.value == other.value && have_same_texts(self.affixes, other.affixes)
@@ -234,5 +235,6 @@ impl<'l, T: Eq> Eq for FormattedSign<'l, T> {
     ghost use Rattle.std.specs.Cmp.Lexicographic.{options_equiv};
     ghost use Rattle.icu_decimal_plain.specs.SameAffixes.{same_affixes_equiv};
 
-    ghost laws = { and_equiv (on_equiv (λ s. s.value) T.Eq.laws) (on_equiv (λ s. s.affixes) (options_equiv same_affixes_equiv)) };
+    ghost laws = { and_equiv (on_equiv (λ s. s.value) T.Eq.laws)
+        (on_equiv (λ s. s.affixes) (options_equiv same_affixes_equiv)) };
 }

@@ -97,11 +97,13 @@ fn write_group<S: Sink>(
     requires tens { AllBelowBase 10 digits.old }
     ensures digits { OnOk result (digits.new ≡ drop count digits.old) }
     ensures ok { OnOk result (S.takes sink.old
-        (as_part (decimal_part (codes "group")) separator.now ++ chained (map (digit_events table.now.chars.now) (take count digits.old)))
+        (as_part (decimal_part (codes "group")) separator.now
+        ++ chained (map (digit_events table.now.chars.now) (take count digits.old)))
         sink.new) }
     ensures refused { S.refused sink.new ≡ is_err result }
     ensures begun { OnErr result (HasBegun S.takes S.lacks_room sink.old
-        (as_part (decimal_part (codes "group")) separator.now ++ chained (map (digit_events table.now.chars.now) (take count digits.old)))
+        (as_part (decimal_part (codes "group")) separator.now
+        ++ chained (map (digit_events table.now.chars.now) (take count digits.old)))
         sink.new) }
 {
     write_part(parts::GROUP, separator, sink)?;
@@ -227,11 +229,13 @@ fn write_fraction_part<S: Sink>(
 ) -> Result<(), Error>
     requires { S.refused sink.old ≡ false }
     ensures ok { OnOk result (S.takes sink.old
-        (opening (decimal_part (codes "fraction")) ++ (chained (map (digit_events table.now.chars.now) (fraction_digits number.now)) ++ closing))
+        (opening (decimal_part (codes "fraction")) ++ (chained
+        (map (digit_events table.now.chars.now) (fraction_digits number.now)) ++ closing))
         sink.new) }
     ensures refused { S.refused sink.new ≡ is_err result }
     ensures begun { OnErr result (HasBegun S.takes S.lacks_room sink.old
-        (opening (decimal_part (codes "fraction")) ++ (chained (map (digit_events table.now.chars.now) (fraction_digits number.now)) ++ closing))
+        (opening (decimal_part (codes "fraction")) ++ (chained
+        (map (digit_events table.now.chars.now) (fraction_digits number.now)) ++ closing))
         sink.new) }
 {
     sink.open_part(parts::FRACTION)?;

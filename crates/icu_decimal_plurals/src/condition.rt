@@ -25,7 +25,12 @@ impl Model for Relation {
 
     ghost Value = { RelationData };
 
-    ghost view = { λ r. record { operand = r.operand; modulus = r.modulus; is_denied = r.is_denied; intervals = r.intervals.items } };
+    ghost view = { λ r. record {
+      operand = r.operand;
+      modulus = r.modulus;
+      is_denied = r.is_denied;
+      intervals = r.intervals.items;
+    } };
 }
 
 impl Relation {

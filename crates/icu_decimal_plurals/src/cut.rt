@@ -19,7 +19,8 @@ fn position_of(tokens: &[Token], separator: Separator) -> Option<usize>
 pub fn cut(tokens: &[Token], separator: Separator) -> (&[Token], Option<&[Token]>)
     ensures parts { MatchOption result.1
         (slice_split (separates separator) tokens.now ≡ result.0.now ∷ [])
-        (λ rest. slice_split (separates separator) tokens.now ≡ result.0.now ∷ slice_split (separates separator) rest.now) }
+        (λ rest. slice_split (separates separator) tokens.now
+        ≡ result.0.now ∷ slice_split (separates separator) rest.now) }
     ensures shorter { IfSome result.1 (λ rest. length rest.now < length tokens.now) }
 {
     match position_of(tokens, separator) {

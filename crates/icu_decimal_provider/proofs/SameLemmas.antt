@@ -5,7 +5,7 @@ use Rattle.std.specs.Cmp.Lexicographic.{bytes_decides}
 use Rattle.std.proofs.lemmas.Bool.Decides.{Decides-and, Decides-like}
 use Rattle.icu_locale_core.specs.Subtags.{same_text}
 use Rattle.icu_locale_core.specs.TagPreferences.{Preferences}
-use Rattle.icu_locale_core.proofs.SameLemmas.{same_data, same_data_locales, same_locale, same_locale_preferences, texts_decide}
+use Rattle.icu_locale_core.proofs.SameLemmas.{same_data, same_data_locales, same_locale, same_locale_preferences, same_preferences, texts_decide}
 use Rattle.icu_decimal_provider.specs.Identifiers.{Identifier}
 
 abbrev same_identifier : Identifier → Identifier → Bool
@@ -16,9 +16,6 @@ identifiers_decide a b = Decides-like (same_identifier a b)
     (λ h i. record { locale = h.0 i; attributes = h.1 i })
     (λ e. (ap (λ d. d.locale) e, ap (λ d. d.attributes) e))
     (Decides-and _ _ (same_data_locales a.locale b.locale) (bytes_decides a.attributes b.attributes))
-
-abbrev same_preferences : Preferences → Preferences → Bool
-same_preferences a b = same_locale a.locale b.locale && option_eq same_text a.numbering_system b.numbering_system
 
 pub preferences_decide : (a b : Preferences) → Decides (same_preferences a b) (a ≡ b)
 preferences_decide a b = Decides-like (same_preferences a b)

@@ -42,7 +42,8 @@ pub(crate) trait Block {
         requires { S.refused sink.old ≡ false }
         ensures ok { OnOk result (S.takes sink.old (bytes (flat_map hyphened (behind self.now))) sink.new) }
         ensures refused { S.refused sink.new ≡ is_err result }
-        ensures begun { OnErr result (HasBegun S.takes S.lacks_room sink.old (bytes (flat_map hyphened (behind self.now))) sink.new) };
+        ensures begun { OnErr result (HasBegun S.takes S.lacks_room sink.old
+            (bytes (flat_map hyphened (behind self.now))) sink.new) };
 }
 
 // Writes the singleton and the pieces.

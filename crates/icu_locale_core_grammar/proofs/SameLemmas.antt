@@ -5,7 +5,7 @@ use Rattle.std.specs.Cmp.Lexicographic.{bytes_decides}
 use Rattle.std.proofs.lemmas.Bool.Decides.{Decides-and, Decides-like}
 use Rattle.icu_locale_core_grammar.specs.Subtags.{Text, same_text}
 use Rattle.icu_locale_core_grammar.specs.TagPreferences.{Subdivision, LocalePreferencesMeaning, DataLocaleMeaning}
-pub use Rattle.icu_locale_core_grammar.specs.SamePreferences.{same_subdivision, same_data, same_locale}
+pub use Rattle.icu_locale_core_grammar.specs.SamePreferences.{same_subdivision, same_data, same_locale, same_preferences}
 
 -- an option is tested as what it holds is
 pub options_decide : {A : Type 0} (same : A → A → Bool) → ((a b : A) → Decides (same a b) (a ≡ b)) → (s t : Option A) → Decides (option_eq same s t) (s ≡ t)

@@ -4,7 +4,7 @@
 use Rattle.std.specs.Prelude.{Bool, ◌&&◌}
 use Rattle.std.specs.Option.{option_eq}
 use Rattle.icu_locale_core_grammar.specs.Subtags.{same_text}
-use Rattle.icu_locale_core_grammar.specs.TagPreferences.{Subdivision, LocalePreferencesMeaning, DataLocaleMeaning}
+use Rattle.icu_locale_core_grammar.specs.TagPreferences.{Subdivision, LocalePreferencesMeaning, DataLocaleMeaning, Preferences}
 
 abbrev pub same_subdivision : Subdivision → Subdivision → Bool
 same_subdivision a b = same_text a.region b.region && same_text a.suffix b.suffix
@@ -23,3 +23,6 @@ same_locale a b =
     && (option_eq same_text a.region b.region
     && (option_eq same_text a.variant b.variant
     && (option_eq same_subdivision a.subdivision b.subdivision && option_eq same_subdivision a.region_override b.region_override))))
+
+abbrev pub same_preferences : Preferences → Preferences → Bool
+same_preferences a b = same_locale a.locale b.locale && option_eq same_text a.numbering_system b.numbering_system

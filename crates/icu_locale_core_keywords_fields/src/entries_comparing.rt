@@ -55,7 +55,8 @@ impl<K: EntryKind> Ord for EntriesOf<K> {
 impl<K: EntryKind> Hash for EntriesOf<K> {
     ghost hash_input = { λ m. fed.slice (λ e. fed.str e.0 ++ fed.slice fed.str e.1) m };
 
-    ghost respects_eq = { λ m n e. ap (fed.slice (λ f. fed.str f.0 ++ fed.slice fed.str f.1)) ((entries_decide m n).0 e) };
+    ghost respects_eq = { λ m n e. ap (fed.slice (λ f. fed.str f.0 ++ fed.slice fed.str f.1))
+        ((entries_decide m n).0 e) };
 
     fn hash<H: Hasher>(&self, state: &mut H) {
         self.as_slice().hash(state);

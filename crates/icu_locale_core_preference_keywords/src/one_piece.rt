@@ -24,7 +24,8 @@ pub trait OnePiece: Copy {
 
     /// What the value states: a subdivision, of `ustx` it is `US` and `tx`. It does not allocate.
     fn stated_in(value: &Value) -> Option<Self>
-        ensures { MatchOption result (stated value.now ≡ None) (λ own. (stated value.now ≡ Some own) × IsOwnPiece stated piece own) };
+        ensures { MatchOption result (stated value.now ≡ None)
+            (λ own. (stated value.now ≡ Some own) × IsOwnPiece stated piece own) };
 
     /// The subtag that spells it: `ustx` of the subdivision of `US` and `tx`. The condition is that this subtag is in
     /// lower case, is not `true`, and states it again. It does not allocate.

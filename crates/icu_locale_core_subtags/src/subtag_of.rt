@@ -72,7 +72,8 @@ impl<R: SubtagRule<N>, const N: usize> SubtagOf<R, N> {
 impl<R: SubtagRule<N>, const N: usize> FromStr for SubtagOf<R, N> {
     type Err = ParseError;
 
-    ghost from_str_gives = { λ s r. MatchResult r (λ subtag. (R.accepts s ≡ true) × (subtag ≡ R.normal s)) (λ e. (R.accepts s ≡ false) × (e ≡ R.fault)) };
+    ghost from_str_gives = { λ s r. MatchResult r (λ subtag. (R.accepts s ≡ true) × (subtag ≡ R.normal s))
+        (λ e. (R.accepts s ≡ false) × (e ≡ R.fault)) };
 
     fn from_str(s: &str) -> Result<Self, ParseError> {
         Self::try_from_str(s)

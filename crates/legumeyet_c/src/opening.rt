@@ -34,7 +34,8 @@ pub(crate) trait Found: Held {
         tag: &str,
     ) -> Result<Self, FormatterError>
         ensures value { IfOk result (λ tables. finds book.now choice tag.now tables) }
-        ensures fault { IfErr result (λ fault. (fault ≡ FormatterError.Memory) ⊎ (found book.now choice tag.now ≡ Err fault)) };
+        ensures fault { IfErr result (λ fault. (fault ≡ FormatterError.Memory)
+            ⊎ (found book.now choice tag.now ≡ Err fault)) };
 
     /// The same of a book that is kept for the rest of the run, whose tables are borrowed and not copied.
     fn find_kept(
@@ -44,7 +45,8 @@ pub(crate) trait Found: Held {
         tag: &str,
     ) -> Result<Self, FormatterError>
         ensures value { IfOk result (λ tables. finds book.now choice tag.now tables) }
-        ensures fault { IfErr result (λ fault. (fault ≡ FormatterError.Memory) ⊎ (found book.now choice tag.now ≡ Err fault)) };
+        ensures fault { IfErr result (λ fault. (fault ≡ FormatterError.Memory)
+            ⊎ (found book.now choice tag.now ≡ Err fault)) };
 }
 
 // The same, with the errors of calls; where the book is kept, its tables are borrowed.

@@ -36,7 +36,8 @@ pub(crate) trait Annotates: Held {
         ensures fault { IfErr result (λ error. fails self.now value.now error) };
 
     // not that room lacks
-    ghost other: { (tables : Self) (value : SignedValue Number) (error : CallError) → fails tables value error → error ≢ CallError.TooSmall };
+    ghost other: { (tables : Self) (value : SignedValue Number) (error : CallError) → fails tables value error
+        → error ≢ CallError.TooSmall };
 }
 
 impl Annotates for DecimalTables {

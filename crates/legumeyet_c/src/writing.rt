@@ -33,7 +33,8 @@ pub(crate) trait Form {
         out: &mut [u8],
         length: &mut usize,
     ) -> Result<(), CallError>
-        ensures { IsPut (says tables.now value.now) (fails tables.now value.now) out.old out.new length.old length.new result };
+        ensures { IsPut (says tables.now value.now) (fails tables.now value.now)
+            out.old out.new length.old length.new result };
 }
 
 // Writes a number, where there is one, by tables.

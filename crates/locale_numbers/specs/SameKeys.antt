@@ -8,7 +8,7 @@ use Rattle.std.proofs.Common.{ap}
 use Rattle.std.proofs.lemmas.Bool.{and_parts}
 use Rattle.icu_locale_core.specs.Subtags.{Text, same_text}
 use Rattle.icu_locale_core.specs.TagPreferences.{Subdivision, LocalePreferencesMeaning, Preferences}
-use Rattle.icu_locale_core.specs.SamePreferences.{same_subdivision, same_locale}
+use Rattle.icu_locale_core.specs.SamePreferences.{same_subdivision, same_locale, same_preferences}
 use Rattle.icu_decimal.specs.declared.options.GroupingStrategy.{GroupingStrategy}
 use Rattle.locale_numbers.specs.declared.formatter_key.FormatterKey.{FormatterKey}
 use Rattle.locale_numbers.specs.declared.formatter_key.Kind.{Kind}
@@ -59,9 +59,6 @@ locale_is a b h =
     let subdivision : a.subdivision ≡ b.subdivision = subdivisions a.subdivision b.subdivision t.0 in
     let override : a.region_override ≡ b.region_override = subdivisions a.region_override b.region_override t.1 in
     λ i. record { language = language i; script = script i; region = region i; variant = variant i; subdivision = subdivision i; region_override = override i }
-
-abbrev same_preferences : Preferences → Preferences → Bool
-same_preferences a b = same_locale a.locale b.locale && option_eq same_text a.numbering_system b.numbering_system
 
 preferences_are : (a b : Preferences) → same_preferences a b ≡ true → a ≡ b
 preferences_are a b h =

@@ -44,7 +44,8 @@ pub(crate) fn answer_behind_front<'a, F: Formatters<'a>>(
     // may be out of memory, to write a number only one of more than `value` had, and a rounding to multiples of 25 that
     // may lengthen one of eight.
     ensures room { HasRoom out.old (answer_behind (F.book formatters.old) front.now text.now)
-        → ¬ (F.may_take_memory formatters.old) → ¬ (MayTakeBehind (F.book formatters.old) front.now text.now value.old) → IsOk result }
+        → ¬ (F.may_take_memory formatters.old) → ¬ (MayTakeBehind (F.book formatters.old) front.now text.now value.old)
+        → IsOk result }
     ensures counted { OnOk result ((more : List (Option FormatterKey)) →
         F.counted_over formatters.old (key_behind front.now text.now ∷ more) ≡ F.counted_over formatters.new more) }
     ensures same { F.book formatters.new ≡ F.book formatters.old }

@@ -33,7 +33,8 @@ impl CacheKey for FormatterKey {
     ghost use Rattle.std.proofs.Common.{rules};
     ghost use Rattle.locale_numbers.specs.SameKeys.{keys_are};
 
-    ghost same = { keys_are ⟦<Kind as PartialEq>⟧.eq ⟦<GroupingStrategy as PartialEq>⟧.eq (Prim.search (comparing, rules)) (Prim.search (comparing, rules)) };
+    ghost same = { keys_are ⟦<Kind as PartialEq>⟧.eq ⟦<GroupingStrategy as PartialEq>⟧.eq
+        (Prim.search (comparing, rules)) (Prim.search (comparing, rules)) };
 }
 
 // The kind of tables that a form is written with.

@@ -45,8 +45,10 @@ pub(crate) trait Formatters<'a> {
         requires { holds self.now key.now }
         ensures made { IsMadeFor (book self.now) key.now result.now }
         // To find it again would count nothing.
-        ensures again { (more : List (Option FormatterKey)) → counted_over self.now (Some key.now ∷ more) ≡ counted_over self.now more };
+        ensures again { (more : List (Option FormatterKey)) → counted_over self.now (Some key.now ∷ more)
+            ≡ counted_over self.now more };
 
     // A line that asks for none counts none.
-    ghost counts_none: { (s : Self) (more : List (Option FormatterKey)) → counted_over s (None ∷ more) ≡ counted_over s more };
+    ghost counts_none: { (s : Self) (more : List (Option FormatterKey))
+        → counted_over s (None ∷ more) ≡ counted_over s more };
 }

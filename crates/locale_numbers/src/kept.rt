@@ -24,9 +24,11 @@ impl<'a, T: Tables> Formatters<'a> for Kept<'a, T> {
 
     ghost book = { λ s. T.book s.maker.tables.now };
 
-    ghost is_ready = { λ s. IsSound (finds (T.book s.maker.tables.now)) (IsKeptFor (T.book s.maker.tables.now)) s.formatters };
+    ghost is_ready = { λ s. IsSound (finds (T.book s.maker.tables.now)) (IsKeptFor (T.book s.maker.tables.now))
+        s.formatters };
 
-    ghost counted_over = { λ s keys. made_over ⟦<FormatterKey as PartialEq>⟧.eq (finds (T.book s.maker.tables.now)) s.formatters keys };
+    ghost counted_over = { λ s keys. made_over ⟦<FormatterKey as PartialEq>⟧.eq (finds (T.book s.maker.tables.now))
+        s.formatters keys };
 
     ghost may_take_memory = { λ s. ⊤ };
 

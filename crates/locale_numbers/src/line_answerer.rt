@@ -36,7 +36,8 @@ impl<'a, T: Tables> Answerer for LineAnswerer<'a, T> {
 
     ghost answer_of = { λ s line. answer_of (T.book s.kept.maker.tables.now) line };
 
-    ghost made_over = { λ s lines. made_over ⟦<FormatterKey as PartialEq>⟧.eq (finds (T.book s.kept.maker.tables.now)) s.kept.formatters (map key_of lines) };
+    ghost made_over = { λ s lines. made_over ⟦<FormatterKey as PartialEq>⟧.eq (finds (T.book s.kept.maker.tables.now))
+        s.kept.formatters (map key_of lines) };
 
     fn answer_onto(&mut self, line: &[u8], out: &mut String) -> Result<(), AllocError> {
         let (front, text) = cut_text(line);

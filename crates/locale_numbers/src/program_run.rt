@@ -138,7 +138,8 @@ fn report<I: Read + Drop, R: ByteReader, W: ByteWriter>(
 
     // As many formatters are kept as the words say.
     ensures made { IfOk result (λ report. OfBook SAMPLE_BOOK.now words.now.book (λ book.
-        CountsMade (makes (same_keys ⟦<DecimalFormatterPreferences as PartialEq>⟧.eq ⟦<Kind as PartialEq>⟧.eq ⟦<GroupingStrategy as PartialEq>⟧.eq)
+        CountsMade (makes (same_keys ⟦<DecimalFormatterPreferences as PartialEq>⟧.eq
+        ⟦<Kind as PartialEq>⟧.eq ⟦<GroupingStrategy as PartialEq>⟧.eq)
         book words.now.capacity) (R.remaining reader.old) report.made)) }
     ensures stays_well { OnOk result (
         (R.failed reader.new ≡ false) × (W.failed writer.new ≡ false)) }

@@ -33,14 +33,17 @@ pub(crate) fn answer_read<'a, F: Formatters<'a>>(
     requires held { IsTrue is_held.old → F.holds formatters.old key.now }
     requires plain { key.now.kind ≡ Kind.Plain }
     ensures text { OnOk result (string_bytes out.new
-        ≡ string_bytes out.old ++ read_with (found_in (F.book formatters.old) key.now.preferences key.now.grouping) text.now) }
+        ≡ string_bytes out.old ++ read_with (found_in (F.book formatters.old) key.now.preferences key.now.grouping)
+        text.now) }
     ensures err { OnErr result (Grows (string_bytes out.old) (string_bytes out.new)) }
 
     // Where there is room for the answer, and handing out a formatter takes none, only a text of more than eight digits
     // may be out of memory.
-    ensures room { HasRoom out.old (read_with (found_in (F.book formatters.old) key.now.preferences key.now.grouping) text.now)
+    ensures room { HasRoom out.old (read_with (found_in (F.book formatters.old) key.now.preferences key.now.grouping)
+        text.now)
         → ¬ (F.may_take_memory formatters.old)
-        → ¬ (HasManyDigitsWith (found_in (F.book formatters.old) key.now.preferences key.now.grouping) text.now) → IsOk result }
+        → ¬ (HasManyDigitsWith (found_in (F.book formatters.old) key.now.preferences key.now.grouping) text.now)
+        → IsOk result }
     ensures counted { OnOk result ((more : List (Option FormatterKey)) →
         F.counted_over formatters.old (Some key.now ∷ more) ≡ F.counted_over formatters.new more) }
     ensures same { F.book formatters.new ≡ F.book formatters.old }

@@ -61,7 +61,8 @@ pub fn run<T: Tables, R: ByteReader, W: ByteWriter>(
         (W.contents writer.old) (W.contents writer.new)) }
     ensures lines { IfOk result (λ report. CountsLines (R.remaining reader.old) report.lines) }
     ensures made { IfOk result (λ report.
-        CountsMade (makes (same_keys ⟦<DecimalFormatterPreferences as PartialEq>⟧.eq ⟦<Kind as PartialEq>⟧.eq ⟦<GroupingStrategy as PartialEq>⟧.eq)
+        CountsMade (makes (same_keys ⟦<DecimalFormatterPreferences as PartialEq>⟧.eq
+        ⟦<Kind as PartialEq>⟧.eq ⟦<GroupingStrategy as PartialEq>⟧.eq)
         (T.book tables.now) capacity) (R.remaining reader.old) report.made) }
     ensures reader_stays_well { OnOk result (R.failed reader.new ≡ false) }
     ensures writer_stays_well { OnOk result (W.failed writer.new ≡ false) }

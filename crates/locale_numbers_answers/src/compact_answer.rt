@@ -84,7 +84,10 @@ fn write_tab_and_value_shown(
     exponent: u8,
 ) -> Result<(), AllocError>
     ensures text { OnOk result (string_bytes out.new
-        ≡ string_bytes out.old ++ tab ∷ compact_text_of (record { significand = significand.now; exponent = exponent })) }
+        ≡ string_bytes out.old ++ tab ∷ compact_text_of (record {
+          significand = significand.now;
+          exponent = exponent;
+        })) }
     ensures err { OnErr result (Grows (string_bytes out.old) (string_bytes out.new)) }
     ensures room { HasRoom out.old
         (tab ∷ compact_text_of (record { significand = significand.now; exponent = exponent })) → IsOk result }

@@ -42,7 +42,8 @@ pub fn write_exact_answer(
     out: &mut String,
 ) -> Result<(), AllocError>
     ensures text { OnOk result (string_bytes out.new
-        ≡ string_bytes out.old ++ exact_answer (compact_tables_of formatter.now) (record { significand = significand.now; exponent = exponent })) }
+        ≡ string_bytes out.old ++ exact_answer (compact_tables_of formatter.now)
+        (record { significand = significand.now; exponent = exponent })) }
     ensures err { OnErr result (Grows (string_bytes out.old) (string_bytes out.new)) }
 
     // Where there is room for the answer, it does not allocate.

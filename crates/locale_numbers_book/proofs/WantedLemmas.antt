@@ -1,7 +1,6 @@
 -- What a text asks for where it is a tag, and where it is none: `specs/Wanted.antt`.
-use Rattle.std.proofs.Common.{◌≡◌, Bool, true, false, cond, not, List, [], ◌∷◌, Option, Some, None, refl, sym, ap, ap₂, ◌∙◌, subst}
+use Rattle.std.proofs.Common.{◌≡◌, Bool, true, false, cond, not, List, [], ◌∷◌, Option, Some, None, refl, sym, ap, ◌∙◌, subst}
 use Rattle.std.specs.Prelude.{IfSome, if◌then◌else◌, option_map, option_and_then, option_to_list}
-use Rattle.std.proofs.lemmas.Str.Ascii.{lowercase-lowercase}
 use Rattle.icu_locale_core.specs.declared.ParseError.{ParseError}
 use Rattle.icu_locale_core.specs.Subtags.{Text, is_true, lower, same_text, true_text}
 use Rattle.icu_locale_core.specs.Pieces.{pieces}
@@ -10,6 +9,7 @@ use Rattle.icu_locale_core.specs.FaultyPiece.{HasFault}
 use Rattle.icu_locale_core.specs.SingleVariant.{MeansKeyword, SingleMeaning, MeansSingle, keyword_entries, piece_meaning, single_tag}
 use Rattle.icu_locale_core.specs.TagPreferences.{keyword_piece, numbering_key, one_piece, preferences_of}
 use Rattle.icu_locale_core.specs.Values.{without_true}
+use Rattle.icu_locale_core.proofs.CaseLemmas.{lower-lower}
 use Rattle.icu_locale_core.proofs.SingleTags.{single_is_tag}
 use Rattle.locale_numbers_tables.proofs.TagLemmas.{tag_read, tag_faulty}
 use Rattle.locale_numbers_book.specs.Wanted.{wanted_of}
@@ -48,13 +48,9 @@ entry_piece true None other = tt
 entry_piece true (Some s) other = other
 entry_piece false o other = tt
 
-lowered_twice : (p : Text) → lower (lower p) ≡ lower p
-lowered_twice [] = refl
-lowered_twice (c ∷ cs) = ap₂ (λ d ds. d ∷ ds) (lowercase-lowercase c) (lowered_twice cs)
-
 piece_kept : (b : Bool) (v : Text) → is_true v ≡ b → IfSome (if b then None else Some (lower v)) (λ s. is_true s ≡ false)
 piece_kept true v is = tt
-piece_kept false v is = ap (same_text true_text) (lowered_twice v) ∙ is
+piece_kept false v is = ap (same_text true_text) (lower-lower v) ∙ is
 
 keyword_system : (last : List Text) (keyword : Option (Text × Option Text)) → MeansKeyword last keyword
     → IfSome (keyword_piece numbering_key (keyword_entries keyword)) (λ s. is_true s ≡ false)

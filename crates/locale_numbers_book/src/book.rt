@@ -38,7 +38,14 @@ impl Model for Book {
 
     ghost Value = { BookTables };
 
-    ghost view = { λ b. record { symbols = b.symbols.map.entries; digits = b.digits.map.entries; rules = b.rules.map.entries; short = b.short.map.entries; long = b.long.map.entries; parents = b.parents } };
+    ghost view = { λ b. record {
+      symbols = b.symbols.map.entries;
+      digits = b.digits.map.entries;
+      rules = b.rules.map.entries;
+      short = b.short.map.entries;
+      long = b.long.map.entries;
+      parents = b.parents;
+    } };
 }
 
 // A book is let go by one call, whose proof a user's exits cite: a derived drop would be opened table by table at each

@@ -54,7 +54,8 @@ pub trait Length {
         preferences: CompactDecimalFormatterPreferences,
         options: CompactDecimalFormatterOptions,
     ) -> Result<CompactDecimalFormatter<'_>, DataError>
-        ensures { result_map_both compact_tables_of (λ error. error) result ≡ found_beside (patterns book.now) book.now preferences options.grouping_strategy };
+        ensures { result_map_both compact_tables_of (λ error. error) result
+            ≡ found_beside (patterns book.now) book.now preferences options.grouping_strategy };
 }
 
 pub struct Short;

@@ -62,7 +62,8 @@ impl<K: CacheKey, F: Drop> FormatterCache<K, F> {
         ensures recent { OnOk result (recent_of self.new ≡ recent_with K.eq (M.finds maker.now) self.old key.now) }
         ensures count { OnOk result (self.new.made ≡ made_over K.eq (M.finds maker.now) self.old (Some key.now ∷ [])) }
         ensures ahead { OnOk result ((more : List (Option K)) →
-            made_over K.eq (M.finds maker.now) self.old (Some key.now ∷ more) ≡ made_over K.eq (M.finds maker.now) self.new more) }
+            made_over K.eq (M.finds maker.now) self.old (Some key.now ∷ more)
+            ≡ made_over K.eq (M.finds maker.now) self.new more) }
         ensures sound { IsSound (M.finds maker.now) (M.is_made maker.now) self.new }
         ensures capacity { self.new.capacity ≡ self.old.capacity }
         ensures same { IfOk result (λ found. found ≡ false → self.new ≡ self.old) }

@@ -24,7 +24,8 @@ impl<K: Copy> Model for KeyPair<K> {
 
     ghost Value = { Place K × Place K };
 
-    ghost coded = { coded× (coded_option (coded× (coded_list coded_ℕ) K.code)) (coded_option (coded× (coded_list coded_ℕ) K.code)) };
+    ghost coded = { coded× (coded_option (coded× (coded_list coded_ℕ) K.code))
+        (coded_option (coded× (coded_list coded_ℕ) K.code)) };
 
     // The place used last, and the other.
     ghost view = { λ p. if p.is_second_last then (p.second, p.first) else (p.first, p.second) };

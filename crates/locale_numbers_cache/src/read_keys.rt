@@ -88,11 +88,13 @@ impl<K: Copy> ReadKeys<K> {
         ensures value { OnOk result (self.new.latest ≡ Some (R.key_of reader.now bytes.now)) }
         ensures used { OnOk result (length bytes.now ≤ 256 →
             IfSome (slice_get self.old.pairs (pair_at bytes.now)) (λ old.
-            IfSome (slice_get self.new.pairs (pair_at bytes.now)) (λ new. Uses bytes.now (R.key_of reader.now bytes.now) old new))) }
+            IfSome (slice_get self.new.pairs (pair_at bytes.now))
+            (λ new. Uses bytes.now (R.key_of reader.now bytes.now) old new))) }
         ensures sound { All (AreRead (R.key_of reader.now)) self.new.pairs }
         ensures err { OnErr result (self.new ≡ self.old) }
         ensures room { length bytes.now ≤ 256 →
-            IfSome (slice_get self.old.pairs (pair_at bytes.now)) (λ pair. either_remembers bytes.now pair ≡ true) → IsOk result }
+            IfSome (slice_get self.old.pairs (pair_at bytes.now)) (λ pair. either_remembers bytes.now pair ≡ true)
+            → IsOk result }
     {
         if bytes.len() > LONGEST {
             let key = reader.read(bytes)?;
@@ -123,11 +125,13 @@ impl<K: Copy> ReadKeys<K> {
         ensures same { IfOk result (λ same. IsTrue same → self.new ≡ self.old) }
         ensures used { OnOk result (length bytes.now ≤ 256 →
             IfSome (slice_get self.old.pairs (pair_at bytes.now)) (λ old.
-            IfSome (slice_get self.new.pairs (pair_at bytes.now)) (λ new. Uses bytes.now (R.key_of reader.now bytes.now) old new))) }
+            IfSome (slice_get self.new.pairs (pair_at bytes.now))
+            (λ new. Uses bytes.now (R.key_of reader.now bytes.now) old new))) }
         ensures sound { All (AreRead (R.key_of reader.now)) self.new.pairs }
         ensures err { OnErr result (self.new ≡ self.old) }
         ensures room { length bytes.now ≤ 256 →
-            IfSome (slice_get self.old.pairs (pair_at bytes.now)) (λ pair. either_remembers bytes.now pair ≡ true) → IsOk result }
+            IfSome (slice_get self.old.pairs (pair_at bytes.now)) (λ pair. either_remembers bytes.now pair ≡ true)
+            → IsOk result }
     {
         if self.is_last(bytes) {
             return Ok(true);

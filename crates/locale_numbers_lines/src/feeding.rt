@@ -26,8 +26,10 @@ fn gather<A: Answerer, W: ByteWriter>(
     requires cut { HasNoFeed held.old.items }
     requires nothing { string_bytes ready.old ≡ [] }
     requires writer_well { W.failed writer.old ≡ false }
-    ensures came { Feeds (A.answer_of answerer.old) (held.old.items ++ piece.now) held.new.items (string_bytes ready.new)
-        (W.contents writer.old) (W.contents writer.new) lines (A.made_over answerer.old) (A.made_over answerer.new) result }
+    ensures came { Feeds (A.answer_of answerer.old) (held.old.items ++ piece.now) held.new.items
+        (string_bytes ready.new)
+        (W.contents writer.old) (W.contents writer.new) lines (A.made_over answerer.old) (A.made_over answerer.new)
+        result }
     ensures short { OnOk result (length (string_bytes ready.new) < PIECE) }
     ensures fault { W.failed writer.new ≡ ends_in_write result }
     ensures same { A.answer_of answerer.new ≡ A.answer_of answerer.old }
@@ -59,7 +61,8 @@ pub fn feed<A: Answerer, W: ByteWriter>(
     requires nothing { string_bytes ready.old ≡ [] }
     requires writer_well { W.failed writer.old ≡ false }
     ensures came { Feeds (A.answer_of answerer.old) (held.old.items ++ piece.now) held.new.items []
-        (W.contents writer.old) (W.contents writer.new) lines (A.made_over answerer.old) (A.made_over answerer.new) result }
+        (W.contents writer.old) (W.contents writer.new) lines (A.made_over answerer.old) (A.made_over answerer.new)
+        result }
     ensures nothing { OnOk result (string_bytes ready.new ≡ []) }
     ensures fault { W.failed writer.new ≡ ends_in_write result }
     ensures same { A.answer_of answerer.new ≡ A.answer_of answerer.old }

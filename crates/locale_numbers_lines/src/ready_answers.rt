@@ -60,7 +60,8 @@ pub fn answer_held<A: Answerer>(
 ) -> Result<(), AllocError>
     requires { A.is_ready answerer.old }
     ensures text { OnOk result (
-        string_bytes ready.new ≡ string_bytes ready.old ++ ended (A.answer_of answerer.old (held.old.items ++ end.now))) }
+        string_bytes ready.new ≡ string_bytes ready.old ++ ended
+        (A.answer_of answerer.old (held.old.items ++ end.now))) }
     ensures made { OnOk result ((more : List (List ℕ)) →
         A.made_over answerer.old ((held.old.items ++ end.now) ∷ more) ≡ A.made_over answerer.new more) }
     ensures gone { OnOk result (held.new.items ≡ []) }

@@ -33,8 +33,10 @@ fn finish<A: Answerer, W: ByteWriter>(
         let before = W.contents writer.old in
         let after = W.contents writer.new in
         MatchResult result
-        (λ count. Finishes answer held.now before after lines count (A.made_over answerer.old) (A.made_over answerer.new))
-        (λ refusal. MatchRun refusal ⊥ (WritesFront (answers_to answer (last_line held.now)) before after) (Keeps before after)) }
+        (λ count. Finishes answer held.now before after lines count (A.made_over answerer.old)
+        (A.made_over answerer.new))
+        (λ refusal. MatchRun refusal ⊥ (WritesFront (answers_to answer (last_line held.now)) before after)
+        (Keeps before after)) }
     ensures fault { W.failed writer.new ≡ ends_in_write result }
     ensures same { A.answer_of answerer.new ≡ A.answer_of answerer.old }
     ensures can_answer { A.is_ready answerer.new }

@@ -17,7 +17,8 @@ fn first_separator(text: &[u8], separator: u8) -> Option<usize>
 fn last_separator(text: &[u8], separator: u8) -> Option<usize>
     ensures { MatchOption result
         (All (IsNot separator) text.now)
-        (λ end. (end < length text.now) × (slice_index text.now end ≡ separator) × All (IsNot separator) (drop (end + 1) text.now)) }
+        (λ end. (end < length text.now) × (slice_index text.now end ≡ separator)
+        × All (IsNot separator) (drop (end + 1) text.now)) }
 {
     memrchr(separator, text)
 }

@@ -152,7 +152,14 @@ pub fn is_text(bytes: &[u8]) -> bool
 /// go together.
 pub fn read_request(line: &[u8]) -> Option<Request<'_>>
     ensures { MatchOption result (request_of line.now ≡ None) (λ asked. with_text [] (request_of line.now)
-        ≡ Some (record { tag = asked.tag.now; form = asked.form; grouping = asked.grouping; sign = asked.sign; rounding = asked.rounding; text = [] })) }
+        ≡ Some (record {
+          tag = asked.tag.now;
+          form = asked.form;
+          grouping = asked.grouping;
+          sign = asked.sign;
+          rounding = asked.rounding;
+          text = [];
+        })) }
 {
     if !is_text(line) {
         return None;

@@ -12,7 +12,8 @@ impl<const N: usize> TinyAsciiStr<N> {
     /// is always `Ok`. It does not allocate.
     pub fn new_unsigned_decimal(number: u32) -> Result<Self, Self>
         ensures { (text : List ℕ) × IsDecimalText number text
-            × MatchResult result (λ all. (length text ≤ N) × (all ≡ text)) (λ front. (N < length text) × (front ≡ take N text)) }
+            × MatchResult result (λ all. (length text ≤ N) × (all ≡ text))
+            (λ front. (N < length text) × (front ≡ take N text)) }
     {
         let mut digits = [0; 10];
         let start = put_digits(&mut digits, number);

@@ -19,11 +19,13 @@ impl<'s, S: Sink> Sink for PartlessSink<'s, S> {
 
     ghost refused = { λ s. S.refused s.to.now };
 
-    ghost lacks_more = { λ s first second lacks. text_lacks_more S.takes S.lacks_room S.lacks_more s.to.now first second lacks };
+    ghost lacks_more = { λ s first second lacks. text_lacks_more S.takes S.lacks_room S.lacks_more
+        s.to.now first second lacks };
 
     ghost nothing = { λ s. text_nothing_taken S.takes S.nothing s.to };
 
-    ghost joins = { λ s t u first second begun going ended. text_taken_joins S.takes S.refused S.joins s.to t.to u.to first second begun going ended };
+    ghost joins = { λ s t u first second begun going ended. text_taken_joins S.takes S.refused S.joins
+        s.to t.to u.to first second begun going ended };
 
     fn has_refused(&self) -> bool {
         self.to.has_refused()

@@ -47,7 +47,8 @@ impl<'b> Sink for BytesSink<'b> {
 
     ghost nothing = { λ s. lays_nothing s.out s.length };
 
-    ghost joins = { λ s t u first second begun _ ended. lays_joined s.out t.out u.out s.length t.length u.length first second begun ended };
+    ghost joins = { λ s t u first second begun _ ended. lays_joined s.out t.out u.out
+        s.length t.length u.length first second begun ended };
 
     fn has_refused(&self) -> bool {
         self.refused

@@ -88,7 +88,8 @@ pub fn value_subtag(piece: &[u8]) -> Option<Subtag>
 impl<const N: usize> TryFrom<TinyAsciiStr<N>> for Subtag {
     type Error = ParseError;
 
-    ghost try_from_gives = { λ text r. MatchResult r (λ subtag. (is_other_piece text ≡ true) × (subtag ≡ lower text)) (λ e. (is_other_piece text ≡ false) × (e ≡ ParseError.InvalidSubtag)) };
+    ghost try_from_gives = { λ text r. MatchResult r (λ subtag. (is_other_piece text ≡ true) × (subtag ≡ lower text))
+        (λ e. (is_other_piece text ≡ false) × (e ≡ ParseError.InvalidSubtag)) };
 
     fn try_from(text: TinyAsciiStr<N>) -> Result<Self, ParseError> {
         Self::try_from_str(text.as_str())
