@@ -1,7 +1,7 @@
 -- What a call that opens, keeps or closes leaves in a handle, and why it is refused.
 -- Defined in include/legumeyet.h, docs/books.md, "Faults", and docs/formatters.md, "Choosing tables".
 -- Cited by the exports that open, keep and close.
--- The imports are many: what a book has, each kind of tables, and the errors of a book, of a tag and of a call.
+-- The imports are many: what a book has, each kind of tables, the content of a handle, and the errors of a book, of a tag and of a call.
 use Rattle.std.specs.Prelude.{◌≡◌, ◌⊎◌, ℕ, Bool, true, false, List, Option, Some, None, is_some, Result, Ok, Err, IsOk, IfErr, IsUtf8}
 use Rattle.icu_decimal.specs.CompactTables.{CompactTables}
 use Rattle.icu_decimal.specs.PlainText.{Tables}
@@ -19,10 +19,12 @@ use Rattle.legumeyet_c_values.specs.declared.Width.{Width}
 use Rattle.legumeyet_c_values.specs.declared.Width.TheVariants.{Short, Long}
 use Rattle.legumeyet_c_values.specs.declared.CallError.{CallError}
 use Rattle.legumeyet_c_values.specs.declared.CallError.TheVariants.{Memory, Closed, UnknownOption, Tag, Table, Book}
+use Rattle.legumeyet_c.specs.Kinds.{book_in, is_kept}
+use Rattle.legumeyet_c.specs.declared.content.Content.{Content}
 
--- what was found is open; after a fault the handle is as it was
-pub record IsOpening {T : Type 0} (is_found : T → Type 0) (fault : CallError → Type 0) (before after : Option T) (outcome : Result (Unit {0}) CallError) : Type 0 where
-  pub opened : IsOk outcome → (x : T) × is_found x × (after ≡ Some x)
+-- what was found is open to the calls that see this of a content; after a fault the handle has what it had, of whatever kind
+pub record IsOpening {T : Type 0} (seen : Option Content → Option T) (is_found : T → Type 0) (fault : CallError → Type 0) (before after : Option Content) (outcome : Result (Unit {0}) CallError) : Type 0 where
+  pub opened : IsOk outcome → (x : T) × is_found x × (seen after ≡ Some x)
   pub cause : IfErr outcome fault
   pub same : IfErr outcome (λ error. after ≡ before)
 
@@ -113,9 +115,9 @@ IsKeepingFault None was_kept error = error ≡ Closed
 IsKeepingFault (Some book) true error = ⊥
 IsKeepingFault (Some book) false error = error ≡ Memory
 
--- an open book is kept, or a fault comes and the handle is as it was
-pub record IsKeeping (book : Option BookTables) (was_kept is_kept : Bool) (outcome : Result (Unit {0}) CallError) : Type 0 where
-  pub was_open : IsOk outcome → is_some book ≡ true
-  pub kept : IsOk outcome → is_kept ≡ true
-  pub cause : IfErr outcome (IsKeepingFault book was_kept)
-  pub same : IfErr outcome (λ error. is_kept ≡ was_kept)
+-- an open book is kept, or a fault comes and the handle has what it had, of whatever kind
+pub record IsKeeping (before after : Option Content) (outcome : Result (Unit {0}) CallError) : Type 0 where
+  pub was_open : IsOk outcome → is_some (book_in before) ≡ true
+  pub kept : IsOk outcome → is_kept after ≡ true
+  pub cause : IfErr outcome (IsKeepingFault (book_in before) (is_kept before))
+  pub same : IfErr outcome (λ error. after ≡ before)

@@ -1,11 +1,11 @@
 -- What the handle of each type has open: of its own kind, where nothing is open to a call of that type else; and of any kind.
 -- Defined in docs/c-api.md, "Handles".
 -- Cited by each export that takes a handle.
-use Rattle.std.specs.Prelude.{Bool, Option}
+use Rattle.std.specs.Prelude.{Option}
 use Rattle.icu_decimal.specs.CompactTables.{CompactTables}
 use Rattle.icu_decimal.specs.PlainText.{Tables}
 use Rattle.locale_numbers.specs.Book.{BookTables}
-use Rattle.legumeyet_c.specs.Kinds.{book_in, compact_in, decimal_in, is_kept}
+use Rattle.legumeyet_c.specs.Kinds.{book_in, compact_in, decimal_in}
 use Rattle.legumeyet_c.specs.declared.content.Content.{Content}
 use Rattle.legumeyet_c.specs.declared.handles.BookHandle.{BookHandle}
 use Rattle.legumeyet_c.specs.declared.handles.CompactHandle.{CompactHandle}
@@ -13,9 +13,6 @@ use Rattle.legumeyet_c.specs.declared.handles.DecimalHandle.{DecimalHandle}
 
 abbrev pub book_open : BookHandle → Option BookTables
 book_open handle = book_in handle.handle.pointer.value
-
-abbrev pub book_kept : BookHandle → Bool
-book_kept handle = is_kept handle.handle.pointer.value
 
 abbrev pub decimal_open : DecimalHandle → Option Tables
 decimal_open handle = decimal_in handle.handle.pointer.value

@@ -2,6 +2,7 @@
 
 ghost use Rattle.std.specs.Prelude.{◌≡◌, None};
 ghost use Rattle.legumeyet_c_values.specs.Putting.{Answers};
+ghost use Rattle.legumeyet_c.specs.Kinds.{book_in};
 ghost use Rattle.legumeyet_c.specs.Opening.{IsBookFault, IsClosing, IsOpening, SaysBook};
 ghost use Rattle.legumeyet_c.specs.Views.{book_content, book_open};
 
@@ -17,8 +18,8 @@ use std::alloc::Global;
 /// Returns 0; 101 to 111, the number of the first fault of the text and 100; 1, out of memory.
 #[unsafe(no_mangle)]
 pub extern "C" fn legumeyet_book_open(alloc: Global, json: &[u8], book: &mut BookHandle) -> i32
-    ensures { Answers (IsOpening (SaysBook json.now) (IsBookFault json.now) (book_open book.old) (book_open book.new))
-        result }
+    ensures { Answers (IsOpening book_in (SaysBook json.now) (IsBookFault json.now) (book_content book.old)
+        (book_content book.new)) result }
 {
     match Book::from_json(alloc, json) {
         Ok(found) => {

@@ -4,6 +4,7 @@ ghost use Rattle.std.specs.Prelude.{◌≡◌, ◌⊎◌, Ok, Err, None, IfOk, I
 ghost use Rattle.icu_decimal.specs.HeldCompact.{compact_tables_of};
 ghost use Rattle.legumeyet_c_values.specs.Choices.{grouping_of, width_of};
 ghost use Rattle.legumeyet_c_values.specs.Putting.{Answers};
+ghost use Rattle.legumeyet_c.specs.Kinds.{compact_in};
 ghost use Rattle.legumeyet_c.specs.Opening.{FindsCompact, IsClosing, IsCompactFault, IsCompactFor, IsOpening, compact_for_width};
 ghost use Rattle.legumeyet_c.specs.Views.{book_content, book_open, compact_content, compact_open};
 
@@ -85,9 +86,9 @@ pub extern "C" fn legumeyet_compact_formatter_open(
 ) -> i32
     ensures same { book_content book.new ≡ book_content book.old }
     ensures told { Answers
-        (IsOpening (FindsCompact (book_open book.old) (width_of width) (grouping_of grouping) tag.now)
+        (IsOpening compact_in (FindsCompact (book_open book.old) (width_of width) (grouping_of grouping) tag.now)
         (IsCompactFault (book_open book.old) (width_of width) (grouping_of grouping) tag.now)
-        (compact_open formatter.old) (compact_open formatter.new)) result }
+        (compact_content formatter.old) (compact_content formatter.new)) result }
 {
     let choice = choice_by(width, grouping);
     let (book, formatter) = (&mut book.handle, &mut formatter.handle);

@@ -5,6 +5,7 @@ ghost use Rattle.locale_numbers.specs.TagFormatters.{plain_for};
 ghost use Rattle.legumeyet_c_values.specs.Choices.{grouping_of};
 ghost use Rattle.legumeyet_c_values.specs.Putting.{Answers, IsPut};
 ghost use Rattle.legumeyet_c.specs.DecimalWriting.{HasNoFault, IsDecimalText};
+ghost use Rattle.legumeyet_c.specs.Kinds.{decimal_in};
 ghost use Rattle.legumeyet_c.specs.Opening.{FindsDecimal, IsClosing, IsDecimalFault, IsDecimalFor, IsOpening};
 ghost use Rattle.legumeyet_c.specs.Views.{book_content, book_open, decimal_content, decimal_open};
 ghost use Rattle.legumeyet_c.specs.Writing.{IsNumberWritingFault, IsScaledWritingFault, WritesNumber, WritesScaled};
@@ -90,9 +91,9 @@ pub extern "C" fn legumeyet_decimal_formatter_open(
 ) -> i32
     ensures same { book_content book.new ≡ book_content book.old }
     ensures told { Answers
-        (IsOpening (FindsDecimal (book_open book.old) (grouping_of grouping) tag.now)
-        (IsDecimalFault (book_open book.old) (grouping_of grouping) tag.now) (decimal_open formatter.old)
-        (decimal_open formatter.new)) result }
+        (IsOpening decimal_in (FindsDecimal (book_open book.old) (grouping_of grouping) tag.now)
+        (IsDecimalFault (book_open book.old) (grouping_of grouping) tag.now) (decimal_content formatter.old)
+        (decimal_content formatter.new)) result }
 {
     let strategy = grouping_by(grouping);
     let (book, formatter) = (&mut book.handle, &mut formatter.handle);

@@ -2,9 +2,9 @@
 
 ghost use Rattle.std.specs.Prelude.{◌≡◌, Some};
 ghost use Rattle.legumeyet_c_values.specs.Putting.{Answers};
-ghost use Rattle.legumeyet_c.specs.Kinds.{book_in, is_kept};
+ghost use Rattle.legumeyet_c.specs.Kinds.{book_in};
 ghost use Rattle.legumeyet_c.specs.Opening.{IsKeeping};
-ghost use Rattle.legumeyet_c.specs.Views.{book_kept, book_open};
+ghost use Rattle.legumeyet_c.specs.Views.{book_content, book_open};
 
 use crate::content::{Content, Held};
 use crate::handle::Handle;
@@ -16,8 +16,7 @@ use std::alloc::Global;
 // The content with its book kept, and the content as it was where memory is refused or it has no book.
 fn keep(alloc: Global, content: Box<Content>) -> (Box<Content>, Result<(), CallError>)
     ensures same { book_in (Some result.0.value) ≡ book_in (Some content.value) }
-    ensures told { IsKeeping (book_in (Some content.value)) (is_kept (Some content.value))
-        (is_kept (Some result.0.value)) result.1 }
+    ensures told { IsKeeping (Some content.value) (Some result.0.value) result.1 }
 {
     match &*content {
         Content::Kept(_) => return (content, Ok(())),
@@ -42,8 +41,7 @@ fn keep(alloc: Global, content: Box<Content>) -> (Box<Content>, Result<(), CallE
 // Keeps the book behind a handle.
 fn keep_behind(alloc: Global, book: &mut Handle) -> Result<(), CallError>
     ensures same { book_in book.new.pointer.value ≡ book_in book.old.pointer.value }
-    ensures told { IsKeeping (book_in book.old.pointer.value) (is_kept book.old.pointer.value)
-        (is_kept book.new.pointer.value) result }
+    ensures told { IsKeeping book.old.pointer.value book.new.pointer.value result }
 {
     let Some(content) = book.take(alloc) else {
         return Err(CallError::Closed);
@@ -60,7 +58,7 @@ fn keep_behind(alloc: Global, book: &mut Handle) -> Result<(), CallError>
 #[unsafe(no_mangle)]
 pub extern "C" fn legumeyet_book_keep(alloc: Global, book: &mut BookHandle) -> i32
     ensures same { book_open book.new ≡ book_open book.old }
-    ensures told { Answers (IsKeeping (book_open book.old) (book_kept book.old) (book_kept book.new)) result }
+    ensures told { Answers (IsKeeping (book_content book.old) (book_content book.new)) result }
 {
     answer(keep_behind(alloc, &mut book.handle))
 }

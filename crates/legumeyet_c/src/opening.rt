@@ -108,8 +108,8 @@ pub(crate) fn put_behind<T: Held>(
     held: T,
     fault: CallError,
 ) -> Result<(), CallError>
-    ensures { IsOpening (λ opened. opened ≡ held) (λ error. error ≡ fault) (T.held_in handle.old.pointer.value)
-        (T.held_in handle.new.pointer.value) result }
+    ensures { IsOpening T.held_in (λ opened. opened ≡ held) (λ error. error ≡ fault) handle.old.pointer.value
+        handle.new.pointer.value result }
 {
     match Box::new(alloc, held.into_content()) {
         Ok(content) => {
@@ -130,9 +130,9 @@ pub(crate) fn open<T: Found>(
     handle: &mut Handle,
 ) -> Result<(), CallError>
     ensures same { book.new.pointer.value ≡ book.old.pointer.value }
-    ensures told { IsOpening (Finds T.finds (book_in book.old.pointer.value) choice tag.now)
-        (IsFindingFault T.found (book_in book.old.pointer.value) choice tag.now) (T.held_in handle.old.pointer.value)
-        (T.held_in handle.new.pointer.value) result }
+    ensures told { IsOpening T.held_in (Finds T.finds (book_in book.old.pointer.value) choice tag.now)
+        (IsFindingFault T.found (book_in book.old.pointer.value) choice tag.now) handle.old.pointer.value
+        handle.new.pointer.value result }
 {
     match find_behind::<T>(alloc, book, choice, tag) {
         Ok(tables) => put_behind(alloc, handle, tables, CallError::Memory),

@@ -2,8 +2,9 @@ use Rattle.std.proofs.Common.{rules, w32, Err, refl, sym, subst, ◌∙◌}
 use Rattle.std.proofs.lemmas.Int.{to_z-of_z}
 use mir.Val.{SFits}
 use Rattle.legumeyet_c_values.specs.declared.CallError.TheVariants.{Book}
+use Rattle.legumeyet_c.specs.Kinds.{book_in}
 use Rattle.legumeyet_c.specs.Opening.{SaysBook}
-use Rattle.legumeyet_c.specs.Views.{book_open}
+use Rattle.legumeyet_c.specs.Views.{book_content}
 use Rattle.legumeyet_c.proofs.OpeningLemmas.{opening_by, opening_refused}
 use Rattle.locale_numbers.specs.declared.BookError.TheVariants.{Memory}
 use Rattle.legumeyet_c.proofs.book.legumeyet_book_open.Goals as goal
@@ -14,7 +15,7 @@ returns-in-Ok c =
     record {
       outcome = c.put_behind.result;
       number = to_z-of_z w32 c.answer.result fits ∙ c.answer.ensures;
-      held = opening_by _ _ _
+      held = opening_by book_in _ _ _
           (λ x is. subst (SaysBook c.args.json.now) (sym is)
           (record { value = c.in-Ok.ensures.value.0; reads = c.in-Ok.ensures.value.1; is_book = c.in-Ok.ensures.value.2 }))
           (λ error is. record { fault = Memory; refused = tt; told = is })
@@ -27,5 +28,5 @@ returns-in-Err c =
     record {
       outcome = Err (Book c.in-Err.error);
       number = to_z-of_z w32 c.number.result fits ∙ c.number.ensures;
-      held = opening_refused _ _ (book_open c.args.book.now) _ (record { fault = c.in-Err.error; refused = c.in-Err.ensures.refused; told = refl });
+      held = opening_refused book_in _ _ (book_content c.args.book.now) _ (record { fault = c.in-Err.error; refused = c.in-Err.ensures.refused; told = refl });
     }

@@ -6,8 +6,9 @@ use Rattle.icu_decimal.specs.declared.options.GroupingStrategy.{GroupingStrategy
 use Rattle.locale_numbers.specs.Book.{BookTables}
 use Rattle.locale_numbers.specs.TagFormatters.{plain_for}
 use Rattle.legumeyet_c_values.specs.Choices.{grouping_of}
+use Rattle.legumeyet_c.specs.Kinds.{decimal_in}
 use Rattle.legumeyet_c.specs.Opening.{IsDecimalFor}
-use Rattle.legumeyet_c.specs.Views.{book_open, decimal_open}
+use Rattle.legumeyet_c.specs.Views.{book_open, decimal_content}
 use Rattle.legumeyet_c.proofs.OpeningLemmas.{opening_chosen}
 use Rattle.legumeyet_c.proofs.decimal_formatter.legumeyet_decimal_formatter_open.Goals as goal
 
@@ -17,9 +18,9 @@ returns-clause-told c =
     record {
       outcome = c.open.result;
       number = to_z-of_z w32 c.answer.result fits ∙ c.answer.ensures;
-      held = opening_chosen
+      held = opening_chosen decimal_in
           (λ (book : BookTables) (strategy : GroupingStrategy) (tag : List ℕ) (tables : Tables). IsDecimalFor book tag strategy tables)
           (λ (book : BookTables) (strategy : GroupingStrategy) (tag : List ℕ). plain_for book tag)
-          (book_open c.args.book.now) c.grouping_by-strategy.result (grouping_of c.args.grouping) c.args.tag.now (decimal_open c.args.formatter.now) _ c.open.result
+          (book_open c.args.book.now) c.grouping_by-strategy.result (grouping_of c.args.grouping) c.args.tag.now (decimal_content c.args.formatter.now) _ c.open.result
           c.grouping_by-strategy.ensures c.open.ensures.told;
     }
