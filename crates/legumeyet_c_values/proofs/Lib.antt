@@ -1,3 +1,4 @@
+mod KnownValues
 pub mod ListingLemmas
 pub mod NumbersLemmas
 pub mod PartsLemmas
