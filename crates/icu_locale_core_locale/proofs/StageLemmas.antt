@@ -1,5 +1,5 @@
 -- A part that has ended goes on with what comes behind it.
-use Rattle.std.proofs.Common.{◌≡◌, ◌<◌, ℕ, Bool, true, false, List, [], ◌∷◌, ◌++◌, length, Option, None, Some, ap, ◌∙◌, subst}
+use Rattle.std.proofs.Common.{◌≡◌, ◌<◌, ℕ, Bool, true, false, List, [], ◌∷◌, ◌++◌, length, Option, None, Some, sym, ap, ◌∙◌, subst}
 use Rattle.std.proofs.lemmas.Bool.{or_parts}
 use Rattle.std.proofs.lemmas.List.{length-map}
 use Rattle.icu_locale_core_grammar.specs.Subtags.{Text, is_private, is_private_piece}
@@ -11,7 +11,7 @@ use Rattle.icu_locale_core_extensions.specs.BodyView.{body_view}
 use Rattle.icu_locale_core_extensions.specs.Allocation.{body_grows_at, body_keeps}
 use Rattle.icu_locale_core_extensions.specs.declared.body.BodyStage as code
 use Rattle.icu_locale_core_locale.specs.Allocation.{tag_grows_at, tag_keeps}
-use Rattle.icu_locale_core_locale.specs.StageView.{HasFewBefore, block_view}
+use Rattle.icu_locale_core_locale.specs.StageView.{HasEnded, HasFewBefore, block_view}
 
 pub language_goes_on : (id : LanguageId) (p : Text) (o : Option TagStage) → language_after (Some id) p ≡ None → stage_behind id [] no_extensions p ≡ o → tag_after (InFront (Some id)) p ≡ o
 unfolding whole_after
@@ -25,6 +25,12 @@ block_goes_on id seen e k b v p o none ends f =
     ap (λ x. after_block language_after language_ends body_after body_ends opens put_part no_extensions is_private is_private_piece id seen e k x (body_ends b) p) none
     ∙ ap (λ y. after_block language_after language_ends body_after body_ends opens put_part no_extensions is_private is_private_piece id seen e k None y p) ends
     ∙ f
+
+pub ended_goes_on : (id : LanguageId) (seen now : List Text) (e after : ExtensionMeanings) (k : Text) (b : BodyStage) (p : Text) (o : Option TagStage)
+    → body_after b p ≡ None → HasEnded seen now e after k b → stage_behind id now after p ≡ o → tag_after (InBlock id seen e k b) p ≡ o
+ended_goes_on id seen now e after k b p o none ended f =
+    block_goes_on id seen e k b ended.part p o none ended.ends
+    (ap (λ s. stage_behind id s (put_part k ended.part e) p) (sym ended.come) ∙ ap (λ x. stage_behind id now x p) (sym ended.put) ∙ f)
 
 -- ---- memory in an extension
 

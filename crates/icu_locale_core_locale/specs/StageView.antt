@@ -1,12 +1,12 @@
 -- What the definitions see of the stage of a tag that is being read.
 -- Defined in docs/tags.md, "Stages".
 -- Cited by the functions that read whole tags.
-use Rattle.std.specs.Prelude.{⊤, ◌≡◌, ◌<◌, ℕ, Bool, true, false, List, [], ◌∷◌, map, length, None, Some}
+use Rattle.std.specs.Prelude.{⊤, ◌≡◌, ◌<◌, ℕ, Bool, true, false, List, [], ◌∷◌, ◌++◌, map, length, None, Some}
 use Rattle.icu_locale_core_grammar.specs.Subtags.{Text}
 use Rattle.icu_locale_core_grammar.specs.LanguagePart.{LanguageId}
-use Rattle.icu_locale_core_grammar.specs.Meaning.{ExtensionMeanings, TagMeaning}
+use Rattle.icu_locale_core_grammar.specs.Meaning.{ExtensionMeanings, Part, TagMeaning, put_part}
 use Rattle.icu_locale_core_grammar.specs.Stepping.{InFront, AtBlock, InBlock, InPrivate}
-use Rattle.icu_locale_core_grammar.specs.TagStages.{TagStage, tag_after, tag_ends, tag_fault}
+use Rattle.icu_locale_core_grammar.specs.TagStages.{BodyStage as BodyMeaning, TagStage, body_ends, tag_after, tag_ends, tag_fault}
 use Rattle.icu_locale_core_extensions.specs.BodyView.{body_key, body_view}
 use Rattle.icu_locale_core_extensions.specs.declared.body.BodyStage.{BodyStage}
 use Rattle.icu_locale_core_locale.specs.declared.parser.stage.LocaleStage.{LocaleStage}
@@ -26,6 +26,13 @@ abbrev pub stage_view : LocaleStage → TagStage
 stage_view (code.InLanguage l) = InFront l
 stage_view (code.InExtension s) = block_view s.id s.seen s.extensions.blocks s.body s.filled
 stage_view (code.InPrivate id e own) = InPrivate id e.blocks own
+
+-- an extension that was read has ended: its singleton and what it means are with those before it
+pub record HasEnded (seen now : List Text) (before after : ExtensionMeanings) (key : Text) (body : BodyMeaning) : Type 0 where
+  pub part : Part
+  pub ends : body_ends body ≡ Some part
+  pub come : now ≡ seen ++ key ∷ []
+  pub put : after ≡ put_part key part before
 
 -- there is room for the singleton of the extension that is read
 abbrev pub HasFewBefore : TagStage → Type 0

@@ -1,15 +1,15 @@
 //! The stages of a tag that is being read.
 
-ghost use Rattle.std.specs.Prelude.{◌≡◌, ◌<◌, ℕ, List, [], false, None, Some, length, IfOk, IsOk, MatchOption};
+ghost use Rattle.std.specs.Prelude.{◌≡◌, ◌<◌, ℕ, List, [], true, false, None, Some, length, IfOk, IsOk, MatchOption};
 ghost use Rattle.icu_locale_core_grammar.specs.Subtags.{is_private_piece};
 ghost use Rattle.icu_locale_core_grammar.specs.Stepping.{InFront, InBlock};
-ghost use Rattle.icu_locale_core_grammar.specs.TagStages.{body_after as body_stage_after, language_after as language_stage_after, stage_behind};
+ghost use Rattle.icu_locale_core_grammar.specs.TagStages.{body_after as body_stage_after, body_ends, language_after as language_stage_after, stage_behind};
 ghost use Rattle.icu_locale_core_grammar.specs.Meaning.{put_part as put_meaning};
 ghost use Rattle.icu_locale_core_extensions.specs.BodyView.{body_key, body_view, is_other_part, part_view, HasKey};
 ghost use Rattle.icu_locale_core_extensions.specs.Allocation.{body_keeps};
 ghost use Rattle.icu_locale_core_langid.specs.Allocation.{grows_at};
 ghost use Rattle.icu_locale_core_locale.specs.Allocation.{tag_grows_at, tag_keeps};
-ghost use Rattle.icu_locale_core_locale.specs.StageView.{singletons, stage_view, block_view, GoesOn, Ends, HasFewBefore};
+ghost use Rattle.icu_locale_core_locale.specs.StageView.{singletons, stage_view, block_view, GoesOn, Ends, HasEnded, HasFewBefore};
 
 use crate::locale::Locale;
 use crate::parser::attempt::Attempt;
@@ -62,9 +62,11 @@ fn stage_after_part(
         (λ s. stage_behind id (singletons seen) extensions.blocks piece.now ≡ Some (stage_view s)) }
 {
     if opens_private(piece) {
+        drop(seen);
         return Some(LocaleStage::InPrivate(id, extensions, Private::new(alloc)));
     }
     if has_come(seen.as_slice(), piece) {
+        drop((id, seen, extensions));
         return None;
     }
     match opened_body(alloc, piece) {
@@ -75,7 +77,10 @@ fn stage_after_part(
             body,
             filled: false,
         })),
-        None => None,
+        None => {
+            drop((id, seen, extensions));
+            None
+        }
     }
 }
 
@@ -113,6 +118,28 @@ fn after_language(
     }
 }
 
+// Puts an extension that ends, and its singleton, behind those before it; false where it may not end.
+fn end_body(
+    alloc: Global,
+    seen: &mut Singletons,
+    extensions: &mut Extensions,
+    body: BodyStage,
+) -> Result<bool, AllocError>
+    ensures ended { IfOk result (λ is_ended. is_ended ≡ true
+        → HasEnded (singletons seen.old) (singletons seen.new) extensions.old.blocks extensions.new.blocks (body_key body)
+        (body_view body)) }
+    ensures faulty { IfOk result (λ is_ended. is_ended ≡ false → body_ends (body_view body) ≡ None) }
+    ensures room { body_keeps (body_view body) ≡ false → length seen.old < 36 → IsOk result }
+{
+    let key = key_of(&body);
+    let Some(part) = body_finish(alloc, body)? else {
+        return Ok(false);
+    };
+    put_part(extensions, part)?;
+    seen.push(key)?;
+    Ok(true)
+}
+
 // Behind an extension that does not take the piece.
 #[tactic(auto, unfolding(icu_locale_core_grammar::specs::Stepping::whole_after))]
 fn after_ended(
@@ -128,17 +155,23 @@ fn after_ended(
         (GoesOn (InBlock id (singletons seen) extensions.blocks (body_key body) (body_view body)) piece.now) }
     ensures room { body_keeps (body_view body) ≡ false → length seen < 36 → IsOk result }
 {
-    let key = key_of(&body);
-    let Some(part) = body_finish(alloc, body)? else {
-        return Ok(Attempt::Stops(ParseError::InvalidExtension));
-    };
-    seen.push(key)?;
-    put_part(&mut extensions, part)?;
-    let repeated = is_one_character(piece) && has_come(seen.as_slice(), piece);
-    match stage_after_part(alloc, id, seen, extensions, piece) {
-        Some(stage) => Ok(Attempt::Goes(stage)),
-        None if repeated => Ok(Attempt::Stops(ParseError::DuplicatedExtension)),
-        None => Ok(Attempt::Stops(ParseError::InvalidExtension)),
+    match end_body(alloc, &mut seen, &mut extensions, body) {
+        Ok(true) => {
+            let repeated = is_one_character(piece) && has_come(seen.as_slice(), piece);
+            match stage_after_part(alloc, id, seen, extensions, piece) {
+                Some(stage) => Ok(Attempt::Goes(stage)),
+                None if repeated => Ok(Attempt::Stops(ParseError::DuplicatedExtension)),
+                None => Ok(Attempt::Stops(ParseError::InvalidExtension)),
+            }
+        }
+        Ok(false) => {
+            drop((id, seen, extensions));
+            Ok(Attempt::Stops(ParseError::InvalidExtension))
+        }
+        Err(error) => {
+            drop((id, seen, extensions));
+            Err(error)
+        }
     }
 }
 
@@ -161,7 +194,14 @@ fn after_extension(
         body,
         filled,
     } = stage;
-    match body_after(alloc, body, piece)? {
+    let step = match body_after(alloc, body, piece) {
+        Ok(step) => step,
+        Err(error) => {
+            drop((id, seen, extensions));
+            return Err(error);
+        }
+    };
+    match step {
         Step::Taken(body) => Ok(Attempt::Goes(LocaleStage::InExtension(ExtensionStage {
             id,
             seen,
@@ -173,6 +213,7 @@ fn after_extension(
             if filled {
                 after_ended(alloc, id, seen, extensions, body, piece)
             } else {
+                drop((id, seen, extensions, body));
                 Ok(Attempt::Stops(ParseError::InvalidExtension))
             }
         }
@@ -190,12 +231,16 @@ fn after_private(
     ensures step { IfOk result (GoesOn (stage_view (LocaleStage.InPrivate id extensions private)) piece.now) }
     ensures room { is_private_piece piece.now ≡ false → IsOk result }
 {
-    match Subtag::try_from_utf8(piece) {
-        Ok(subtag) => {
-            private.push(subtag)?;
-            Ok(Attempt::Goes(LocaleStage::InPrivate(id, extensions, private)))
+    let Ok(subtag) = Subtag::try_from_utf8(piece) else {
+        drop((id, extensions, private));
+        return Ok(Attempt::Stops(ParseError::InvalidExtension));
+    };
+    match private.push(subtag) {
+        Ok(()) => Ok(Attempt::Goes(LocaleStage::InPrivate(id, extensions, private))),
+        Err(error) => {
+            drop((id, extensions, private));
+            Err(error)
         }
-        Err(_) => Ok(Attempt::Stops(ParseError::InvalidExtension)),
     }
 }
 
@@ -252,12 +297,22 @@ fn ended_body(
         → IfOk result (Ends (InBlock id seen extensions.blocks (body_key body) (body_view body))) }
     ensures room { body_keeps (body_view body) ≡ false → IsOk result }
 {
-    match body_finish(alloc, body)? {
-        Some(last) => {
-            let extensions = with_last(alloc, extensions, last)?;
-            Ok(Attempt::Goes(Locale { id, extensions }))
+    match body_finish(alloc, body) {
+        Ok(Some(last)) => match with_last(alloc, extensions, last) {
+            Ok(extensions) => Ok(Attempt::Goes(Locale { id, extensions })),
+            Err(error) => {
+                drop(id);
+                Err(error)
+            }
+        },
+        Ok(None) => {
+            drop((id, extensions));
+            Ok(Attempt::Stops(ParseError::InvalidExtension))
         }
-        None => Ok(Attempt::Stops(ParseError::InvalidExtension)),
+        Err(error) => {
+            drop((id, extensions));
+            Err(error)
+        }
     }
 }
 
@@ -269,14 +324,16 @@ fn ended_extension(alloc: Global, stage: ExtensionStage) -> Result<Attempt<Local
 {
     let ExtensionStage {
         id,
-        seen: _,
+        seen,
         extensions,
         body,
         filled,
     } = stage;
+    drop(seen);
     if filled {
         ended_body(alloc, id, extensions, body)
     } else {
+        drop((id, extensions, body));
         Ok(Attempt::Stops(ParseError::InvalidExtension))
     }
 }
@@ -296,6 +353,7 @@ pub fn finished(alloc: Global, stage: LocaleStage) -> Result<Attempt<Locale>, Al
         LocaleStage::InExtension(stage) => ended_extension(alloc, stage),
         LocaleStage::InPrivate(id, extensions, private) => {
             if private.is_empty() {
+                drop((id, extensions, private));
                 return Ok(Attempt::Stops(ParseError::InvalidExtension));
             }
             Ok(Attempt::Goes(Locale {
