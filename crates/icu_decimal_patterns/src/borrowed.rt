@@ -1,7 +1,8 @@
 //! Patterns whose texts are borrowed.
 
-ghost use Rattle.std.specs.Prelude.{◌≡◌, IfOk};
+ghost use Rattle.std.specs.Prelude.{◌≡◌, None, IfOk, OnOk};
 ghost use Rattle.std.specs.Cmp.{partial_equiv_from_equiv};
+ghost use Rattle.icu_decimal_patterns.specs.Elements.{only_other};
 ghost use Rattle.icu_decimal_patterns.specs.Pattern.{around, literal};
 ghost use Rattle.icu_decimal_patterns.specs.SamePattern.{same_pattern, same_pattern_equiv};
 
@@ -90,17 +91,39 @@ impl<'a> Eq for BorrowedPattern<'a> {
     ghost laws = { same_pattern_equiv };
 }
 
-// The same pattern with texts of its own, where there is one.
-fn owned(alloc: Global, slot: &Option<BorrowedPattern<'_>>) -> Result<Option<Pattern>, AllocError>
-    ensures { IfOk result (λ pattern. pattern ≡ slot.now) }
+// Puts the same pattern with texts of its own into a slot, where there is one.
+fn put_owned(
+    alloc: Global,
+    slot: &Option<BorrowedPattern<'_>>,
+    into: &mut Option<Pattern>,
+) -> Result<(), AllocError>
+    requires empty { into.old ≡ None }
+    ensures { OnOk result (into.new ≡ slot.now) }
 {
-    match slot {
-        Some(pattern) => {
-            let pattern = pattern.to_owned(alloc)?;
-            Ok(Some(pattern))
-        }
-        None => Ok(None),
+    if let Some(pattern) = slot {
+        let pattern = pattern.to_owned(alloc)?;
+        drop(into.replace(pattern));
     }
+    Ok(())
+}
+
+// Fills the slots beside `other`.
+fn fill_owned(
+    alloc: Global,
+    patterns: &PluralElements<BorrowedPattern<'_>>,
+    into: &mut PluralElements<Pattern>,
+) -> Result<(), AllocError>
+    requires empty { into.old ≡ only_other patterns.now.other }
+    ensures { OnOk result (into.new ≡ patterns.now) }
+{
+    put_owned(alloc, &patterns.explicit_zero, &mut into.explicit_zero)?;
+    put_owned(alloc, &patterns.explicit_one, &mut into.explicit_one)?;
+    put_owned(alloc, &patterns.zero, &mut into.zero)?;
+    put_owned(alloc, &patterns.one, &mut into.one)?;
+    put_owned(alloc, &patterns.two, &mut into.two)?;
+    put_owned(alloc, &patterns.few, &mut into.few)?;
+    put_owned(alloc, &patterns.many, &mut into.many)?;
+    Ok(())
 }
 
 // The same patterns with texts of their own.
@@ -110,22 +133,12 @@ pub(crate) fn owned_elements(
 ) -> Result<PluralElements<Pattern>, AllocError>
     ensures { IfOk result (λ owned. owned ≡ patterns.now) }
 {
-    let explicit_zero = owned(alloc, &patterns.explicit_zero)?;
-    let explicit_one = owned(alloc, &patterns.explicit_one)?;
-    let zero = owned(alloc, &patterns.zero)?;
-    let one = owned(alloc, &patterns.one)?;
-    let two = owned(alloc, &patterns.two)?;
-    let few = owned(alloc, &patterns.few)?;
-    let many = owned(alloc, &patterns.many)?;
-    let other = patterns.other.to_owned(alloc)?;
-    Ok(PluralElements {
-        explicit_zero,
-        explicit_one,
-        zero,
-        one,
-        two,
-        few,
-        many,
-        other,
-    })
+    let mut elements = PluralElements::new(patterns.other.to_owned(alloc)?);
+    match fill_owned(alloc, patterns, &mut elements) {
+        Ok(()) => Ok(elements),
+        Err(error) => {
+            drop(elements);
+            Err(error)
+        }
+    }
 }

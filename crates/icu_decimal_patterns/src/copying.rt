@@ -1,6 +1,7 @@
 //! Copies of tables and their patterns.
 
-ghost use Rattle.std.specs.Prelude.{◌≡◌, [], IfOk, IfSome, IsOk};
+ghost use Rattle.std.specs.Prelude.{◌≡◌, [], None, IfOk, IfSome, IsOk, OnOk};
+ghost use Rattle.icu_decimal_patterns.specs.Elements.{only_other};
 ghost use Rattle.icu_decimal_patterns.specs.Pattern.{HasNoText};
 ghost use Rattle.icu_decimal_patterns.specs.TextlessElements.{HaveNoText};
 
@@ -10,18 +11,36 @@ use crate::pattern::Pattern;
 use icu_decimal_compact_value::CompactEntry;
 use std::alloc::{AllocError, Global};
 
-// An equal pattern, where there is one.
-fn copied(slot: &Option<Pattern>) -> Result<Option<Pattern>, AllocError>
+// Puts an equal pattern into a slot, where there is one.
+fn put_copied(slot: &Option<Pattern>, into: &mut Option<Pattern>) -> Result<(), AllocError>
+    requires empty { into.old ≡ None }
     ensures succeeds { IfSome slot.now HasNoText → IsOk result }
-    ensures value { IfOk result (λ copy. copy ≡ slot.now) }
+    ensures value { OnOk result (into.new ≡ slot.now) }
 {
-    match slot {
-        Some(pattern) => {
-            let copy = pattern.try_clone()?;
-            Ok(Some(copy))
-        }
-        None => Ok(None),
+    if let Some(pattern) = slot {
+        let copy = pattern.try_clone()?;
+        drop(into.replace(copy));
     }
+    Ok(())
+}
+
+// Fills the slots beside `other`.
+fn fill_copied(
+    patterns: &PluralElements<Pattern>,
+    into: &mut PluralElements<Pattern>,
+) -> Result<(), AllocError>
+    requires empty { into.old ≡ only_other patterns.now.other }
+    ensures succeeds { HaveNoText patterns.now → IsOk result }
+    ensures value { OnOk result (into.new ≡ patterns.now) }
+{
+    put_copied(&patterns.explicit_zero, &mut into.explicit_zero)?;
+    put_copied(&patterns.explicit_one, &mut into.explicit_one)?;
+    put_copied(&patterns.zero, &mut into.zero)?;
+    put_copied(&patterns.one, &mut into.one)?;
+    put_copied(&patterns.two, &mut into.two)?;
+    put_copied(&patterns.few, &mut into.few)?;
+    put_copied(&patterns.many, &mut into.many)?;
+    Ok(())
 }
 
 impl PluralElements<Pattern> {
@@ -32,24 +51,14 @@ impl PluralElements<Pattern> {
         ensures succeeds { HaveNoText self.now → IsOk result }
         ensures value { IfOk result (λ copy. copy ≡ self.now) }
     {
-        let explicit_zero = copied(&self.explicit_zero)?;
-        let explicit_one = copied(&self.explicit_one)?;
-        let zero = copied(&self.zero)?;
-        let one = copied(&self.one)?;
-        let two = copied(&self.two)?;
-        let few = copied(&self.few)?;
-        let many = copied(&self.many)?;
-        let other = self.other.try_clone()?;
-        Ok(PluralElements {
-            explicit_zero,
-            explicit_one,
-            zero,
-            one,
-            two,
-            few,
-            many,
-            other,
-        })
+        let mut elements = PluralElements::new(self.other.try_clone()?);
+        match fill_copied(self, &mut elements) {
+            Ok(()) => Ok(elements),
+            Err(error) => {
+                drop(elements);
+                Err(error)
+            }
+        }
     }
 }
 
