@@ -18,9 +18,9 @@ pub fn with_subdivision(call: Call<'_>, out: &mut String) -> Result<(), Stop> {
     let mut data_locale = DataLocale::default();
     data_locale.subdivision = Some(read(SubdivisionId::try_from_str(call.first), out)?);
     put_written(out, &data_locale)?;
+    put_text(out, " ")?;
     let locale = data_locale.into_locale(call.alloc)?;
     let is_unknown = DataLocale::from(&locale).is_unknown();
-    put_text(out, " ")?;
     put_last_written(out, locale)?;
     write!(out, " {is_unknown}")?;
     Ok(())

@@ -31,7 +31,7 @@ fn keep(alloc: Global, content: Box<Content>) -> (Box<Content>, Result<(), CallE
             let Some(book) = Book::held_by(leaked) else {
                 unreachable!()
             };
-            let _ = Box::replace(&mut block, Content::Kept(book));
+            drop(Box::replace(&mut block, Content::Kept(book)));
             (block, Ok(()))
         }
         Err(_) => (content, Err(CallError::Memory)),

@@ -323,7 +323,10 @@ impl Entry for CompactPatterns {
         match plain_key(alloc, entry) {
             Ok(key) => match entry_table(alloc, entry) {
                 Ok(table) => Ok((key, table)),
-                Err(fault) => Err(fault),
+                Err(fault) => {
+                    drop(key);
+                    Err(fault)
+                }
             },
             // A fault of the key comes behind one of the form: only then are types and patterns read to see which it
             // is.
