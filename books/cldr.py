@@ -4,14 +4,25 @@ A value stands under a path of steps. A step is an element with those attributes
 sisters: `symbols[arab]`, `decimalFormatLength[short]`, `pattern[1000,one]`.
 """
 import collections
+import functools
 import os
 import re
+import typing
 from xml.etree import ElementTree
+
+from conditions import is_condition
 
 BELOW_CONTRIBUTED = ("unconfirmed", "provisional")
 PARTS = ("defaultNumberingSystem", "otherNumberingSystems", "minimumGroupingDigits", "symbols", "decimalFormats")
 INHERITED = "↑↑↑"
 NO_OLD_NAMES = ("overlong", "bibliographic")
+UNLIKELY_SCRIPT = "nonlikelyScript"
+SCRIPT = re.compile("[A-Z][a-z]{3}")
+SYSTEM = re.compile("[a-z0-9]{3,8}")
+LAYOUT = re.compile(r"\A[ \t]*[\r\n][ \t\r\n]*|[ \t]*[\r\n][ \t\r\n]*\Z")
+ALIAS_WORD = re.compile(r"\w+(?:\[@\w+='[^']*'\])*")
+COMPONENTS = ("main", "plurals")
+DEEPEST = 20  # steps of a path: a value of the element numbers has at most six
 DATA_LOCALE = re.compile(r"[a-z]{2,3}(-[A-Z][a-z]{3})?(-([A-Z]{2}|[0-9]{3}))?(-([a-z0-9]{5,8}|[0-9][a-z0-9]{3}))?")
 
 
@@ -22,6 +33,8 @@ class Fault(Exception):
 def parse(path):
     """The outer element of an XML file."""
     try:
+        if os.path.exists(path) and not os.path.isfile(path):
+            raise Fault(f"{path} is no file")
         return ElementTree.parse(path).getroot()
     except FileNotFoundError:
         raise Fault(f"{path} is missing") from None
@@ -37,16 +50,26 @@ def step(element):
     return f"{element.tag}[{','.join(told)}]" if told else element.tag
 
 
-def target(path, words):
+def target(path, alias):
     """The path that an alias at this path names: ../symbols[@numberSystem='latn']."""
-    path = list(path)
-    for word in words.split("/"):
-        if word == "..":
-            path.pop()
-        else:
-            told = re.findall(r"\[@\w+='([^']*)'\]", word)
-            path.append(word.partition("[")[0] + (f"[{','.join(told)}]" if told else ""))
+    words, source = alias.get("path", ""), alias.get("source", "locale")
+    if source != "locale":
+        raise Fault(f"an alias has the source {source!r}, and not locale")
+    up = len(re.match(r"(?:\.\./)*", words)[0]) // 3
+    down = words[3 * up :].split("/")
+    if not all(ALIAS_WORD.fullmatch(word) for word in down) or up > len(path):
+        raise Fault(f"an alias has the path {words!r}")
+    path = list(path[: len(path) - up])
+    for word in down:
+        told = re.findall(r"='([^']*)'", word)
+        path.append(word.partition("[")[0] + (f"[{','.join(told)}]" if told else ""))
     return tuple(path)
+
+
+def value_of(element):
+    """The text of an element without the line feeds that lay it out; None where it is empty or its parent's."""
+    text = LAYOUT.sub("", element.text or "")
+    return None if text in ("", INHERITED) else text
 
 
 def tag_of(name):
@@ -54,6 +77,48 @@ def tag_of(name):
     if name == "root":
         return "und"
     return "-".join(it.lower() if len(it) > 4 else it for it in name.split("_"))
+
+
+class Parents(typing.NamedTuple):
+    """Which locale is the parent of which: those that are listed by name, and that of every language with a script
+    that is not its usual one, empty where there is no rule for it."""
+
+    listed: dict
+    of_unlikely_script: str = ""
+
+
+def parents_of(path):
+    """The parents of each component that the file names, or of `main`, those of all without parents of their own."""
+    found = {"main": Parents({})}
+    for group in parse(path).iter("parentLocales"):
+        for component in group.get("component", "main").split():
+            listed, rule = found.get(component, Parents({}))
+            for it in group.iter("parentLocale") if component in COMPONENTS else ():
+                parent = it.get("parent")
+                if not parent:
+                    raise Fault(f"{path}: a parentLocale has no parent")
+                for word in it.get("localeRules", "").split():
+                    if word != UNLIKELY_SCRIPT:
+                        raise Fault(f"{path}: the localeRules {word!r} are not known")
+                    rule = parent
+                listed.update((child, parent) for child in it.get("locales", "").split())
+            found[component] = Parents(listed, rule)
+    return found
+
+
+def rules_of(path):
+    """The cardinal plural rules of each locale that the file names, each a category and a condition."""
+    found = {}
+    for kind in parse(path).iter("plurals"):
+        for it in kind.iter("pluralRules") if kind.get("type", "cardinal") == "cardinal" else ():
+            rules = []
+            for rule in it.iter("pluralRule"):
+                condition = re.sub("[ \t\r\n]+", " ", (rule.text or "").partition("@")[0]).strip(" ")
+                if not (is_condition(condition) if rule.get("count") != "other" else condition == ""):
+                    raise Fault(f"{path}: {rule.get('count')!r} has the condition {condition!r}")
+                rules.append((rule.get("count"), condition))
+            found.update((name, rules) for name in it.get("locales", "").split())
+    return found
 
 
 class Cldr:
@@ -68,28 +133,21 @@ class Cldr:
             raise Fault(f"{folder}/main can't be read: {fault.strerror}") from None
         self.names = {tag_of(it): it for it in sorted(names)}
         self._read, self._tables = {}, {}
-        self._supplemental()
+        self._systems(f"{folder}/supplemental/numberingSystems.xml")
+        self.parents = parents_of(f"{folder}/supplemental/supplementalData.xml")
+        self.rules = rules_of(f"{folder}/supplemental/plurals.xml")
 
-    def _supplemental(self):
-        """Reads the systems, the parents and the plural rules."""
+    def _systems(self, path):
+        """Reads the numbering systems: those with ten digits, and the others."""
         self.digits, self.algorithmic = {}, []
-        for it in parse(f"{self.folder}/supplemental/numberingSystems.xml").iter("numberingSystem"):
-            if it.get("type") == "numeric" and len(it.get("digits", "")) == 10:
-                self.digits[it.get("id")] = it.get("digits")
+        for it in parse(path).iter("numberingSystem"):
+            name, digits = it.get("id", ""), it.get("digits", "")
+            if not SYSTEM.fullmatch(name):
+                raise Fault(f"{path}: {name!r} is no name of a numbering system")
+            if it.get("type") == "numeric" and len(digits) == 10 and not set(digits) & set("\t\n"):
+                self.digits[name] = digits
             else:
-                self.algorithmic.append(it.get("id"))
-        self.parents = {}
-        for listed in parse(f"{self.folder}/supplemental/supplementalData.xml").iter("parentLocales"):
-            if listed.get("component") is None:
-                for it in listed.iter("parentLocale"):
-                    children = it.get("locales", "").split()
-                    self.parents.update((child, it.get("parent")) for child in children)
-        self.rules = {}
-        for kind in parse(f"{self.folder}/supplemental/plurals.xml").iter("plurals"):
-            if kind.get("type", "cardinal") == "cardinal":
-                for it in kind.iter("pluralRules"):
-                    rules = [(rule.get("count"), rule.text or "") for rule in it.iter("pluralRule")]
-                    self.rules.update((name, rules) for name in it.get("locales", "").split())
+                self.algorithmic.append(name)
 
     def aliases(self, tag):
         """The old codes of languages or regions, each with the one that stands for it now; a code that has become
@@ -99,17 +157,36 @@ class Cldr:
             if len(now) == 1 and it.get("type") and it.get("reason") not in NO_OLD_NAMES:
                 yield it.get("type"), now[0]
 
+    @functools.cached_property
     def likely(self):
         """What a name without all of its parts most likely means, with all of them."""
-        for it in parse(f"{self.folder}/supplemental/likelySubtags.xml").iter("likelySubtag"):
-            yield it.get("from", ""), it.get("to", "")
+        path = f"{self.folder}/supplemental/likelySubtags.xml"
+        return {it.get("from", ""): it.get("to", "") for it in parse(path).iter("likelySubtag")}
 
-    def chain(self, name):
+    def likely_parts(self, language, region=""):
+        """The script and the region that a language most likely has, in a region or anywhere; empty where CLDR does
+        not say."""
+        found = self.likely.get(f"{language}_{region}") or self.likely.get(language, "")
+        pieces = [*found.split("_"), "", ""]
+        return (pieces[1], region or pieces[2]) if SCRIPT.fullmatch(pieces[1]) else ("", region)
+
+    def named_parent(self, name, component="main"):
+        """The parent of a locale that is listed or that a rule gives; None where it is the locale without its last
+        part."""
+        listed, of_unlikely_script = self.parents.get(component) or self.parents["main"]
+        language, _, script = name.partition("_")
+        if name in listed:
+            return listed[name]
+        if of_unlikely_script and SCRIPT.fullmatch(script) and script != self.likely_parts(language)[0]:
+            return of_unlikely_script
+        return None
+
+    def chain(self, name, component="main"):
         """The locale, its parent, and so on to root."""
         found = [name]
         while found[-1] != "root":
             child = found[-1]
-            parent = self.parents.get(child) or child.rpartition("_")[0] or "root"
+            parent = self.named_parent(child, component) or child.rpartition("_")[0] or "root"
             if parent in found:
                 raise Fault(f"{self.folder}/supplemental/supplementalData.xml: the parents of {name} return to {parent}")
             found.append(parent)
@@ -118,7 +195,7 @@ class Cldr:
     def plural_rules(self, name):
         """The rules of the locale, of its parents in its language, of what is left when it is cut, or of root."""
         pieces = name.split("_")
-        names = [it for it in self.chain(name) if it.split("_")[0] == pieces[0]]
+        names = [it for it in self.chain(name, "plurals") if it.split("_")[0] == pieces[0]]
         names += ["_".join(pieces[:count]) for count in range(len(pieces), 0, -1)]
         return next((self.rules[it] for it in [*names, "root"] if it in self.rules), [])
 
@@ -127,9 +204,13 @@ class Cldr:
         if name not in self._read:
             tables, aliases = collections.defaultdict(dict), {}
             if tag_of(name) in self.names or name == "root":
-                for part in parse(f"{self.folder}/main/{name}.xml").iterfind("numbers/*"):
-                    if part.tag in PARTS:
-                        self._walk(part, (), None, tables, aliases)
+                path = f"{self.folder}/main/{name}.xml"
+                try:
+                    for part in parse(path).iterfind("numbers/*"):
+                        if part.tag in PARTS:
+                            self._walk(part, (), None, tables, aliases)
+                except Fault as fault:
+                    raise Fault(str(fault) if str(fault).startswith(path) else f"{path}: {fault}") from None
             if name == "root":
                 # A system that root doesn't know either has the symbols and the patterns of latn.
                 known = {path[0] for path in [*tables, *aliases] if path}
@@ -143,24 +224,26 @@ class Cldr:
     def _walk(self, element, path, draft, tables, aliases):
         """Takes the values and the aliases of an element and of all below it."""
         draft = element.get("draft", draft)
+        if len(path) > DEEPEST:
+            raise Fault("its elements are nested too deep")
         if element.get("alt") is not None:
             self.left_out["alt"] += 1
         elif element.tag == "alias":
-            aliases[path] = target(path, element.get("path", ""))
+            aliases[path] = target(path, element)
         elif len(element):
             for child in element:
                 self._walk(child, (*path, step(element)), draft, tables, aliases)
         elif draft in BELOW_CONTRIBUTED:
             self.left_out["draft"] += 1
-        elif element.text is not None and element.text != INHERITED:
-            tables[path][step(element)] = element.text
+        elif value_of(element) is not None:
+            tables[path][step(element)] = value_of(element)
 
     def table(self, chain, path):
         """All that stands right below a path: what a child says before what its parents say, and where an alias
         stands, what the same chain has where it points. The same table is one and the same value."""
         key = chain[0], path
         if key not in self._tables:
-            self._tables[key] = {}
+            self._tables[key] = None
             self._tables[key] = self._merged(chain, path)
         return self._tables[key]
 
@@ -173,8 +256,15 @@ class Cldr:
                 found.setdefault(key, text)
             for count in range(len(path), 0, -1):
                 if path[:count] in aliases:
-                    further = self.table(chain, aliases[path[:count]] + path[count:])
+                    further = self._through(chain, name, aliases[path[:count]] + path[count:])
                     return {**further, **found} if found else further
+        return found
+
+    def _through(self, chain, name, path):
+        """The table to which an alias of a locale's file leads."""
+        found = self.table(chain, path) if len(path) <= DEEPEST else None
+        if found is None:
+            raise Fault(f"{self.folder}/main/{name}.xml: an alias leads to itself, by {'/'.join(path[:4])}")
         return found
 
     def own_systems(self, chain):

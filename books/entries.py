@@ -113,8 +113,8 @@ class Entries:
         return self.cldr.table(chain, (f"symbols[{system}]",)), standard, self.cldr.table(chain, ())
 
     def rules(self, name):
-        """The plural rules without their samples, and without `other`, which has no condition."""
-        given = {category: text.partition("@")[0].strip() for category, text in self.cldr.plural_rules(name)}
+        """The plural rules without `other`, which has no condition."""
+        given = dict(self.cldr.plural_rules(name))
         return [[it, given[it]] for it in COUNTS[2:-1] if it in given]
 
     def symbols(self, tag, table, standard, own):

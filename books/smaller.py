@@ -3,7 +3,7 @@ import json
 
 from cldr import Fault
 from look_up import LOOKED_UP, UND, Book, Locale, comes_back, parents_fault, text_of, truncated
-from names import listed_parents, other_names
+from names import parents_by_name, other_names
 
 NOTHING = Locale("zxx")  # no linguistic content: a language without tables
 
@@ -20,7 +20,7 @@ class Smaller:
         self.full, self.digits = Book(arrays), arrays[1]
         self.book = Book([[], [], [], [], [], []])
         self.steps = self.book.parents
-        self.steps.update((child, it) for child, it in listed_parents(cldr).items() if it != truncated(child))
+        self.steps.update((child, it) for child, it in parents_by_name(cldr).items() if it != truncated(child))
         self.systems = {kind: sorted({it for _, it in table if it}) for kind, table in self.full.entries.items()}
         for locale in self.ordered():
             self.settle(locale)
