@@ -14,6 +14,7 @@ from conditions import is_condition
 
 BELOW_CONTRIBUTED = ("unconfirmed", "provisional")
 PARTS = ("defaultNumberingSystem", "otherNumberingSystems", "minimumGroupingDigits", "symbols", "decimalFormats")
+CATEGORIES = ("zero", "one", "two", "few", "many", "other")
 INHERITED = "↑↑↑"
 NO_OLD_NAMES = ("overlong", "bibliographic")
 UNLIKELY_SCRIPT = "nonlikelyScript"
@@ -113,10 +114,11 @@ def rules_of(path):
         for it in kind.iter("pluralRules") if kind.get("type", "cardinal") == "cardinal" else ():
             rules = []
             for rule in it.iter("pluralRule"):
+                category = rule.get("count")
                 condition = re.sub("[ \t\r\n]+", " ", (rule.text or "").partition("@")[0]).strip(" ")
-                if not (is_condition(condition) if rule.get("count") != "other" else condition == ""):
-                    raise Fault(f"{path}: {rule.get('count')!r} has the condition {condition!r}")
-                rules.append((rule.get("count"), condition))
+                if category not in CATEGORIES or not (is_condition(condition) if category != "other" else not condition):
+                    raise Fault(f"{path}: the category {category!r} has the condition {condition!r}")
+                rules.append((category, condition))
             found.update((name, rules) for name in it.get("locales", "").split())
     return found
 
@@ -132,6 +134,8 @@ class Cldr:
         except OSError as fault:
             raise Fault(f"{folder}/main can't be read: {fault.strerror}") from None
         self.names = {tag_of(it): it for it in sorted(names)}
+        if "und" not in self.names:
+            raise Fault(f"{folder}/main/root.xml is missing")
         self._read, self._tables = {}, {}
         self._systems(f"{folder}/supplemental/numberingSystems.xml")
         self.parents = parents_of(f"{folder}/supplemental/supplementalData.xml")

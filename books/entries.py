@@ -1,10 +1,13 @@
 """The entries of a book that one locale of CLDR has."""
 import collections
+import re
 
 from cldr import DATA_LOCALE, Fault, tag_of
 
 COUNTS = ("0", "1", "zero", "one", "two", "few", "many", "other")
 PASS_THROUGH = ["", ""]
+# What a book has room for: sizes, types and exponents, and how far an exponent may be below its type.
+MOST, FARTHEST = 255, 15
 
 
 def tokens(pattern):
@@ -122,13 +125,13 @@ class Entries:
         try:
             minus, plus, decimal, group = (table[it] for it in ("minusSign", "plusSign", "decimal", "group"))
             positive, negative = halves(standard["pattern"])
-            least = int(own.get("minimumGroupingDigits", "1"))
         except KeyError as missing:
             return self.without(f"symbols without {missing.args[0]}", tag)
-        except ValueError:
-            raise Fault(f"{self.cldr.folder}/main: minimumGroupingDigits of {tag} is no number") from None
+        least = own.get("minimumGroupingDigits", "1")
+        if not re.fullmatch("[0-9]{1,3}", least) or int(least) > MOST:
+            raise Fault(f"{self.cldr.folder}/main: minimumGroupingDigits of {tag} is no number up to {MOST}: {least!r}")
         parts = around(positive, "#,0.")
-        if parts is None or not parts[1] or parts[0] or parts[2]:
+        if parts is None or not parts[1] or len(parts[1]) > MOST or parts[0] or parts[2]:
             return self.without("standard patterns that are more than a number", tag)
         groups = written(parts[1]).partition(".")[0].split(",")[1:]
         sizes = [len(groups[-1]), len(groups[-2]) if len(groups) > 1 else len(groups[-1])] if groups else [0, 0]
@@ -141,14 +144,14 @@ class Entries:
         texts = [*affixes, decimal, group]
         if any(char in text for text in texts for char in "\t\n"):
             return self.without("symbols with a tab or a line feed", tag)
-        return [*texts, *sizes, least]
+        return [*texts, *sizes, int(least)]
 
     def compact(self, tag, cells, rules):
         """The types of a table, and its patterns of smaller numbers or None; None where a book can't hold it."""
         types = collections.defaultdict(dict)
         for key, text in cells.items():
             power, _, count = key.removeprefix("pattern[").removesuffix("]").partition(",")
-            if count in COUNTS and power.strip("0") == "1":
+            if count in COUNTS and re.fullmatch("10*", power):
                 types[len(power) - 1][count] = text
         found, zero = [], None
         for power, texts in sorted(types.items()):
@@ -163,6 +166,8 @@ class Entries:
                     self.without("types that a book takes for the one before", tag)
             elif found and exponent < found[-1][1]:
                 return self.without("tables whose exponents fall", tag)
+            elif power > MOST or power - exponent > FARTHEST:
+                self.without("types that are too large, or too far above their exponent", tag)
             else:
                 found.append([power, exponent, slots])
         return [found, zero]

@@ -14,9 +14,10 @@ FORMS = ("plain", "short", "long")
 REGION = "[a-z]{2}|[0-9]{3}"
 DATA_LOCALE = re.compile(
     f"([a-z]{{2,3}})(?:-([a-z]{{4}}))?(?:-({REGION}))?(?:-([a-z0-9]{{5,8}}|[0-9][a-z0-9]{{3}}))?"
-    f"(?:-u-sd-((?:{REGION})[a-z0-9]{{1,4}}))?",
+    "(?:-u((?:-sd(?:-[a-z0-9]{3,8})*)+))?",
     re.I | re.A,
 )
+SUBDIVISION = re.compile(f"(?:{REGION})[a-z0-9]{{1,4}}", re.A)
 
 
 class Locale(typing.NamedTuple):
@@ -37,8 +38,15 @@ def locale_of(text):
     found = DATA_LOCALE.fullmatch(text) if isinstance(text, str) else None
     if found is None:
         return None
-    language, script, region, variant, subdivision = (part or "" for part in found.groups())
-    return Locale(language.lower(), script.title(), region.upper(), variant.lower(), subdivision.lower())
+    language, script, region, variant, keywords = (part or "" for part in found.groups())
+    subdivision = ""
+    if keywords:
+        # Of two keywords with one key the first counts, and `true` is left out of a value.
+        value = [it for it in re.split("-sd(?:-|$)", keywords.lower())[1].split("-") if it not in ("", "true")]
+        if len(value) != 1 or not SUBDIVISION.fullmatch(value[0]):
+            return None
+        subdivision = value[0]
+    return Locale(language.lower(), script.title(), region.upper(), variant.lower(), subdivision)
 
 
 def text_of(locale):

@@ -17,7 +17,7 @@ class Smaller:
     """The book that finds what the full one finds for each of its locales, with fewer entries."""
 
     def __init__(self, cldr, arrays):
-        self.full, self.digits = Book(arrays), arrays[1]
+        self.full, self.digits, self.folder = Book(arrays), arrays[1], f"{cldr.folder}/supplemental"
         self.book = Book([[], [], [], [], [], []])
         self.steps = self.book.parents
         self.steps.update((child, it) for child, it in parents_by_name(cldr).items() if it != truncated(child))
@@ -36,7 +36,7 @@ class Smaller:
         locales = self.full.locales()
         for locale in locales:
             if comes_back(self.book.chain(locale)):
-                raise Fault(f"the parents of {text_of(locale)} return to it")
+                raise Fault(f"{self.folder}/supplementalData.xml: the parents of {text_of(locale)} return to it")
         return sorted(locales, key=lambda it: (it != UND, len(self.book.chain(it))))
 
     def settle(self, locale):
@@ -116,5 +116,5 @@ class Smaller:
         parents = sorted([text_of(locale), text_of(parent)] for locale, parent in self.steps.items())
         fault = parents_fault(parents)
         if fault:
-            raise Fault(f"the parents would be refused: {' '.join(parents[fault[0]])} is {fault[1]}")
+            raise Fault(f"{self.folder}: the parents would be refused: {' '.join(parents[fault[0]])} is {fault[1]}")
         return [found["symbols"], self.digits, found["plural rules"], found["short"], found["long"], parents]
