@@ -139,15 +139,19 @@ static std::string systems() {
     return element("numberingSystems", found);
 }
 
+// The parents by name. Newer bundles list no child of root: ICU then has CLDR's rule for scripts in its code.
 static std::string parents() {
     std::string found;
+    bool lists_root = false;
     for (const Table& parent : items(below(open("supplementalData"), "parentLocales"))) {
+        lists_root = lists_root || key(parent) == "root";
         std::string children = text(parent);  // one child is a text, several are an array
         if (children.empty()) {
             for (const Table& child : items(parent)) children += text(child) + " ";
         }
         found += "<parentLocale parent=\"" + key(parent) + "\" locales=\"" + children + "\"/>\n";
     }
+    if (!lists_root) found = "<parentLocale parent=\"root\" localeRules=\"nonlikelyScript\"/>\n" + found;
     return element("parentLocales", found);
 }
 

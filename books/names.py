@@ -9,10 +9,9 @@ def data_locale(name):
     return locale_of(tag_of(name))
 
 
-def parents_by_name(cldr):
+def parents_by_name(cldr, languages):
     """The parents that a cut does not find, from locale to locale: those that CLDR lists, and where it has a rule for
-    scripts, those of the locales of the data and of their languages with each script that likelySubtags.xml names."""
-    languages = {name.split("_")[0] for name in cldr.names.values()}
+    scripts, those of the locales of its data and of these languages with each script that likelySubtags.xml names."""
     written = {"_".join(name.split("_")[:2]) for pair in cldr.likely.items() for name in pair}
     names = {*cldr.parents["main"].listed, *cldr.names.values()}
     names.update(name for name in written if name.split("_")[0] in languages)
@@ -80,10 +79,11 @@ def meant(names, name):
     return name
 
 
-def other_names(cldr):
-    """Each other name of a locale with the locale that it is; no name is a locale of CLDR's."""
+def other_names(cldr, parents):
+    """Each other name of a locale with the locale that it is; no name is a locale of CLDR's. The parents are those that
+    a cut does not find."""
     locales = {data_locale(name) for name in cldr.names.values()} - {None}
-    known = {*locales, *parents_by_name(cldr)}
+    known = {*locales, *parents}
     found = {**of_usual_scripts(cldr, sorted(known)), **without_script(cldr, known)}
     for more in (of_old_regions, of_old_languages):
         found = {**more(cldr, sorted({*locales, *found})), **found}

@@ -20,13 +20,14 @@ class Smaller:
         self.full, self.digits, self.folder = Book(arrays), arrays[1], f"{cldr.folder}/supplemental"
         self.book = Book([[], [], [], [], [], []])
         self.steps = self.book.parents
-        self.steps.update((child, it) for child, it in parents_by_name(cldr).items() if it != truncated(child))
+        parents = parents_by_name(cldr, {it.language for it in self.full.locales()})
+        self.steps.update((child, it) for child, it in parents.items() if it != truncated(child))
         self.systems = {kind: sorted({it for _, it in table if it}) for kind, table in self.full.entries.items()}
         for locale in self.ordered():
             self.settle(locale)
         self.bearing = set(self.book.locales())
         self.passed = {it for locale in self.full.locales() for it in self.book.chain(locale)}
-        names = other_names(cldr)
+        names = other_names(cldr, parents)
         for name in sorted(names, key=lambda it: (sum(map(bool, it)), it)):
             self.add_name(name, names[name])
         self.drop_steps()
