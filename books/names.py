@@ -9,11 +9,13 @@ def data_locale(name):
     return locale_of(tag_of(name))
 
 
-def parents_by_name(cldr, languages):
+def parents_by_name(cldr, locales):
     """The parents that a cut does not find, from locale to locale: those that CLDR lists, and where it has a rule for
-    scripts, those of the locales of its data and of these languages with each script that likelySubtags.xml names."""
+    scripts, those of these locales and of their languages with each script that likelySubtags.xml names."""
+    languages = {it.language for it in locales}
     written = {"_".join(name.split("_")[:2]) for pair in cldr.likely.items() for name in pair}
-    names = {*cldr.parents["main"].listed, *cldr.names.values()}
+    names = {*cldr.parents["main"].listed}
+    names.update(name for tag, name in cldr.names.items() if locale_of(tag) in locales)
     names.update(name for name in written if name.split("_")[0] in languages)
     pairs = ((data_locale(name), data_locale(cldr.named_parent(name) or "")) for name in sorted(names))
     return {child: parent for child, parent in pairs if child and parent}

@@ -20,7 +20,7 @@ class Smaller:
         self.full, self.digits, self.folder = Book(arrays), arrays[1], f"{cldr.folder}/supplemental"
         self.book = Book([[], [], [], [], [], []])
         self.steps = self.book.parents
-        parents = parents_by_name(cldr, {it.language for it in self.full.locales()})
+        parents = parents_by_name(cldr, {*self.full.locales()})
         self.steps.update((child, it) for child, it in parents.items() if it != truncated(child))
         self.systems = {kind: sorted({it for _, it in table if it}) for kind, table in self.full.entries.items()}
         for locale in self.ordered():
