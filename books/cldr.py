@@ -1,6 +1,6 @@
 """CLDR's data on numbers as its XML files have it: values, aliases, parents, systems, plural rules.
 
-A value stands under a path of steps. A step is an element with those attributes that tell it from its
+A value has a path of steps. A step is an element with those attributes that tell it from its
 sisters: `symbols[arab]`, `decimalFormatLength[short]`, `pattern[1000,one]`.
 """
 import collections
@@ -154,8 +154,7 @@ class Cldr:
                 self.algorithmic.append(name)
 
     def aliases(self, tag):
-        """The old codes of languages or regions, each with the one that stands for it now; a code that has become
-        several is none of them."""
+        """The old codes of languages or regions, each with its code of now, without those that have become several."""
         for it in parse(f"{self.folder}/supplemental/supplementalMetadata.xml").iter(tag):
             now = it.get("replacement", "").split()
             if len(now) == 1 and it.get("type") and it.get("reason") not in NO_OLD_NAMES:
@@ -243,8 +242,8 @@ class Cldr:
             tables[path][step(element)] = value_of(element)
 
     def table(self, chain, path):
-        """All that stands right below a path: what a child says before what its parents say, and where an alias
-        stands, what the same chain has where it points. The same table is one and the same value."""
+        """The values right below a path: what a child says before what its parents say, and where there is an alias,
+        what the same chain has where it points. The same table is one and the same value."""
         key = chain[0], path
         if key not in self._tables:
             self._tables[key] = None

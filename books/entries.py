@@ -11,7 +11,7 @@ MOST, FARTHEST = 255, 15
 
 
 def tokens(pattern):
-    """The characters of a pattern, each with whether it stands in quotes; two quotes are one in quotes."""
+    """The characters of a pattern, each with whether it is in quotes; two quotes are one in quotes."""
     quoted, place = False, 0
     while place < len(pattern):
         if pattern.startswith("''", place):
@@ -25,7 +25,7 @@ def tokens(pattern):
 
 
 def halves(pattern):
-    """The form of a pattern for numbers from 0 up, and the one behind `;` for those below, or None."""
+    """The form of a pattern for numbers from 0 up, and the one after `;` for those below, or None."""
     found = [[]]
     for token in tokens(pattern):
         if token == (";", False) and len(found) == 1:
@@ -36,7 +36,7 @@ def halves(pattern):
 
 
 def around(form, number):
-    """What stands before, in and behind the characters of the number. None: it stands at two places."""
+    """The parts before, in and after the characters of the number; None where the number is at two places."""
     places = [place for place, (char, quoted) in enumerate(form) if char in number and not quoted]
     if not places:
         return form, [], []
@@ -45,7 +45,7 @@ def around(form, number):
 
 
 def written(form, signs=None):
-    """The text of these characters, with signs in the place of those that stand for them."""
+    """The text of these characters, with these signs in the place of their characters."""
     return "".join(char if quoted or signs is None else signs.get(char, char) for char, quoted in form)
 
 

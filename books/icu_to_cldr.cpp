@@ -27,7 +27,7 @@ static Table open(const char* name) {
     return bundle;
 }
 
-// What stands below a table, which may be none.
+// The item of this key in a table, which may be null.
 static Table below(const Table& table, const char* key) {
     UErrorCode code = U_ZERO_ERROR;
     UResourceBundle* found = table.isNull() ? nullptr : ures_getByKey(table.getAlias(), key, nullptr, &code);

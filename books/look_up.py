@@ -64,7 +64,7 @@ def truncated(locale):
 
 
 def chain(parents, locale):
-    """The locale and those that stand behind it; a locale that comes back is the last, and stands twice.
+    """The locale and those that are asked for after it; a locale that comes back is the last, and is there twice.
 
     The parents are those that the sixth array lists, or None for a book of five arrays."""
     found = [locale]
@@ -79,7 +79,7 @@ def chain(parents, locale):
 
 
 def comes_back(found):
-    """Whether a chain ends with a locale that stands in it before."""
+    """Whether a chain ends with a locale that it has before."""
     return found[-1] in found[:-1]
 
 
@@ -115,7 +115,7 @@ class Book:
         self.parents = {locale_of(tag): locale_of(parent) for tag, parent in sixth[0]} if sixth else None
 
     def chain(self, locale):
-        """The locale and those that stand behind it: none where the book has no sixth array."""
+        """The locale and those that are asked for after it: none where the book has no sixth array."""
         return chain(self.parents, locale)
 
     def find(self, kind, along, system):
@@ -142,7 +142,7 @@ class Book:
         return sorted({locale for table in self.entries.values() for locale, _ in table}, key=text_of)
 
     def standing(self):
-        """The locales that have an entry or stand behind another one, in the order of their tags."""
+        """The locales that have an entry or are the parent of another one, in the order of their tags."""
         return sorted({*self.locales(), *(self.parents or {}).values()}, key=text_of)
 
     def systems(self):

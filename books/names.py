@@ -73,7 +73,7 @@ def of_old_languages(cldr, locales):
 
 
 def meant(names, name):
-    """The locale that a name leads to, where a name may stand for another one: cnr is sr-ME, and this sr-Latn-ME."""
+    """The locale that a name leads to, where that may be another name: cnr is sr-ME, and this sr-Latn-ME."""
     for _ in names:
         if name not in names:
             break

@@ -33,7 +33,7 @@ class Smaller:
         self.drop_steps()
 
     def ordered(self):
-        """The locales of the full book, each behind those of its chain."""
+        """The locales of the full book, each after those of its chain."""
         locales = self.full.locales()
         for locale in locales:
             if comes_back(self.book.chain(locale)):
@@ -54,9 +54,9 @@ class Smaller:
         most = self.bytes_of(alone) - size(text_of(locale), "und")
         self.withdraw(alone)
         self.steps[locale] = UND
-        behind_root = self.add_entries(locale)
-        if behind_root is None or self.bytes_of(behind_root) >= most:
-            self.withdraw(behind_root or [])
+        after_root = self.add_entries(locale)
+        if after_root is None or self.bytes_of(after_root) >= most:
+            self.withdraw(after_root or [])
             del self.steps[locale]
             self.add_entries(locale)
 
@@ -86,7 +86,7 @@ class Smaller:
         return sum(size(*self.entry(*key)) for key in keys)
 
     def entry(self, kind, locale, system):
-        """An entry as it stands in its array."""
+        """An entry as its array has it."""
         rest = self.book.entries[kind][locale, system]
         return [text_of(locale), *([] if kind == "plural rules" else [system]), *rest]
 
