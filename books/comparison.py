@@ -17,6 +17,12 @@ MINUS_ONE = "slot 1 for minus one: taken here, and not there"
 NEGATIVE = "a negative form of a compact pattern, which a book can't hold"
 HYPHEN = "a hyphen in a compact pattern: itself here, the system's minus sign there"
 RULES = "plural rules by parents here, by cutting the tag there"
+SHORT_FOR_LONG = "a long pattern that is not there: the short one of its cell here, there only where no cell is there"
+TWO_EXPONENTS = "a type with two exponents, which a book can't hold"
+# What is no proof that it is the cause, and only likely where nothing else is.
+LIKELY = (SHORT_FOR_LONG, TWO_EXPONENTS, RULES)
+# Languages whose data has a type with two exponents.
+WITH_TWO_EXPONENTS = ("vec",)
 
 
 def words_of(doc, numbers=60):
@@ -108,9 +114,31 @@ def has_rules_by_parents(book, locale):
     return other is not None and other != book.find("plural rules", book.chain(locale), "")
 
 
+def with_field(line, place, value):
+    """The line with another field."""
+    fields = line.split("\t")
+    fields[place] = value
+    return "\t".join(fields)
+
+
 def with_number(line, text):
     """The line with another number."""
-    return "\t".join([*line.split("\t")[:5], text])
+    return with_field(line, 5, text)
+
+
+def in_plain(line):
+    """The line that asks for the plain text of the line's number without its fraction."""
+    number = decimal.Decimal(line.split("\t")[5]).quantize(decimal.Decimal(1), decimal.ROUND_HALF_EVEN)
+    return with_field(with_number(line, str(number)), 1, "plain")
+
+
+def short_for_long(program, peer, lines):
+    """Those of these lines that have a long pattern here in the place of a short one, or none there at all."""
+    long = [it for it in lines if it[0].split("\t")[1] == "long"]
+    short_here = answers(program, [with_field(line, 1, "short") for line, _, _ in long])
+    plain_there = answers(peer, [in_plain(line) for line, _, _ in long])
+    triples = zip(long, short_here, plain_there)
+    return {line for (line, a, b), short, plain in triples if text(a) == text(short) or text(b) == text(plain)}
 
 
 def causes_of(book, program, peer, lines):
@@ -124,6 +152,7 @@ def causes_of(book, program, peer, lines):
     unsigned = [with_number(line, line.split("\t")[5].lstrip("-")) for line, _, _ in signed]
     pairs = zip(signed, answers(program, unsigned), answers(peer, unsigned))
     same_unsigned = {line for (line, _, _), a, b in pairs if text(a) == text(b)}
+    as_short = short_for_long(program, peer, lines)
     for line, a, b in lines:
         form = line.split("\t")[1]
         locale, system = locale_and_system(line)
@@ -136,6 +165,10 @@ def causes_of(book, program, peer, lines):
             yield MINUS_ONE if a.split("\t")[-1].partition("c")[0] == "-1" else NEGATIVE
         elif sign and text(a)[-1].replace(sign, "-") == text(b)[-1].replace(sign, "-"):
             yield HYPHEN
+        elif line in as_short:
+            yield SHORT_FOR_LONG
+        elif locale.language in WITH_TWO_EXPONENTS:
+            yield TWO_EXPONENTS
         elif has_rules_by_parents(book, locale):
             yield RULES
         else:
