@@ -1,13 +1,24 @@
 #!/usr/bin/env python3
-"""Does what ./locale_numbers asks for where the proved program is not simply started.
+"""Does what ./locale_numbers asks for where a proved program is not simply started.
 
 usage: tools/launch.py SEEN WORD..
 
-SEEN is what the script saw of the sources and the program; tools/help.txt says what the words are.
+SEEN is what the script saw of the sources and the program that the words are for; tools/help.txt says what the words are.
 """
+# First of all, and by the module that takes no time: an interrupt ends this process without a traceback. The script had it wait
+# until here, where it could.
+import _signal
+
+if _signal.getsignal(_signal.SIGINT) == _signal.default_int_handler:
+    _signal.signal(_signal.SIGINT, _signal.SIG_DFL)
+_signal.pthread_sigmask(_signal.SIG_UNBLOCK, [_signal.SIGINT])
+
 import os
 import signal
 import sys
+
+# Python is started with no path but its own, whatever the environment says.
+sys.path.append(os.path.dirname(os.path.realpath(__file__)))
 
 
 def interrupted(number, _frame):
@@ -19,29 +30,40 @@ for ending in (signal.SIGTERM, signal.SIGINT, signal.SIGHUP):
     if signal.getsignal(ending) != signal.SIG_IGN:
         signal.signal(ending, interrupted)
 
-# (behind the signals, since the imports take a moment)
-from launching import answering, building, sources
-from launching.common import FAILED, TOP, Fault, fault_of, fill_closed_ends, say
+# (after the signals, since the imports take a moment)
+from launching import answering, building, cldr_book, sources
+from launching.common import COMMAND, FAILED, LINES, OUTPUT, Fault, fault_of, fill_closed_ends, say, write_all
 from launching.words import read_words
+
+
+def print_built(name):
+    """Prints the path of a proved program."""
+    program, why = sources.proved_program(name)
+    if not program:
+        raise Fault(f"{why}: ./locale_numbers --build proves and builds it")
+    try:
+        write_all(os.fsencode(program) + b"\n")
+    except OSError as error:
+        raise Fault(f"standard output: {error.strerror}", OUTPUT) from None
+    return 0
 
 
 def do(seen, words):
     """Does what the words ask for, and returns the status."""
     said = read_words(words)
-    if said.has("help"):
-        with open(f"{TOP}/tools/help.txt", "rb") as text:
-            answering.write_all(text.read())
-        return 0
     if said.has("build"):
-        building.build_program()
+        building.build_programs()
         return 0
     if said.has("built"):
-        program, why = sources.proved_program(seen)
-        if not program:
-            raise Fault(f"{why}: ./locale_numbers --build proves and builds it")
-        answering.write_all(os.fsencode(program) + b"\n")
-        return 0
-    return answering.answer_numbers(said, seen) if said.has("tag") else answering.answer_lines(said, seen)
+        return print_built(said.others[0] if said.others else LINES)
+    book = cldr_book.book_of(said.options["cldr"]) if said.has("cldr") else None
+    others = said.words_for_programs(book)
+    name = COMMAND if any(word.startswith("-") for word in others) else LINES
+    if said.has("try"):
+        return answering.try_program(name, others)
+    if said.options:
+        return answering.call_again(others)
+    return answering.answer(name, others, seen)
 
 
 def main(seen="", *words):

@@ -1,1 +1,1 @@
-"""What ./locale_numbers does beside starting the proved program: trials, builds, the book of the world, numbers as arguments."""
+"""What ./locale_numbers does beside starting a proved program: builds, trials, and books of other data."""

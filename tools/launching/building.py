@@ -1,4 +1,4 @@
-"""Proves and builds the libraries below a crate, several at a time, and the program.
+"""Proves and builds the libraries below a crate, several at a time, and the programs.
 
 Each is built in a room of its own: a tree with its sources as they stand then, those of the libraries below it and what
 was built of them. A run of rt locks each library below the one that it builds, so in one tree two would wait for each
@@ -16,8 +16,9 @@ import time
 from concurrent.futures import FIRST_COMPLETED, ThreadPoolExecutor, wait
 
 from . import sources
-from .common import MINUTES, NAME, OUT, RT, TOP, Fault, make_out, read_text, say
+from .common import MINUTES, OUT, PROGRAMS, RT, TOP, Fault, make_out, out_of, program_of, read_text, say
 from .guard import Guard
+from .trial import SHORT_CALLS
 
 ROOMS = f"{OUT}/rooms"
 MEMORY_OF_A_JOB = 1_500_000_000
@@ -55,13 +56,13 @@ def one_at_a_time():
 
 
 def made_of(crate):
-    """Where the checksum stands of all that a library was built of."""
-    return f"{TOP}/crates/{crate}/out/rlib/sources"
+    """Where the checksum is of all that a library was built of."""
+    return f"{out_of(crate)}/rlib/sources"
 
 
 def is_built(crate, sums):
     """Whether the library was built of the sources as they are now."""
-    stamp = f"{TOP}/crates/{crate}/out/rlib/stamp"
+    stamp = f"{out_of(crate)}/rlib/stamp"
     return os.path.isfile(stamp) and read_text(made_of(crate)) == sources.key(crate, sums)
 
 
@@ -151,24 +152,33 @@ def move(source, target):
         os.rename(part, target)
 
 
+def words_of_rt(crate, jobs):
+    """The command that builds a crate. A program is run on a short call."""
+    if crate not in PROGRAMS:
+        return [RT, "lib", "--jobs", str(jobs)]
+    words = SHORT_CALLS[crate]
+    return [RT, "run", "--jobs", str(jobs), *(["--", *words] if words else [])]
+
+
 def build(crate, jobs, sums, guard):
     """Builds one crate in a room. Returns what went wrong, or None."""
-    room, out = f"{ROOMS}/{crate}", f"{TOP}/crates/{crate}/out"
-    is_program = crate == NAME
+    room, out = f"{ROOMS}/{crate}", out_of(crate)
     furnish(room, crate)
     folder = f"{room}/crates/{crate}"
-    words = ["nice", "-n", "0" if jobs >= JOBS_OF_THE_FIRST else "10", RT, "run" if is_program else "lib", "--jobs", str(jobs)]
+    words = ["nice", "-n", "0" if jobs >= JOBS_OF_THE_FIRST else "10", *words_of_rt(crate, jobs)]
     ran = subprocess.run(guard.words(*words), cwd=folder, stdin=subprocess.DEVNULL, stdout=subprocess.PIPE, stderr=subprocess.STDOUT, check=False)
     os.makedirs(out, exist_ok=True)
     with open(f"{out}/build.log", "wb") as log:
         log.write(ran.stdout)
-    made = [NAME, f"{NAME}.stamp"] if is_program else ["rlib"]
+    made = [crate, f"{crate}.stamp"] if crate in PROGRAMS else ["rlib"]
     if ran.returncode or not os.path.exists(f"{folder}/out/{made[0]}"):
         return f"{crate} was not built: crates/{crate}/out/build.log says why{disk_is_full()}"
-    if not is_program:
+    if crate not in PROGRAMS:
         with open(f"{folder}/out/rlib/sources", "w", encoding="utf-8") as written:
             written.write(sources.key(crate, sums))
-    for part in [*made, "incremental"]:
+    # what the next check of the crate begins with is more than half of what a build leaves: it is kept where a check left it
+    kept = ["incremental"] if os.path.isdir(f"{out}/incremental") else []
+    for part in [*made, *kept]:
         if os.path.lexists(f"{folder}/out/{part}"):
             bring(f"{folder}/out/{part}", f"{out}/{part}", f"{room}/old-{part}")
     shutil.rmtree(room, ignore_errors=True)
@@ -188,77 +198,127 @@ def most_jobs():
     return max(JOBS_OF_THE_FIRST, min(2 * len(os.sched_getaffinity(0)), free // MEMORY_OF_A_JOB))
 
 
-class Progress:
-    """How far a build is, by the shares of the crates that are done."""
+class Plan:
+    """Which crate is built next, and about how long all of them take, by the share of each."""
 
-    def __init__(self, share):
-        self.share, self.start, self.done, self.count = share, time.monotonic(), 0, 0
-        self.all = sum(share.values())
+    def __init__(self, crates):
+        self.share = shares(crates)
+        self.weight, self.most = weights(crates, self.share), most_jobs()
 
-    def minutes(self):
-        return (time.monotonic() - self.start) / 60
+    def next(self, left, running, done):
+        """The crates that can begin, with their jobs. `left` and `running` have the jobs of each by name."""
+        found = {}
+        for crate in sorted(left, key=lambda it: -self.weight[it]):
+            is_first = self.weight[crate] == max(self.weight[it] for it in [*left, *running])
+            jobs = JOBS_OF_THE_FIRST if is_first else JOBS_OF_ANOTHER
+            is_ready = not any(it in self.share and it not in done for it in sources.listed()[crate])
+            if is_ready and jobs + sum([*running.values(), *found.values()]) <= self.most:
+                found[crate] = jobs
+        return found
 
-    def told(self, crate):
-        """Says that a crate is built, and about how many minutes the rest takes."""
-        self.done, self.count = self.done + self.share[crate], self.count + 1
-        left = self.minutes() * (self.all - self.done) / self.done
-        say(f"built {self.count} of {len(self.share)}: {crate}; {self.minutes():.0f} minutes so far, about {left:.0f} to go")
-
-
-def build_all(crates, sums, guard):
-    """Builds the crates, each once those below it are built. Raises a Fault where one goes wrong, once the others have ended."""
-    share = shares(crates)
-    weight, most, progress = weights(crates, share), most_jobs(), Progress(share)
-    left, running, done = sorted(crates, key=lambda it: -weight[it]), {}, set()
-    with ThreadPoolExecutor(most) as pool:
+    def seconds_left(self, done, running, ages, pace):
+        """How long the rest takes, where each crate takes its share times `pace`: the same plan without the work. `ages` are
+        the seconds that the running crates have had."""
+        ends = {it: max(self.share[it] * pace - ages[it], 0.1 * self.share[it] * pace) for it in running}
+        done, running, now = set(done), dict(running), 0
+        left = [it for it in self.share if it not in done and it not in running]
         while left or running:
-            for crate in [it for it in left if not set(sources.listed()[it]) & (set(crates) - done)]:
-                others = [*left, *[it for it, _ in running.values()]]
-                is_first = weight[crate] == max(weight[it] for it in others)
-                jobs = JOBS_OF_THE_FIRST if is_first else JOBS_OF_ANOTHER
-                if jobs + sum(it for _, it in running.values()) <= most:
-                    left.remove(crate)
-                    running[pool.submit(build, crate, jobs, sums, guard)] = crate, jobs
-            for ended in wait(running, return_when=FIRST_COMPLETED).done:
-                crate, _ = running.pop(ended)
+            for crate, jobs in self.next(left, running, done).items():
+                left.remove(crate)
+                running[crate], ends[crate] = jobs, now + self.share[crate] * pace
+            ended = min(running, key=lambda it: ends[it])
+            now = ends[ended]
+            del running[ended]
+            done.add(ended)
+        return now
+
+
+class Progress:
+    """How far a build is."""
+
+    def __init__(self, plan):
+        self.plan, self.start = plan, time.monotonic()
+        self.begun, self.running, self.done = {}, {}, {}
+
+    def begins(self, crate, jobs):
+        """Notes that a crate is begun."""
+        self.begun[crate], self.running[crate] = time.monotonic(), jobs
+
+    def seconds_left(self):
+        """How long the rest takes, by what the crates that are built took."""
+        pace = sum(self.done.values()) / sum(self.plan.share[it] for it in self.done) if self.done else 1
+        ages = {it: time.monotonic() - self.begun[it] for it in self.running}
+        return self.plan.seconds_left(self.done, self.running, ages, pace)
+
+    def ends(self, crate):
+        """Says that a crate is built, and about how many minutes the rest takes."""
+        self.done[crate] = time.monotonic() - self.begun[crate]
+        del self.running[crate]
+        spent, left = (time.monotonic() - self.start) / 60, self.seconds_left() / 60
+        say(f"built {len(self.done)} of {len(self.plan.share)}: {crate}; {spent:.0f} minutes so far, about {left:.0f} to go")
+
+
+def build_all(crates, sums, guard, done):
+    """Builds the crates, each once those below it are built, and puts them into `done`. Raises a Fault where one goes wrong, once
+    the others have ended."""
+    plan = Plan(crates)
+    progress, left, under_way = Progress(plan), list(crates), {}
+    with ThreadPoolExecutor(plan.most) as pool:
+        while left or under_way:
+            for crate, jobs in plan.next(left, progress.running, done).items():
+                left.remove(crate)
+                progress.begins(crate, jobs)
+                under_way[pool.submit(build, crate, jobs, sums, guard)] = crate
+            for ended in wait(under_way, return_when=FIRST_COMPLETED).done:
+                crate = under_way.pop(ended)
                 if ended.result():
-                    if running:
+                    if under_way:
                         say(f"{crate} was not built; waiting for the others that are under way")
+                    wait(under_way)
+                    done.update(it for job, it in under_way.items() if not job.result())
                     raise Fault(ended.result())
                 done.add(crate)
-                progress.told(crate)
+                progress.ends(crate)
 
 
-def build_crates(crate, is_program):
-    """Builds the libraries below a crate that are not built of the sources as they are, and the program if it is asked for."""
-    sources.listed.cache_clear()
-    before, sums = sources.state(crate), sources.checksums(crate)
+def build_crates(tops, programs):
+    """Builds the libraries below these crates that are not built of the sources as they are, and the programs, and records of
+    which sources each program is."""
+    sources.look_anew()
+    before, sums = sources.state(*tops), sources.checksums(*tops)
     make_out()
     shutil.rmtree(ROOMS, ignore_errors=True)
-    wanted = [it for it in sources.below(crate) if not is_built(it, sums)] + [NAME] * is_program
-    with Guard(ROOMS) as guard:
-        build_all(wanted, sums, guard)
-    if sources.state(crate) != before:
+    wanted, done = [it for it in sources.whole(*tops) if it not in tops and not is_built(it, sums)], set()
+    try:
+        with Guard(ROOMS) as guard:
+            build_all([*wanted, *programs], sums, guard, done)
+    finally:
+        is_untouched = sources.state(*tops) == before
+        for name in programs:
+            if is_untouched and name in done:
+                sources.record(name, sums)
+    if not is_untouched:
         raise Fault("a source was touched while the build went on, so it is not known what was built: call --build again")
-    return sums
 
 
-def build_program():
-    """Proves and builds the program, where that is needed."""
+def build_programs():
+    """Proves and builds the programs, where that is needed."""
     if shutil.which(RT) is None:
         raise Fault(f"the command {RT} of the Rattle kit is not on the PATH")
     with one_at_a_time():
-        if sources.standing() is None:
-            say("the program is proved and built, and no source has changed since")
+        sources.look_anew()
+        programs = [name for name in PROGRAMS if sources.why_not_fresh(name)]
+        if not programs:
+            say("both programs are proved and built, and no source has changed since")
             return
         make_out()
         start = time.monotonic()
-        say(f"proving and building the program; a whole build takes {MINUTES}")
-        sources.record(build_crates(NAME, True))
-        say(f"the program is proved and built, in {(time.monotonic() - start) / 60:.0f} minutes")
+        say(f"proving and building {' and '.join(programs)}; a whole build takes {MINUTES}")
+        build_crates(programs, programs)
+        say(f"proved and built {' and '.join(program_of(it)[len(TOP) + 1:] for it in programs)}, in {(time.monotonic() - start) / 60:.0f} minutes")
 
 
 def build_libraries(crate):
     """Proves and builds the libraries below a crate."""
     with one_at_a_time():
-        build_crates(crate, False)
+        build_crates([crate], [])

@@ -2,13 +2,13 @@
 import os
 
 TOP = os.path.dirname(os.path.dirname(os.path.dirname(os.path.realpath(__file__))))
-NAME = "locale_numbers_program"
-OUT = f"{TOP}/crates/{NAME}/out"
-PROGRAM = f"{OUT}/{NAME}"
+# The program of lines, and the command for people.
+LINES, COMMAND = "locale_numbers_program", "legumeyet"
+PROGRAMS = (LINES, COMMAND)
 RT = os.environ.get("RT") or "rt"
-MINUTES = "25 to 50 minutes on four processors"
+MINUTES = "30 to 60 minutes on four processors"
 
-USAGE, FAILED, CUT_SHORT = 2, 1, 7
+FAILED, USAGE, OUTPUT, CUT_SHORT = 1, 2, 5, 7
 
 
 class Fault(Exception):
@@ -17,6 +17,20 @@ class Fault(Exception):
     def __init__(self, text, status=FAILED):
         super().__init__(text)
         self.status = status
+
+
+def out_of(name):
+    """The folder of what is built of a crate."""
+    return f"{TOP}/crates/{name}/out"
+
+
+def program_of(name):
+    """The path of a program."""
+    return f"{out_of(name)}/{name}"
+
+
+# Where builds work.
+OUT = out_of(LINES)
 
 
 def say(text):
@@ -28,13 +42,21 @@ def say(text):
         pass
 
 
+def write_all(output):
+    """Writes bytes to standard output."""
+    done = 0
+    while done < len(output):
+        done += os.write(1, output[done:])
+
+
 def fill_closed_ends():
-    """Gives a closed standard input, output or error the null device here. A program started by exec meets it closed again."""
-    for end in range(3):
+    """Gives a closed standard input, output or error the null device here, for reading where it is written to and the other way
+    round, so that its use fails. A program started by exec meets it closed again."""
+    for end, way in enumerate((os.O_WRONLY, os.O_RDONLY, os.O_WRONLY)):
         try:
             os.fstat(end)
         except OSError:
-            os.open(os.devnull, os.O_RDWR)
+            os.open(os.devnull, way)
 
 
 def of_top(path):
@@ -42,12 +64,12 @@ def of_top(path):
     return os.path.relpath(path, TOP)
 
 
-def make_out():
+def make_out(name=LINES):
     """Makes the folder of what is built."""
     try:
-        os.makedirs(OUT, exist_ok=True)
+        os.makedirs(out_of(name), exist_ok=True)
     except OSError as error:
-        raise Fault(f"{of_top(OUT)} can't be written: {error.strerror}") from None
+        raise Fault(f"{of_top(out_of(name))} can't be written: {error.strerror}") from None
 
 
 def fault_of(error):

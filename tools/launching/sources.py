@@ -1,4 +1,4 @@
-"""Which sources the program is made of, and whether the program that stands was built of them as they are now.
+"""Which sources a program is made of, and whether a program that is there was built of them as they are now.
 
 A build records the checksums of the sources that it read and that of the program. The program is fresh where both are
 those of now: times count for nothing there, so a checkout of other sources is seen, and so is the way back.
@@ -9,18 +9,17 @@ import hashlib
 import json
 import os
 
-from .common import NAME, PROGRAM, TOP, of_top, read_text, write_whole
+from .common import TOP, Fault, of_top, program_of, read_text, write_whole
 
+# The folders of a crate's sources. What else a crate has, as must-fail and mistakes, is not part of what is built.
 PARTS = ("src", "specs", "proofs")
-RECORD = f"{PROGRAM}.json"
-FRESH = f"{PROGRAM}.fresh"
 
 
 @functools.lru_cache(maxsize=None)
 def listed():
-    """Each crate of crates.txt with the names that it stands on."""
+    """Each crate of crates.txt with the names that it uses."""
     found = {}
-    with open(f"{TOP}/crates.txt", encoding="utf-8") as lines:
+    with open(f"{TOP}/crates.txt", encoding="utf-8", errors="surrogateescape") as lines:
         for line in lines:
             name, colon, names = line.partition("#")[0].partition(":")
             if colon and name.split():
@@ -28,14 +27,28 @@ def listed():
     return found
 
 
-def below(crate, found=None):
-    """The repository's libraries below a crate, each behind those that it stands on."""
+def used_by(crate):
+    """The names that a crate uses."""
+    if crate not in listed():
+        raise Fault(f"crates.txt has no line of {crate}")
+    return listed()[crate]
+
+
+def below(crate, found=None, above=()):
+    """The repository's libraries below a crate, each after those that it uses."""
     found = {} if found is None else found
-    for name in listed()[crate]:
+    for name in used_by(crate):
+        if name in (crate, *above):
+            raise Fault(f"crates.txt: {name} uses itself")
         if name in listed() and name not in found:
-            below(name, found)
+            below(name, found, (crate, *above))
             found[name] = True
     return list(found)
+
+
+def whole(*crates):
+    """These crates and the repository's libraries below them, each once."""
+    return list(dict.fromkeys(name for crate in crates for name in [*below(crate), crate]))
 
 
 def paths(crate):
@@ -57,9 +70,10 @@ def lines(crate):
     return total
 
 
+@functools.lru_cache(maxsize=None)
 def checksum(crate):
-    """The checksum of a crate's line in crates.txt and of its sources."""
-    found = hashlib.sha256(" ".join(listed()[crate]).encode())
+    """The checksum of a crate's line in crates.txt and of its sources, as they were when it was first asked for."""
+    found = hashlib.sha256(" ".join(used_by(crate)).encode(errors="surrogateescape"))
     for path in paths(crate):
         if os.path.isfile(path):
             with open(path, "rb") as source:
@@ -68,21 +82,26 @@ def checksum(crate):
     return found.hexdigest()
 
 
-def checksums(crate=NAME):
-    """The checksum of a crate and of each library below it, by name."""
-    return {name: checksum(name) for name in [*below(crate), crate]}
+def checksums(*crates):
+    """The checksum of each of these crates and of each library below them, by name."""
+    return {name: checksum(name) for name in whole(*crates)}
+
+
+def look_anew():
+    """Forgets what was read of crates.txt and of sources."""
+    listed.cache_clear()
+    checksum.cache_clear()
 
 
 def key(crate, sums):
     """One checksum over a crate and all below it."""
-    names = sorted([*below(crate), crate])
-    return hashlib.sha256("\n".join(f"{name} {sums[name]}" for name in names).encode()).hexdigest()
+    return hashlib.sha256("\n".join(f"{name} {sums[name]}" for name in sorted(whole(crate))).encode()).hexdigest()
 
 
-def state(crate=NAME):
+def state(*crates):
     """What tells that a source was touched, also where its text is as before: identity, size and times of each."""
     found = []
-    for path in [f"{TOP}/crates.txt", *[path for name in [*below(crate), crate] for path in paths(name)]]:
+    for path in [f"{TOP}/crates.txt", *[path for name in whole(*crates) for path in paths(name)]]:
         it = os.lstat(path)
         found.append((path, it.st_ino, it.st_size, it.st_mtime_ns, it.st_ctime_ns))
     return found
@@ -97,17 +116,28 @@ def sum_of_file(path):
         return ""
 
 
-def record(sums):
-    """Records of which sources the program that stands was built."""
-    write_whole(RECORD, json.dumps({"program": sum_of_file(PROGRAM), "sources": sums}, indent=1))
+def record_of(name):
+    """Where the sources are recorded that a program was built of."""
+    return f"{program_of(name)}.json"
 
 
-def recorded():
-    """The checksums of the sources that the program was built of, or None where they are not known."""
+def mark_of(name):
+    """Where the script finds what it saw when the program was last seen to be built of its sources."""
+    return f"{program_of(name)}.fresh"
+
+
+def record(name, sums):
+    """Records of which sources the program that is there was built."""
+    said = {"program": sum_of_file(program_of(name)), "sources": {it: sums[it] for it in whole(name)}}
+    write_whole(record_of(name), json.dumps(said, indent=1))
+
+
+def recorded(name):
+    """The checksums of the sources that a program was built of, or None where they are not known."""
     try:
-        said = json.loads(read_text(RECORD))
-        return said["sources"] if said["program"] == sum_of_file(PROGRAM) else None
-    except (ValueError, KeyError, TypeError):
+        said = json.loads(read_text(record_of(name)))
+        return dict(said["sources"].items()) if said["program"] == sum_of_file(program_of(name)) else None
+    except (ValueError, KeyError, TypeError, AttributeError, RecursionError):
         return None
 
 
@@ -122,41 +152,41 @@ def start_of_gate():
         return 0
 
 
-def is_of_gate():
+def is_of_gate(name):
     """Whether `rt ci` built the program, of sources that nobody has touched since it began."""
     start = start_of_gate()
-    if os.stat(PROGRAM).st_mtime_ns < start:
+    if os.stat(program_of(name)).st_mtime_ns < start:
         return False
-    return all(max(modified, changed) < start for _, _, _, modified, changed in state())
+    return all(max(modified, changed) < start for _, _, _, modified, changed in state(name))
 
 
-def standing():
-    """None where the program is fresh; else why it is not, in words."""
-    if not os.access(PROGRAM, os.X_OK):
-        return "nothing is proved yet"
-    sums, built = checksums(), recorded()
-    if built is None and is_of_gate():
+def why_not_fresh(name):
+    """None where the program is built of the sources as they are; else why it is not, in words."""
+    if not os.access(program_of(name), os.X_OK):
+        return "nothing is proved yet" if not os.path.lexists(program_of(name)) else f"{name} can't be started"
+    sums, built = checksums(name), recorded(name)
+    if built is None and is_of_gate(name):
         built = sums
         try:
-            record(sums)
+            record(name, sums)
         except OSError:
             pass
     if built == sums:
         return None
     if built is None:
-        return "the program that stands was built of sources that are not known"
+        return f"it is not known of which sources {name} was built"
     changed = [it for it in sums if built.get(it) != sums[it]] or ["crates.txt"]
     more = f" and {len(changed) - 1} more" if len(changed) > 1 else ""
     return f"the proved program is older than the sources of {changed[0]}{more}"
 
 
-def proved_program(seen=""):
-    """The path of the program where it is fresh, and else None and why. What the script saw of the tree is then kept, so that
+def proved_program(name, seen=""):
+    """The path of a program where it is fresh, and else None and why. What the script saw of the tree is then kept, so that
     it starts the program by itself next time."""
-    why = standing()
+    why = why_not_fresh(name)
     if why is None and seen:
         try:
-            write_whole(FRESH, f"{seen}\n")
+            write_whole(mark_of(name), f"{seen}\n")
         except OSError:
             pass
-    return (None, why) if why else (PROGRAM, None)
+    return (None, why) if why else (program_of(name), None)

@@ -1,0 +1,134 @@
+"""A book of other data of CLDR, made by books/make-cldr and kept in the user's folder of caches.
+
+A book is named by two checksums, of the scripts and data that it was made of and of its own text, so it is never taken for
+that of other data, nor where it is damaged. A note for each folder says which data it had when it was last looked at, so that
+a call reads no data where none was touched, and needs none where the folder is gone.
+"""
+import contextlib
+import glob
+import hashlib
+import os
+import stat
+import subprocess
+import sys
+import time
+
+from .common import TOP, Fault, fault_of, read_text, say, write_whole
+
+PARTS = ("main", "supplemental")
+
+
+def cache_folder():
+    """Where books are kept: below XDG_CACHE_HOME where that is a path from the root, else below ~/.cache."""
+    place = os.environ.get("XDG_CACHE_HOME") or ""
+    if not os.path.isabs(place):
+        place = os.path.expanduser("~/.cache")
+    if not os.path.isabs(place):
+        raise Fault("no folder of caches is known: name one by HOME or XDG_CACHE_HOME")
+    return f"{place}/legumeyet"
+
+
+def scripts():
+    """The scripts that make a book."""
+    return [f"{TOP}/books/make-cldr", *sorted(glob.glob(f"{glob.escape(TOP)}/books/*.py"))]
+
+
+def read_files(folder):
+    """The files that a book is made of, in order."""
+    yield from scripts()
+    for part in PARTS:
+        for name in sorted(os.listdir(f"{folder}/{part}")):
+            if name.endswith(".xml"):
+                yield f"{folder}/{part}/{name}"
+
+
+def told(folder, of_text):
+    """A checksum over these files: of their texts, or of what tells that one was touched."""
+    found = hashlib.sha256()
+    for path in read_files(folder):
+        it = os.stat(path)
+        if not stat.S_ISREG(it.st_mode):
+            raise Fault(f"{path} is not a file")
+        if of_text:
+            with open(path, "rb") as file:
+                found.update(os.fsencode(os.path.basename(path)) + b"\n" + hashlib.sha256(file.read()).digest())
+        else:
+            found.update(os.fsencode(f"{path} {it.st_ino} {it.st_size} {it.st_mtime_ns} {it.st_ctime_ns}\n"))
+    return found.hexdigest()
+
+
+def sum_of(path):
+    """The checksum of a file, or an empty text where it can't be read."""
+    try:
+        with open(path, "rb") as file:
+            return hashlib.sha256(file.read()).hexdigest()
+    except OSError:
+        return ""
+
+
+def kept_book(cache, text):
+    """The path of the book of the data with this checksum, or None. A damaged one counts for nothing."""
+    whole = (it for it in glob.glob(f"{glob.escape(cache)}/{text}-*.json") if it.endswith(f"-{sum_of(it)}.json"))
+    return next(whole, None) if text else None
+
+
+def make(folder, cache, state, text):
+    """Makes the book of this data beside its place, names it and returns its path. Nothing is kept where it goes wrong."""
+    part = f"{cache}/part-{os.getpid()}"
+    words = [sys.executable, "-EsS", f"{TOP}/books/make-cldr", "--from", folder, part]
+    try:
+        ran = subprocess.run(words, stdin=subprocess.DEVNULL, stdout=subprocess.DEVNULL, stderr=subprocess.PIPE, errors="replace", check=False)
+        if ran.returncode:
+            lines = ran.stderr.strip().splitlines() or [f"make-cldr ended with status {ran.returncode}"]
+            raise Fault(f"no book was made of {folder}: {lines[-1].removeprefix('make-cldr: ')}")
+        if told(folder, False) != state:
+            raise Fault(f"no book was made of {folder}: its data was touched meanwhile; call again")
+        place = f"{cache}/{text}-{sum_of(part)}.json"
+        os.rename(part, place)
+    finally:
+        remove_parts(cache, part)
+    say(f"made a book of {folder}: {place}")
+    return place
+
+
+def remove_parts(cache, part):
+    """Removes what is left of a book, and of those of calls that were killed an hour ago or before."""
+    for left in glob.glob(f"{glob.escape(cache)}/part-*"):
+        with contextlib.suppress(FileNotFoundError):
+            if left.startswith(part) or os.stat(left).st_mtime < time.time() - 3600:
+                os.remove(left)
+
+
+def book_of_data(folder, cache, note):
+    """The path of the book of a folder that is there, which is made where it was not made yet of this data."""
+    was, text = (read_text(note).split() + ["", ""])[:2]
+    state = told(folder, False)
+    book = kept_book(cache, text) if was == state else None
+    if book:
+        return book
+    text = told(folder, True)
+    os.makedirs(cache, exist_ok=True)
+    book = kept_book(cache, text) or make(folder, cache, state, text)
+    # without a note the next call looks closer
+    with contextlib.suppress(OSError):
+        write_whole(note, f"{state} {text}\n")
+    return book
+
+
+def book_of(named):
+    """The path of the book of a folder `common` of CLDR, made now or before."""
+    folder = os.path.abspath(named)
+    cache = f"{cache_folder()}/books"
+    note = f"{cache}/{hashlib.sha256(os.fsencode(os.path.realpath(folder))).hexdigest()}.folder"
+    if not os.path.exists(folder):
+        book = kept_book(cache, (read_text(note).split() + ["", ""])[1])
+        if not book:
+            raise Fault(f"{named} is not there, and no book was made of it before")
+        say(f"{named} is not there: the book that was made of it before is used")
+        return book
+    if not all(os.path.isdir(f"{folder}/{part}") for part in PARTS):
+        raise Fault(f"{named} is no folder `common` of CLDR: that has the folders main and supplemental")
+    try:
+        return book_of_data(folder, cache, note)
+    except OSError as error:
+        raise Fault(f"no book was made of {named}: {fault_of(error)}") from None
