@@ -177,9 +177,9 @@ def build(crate, jobs, sums, guard):
     if crate not in PROGRAMS:
         with open(f"{folder}/out/rlib/sources", "w", encoding="utf-8") as written:
             written.write(sources.key(crate, sums))
-    # what the next check of the crate begins with is more than half of what a build leaves: it is kept where a check left it
-    kept = ["incremental"] if os.path.isdir(f"{out}/incremental") else []
-    for part in [*made, *kept]:
+    # what the next check of the crate begins with is more than half of all: it is kept where somebody works on the crate
+    is_worked_on = any(os.path.lexists(f"{out}/{it}") for it in (made[0], "incremental"))
+    for part in [*made, *["incremental"] * is_worked_on]:
         if os.path.lexists(f"{folder}/out/{part}"):
             bring(f"{folder}/out/{part}", f"{out}/{part}", f"{room}/old-{part}")
     shutil.rmtree(room, ignore_errors=True)
