@@ -24,6 +24,8 @@ ROOMS = f"{OUT}/rooms"
 MEMORY_OF_A_JOB = 1_500_000_000
 JOBS_OF_THE_FIRST = 4
 JOBS_OF_ANOTHER = 2
+# So many seconds of work count as what the shares say, before what was built does.
+TRUSTED = 600
 # The seconds that each took in a whole build on four processors, beside other work.
 SHARES = {
     "icu_locale_core_grammar": 26, "tinystr_words": 38, "writeable": 80, "icu_decimal_chains": 13,
@@ -247,7 +249,8 @@ class Progress:
 
     def seconds_left(self):
         """How long the rest takes, by what the crates that are built took."""
-        pace = sum(self.done.values()) / sum(self.plan.share[it] for it in self.done) if self.done else 1
+        taken, planned = sum(self.done.values()), sum(self.plan.share[it] for it in self.done)
+        pace = (taken + TRUSTED) / (planned + TRUSTED)
         ages = {it: time.monotonic() - self.begun[it] for it in self.running}
         return self.plan.seconds_left(self.done, self.running, ages, pace)
 
