@@ -87,7 +87,7 @@ def weights(crates, share):
 
 
 def link_or_copy(source, to):
-    """Gives a file a second name, or copies it. rt removes such a file before it makes it anew."""
+    """Gives a file a second name, or copies it. rt removes such a file before it makes it again."""
     try:
         os.link(source, to)
     except OSError:
@@ -254,6 +254,10 @@ class Progress:
         ages = {it: time.monotonic() - self.begun[it] for it in self.running}
         return self.plan.seconds_left(self.done, self.running, ages, pace)
 
+    def fails(self, crate):
+        """Notes that a crate can't be built."""
+        del self.running[crate], self.plan.share[crate]
+
     def ends(self, crate):
         """Says that a crate is built, and about how many minutes the rest takes."""
         self.done[crate] = time.monotonic() - self.begun[crate]
@@ -263,9 +267,9 @@ class Progress:
 
 
 def build_all(crates, sums, guard, done):
-    """Builds the crates, each once those below it are built, and puts them into `done`. Raises a Fault where one goes wrong, once
-    the others have ended."""
-    plan = Plan(crates)
+    """Builds the crates, each once those below it are built, and puts them into `done`. Raises a Fault where one goes wrong: of a
+    library once those under way have ended, of a program, which no other crate needs, once all others are built."""
+    plan, faults = Plan(crates), []
     progress, left, under_way = Progress(plan), list(crates), {}
     with ThreadPoolExecutor(plan.most) as pool:
         while left or under_way:
@@ -276,13 +280,16 @@ def build_all(crates, sums, guard, done):
             for ended in wait(under_way, return_when=FIRST_COMPLETED).done:
                 crate = under_way.pop(ended)
                 if ended.result():
-                    if under_way:
-                        say(f"{crate} was not built; waiting for the others that are under way")
-                    wait(under_way)
-                    done.update(it for job, it in under_way.items() if not job.result())
-                    raise Fault(ended.result())
-                done.add(crate)
-                progress.ends(crate)
+                    faults.append(ended.result())
+                    progress.fails(crate)
+                    left = left if crate in PROGRAMS else []
+                    if left or under_way:
+                        say(f"{crate} was not built; waiting for the others")
+                else:
+                    done.add(crate)
+                    progress.ends(crate)
+    if faults:
+        raise Fault(faults[0])
 
 
 def build_crates(tops, programs):

@@ -142,7 +142,7 @@ def recorded(name):
 
 
 def start_of_gate():
-    """When `rt ci` last began in this checkout, in nanoseconds, or 0: it opens a lock file anew."""
+    """When `rt ci` last began in this checkout, in nanoseconds, or 0: it opens a lock file each time."""
     git = f"{TOP}/.git"
     if os.path.isfile(git):
         git = os.path.join(TOP, read_text(git).strip()[len("gitdir: ") :])
