@@ -28,30 +28,28 @@ def cache_folder():
     return f"{place}/legumeyet"
 
 
-def scripts():
-    """The scripts that make a book."""
-    return [f"{TOP}/books/make-cldr", *sorted(glob.glob(f"{glob.escape(TOP)}/books/*.py"))]
-
-
 def read_files(folder):
-    """The files that a book is made of, in order."""
-    yield from scripts()
+    """The files that a book is made of, in order: the scripts and the data, each with its folder and its name there."""
+    for name in sorted(os.listdir(f"{TOP}/books")):
+        if name == "make-cldr" or name.endswith(".py"):
+            yield f"{TOP}/books", name
     for part in PARTS:
         for name in sorted(os.listdir(f"{folder}/{part}")):
             if name.endswith(".xml"):
-                yield f"{folder}/{part}/{name}"
+                yield folder, f"{part}/{name}"
 
 
 def told(folder, of_text):
     """A checksum over these files: of their texts, or of what tells that one was touched."""
     found = hashlib.sha256()
-    for path in read_files(folder):
+    for place, name in read_files(folder):
+        path = f"{place}/{name}"
         it = os.stat(path)
         if not stat.S_ISREG(it.st_mode):
             raise Fault(f"{path} is not a file")
         if of_text:
             with open(path, "rb") as file:
-                found.update(os.fsencode(os.path.basename(path)) + b"\n" + hashlib.sha256(file.read()).digest())
+                found.update(os.fsencode(f"{name}\n") + hashlib.sha256(file.read()).digest())
         else:
             found.update(os.fsencode(f"{path} {it.st_ino} {it.st_size} {it.st_mtime_ns} {it.st_ctime_ns}\n"))
     return found.hexdigest()
@@ -68,13 +66,13 @@ def sum_of(path):
 
 def kept_book(cache, text):
     """The path of the book of the data with this checksum, or None. A damaged one counts for nothing."""
-    whole = (it for it in glob.glob(f"{glob.escape(cache)}/{text}-*.json") if it.endswith(f"-{sum_of(it)}.json"))
+    whole = (it for it in glob.glob(f"{glob.escape(f'{cache}/{text}')}-*.json") if it.endswith(f"-{sum_of(it)}.json"))
     return next(whole, None) if text else None
 
 
 def make(folder, cache, state, text):
     """Makes the book of this data beside its place, names it and returns its path. Nothing is kept where it goes wrong."""
-    part = f"{cache}/part-{os.getpid()}"
+    part = f"{cache}/part-{os.getpid()}-book"
     words = [sys.executable, "-EsS", f"{TOP}/books/make-cldr", "--from", folder, part]
     try:
         ran = subprocess.run(words, stdin=subprocess.DEVNULL, stdout=subprocess.DEVNULL, stderr=subprocess.PIPE, errors="replace", check=False)

@@ -46,7 +46,7 @@ def check_together(said):
     if said.has("sample") and said.others:
         raise Fault("--sample is for lines, and takes no other word", USAGE)
     if said.has("world") and has_options:
-        raise Fault("--world is for lines: with other options the book is that of the world without it", USAGE)
+        raise Fault("--world is for lines: with other options the book is that of all locales without it", USAGE)
     if books and not has_options and len(said.others) > 1:
         raise Fault(f"--{books[0]} takes one CAPACITY after it and no more", USAGE)
 
