@@ -1,23 +1,25 @@
-/* Writes a number as English readers write it: -987,654.321. */
+/* Writes a number as German, Hindi and Arabic readers write it. */
 #include <legumeyet.h>
 #include <stdio.h>
-#include <string.h>
 
-#define TEXT(text) (const uint8_t *)(text), strlen(text)
-
-static const char BOOK[] = "[[[\"en\",\"\",\"latn\",\"-\",\"\",\"+\",\"\",\".\",\",\",3,3,1]],[[\"latn\",\"0123456789\"]],[],[],[]]";
-
-int main(void) {
-    legumeyet_book book = {0};
-    legumeyet_decimal_formatter english = {0};
+static int32_t print_number(legumeyet_book *book, const char *tag, const char *number) {
+    legumeyet_decimal_formatter formatter = {0};
     legumeyet_options as_given = {0};
     uint8_t text[64];
     size_t length = 0;
-    int32_t error = legumeyet_book_open(TEXT(BOOK), &book);
-    if (error == 0) error = legumeyet_decimal_formatter_open(&book, TEXT("en"), LEGUMEYET_GROUPING_AUTO, &english);
-    if (error == 0) error = legumeyet_decimal_formatter_format(&english, TEXT("-987654.321"), &as_given, text, sizeof text, &length);
+    int32_t error = legumeyet_decimal_formatter_open(book, LEGUMEYET_TEXT(tag), LEGUMEYET_GROUPING_AUTO, &formatter);
+    if (error == 0) error = legumeyet_decimal_formatter_format(&formatter, LEGUMEYET_TEXT(number), &as_given, text, sizeof text, &length);
     if (error == 0) printf("%.*s\n", (int)length, (const char *)text);
-    legumeyet_decimal_formatter_close(&english);
-    legumeyet_book_close(&book);
+    legumeyet_decimal_formatter_close(&formatter);
+    return error;
+}
+
+int main(void) {
+    legumeyet_book world = {0};
+    int32_t error = legumeyet_book_open_world(&world);
+    if (error == 0) error = print_number(&world, "de", "1234567.891");
+    if (error == 0) error = print_number(&world, "hi", "1234567.891");
+    if (error == 0) error = print_number(&world, "ar-EG", "1234567.891");
+    legumeyet_book_close(&world);
     return error;
 }

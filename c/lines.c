@@ -1,6 +1,6 @@
 /*
  * Writes the answers to the request lines of standard input, under the book of a file. Where the calls of a formatter do what a line
- * asks for, what they say has to be the answer too: another text stands behind it. Behind the first 5,000 lines the book is kept.
+ * asks for, what they say has to be the answer too: another text follows it. After the first 5,000 lines the book is kept.
  *
  * usage: lines BOOK < LINES > ANSWERS
  */
@@ -31,14 +31,14 @@ static const char *const MODES[] = {"",           "expand",    "trunc",      "ce
 
 static int is_word(piece text, const char *word) { return text.length == strlen(word) && memcmp(text.at, word, text.length) == 0; }
 
-/* The number of a word, or that of the words where it is none of them. */
+/* The number of a word, or that of the words where it is not one of them. */
 static uint32_t number_of(piece text, const char *const words[]) {
     uint32_t number = 0;
     while (words[number] != NULL && !is_word(text, words[number])) number++;
     return number;
 }
 
-/* Cuts what stands before the mark off a text, which keeps what stands behind it. */
+/* Cuts what is before the mark off a text, which keeps what is after it. */
 static piece cut(piece *text, char mark) {
     const uint8_t *end = text->length == 0 ? NULL : memchr(text->at, mark, text->length);
     piece front = {text->at, end == NULL ? text->length : (size_t)(end - text->at)};
@@ -82,7 +82,7 @@ static int32_t by_plain(legumeyet_book *book, const request *asked, const legume
     return error;
 }
 
-/* The text for a number in compact form, and the value that it shows behind a tab. */
+/* The text for a number in compact form, and the value that it shows after a tab. */
 static int32_t write_shown(legumeyet_compact_formatter *compact, piece number, const legumeyet_options *options, uint8_t *out, size_t *length) {
     size_t value_length = 0;
     int32_t error = legumeyet_compact_formatter_format(compact, number.at, number.length, options, out, ROOM, length);
@@ -159,13 +159,10 @@ static void answer_line(legumeyet_book *book, piece line) {
 }
 
 int main(int count, char **words) {
-    static uint8_t json[1 << 22];
     static char line[ROOM];
     legumeyet_book book = {0};
-    FILE *file = count == 2 ? fopen(words[1], "rb") : NULL;
-    int32_t error = file == NULL ? NO_CALL : legumeyet_book_open(json, fread(json, 1, sizeof json, file), &book);
+    int32_t error = count == 2 ? legumeyet_book_open_file(words[1], &book) : LEGUMEYET_FILE;
     size_t lines;
-    if (file != NULL) fclose(file);
     for (lines = 0; error == 0 && fgets(line, sizeof line, stdin) != NULL; lines++) {
         piece given = {(const uint8_t *)line, strcspn(line, "\n")};
         if (lines == UNKEPT) error = legumeyet_book_keep(&book);

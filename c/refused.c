@@ -3,6 +3,8 @@
  * turn. A call is then well or answers LEGUMEYET_MEMORY, and the second one is well. It prints how many were refused; the status
  * is 1 where another number came or memory is lost. Lost memory is seen where malloc keeps no blocks for a thread:
  * GLIBC_TUNABLES=glibc.malloc.tcache_count=0.
+ *
+ * usage: refused BOOK
  */
 #include <legumeyet.h>
 #include <malloc.h>
@@ -32,7 +34,7 @@ static void expect_text(const uint8_t *out, size_t length, const char *text) {
     wrong = 1;
 }
 
-static void call_all(void) {
+static void call_all(const char *path) {
     static const char DIGITS[] = "-98765432109876543210.5";
     static const char LINE[] = "en-a-aa-b-bb-u-ca-gregory-nu-latn-x-y\tplain\tauto\tkeep\t-\t-98765432109876543210.5";
     static const legumeyet_options ROUNDED = {LEGUMEYET_SIGN_AUTO, LEGUMEYET_ROUND_HALF_EVEN, 0};
@@ -42,6 +44,7 @@ static void call_all(void) {
     uint8_t out[64];
     legumeyet_interval parts[16];
     size_t length = 0, count = 0;
+    TWICE(legumeyet_book_open_file(path, &book));
     TWICE(legumeyet_book_open(TEXT(BOOK), &book));
     TWICE(legumeyet_book_answer(&book, TEXT(LINE), out, sizeof out, &length));
     expect_text(out, length, "ok\t-98,765,432,109,876,543,210.5");
@@ -72,13 +75,14 @@ static void call_all(void) {
     expect_well(legumeyet_book_close(&book));
 }
 
-int main(void) {
+int main(int count, char **words) {
     void *volatile first = malloc(1), *volatile second = malloc(1);
     size_t before, after;
     free(first); /* by these malloc has what it takes for itself, though one of them be refused */
     free(second);
     before = mallinfo2().uordblks;
-    call_all();
+    if (count != 2) return 1;
+    call_all(words[1]);
     after = mallinfo2().uordblks;
     if (after != before) printf("%zu bytes are lost\n", after - before);
     if (wrong) printf("a call answered otherwise\n");

@@ -37,6 +37,10 @@ static const struct {
     {LEGUMEYET_BOOK_CYCLE, "[[],[],[],[],[],[[\"en\",\"en\"]]]"},
 };
 
+/* A book with U+0000 and U+202F in its symbols. */
+static const char WITH_NUL[] =
+    "[[[\"en\",\"\",\"latn\",\"-\",\"\",\"+\",\"\",\"\\u0000\",\"\\u202f\",3,3,1]],[[\"latn\",\"0123456789\"]],[],[],[]]";
+
 static legumeyet_book book, closed_book;
 static legumeyet_decimal_formatter english, unreadable, closed;
 static legumeyet_compact_formatter short_english, long_english, closed_compact;
@@ -51,13 +55,13 @@ static void expect(const char *what, int64_t got, int64_t wanted) {
     wrong++;
 }
 
-/* The call was well and wrote this text, and nothing behind it. */
+/* The call was well and wrote this text, and nothing after it. */
 static void expect_text(const char *what, int32_t error, const char *text) {
     size_t wanted = strlen(text);
     expect(what, error, LEGUMEYET_OK);
     expect(what, (int64_t)length, (int64_t)wanted);
     expect(text, memcmp(out, text, wanted), 0);
-    expect("the byte behind", out[wanted], '.');
+    expect("the byte after it", out[wanted], '.');
     memset(out, '.', sizeof out);
     length = 77;
 }
@@ -161,6 +165,10 @@ static void formats(void) {
     expect_text("integer", format_i64(5, 3), "5,000");
     expect_text("the least integer", format_i64(INT64_MIN, 0), "-9,223,372,036,854,775,808");
     expect_text("zero", format_i64(0, 0), "0");
+    expect_text("zero of thousands", format_i64(0, 3), "0,000");
+    expect_text("zero of hundredths", format_i64(0, -2), "0.00");
+    expect_text("zero as text", format("0e3", AS_GIVEN), "0");
+    expect_text("zero as text", format("0e-2", AS_GIVEN), "0");
     expect_error("no number", format("5.", AS_GIVEN), LEGUMEYET_NUMBER);
     expect_error("no text", format("\xff", AS_GIVEN), LEGUMEYET_NUMBER);
     expect_error("empty", format("", AS_GIVEN), LEGUMEYET_NUMBER);
@@ -262,7 +270,7 @@ static void parts(void) {
         expect_text("the text with its parts", LEGUMEYET_OK, "-1,234.5");
         for (at = 0; at < listed; at++)
             expect("a part", is_same(&found[at], &WANTED[at]), 1);
-        expect("the part behind", (int64_t)found[listed].kind, 0x07070707);
+        expect("the part after them", (int64_t)found[listed].kind, 0x07070707);
     }
     count = 77;
     at = 3;
@@ -286,13 +294,13 @@ static void compact_parts(void) {
            legumeyet_compact_formatter_format_parts(&short_english, TEXT("-1650"), &AS_GIVEN, out, sizeof out, &length, found, 0, &count),
            LEGUMEYET_TOO_SMALL);
     expect("the parts", (int64_t)count, 1);
-    expect("the part behind", (int64_t)found[0].kind, 0x07070707);
+    expect("the part after them", (int64_t)found[0].kind, 0x07070707);
     expect_text("the text with its parts",
                 legumeyet_compact_formatter_format_parts(&short_english, TEXT("-1650"), &AS_GIVEN, out, sizeof out, &length, found, 2, &count),
                 "-1.6K");
     expect("the parts", (int64_t)count, 1);
     expect("the sign", found[0].start == 0 && found[0].end == 1 && found[0].kind == LEGUMEYET_PART_MINUS_SIGN, 1);
-    expect("the part behind", (int64_t)found[1].kind, 0x07070707);
+    expect("the part after them", (int64_t)found[1].kind, 0x07070707);
     expect_error("no number",
                  legumeyet_compact_formatter_format_parts(&short_english, TEXT("5."), &AS_GIVEN, out, sizeof out, &length, found, 2, &count),
                  LEGUMEYET_NUMBER);
@@ -313,7 +321,7 @@ static void expect_front(int32_t error, const char *text, size_t room) {
     expect(text, error, room < whole ? LEGUMEYET_TOO_SMALL : LEGUMEYET_OK);
     expect("the length", (int64_t)length, (int64_t)whole);
     expect("the front", memcmp(out, text, front), 0);
-    expect("the byte behind", out[front], '.');
+    expect("the byte after it", out[front], '.');
     memset(out, '.', sizeof out);
     length = 77;
 }
@@ -331,17 +339,67 @@ static void rooms(void) {
     }
 }
 
-/* What the header does not promise: null with a length of 0, and a room that there is not, do no harm. */
-static void unpromised(void) {
+/* A pointer is null where the length is 0, or the room: each text that is given. */
+static void null_texts(void) {
+    legumeyet_interval none;
+    size_t count = 77;
     expect("a book", legumeyet_book_open(NOTHING, &closed_book), LEGUMEYET_BOOK_JSON);
     expect("a tag", legumeyet_decimal_formatter_open(&book, NOTHING, 0, &closed), LEGUMEYET_TAG);
-    expect_error("a number", legumeyet_decimal_formatter_format(&english, NOTHING, &AS_GIVEN, out, ROOM, &length), LEGUMEYET_NUMBER);
-    expect_error("a text", legumeyet_decimal_formatter_read(&english, NOTHING, out, ROOM, &length), LEGUMEYET_NOT_WRITTEN);
     expect("a tag", legumeyet_compact_formatter_open(&book, NOTHING, 0, 0, &closed_compact), LEGUMEYET_TAG);
-    expect_error("a compact number", legumeyet_compact_formatter_format(&short_english, NOTHING, &AS_GIVEN, out, ROOM, &length), LEGUMEYET_NUMBER);
-    expect("no room", legumeyet_decimal_formatter_format(&english, TEXT("1"), &AS_GIVEN, NOTHING, &length), LEGUMEYET_TOO_SMALL);
+    expect_error("a number", legumeyet_decimal_formatter_format(&english, NOTHING, &AS_GIVEN, out, ROOM, &length), LEGUMEYET_NUMBER);
+    expect_error("parts", legumeyet_decimal_formatter_format_parts(&english, NOTHING, &AS_GIVEN, out, ROOM, &length, &none, 1, &count), LEGUMEYET_NUMBER);
+    expect_error("a text", legumeyet_decimal_formatter_read(&english, NOTHING, out, ROOM, &length), LEGUMEYET_NOT_WRITTEN);
+    expect_error("compact", legumeyet_compact_formatter_format(&short_english, NOTHING, &AS_GIVEN, out, ROOM, &length), LEGUMEYET_NUMBER);
+    expect_error("compact parts", legumeyet_compact_formatter_format_parts(&short_english, NOTHING, &AS_GIVEN, out, ROOM, &length, &none, 1, &count),
+                 LEGUMEYET_NUMBER);
+    expect_error("the value shown", legumeyet_compact_formatter_shown(&short_english, NOTHING, &AS_GIVEN, out, ROOM, &length), LEGUMEYET_NUMBER);
+    expect_error("an exact form", legumeyet_compact_formatter_format_exact(&short_english, NOTHING, &AS_GIVEN, out, ROOM, &length), LEGUMEYET_NUMBER);
+    expect("no parts", (int64_t)count, 77);
     expect_text("a line", legumeyet_book_answer(&book, NOTHING, out, ROOM, &length), "err\tshape");
+}
+
+/* A call wrote nothing, and tells what the text needs. */
+static void expect_needed(const char *what, int32_t error, size_t wanted) {
+    expect(what, error, LEGUMEYET_TOO_SMALL);
+    expect(what, (int64_t)length, (int64_t)wanted);
+    length = 77;
+}
+
+/* The same of each room. */
+static void null_rooms(void) {
+    static const char LINE[] = "en\tplain\tauto\tkeep\t-\t-1234.5";
+    size_t count = 77;
+    expect_needed("a number", legumeyet_decimal_formatter_format(&english, TEXT("-1234.5"), &AS_GIVEN, NOTHING, &length), 8);
+    expect_needed("an integer", legumeyet_decimal_formatter_format_i64(&english, -12345, -1, &AS_GIVEN, NOTHING, &length), 8);
+    expect_needed("parts", legumeyet_decimal_formatter_format_parts(&english, TEXT("-1234.5"), &AS_GIVEN, NOTHING, &length, NOTHING, &count), 8);
+    expect("parts", (int64_t)count, 5);
+    expect_needed("a text", legumeyet_decimal_formatter_read(&english, TEXT("-1,234.5"), NOTHING, &length), 7);
+    expect_needed("compact", legumeyet_compact_formatter_format(&short_english, TEXT("-1650"), &AS_GIVEN, NOTHING, &length), 5);
+    expect_needed("compact", legumeyet_compact_formatter_format_i64(&short_english, -165, 1, &AS_GIVEN, NOTHING, &length), 5);
+    expect_needed("compact parts",
+                  legumeyet_compact_formatter_format_parts(&short_english, TEXT("-1650"), &AS_GIVEN, NOTHING, &length, NOTHING, &count), 5);
+    expect("parts", (int64_t)count, 1);
+    expect_needed("the value shown", legumeyet_compact_formatter_shown(&short_english, TEXT("-1650"), &AS_GIVEN, NOTHING, &length), 6);
+    expect_needed("an exact form", legumeyet_compact_formatter_format_exact(&short_english, TEXT("-1.60c3"), &AS_GIVEN, NOTHING, &length), 6);
+    expect_needed("a line", legumeyet_book_answer(&book, TEXT(LINE), NOTHING, &length), 11);
+    expect_needed("a text of an error", legumeyet_error_text(LEGUMEYET_TAG, NOTHING, &length), 13);
     expect_text("the greatest room", legumeyet_decimal_formatter_format(&english, TEXT("1"), &AS_GIVEN, out, SIZE_MAX, &length), "1");
+}
+
+/* A text may have a NUL inside, and what there is room for may end inside a character. */
+static void inside(void) {
+    legumeyet_book other = {0};
+    legumeyet_decimal_formatter formatter = {0};
+    expect("a book", legumeyet_book_open(TEXT(WITH_NUL), &other), LEGUMEYET_OK);
+    expect("a formatter", legumeyet_decimal_formatter_open(&other, TEXT("en"), 0, &formatter), LEGUMEYET_OK);
+    expect("a NUL", legumeyet_decimal_formatter_format(&formatter, TEXT("1234.5"), &AS_GIVEN, out, ROOM, &length), LEGUMEYET_OK);
+    expect("a NUL", length == 9 && memcmp(out, "1\xe2\x80\xaf" "234\0" "5", 9) == 0, 1);
+    expect("inside", legumeyet_decimal_formatter_format(&formatter, TEXT("1234.5"), &AS_GIVEN, out, 2, &length), LEGUMEYET_TOO_SMALL);
+    expect("inside", memcmp(out, "1\xe2", 2), 0);
+    expect("a close", legumeyet_decimal_formatter_close(&formatter), LEGUMEYET_OK);
+    expect("a close", legumeyet_book_close(&other), LEGUMEYET_OK);
+    memset(out, '.', sizeof out);
+    length = 77;
 }
 
 /* Each call of a formatter of plain numbers, on a handle that has none open. */
@@ -450,7 +508,9 @@ int main(void) {
     reads();
     answers();
     rooms();
-    unpromised();
+    null_texts();
+    null_rooms();
+    inside();
     casts();
     closes();
     texts();

@@ -1,29 +1,29 @@
 /*
  * Legumeyet: numbers written as their readers write them, from C.
  *
- * A book of tables is opened from a JSON text. From a book formatters are opened, one for each locale tag, of plain numbers or of
- * compact ones. A formatter writes numbers into bytes of the caller's:
+ * A book has the tables that numbers are written with; that of the world's locales is in the library. From a book formatters are
+ * opened, one for each locale tag, of plain numbers or of compact ones. A formatter writes numbers into bytes of the caller's:
  *
- *     legumeyet_book book = {0};
- *     legumeyet_decimal_formatter english = {0};
+ *     legumeyet_book world = {0};
+ *     legumeyet_decimal_formatter german = {0};
+ *     legumeyet_options as_given = {0};
  *     uint8_t out[64];
- *     size_t length;
- *     legumeyet_book_open(json, json_length, &book);
- *     legumeyet_decimal_formatter_open(&book, (const uint8_t *)"en", 2, LEGUMEYET_GROUPING_AUTO, &english);
- *     legumeyet_options as_it_is = {0};
- *     legumeyet_decimal_formatter_format(&english, (const uint8_t *)"-987654.321", 11, &as_it_is, out, sizeof out, &length);
- *     fwrite(out, 1, length, stdout);                            // -987,654.321
- *     legumeyet_decimal_formatter_close(&english);
- *     legumeyet_book_close(&book);
+ *     size_t length = 0;
+ *     legumeyet_book_open_world(&world);
+ *     legumeyet_decimal_formatter_open(&world, LEGUMEYET_TEXT("de"), LEGUMEYET_GROUPING_AUTO, &german);
+ *     legumeyet_decimal_formatter_format(&german, LEGUMEYET_TEXT("1234567.891"), &as_given, out, sizeof out, &length);
+ *     fwrite(out, 1, length, stdout);                            // 1.234.567,891
+ *     legumeyet_decimal_formatter_close(&german);
+ *     legumeyet_book_close(&world);
  *
- * Texts are UTF-8, a pointer and a length in bytes, with no NUL behind them. A pointer is never null; of a text of length 0 it is any
- * pointer that is not null.
+ * Texts are UTF-8, a pointer and a length in bytes; no NUL is written after one. A text may have a NUL inside, where a symbol of its
+ * book has one: U+0000 in a book is a character as any other. A pointer to a text of length 0, or to a room of 0, may be NULL, so
+ * `NULL, 0` asks how much room a text needs. No other pointer may be NULL, but where a call says so.
  *
- * A handle is memory of the caller's. Zeroed memory is a closed handle. A handle is not copied, and is closed once. Its fields are
- * not for callers. It may be used in another thread than the one that opened it, by one call at a time. Handles are free of each
- * other: a formatter has the tables that it needs, so its book may be closed before it. A handle that has something of another type
- * open, as a book's that is cast to a formatter's, is closed to a call: LEGUMEYET_CLOSED, and what it has stays open. Only a call that
- * opens the handle closes what it had.
+ * A handle is memory of the caller's. Zeroed memory is a closed handle. A handle is not copied, and its fields are not for callers. A
+ * second close returns LEGUMEYET_CLOSED. Handles are free of each other: a formatter has the tables that it needs, so its book may be
+ * closed before it. A handle that has something of another type open, as a book's that is cast to a formatter's, is closed to a call:
+ * LEGUMEYET_CLOSED, and what it has stays open. Only a call that opens the handle closes what it had.
  *
  * A program that uses a book until it ends may keep it, by legumeyet_book_keep. Formatters of a kept book borrow its tables: they are
  * opened sooner, hold less memory and write faster.
@@ -32,9 +32,19 @@
  * is first in its list.
  *
  * A call that takes `out`, `room` and `length` writes the text to the front of the `room` bytes at `out`, and its length in bytes to
- * `length`; bytes behind the text stay as they were. Where the text is longer than `room` it returns LEGUMEYET_TOO_SMALL, the `room`
- * bytes are the first of the text, and `length` is what the text needs. Any other error leaves `out` and `length` as they were.
- * `out` may not overlap anything else that the call is given.
+ * `length`; the bytes after the text stay as they were. Where the text is longer than `room` it returns LEGUMEYET_TOO_SMALL, the `room`
+ * bytes are the first of the text, which may end inside a character, and `length` is what the text needs. Any other error leaves `out`
+ * and `length` as they were.
+ *
+ * What a call writes to, as `out`, `length`, `count` and the handles, overlaps nothing else that it is given, and nothing else writes
+ * meanwhile to what a call is given.
+ *
+ * Threads: one call at a time has a handle, also a call that only reads, as legumeyet_decimal_formatter_format. A handle may go to another
+ * thread by a lock, a thread's start or join, or a sequentially consistent atomic. Two handles may be used at once, also two formatters
+ * of one book; to open a formatter is a call on its book. No call is made in a signal handler, or in a forked child of a process with
+ * threads.
+ *
+ * A call takes at most 40 KiB of stack.
  */
 #ifndef LEGUMEYET_H
 #define LEGUMEYET_H
@@ -42,6 +52,7 @@
 #include <stdbool.h>
 #include <stddef.h>
 #include <stdint.h>
+#include <string.h>
 
 #ifdef __cplusplus
 extern "C" {
@@ -50,14 +61,18 @@ extern "C" {
 /* The version of this header: functions and numbers are added, and none of them ever changes its meaning. */
 #define LEGUMEYET_VERSION 1
 
+/* The two arguments that a text with a NUL at its end is given by. */
+#define LEGUMEYET_TEXT(text) (const uint8_t *)(text), strlen(text)
+
 /* What a call returns. */
 enum {
+    LEGUMEYET_FILE = -1,        /* a file cannot be read: errno says why, and legumeyet_error_text has no text of it */
     LEGUMEYET_OK = 0,           /* all is well */
     LEGUMEYET_MEMORY = 1,       /* memory was refused */
     LEGUMEYET_CLOSED = 2,       /* the handle is closed, or has something of another type open */
     LEGUMEYET_TOO_SMALL = 3,    /* the text needs more room; how much was written to `length` */
-    LEGUMEYET_OPTION = 4,       /* an option is none of its numbers, as a grouping of 4 */
-    LEGUMEYET_TAG = 5,          /* the text is no locale tag, as `e` */
+    LEGUMEYET_OPTION = 4,       /* an option has a number that is not in its list, as a grouping of 4 */
+    LEGUMEYET_TAG = 5,          /* the text is no locale tag, as `e`, or `de_DE`, which is written `de-DE`: legumeyet_tag_of_locale_name */
     LEGUMEYET_TABLE = 6,        /* the book lacks a table for the tag */
     LEGUMEYET_NUMBER = 7,       /* the text is no decimal number, as `5.` */
     LEGUMEYET_LIMIT = 8,        /* a digit of the number is beyond the magnitudes -32768 to 32767 */
@@ -161,8 +176,35 @@ typedef struct {
 } legumeyet_interval;
 
 /*
- * Opens the book that a JSON text is. docs/books.md of the repository has its form, and books/README.md says how one of all locales is
- * made.
+ * Opens the world's book, that of all locales of CLDR, the Unicode Consortium's data, which is in the library: of each locale of
+ * legumeyet_world_locale it has the symbols, digits, plural rules and patterns. What `book` had open is closed, where the call returns 0.
+ *
+ * Returns 0; LEGUMEYET_MEMORY.
+ */
+int32_t legumeyet_book_open_world(legumeyet_book *book);
+
+/*
+ * The tag of a locale of the world's book, with a NUL at its end, as `de-AT`; NULL from the count of the locales on. The tags are in
+ * order, and are never freed:
+ *
+ *     for (at = 0; (tag = legumeyet_world_locale(at)) != NULL; at++) puts(tag);
+ *
+ * A tag that is not listed, as `de-FR`, is written as the nearest one that is. It is called in any thread at any time.
+ */
+const char *legumeyet_world_locale(size_t at);
+
+/*
+ * Opens the book that a file is; legumeyet_book_open says what the file has. `path` ends with a NUL. What `book` had open is closed, where
+ * the call returns 0.
+ *
+ * Returns 0; LEGUMEYET_FILE, and then errno says why the file cannot be read; LEGUMEYET_BOOK_JSON to LEGUMEYET_BOOK_CYCLE;
+ * LEGUMEYET_MEMORY.
+ */
+int32_t legumeyet_book_open_file(const char *path, legumeyet_book *book);
+
+/*
+ * Opens the book that a JSON text is. docs/books.md of the repository has its form, and books/README.md says how one of a choice of
+ * locales is made. It keeps none of the bytes.
  *
  * What `book` had open is closed, where the call returns 0. `[[],[],[],[],[]]` is the shortest book.
  *
@@ -171,7 +213,7 @@ typedef struct {
 int32_t legumeyet_book_open(const uint8_t *json, size_t json_length, legumeyet_book *book);
 
 /*
- * Closes a book, and lets go of its memory. Its formatters stay as they are.
+ * Closes a book, and gives its memory back. Its formatters stay as they are.
  *
  * Returns 0; LEGUMEYET_CLOSED, where it was closed already.
  */
@@ -191,7 +233,8 @@ int32_t legumeyet_book_keep(legumeyet_book *book);
 /*
  * Answers a request line, without its line feed: `en`, `plain`, `auto`, `keep`, `-`, `-987654.321` with tabs between by `ok`, a tab and
  * `-987,654.321`. For a line that is refused the text is `err`, a tab and a word, and the call returns 0. The page locale_numbers(1) of
- * `man` has the six fields, and docs/requests.md of the repository all about them.
+ * `man` has the six fields, and docs/requests.md of the repository all about them. Each call makes a formatter: who writes many numbers
+ * of one tag opens one.
  *
  * Returns 0; LEGUMEYET_CLOSED; LEGUMEYET_MEMORY; LEGUMEYET_TOO_SMALL.
  */
@@ -225,7 +268,8 @@ int32_t legumeyet_decimal_formatter_format(legumeyet_decimal_formatter *formatte
 /*
  * Writes the number `mantissa` times ten to the power `exponent`: -123456 and -2 as `-1,234.56` in English, 5 and 3 as `5,000`.
  *
- * With a negative exponent the digits down to that power are shown: 500 and -2 as `5.00`.
+ * The digits down to that power are shown: 500 and -2 as `5.00`. Of 0 as many digits are shown as of any other number, 0 and 3 as
+ * `0,000`, 0 and -2 as `0.00`; the texts `0e3` and `0e-2` are both written `0`.
  *
  * Returns as legumeyet_decimal_formatter_format, but for LEGUMEYET_NUMBER.
  */
@@ -237,7 +281,7 @@ int32_t legumeyet_decimal_formatter_format_i64(legumeyet_decimal_formatter *form
  * minus sign at 0 to 1, the integer at 1 to 6, the group at 2 to 3, the decimal at 6 to 7 and the fraction at 7 to 8.
  *
  * `count` is how many parts there are. Where they are more than `intervals_room` the call returns LEGUMEYET_TOO_SMALL too, and the
- * first `intervals_room` of them are at `intervals`; those behind the last part stay as they were. Where it returns
+ * first `intervals_room` of them are at `intervals`; those after the last part stay as they were. Where it returns
  * LEGUMEYET_TOO_SMALL, `length` and `count` are what both need. Any other error leaves all as it was.
  *
  * Returns as legumeyet_decimal_formatter_format; LEGUMEYET_MEMORY of any number.
@@ -327,6 +371,16 @@ int32_t legumeyet_compact_formatter_format_exact(legumeyet_compact_formatter *fo
  * Returns 0; LEGUMEYET_OPTION, where `error` is 0, or none of the numbers above; LEGUMEYET_TOO_SMALL.
  */
 int32_t legumeyet_error_text(int32_t error, uint8_t *out, size_t room, size_t *length);
+
+/*
+ * Writes the tag of a locale's name as LANG, LC_ALL and setlocale give it: of `de_DE.UTF-8` and `de_DE` the tag `de-DE`.
+ *
+ * The name ends with a NUL. The codeset and the modifier are cut, from the first `.` or `@` on, and each `_` becomes `-`: `sr_RS@latin`
+ * is `sr-RS`. `C`, `POSIX`, an empty name and NULL are `en`. Whether a formatter can be opened of the tag is not looked at.
+ *
+ * Returns 0; LEGUMEYET_TOO_SMALL.
+ */
+int32_t legumeyet_tag_of_locale_name(const char *name, uint8_t *out, size_t room, size_t *length);
 
 /* The version of the library, as LEGUMEYET_VERSION is that of this header. */
 uint32_t legumeyet_version(void);

@@ -1,0 +1,157 @@
+/*
+ * Opens the world's book, and a formatter of each kind for each of its locales, all open at once; opens books of files; and makes tags of
+ * locales' names. It prints what is otherwise than it should be, and the status is 1 where something is.
+ *
+ * usage: test_world BOOK FOLDER
+ *
+ * BOOK is a file with the world's book, FOLDER a folder.
+ */
+#include <errno.h>
+#include <legumeyet.h>
+#include <stdio.h>
+#include <stdlib.h>
+#include <string.h>
+
+enum { ROOM = 256, MOST = 2000 };
+
+static legumeyet_book world;
+static legumeyet_decimal_formatter plain[MOST];
+static legumeyet_compact_formatter compact[2][MOST];
+static const legumeyet_options AS_GIVEN = {0, 0, 0};
+static uint8_t out[ROOM];
+static size_t length;
+static int wrong;
+
+static void expect(const char *what, int64_t got, int64_t wanted) {
+    if (got == wanted) return;
+    printf("%s: %lld, and not %lld\n", what, (long long)got, (long long)wanted);
+    wrong = 1;
+}
+
+static void expect_text(const char *what, int32_t error, const char *text) {
+    expect(what, error, LEGUMEYET_OK);
+    if (length == strlen(text) && memcmp(out, text, length) == 0) return;
+    printf("%s: %.*s, and not %s\n", what, (int)length, (const char *)out, text);
+    wrong = 1;
+}
+
+/* The locales are in order, and there is none after the last. Returns their count. */
+static size_t locales(void) {
+    size_t count = 0;
+    const char *last = "", *tag;
+    for (; (tag = legumeyet_world_locale(count)) != NULL; count++) {
+        expect(tag, strcmp(last, tag) < 0, 1);
+        last = tag;
+    }
+    expect("many locales", count > 900 && count <= MOST, 1);
+    expect("no more", legumeyet_world_locale(count + 1) == NULL, 1);
+    expect("no more", legumeyet_world_locale(SIZE_MAX) == NULL, 1);
+    return count;
+}
+
+/* Each locale has formatters of each kind, which have their own tables, and write. */
+static void opens(size_t count) {
+    size_t at, width;
+    for (at = 0; at < count; at++) {
+        const char *tag = legumeyet_world_locale(at);
+        expect(tag, legumeyet_decimal_formatter_open(&world, LEGUMEYET_TEXT(tag), LEGUMEYET_GROUPING_AUTO, &plain[at]), LEGUMEYET_OK);
+        for (width = 0; width < 2; width++)
+            expect(tag, legumeyet_compact_formatter_open(&world, LEGUMEYET_TEXT(tag), (uint32_t)width, 3, &compact[width][at]), LEGUMEYET_OK);
+    }
+    for (at = 0; at < count; at++) {
+        expect("plain", legumeyet_decimal_formatter_format_i64(&plain[at], -12345678, -2, &AS_GIVEN, out, ROOM, &length), LEGUMEYET_OK);
+        expect("read", legumeyet_decimal_formatter_read(&plain[at], out, length, out + 128, 128, &length), LEGUMEYET_OK);
+        expect("read", length == 10 && memcmp(out + 128, "-123456.78", 10) == 0, 1);
+        for (width = 0; width < 2; width++)
+            expect("compact", legumeyet_compact_formatter_format_i64(&compact[width][at], -1234567, 0, &AS_GIVEN, out, ROOM, &length), LEGUMEYET_OK);
+    }
+}
+
+static void closes(size_t count) {
+    size_t at, width;
+    for (at = 0; at < count; at++) {
+        expect("plain", legumeyet_decimal_formatter_close(&plain[at]), LEGUMEYET_OK);
+        for (width = 0; width < 2; width++) expect("compact", legumeyet_compact_formatter_close(&compact[width][at]), LEGUMEYET_OK);
+    }
+}
+
+/* A number in a locale, whose signs have up to seven bytes. */
+static void expect_written(const char *tag, const char *number, const char *text) {
+    legumeyet_decimal_formatter formatter = {0};
+    expect(tag, legumeyet_decimal_formatter_open(&world, LEGUMEYET_TEXT(tag), LEGUMEYET_GROUPING_AUTO, &formatter), LEGUMEYET_OK);
+    expect_text(tag, legumeyet_decimal_formatter_format(&formatter, LEGUMEYET_TEXT(number), &AS_GIVEN, out, ROOM, &length), text);
+    expect(tag, legumeyet_decimal_formatter_close(&formatter), LEGUMEYET_OK);
+}
+
+static void texts(void) {
+    expect_written("de", "1234567.891", "1.234.567,891");
+    expect_written("de-AT-u-nu-latn", "-1234", "-1\xc2\xa0" "234");
+    expect_written("hi", "1234567.891", "12,34,567.891");
+    expect_written("ar-EG", "-1234.5", "\xd8\x9c-\xd9\xa1\xd9\xac\xd9\xa2\xd9\xa3\xd9\xa4\xd9\xab\xd9\xa5");
+    expect_written("he", "-1234.5", "\xe2\x80\x8e-1,234.5");
+    expect_written("fa", "-5", "\xe2\x80\x8e\xe2\x88\x92\xdb\xb5");
+    expect_written("ps", "+5", "\xe2\x80\x8e+\xe2\x80\x8e\xdb\xb5");
+    expect("an underscore", legumeyet_decimal_formatter_open(&world, LEGUMEYET_TEXT("de_DE"), 0, &plain[0]), LEGUMEYET_TAG);
+}
+
+/* The answer to a line, which is the same by two books. */
+static void expect_same(legumeyet_book *other, const char *line) {
+    uint8_t own[ROOM];
+    size_t own_length = 0;
+    expect(line, legumeyet_book_answer(other, LEGUMEYET_TEXT(line), own, ROOM, &own_length), LEGUMEYET_OK);
+    expect(line, legumeyet_book_answer(&world, LEGUMEYET_TEXT(line), out, ROOM, &length), LEGUMEYET_OK);
+    expect(line, length == own_length && memcmp(out, own, length) == 0, 1);
+}
+
+static void files(const char *path, const char *folder) {
+    legumeyet_book book = {0};
+    errno = 0;
+    expect("no file", legumeyet_book_open_file("/no/file", &book), LEGUMEYET_FILE);
+    expect("why", errno, ENOENT);
+    expect("a folder", legumeyet_book_open_file(folder, &book), LEGUMEYET_FILE);
+    expect("why", errno, EISDIR);
+    expect("an empty file", legumeyet_book_open_file("/dev/null", &book), LEGUMEYET_BOOK_JSON);
+    expect("it stayed closed", legumeyet_book_close(&book), LEGUMEYET_CLOSED);
+    expect("a file", legumeyet_book_open_file(path, &book), LEGUMEYET_OK);
+    expect_same(&book, "de\tlong\tauto\tkeep\t-\t-987654.321");
+    expect("over an open one", legumeyet_book_open_file(path, &book), LEGUMEYET_OK);
+    expect("no file over it", legumeyet_book_open_file("/no/file", &book), LEGUMEYET_FILE);
+    expect_same(&book, "ar-EG\tplain\tauto\tkeep\t-\t-987654.321");
+    expect("the world over it", legumeyet_book_open_world(&book), LEGUMEYET_OK);
+    expect("a close", legumeyet_book_close(&book), LEGUMEYET_OK);
+}
+
+static int32_t tag_of(const char *name, size_t room) { return legumeyet_tag_of_locale_name(name, out, room, &length); }
+
+static void names(void) {
+    static const char *const ROWS[][2] = {
+        {"de_DE", "de-DE"},      {"de_DE.UTF-8", "de-DE"}, {"sr_RS@latin", "sr-RS"},  {"sr_RS.UTF-8@latin", "sr-RS"}, {"uz_UZ@cyrillic.x", "uz-UZ"},
+        {"C", "en"},             {"POSIX", "en"},          {"C.UTF-8", "en"},         {"POSIX@x", "en"},              {"", "en"},
+        {".UTF-8", "en"},        {"@euro", "en"},          {"zh_Hant_TW", "zh-Hant-TW"}, {"de", "de"},                {"en-US", "en-US"},
+        {"Cy", "Cy"},            {"c", "c"},               {"_", "-"},                {"german", "german"},           {"de\xff", "de\xff"},
+    };
+    size_t row, room;
+    for (row = 0; row < sizeof ROWS / sizeof *ROWS; row++) expect_text(ROWS[row][0], tag_of(ROWS[row][0], ROOM), ROWS[row][1]);
+    expect_text("no name", tag_of(NULL, ROOM), "en");
+    for (room = 0; room <= 6; room++) {
+        memset(out, '.', ROOM);
+        expect("room", tag_of("de_DE@euro", room), room < 5 ? LEGUMEYET_TOO_SMALL : LEGUMEYET_OK);
+        expect("length", (int64_t)length, 5);
+        expect("the front", memcmp(out, "de-DE", room < 5 ? room : 5), 0);
+        expect("the byte after it", out[room < 5 ? room : 5], '.');
+    }
+    expect("no room", legumeyet_tag_of_locale_name("de_DE", NULL, 0, &length), LEGUMEYET_TOO_SMALL);
+}
+
+int main(int count, char **words) {
+    size_t known = locales();
+    expect("the world", legumeyet_book_open_world(&world), LEGUMEYET_OK);
+    expect("over an open one", legumeyet_book_open_world(&world), LEGUMEYET_OK);
+    opens(known);
+    texts();
+    if (count == 3) files(words[1], words[2]);
+    names();
+    expect("the book before its formatters", legumeyet_book_close(&world), LEGUMEYET_OK);
+    closes(known);
+    return wrong || count != 3;
+}
