@@ -1,12 +1,9 @@
-// Writes a number as English readers write it: -987,654.321.
+// Writes a number as German, Hindi and Arabic readers write it.
 #include <legumeyet.hpp>
 
 #include <iostream>
 
-static constexpr auto BOOK = R"([[["en","","latn","-","","+","",".",",",3,3,1]],[["latn","0123456789"]],[],[],[]])";
-
 int main() {
-    legumeyet::Book book(BOOK);
-    legumeyet::DecimalFormatter english(book, "en");
-    std::cout << english.format("-987654.321") << '\n';
+    for (const char *tag : {"de", "hi", "ar-EG"})
+        std::cout << legumeyet::DecimalFormatter(tag).format("1234567.891") << '\n';
 }

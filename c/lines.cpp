@@ -1,13 +1,11 @@
-// Writes the answers to the request lines of standard input, under the book of a file, which is kept behind the first 5,000 of them, as
+// Writes the answers to the request lines of standard input, under the book of a file, which is kept after the first 5,000 of them, as
 // c/lines.c does in C.
 //
 // usage: lines BOOK < LINES > ANSWERS
 #include <legumeyet.hpp>
 
 #include <algorithm>
-#include <fstream>
 #include <iostream>
-#include <iterator>
 #include <string>
 #include <vector>
 
@@ -57,7 +55,7 @@ static std::string word_of(int32_t error) {
     }
 }
 
-// The text for the fields of a request by the call of a formatter; for `short` and `long` with the value shown behind a tab.
+// The text for the fields of a request by the call of a formatter; for `short` and `long` with the value shown after a tab.
 static std::string text_for(Book &book, const Words &fields, const legumeyet_options &options) {
     const std::string &form = fields[1], &number = fields[5];
     const uint32_t grouping = number_of(fields[2], GROUPINGS);
@@ -86,9 +84,7 @@ static std::string by_formatter(Book &book, const std::string &line) {
 }
 
 static int answer_lines(const char *path) {
-    std::ifstream file(path, std::ios::binary);
-    const std::string json{std::istreambuf_iterator<char>(file), {}};
-    Book book(json);
+    Book book = Book::from_file(path);
     int lines = 0;
     for (std::string line; std::getline(std::cin, line);) {
         if (lines++ == 5000) book.keep();

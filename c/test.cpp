@@ -1,9 +1,26 @@
 // Calls each function of legumeyet.hpp well and badly. The status is 1 where one does otherwise than it should, and a line says which.
+//
+// usage: test BOOK
+//
+// BOOK is a file with the world's book.
 #include <legumeyet.hpp>
 
 #include <iostream>
+#include <sys/wait.h>
+#include <thread>
 
 using legumeyet::Book, legumeyet::CompactDecimalFormatter, legumeyet::DecimalFormatter;
+
+// Whether a formatter takes arguments of these types.
+template <class, class... Arguments> constexpr bool takes = false;
+template <class... Arguments>
+constexpr bool takes<std::void_t<decltype(std::declval<DecimalFormatter &>().format(std::declval<Arguments>()...))>, Arguments...> = true;
+template <class... Arguments> constexpr bool formats_of = takes<void, Arguments...>;
+
+static_assert(formats_of<int> && formats_of<int, int> && formats_of<long long, short, legumeyet_options> && formats_of<unsigned long, int>);
+static_assert(formats_of<uint8_t> && formats_of<std::string> && formats_of<const char *> && formats_of<std::string_view, legumeyet_options>);
+static_assert(!formats_of<double> && !formats_of<double, int> && !formats_of<float, int, legumeyet_options> && !formats_of<int, double>);
+static_assert(!formats_of<std::nullptr_t> && !formats_of<std::nullptr_t, int> && !formats_of<bool> && !formats_of<char> && !formats_of<char16_t>);
 
 static const std::string BOOK = R"([[["en","","latn","-","","+","",".",",",3,3,1],["bad","","latn","","","+","",".",",",3,3,1]],
 [["latn","0123456789"]],[["en",[]]],[["en","",[[3,3,[["other",["","K"]]]],[6,6,[["other",["","M"]]]]],null]],
@@ -34,7 +51,17 @@ static void formats(DecimalFormatter &english) {
     expect(english.format("-987654.321"), "-987,654.321");
     expect(english.format(500, -2), "5.00");
     expect(english.format(-123456, 1), "-1,234,560");
+    expect(english.format(0), "0");
+    expect(english.format(1234), "1,234");
+    expect(english.format(int8_t{-5}), "-5");
+    expect(english.format(uint8_t{65}, 3L), "65,000");
+    expect(english.format(INT64_MIN), "-9,223,372,036,854,775,808");
+    expect(english.format(UINT64_MAX), "18,446,744,073,709,551,615");
+    expect(english.format(UINT64_MAX, -2), "184,467,440,737,095,516.15");
+    expect(english.format(-9650, -3, {LEGUMEYET_SIGN_NEVER, LEGUMEYET_ROUND_HALF_EVEN, -1}), "9.6");
     expect(english.format("9.65", {LEGUMEYET_SIGN_ALWAYS, LEGUMEYET_ROUND_HALF_EVEN, -1}), "+9.6");
+    expect_error(LEGUMEYET_LIMIT, [&] { english.format(5, 40000); });
+    expect_error(LEGUMEYET_LIMIT, [&] { english.format(5, UINT64_MAX); });
     expect(std::to_string(english.format(long_number).size()), "1333");
     expect_error(LEGUMEYET_NUMBER, [&] { english.format("5."); });
     expect_error(LEGUMEYET_NUMBER, [&] { english.format(std::string_view()); });
@@ -109,7 +136,66 @@ static void keeps() {
     expect_error(LEGUMEYET_TABLE, [&] { DecimalFormatter(kept, "en"); });
 }
 
-int main() {
+// What is moved from is closed, also by an assignment.
+static void moves(Book &book) {
+    DecimalFormatter english(book, "en", LEGUMEYET_GROUPING_NEVER), other(book, "en");
+    english = std::move(other);
+    expect(english.format(1234), "1,234");
+    expect_error(LEGUMEYET_CLOSED, [&] { other.format(1); });
+    other = std::move(english);
+    expect(other.format(1234), "1,234");
+    expect_error(LEGUMEYET_CLOSED, [&] { english.format(1); });
+    legumeyet::Error error(LEGUMEYET_TAG);
+    error = legumeyet::Error(LEGUMEYET_TABLE);
+    expect(std::to_string(error.number) + error.what(), "6the book lacks a table for the tag");
+}
+
+// Formatters of a tag alone, in threads of their own from the first on, and in a forked child.
+static void world() {
+    bool is_right[8] = {};
+    std::vector<std::thread> threads;
+    for (bool &it : is_right)
+        threads.emplace_back([&it] { it = DecimalFormatter("de").format("1234567.891") == "1.234.567,891"; });
+    for (auto &it : threads) it.join();
+    for (bool it : is_right) expect(it ? "right" : "a thread is wrong", "right");
+    const pid_t child = fork();
+    if (child == 0) _exit(DecimalFormatter("hi").format("1234567.891") == "12,34,567.891" ? 0 : 1);
+    int status = -1;
+    waitpid(child, &status, 0);
+    expect(std::to_string(status), "0");
+    expect(DecimalFormatter("ar-EG").format(1234567891, -3), "١٬٢٣٤٬٥٦٧٫٨٩١");
+    expect(DecimalFormatter("de", LEGUMEYET_GROUPING_NEVER).format(1234), "1234");
+    expect(CompactDecimalFormatter("hi", LEGUMEYET_WIDTH_LONG).format(1234567), "12 लाख");
+    expect(DecimalFormatter(legumeyet::tag_of_locale_name("de_DE.UTF-8")).format("0.5"), "0,5");
+    expect(legumeyet::tag_of_locale_name(nullptr), "en");
+    const auto locales = legumeyet::world_locales();
+    expect(std::find(locales.begin(), locales.end(), "de-AT") != locales.end() ? "there" : "not there", "there");
+    expect(locales.back() == "zu-ZA" ? "zu-ZA" : std::string(locales.back()), "zu-ZA");
+    expect_error(LEGUMEYET_TABLE, [] { CompactDecimalFormatter("xx"); });
+    try {
+        DecimalFormatter("de_DE");
+        expect("no error", "de_DE");
+    } catch (const legumeyet::Error &error) {
+        expect(error.what(), "no locale tag: `de_DE` is written `de-DE`");
+    }
+}
+
+static void files(const char *path) {
+    Book world = Book::world(), same = Book::from_file(path);
+    expect(same.answer("de\tplain\tauto\tkeep\t-\t-987654.321"), world.answer("de\tplain\tauto\tkeep\t-\t-987654.321"));
+    expect_error(LEGUMEYET_BOOK_JSON, [] { Book::from_file("/dev/null"); });
+    try {
+        Book::from_file("/no/file");
+        expect("no error", "/no/file");
+    } catch (const std::system_error &error) {
+        expect(std::to_string(error.code().value()), std::to_string(ENOENT));
+    }
+}
+
+int main(int count, char **words) {
+    if (count != 2) return 1;
+    world();
+    files(words[1]);
     Book first(BOOK), book(std::move(first)); // `first` is closed by that
     DecimalFormatter english(book, "en"), moved = std::move(english);
     CompactDecimalFormatter short_english(book, "en"), moved_short = std::move(short_english);
@@ -127,9 +213,11 @@ int main() {
     answers(book);
     reads(book, moved);
     compacts(book, moved_short);
+    first = Book(BOOK);
     book = Book("[[],[],[],[],[]]");
     formats(moved);
     parts(moved);
     keeps();
+    moves(first);
     return wrong;
 }

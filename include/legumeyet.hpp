@@ -1,12 +1,11 @@
 // legumeyet.h for C++17: handles that close themselves, errors as exceptions, texts as strings.
 //
-//     legumeyet::Book book(json);
-//     legumeyet::DecimalFormatter english(book, "en");
-//     english.format("-987654.321");                             // -987,654.321
-//     legumeyet::CompactDecimalFormatter short_english(book, "en");
-//     short_english.format("-987654.321");                       // -988K
+//     legumeyet::DecimalFormatter german("de");
+//     german.format("1234567.891");                              // 1.234.567,891
+//     legumeyet::CompactDecimalFormatter short_german("de");
+//     short_german.format(1234567);                              // 1,2 Mio. with a no-break space
 //
-// Each call throws a legumeyet::Error where the function of legumeyet.h that it stands for answers one; std::bad_alloc may come too.
+// Each call throws a legumeyet::Error where the function of legumeyet.h that it calls returns one; std::bad_alloc may come too.
 // As there, a book or a formatter may go to another thread, and is used by one call at a time, so no call is const.
 #ifndef LEGUMEYET_HPP
 #define LEGUMEYET_HPP
@@ -14,9 +13,17 @@
 #include <legumeyet.h>
 
 #include <algorithm>
+#include <atomic>
+#include <cerrno>
+#include <cstddef>
+#include <memory>
+#include <mutex>
 #include <stdexcept>
 #include <string>
 #include <string_view>
+#include <system_error>
+#include <type_traits>
+#include <unistd.h>
 #include <utility>
 #include <vector>
 
@@ -32,8 +39,8 @@ class Error : public std::runtime_error {
     }
 
   public:
-    const int32_t number;
-    explicit Error(int32_t error) : std::runtime_error(text_of(error)), number(error) {}
+    int32_t number;
+    explicit Error(int32_t error, const std::string &hint = "") : std::runtime_error(text_of(error) + hint), number(error) {}
 };
 
 namespace inner {
@@ -42,10 +49,15 @@ inline void expect_well(int32_t error) {
     if (error != LEGUMEYET_OK) throw Error(error);
 }
 
-inline const uint8_t *bytes(std::string_view text) {
-    // a view of nothing may hold no pointer, which the library does not take
-    return reinterpret_cast<const uint8_t *>(text.data() == nullptr ? "" : text.data());
+// The same of a formatter that is opened. An underscore of a tag is told.
+inline void expect_opened(int32_t error, std::string_view tag) {
+    std::string hyphens(tag);
+    std::replace(hyphens.begin(), hyphens.end(), '_', '-');
+    if (error == LEGUMEYET_TAG && hyphens != tag) throw Error(error, ": `" + std::string(tag) + "` is written `" + hyphens + "`");
+    expect_well(error);
 }
+
+inline const uint8_t *bytes(std::string_view text) { return reinterpret_cast<const uint8_t *>(text.data()); }
 
 // A handle that is closed where it goes out of scope. What is moved from is closed.
 template <class Handle, int32_t (*close)(Handle *)> class Owned {
@@ -55,11 +67,26 @@ template <class Handle, int32_t (*close)(Handle *)> class Owned {
     Owned() = default;
     Owned(Owned &&other) noexcept : handle(std::exchange(other.handle, Handle{})) {}
     Owned &operator=(Owned &&other) noexcept {
-        std::swap(handle, other.handle);
+        if (this != &other) {
+            close(&handle);
+            handle = std::exchange(other.handle, Handle{});
+        }
         return *this;
     }
     ~Owned() { close(&handle); }
 };
+
+// Whether a type is of integers that numbers are given as: not of characters, and not bool.
+template <class T>
+inline constexpr bool is_number = std::is_integral_v<T> && sizeof(T) <= sizeof(int64_t) && !std::is_same_v<T, bool> &&
+                                  !std::is_same_v<T, char> && !std::is_same_v<T, wchar_t> && !std::is_same_v<T, char16_t> &&
+                                  !std::is_same_v<T, char32_t>;
+
+// Whether an integer is one of the type.
+template <class To, class From> constexpr bool fits(From number) {
+    const To narrow = static_cast<To>(number);
+    return static_cast<From>(narrow) == number && (narrow < To{}) == (number < From{});
+}
 
 // The text that a call writes, with as much room as it needs: `call` takes the last three arguments of such a function.
 template <class Call> std::string written(Call call) {
@@ -99,13 +126,45 @@ template <class Call> Annotated annotated(Call call) {
 
 } // namespace inner
 
-// A book of tables, of its JSON text.
+// The tag of a locale's name as LANG and setlocale give it: `de-DE` of `de_DE.UTF-8`; legumeyet_tag_of_locale_name has the rule. A null
+// pointer is an empty name.
+inline std::string tag_of_locale_name(const char *name) {
+    return inner::written([&](auto... out) { return legumeyet_tag_of_locale_name(name, out...); });
+}
+
+// The tags of the world's locales, in order.
+inline std::vector<std::string_view> world_locales() {
+    std::vector<std::string_view> found;
+    while (const char *tag = legumeyet_world_locale(found.size())) found.emplace_back(tag);
+    return found;
+}
+
+// A book of tables.
 class Book : inner::Owned<legumeyet_book, legumeyet_book_close> {
     friend class CompactDecimalFormatter;
     friend class DecimalFormatter;
 
+    Book() = default;
+
   public:
+    // The book that a JSON text is.
     explicit Book(std::string_view json) { inner::expect_well(legumeyet_book_open(inner::bytes(json), json.size(), &handle)); }
+
+    // The world's book, which is in the library.
+    static Book world() {
+        Book book;
+        inner::expect_well(legumeyet_book_open_world(&book.handle));
+        return book;
+    }
+
+    // The book that a file is. Throws a std::system_error where the file cannot be read.
+    static Book from_file(const std::string &path) {
+        Book book;
+        const int32_t error = legumeyet_book_open_file(path.c_str(), &book.handle);
+        if (error == LEGUMEYET_FILE) throw std::system_error(errno, std::generic_category(), path);
+        inner::expect_well(error);
+        return book;
+    }
 
     // Keeps the book for the rest of the program: its memory is never given back. Formatters that are opened from it afterwards borrow
     // its tables: they hold less memory and write faster.
@@ -117,78 +176,149 @@ class Book : inner::Owned<legumeyet_book, legumeyet_book_close> {
     }
 };
 
-// The formatter of plain numbers for a locale tag. It may outlive the book.
-class DecimalFormatter : inner::Owned<legumeyet_decimal_formatter, legumeyet_decimal_formatter_close> {
+namespace inner {
+
+// The world's book, kept, which a process opens at the first formatter of a tag alone. A forked child opens its own, since a thread that is
+// not in it may have had the book's lock.
+class World {
+    Book book = Book::world();
+    std::mutex lock;
+    const pid_t process = getpid();
+
+    static World &of_process() {
+        static std::atomic<World *> shared{nullptr};
+        World *found = shared.load();
+        if (found != nullptr && found->process == getpid()) return *found;
+        auto made = std::make_unique<World>();
+        while (found == nullptr || found->process != getpid()) {
+            if (!shared.compare_exchange_weak(found, made.get())) continue;
+            return *made.release();
+        }
+        return *found;
+    }
+
   public:
-    DecimalFormatter(Book &book, std::string_view tag, uint32_t grouping = LEGUMEYET_GROUPING_AUTO) {
-        inner::expect_well(legumeyet_decimal_formatter_open(&book.handle, inner::bytes(tag), tag.size(), grouping, &handle));
+    World() = default;
+
+    // Calls with the book, one call at a time.
+    template <class Call> static void with(Call call) {
+        World &world = of_process();
+        const std::lock_guard<std::mutex> held(world.lock);
+        world.book.keep();
+        call(world.book);
+    }
+};
+
+} // namespace inner
+
+namespace inner {
+
+// What a formatter of any kind writes; `Calls` has the functions of legumeyet.h for the kind.
+template <class Handle, class Calls> class Formatter : Owned<Handle, Calls::close> {
+  protected:
+    using Owned<Handle, Calls::close>::handle;
+
+    Formatter() = default;
+
+    template <class Call> static std::string of_text(Call call, Handle &handle, std::string_view number, const legumeyet_options &options) {
+        return written([&](auto... out) { return call(&handle, bytes(number), number.size(), &options, out...); });
     }
 
+  public:
+    // The text of a number that is given as text: `-987654.321`.
     std::string format(std::string_view number, const legumeyet_options &options = {}) {
-        return inner::written([&](auto... out) {
-            return legumeyet_decimal_formatter_format(&handle, inner::bytes(number), number.size(), &options, out...);
+        return of_text(Calls::format, handle, number, options);
+    }
+
+    // The text of an integer, or of `mantissa` times ten to the power `exponent`: 500 and -2 are `5.00`.
+    template <class T, std::enable_if_t<is_number<T>, int> = 0> std::string format(T number, const legumeyet_options &options = {}) {
+        return format(number, 0, options);
+    }
+    template <class T, class E, std::enable_if_t<is_number<T> && is_number<E>, int> = 0>
+    std::string format(T mantissa, E exponent, const legumeyet_options &options = {}) {
+        if (!fits<int16_t>(exponent)) throw Error(LEGUMEYET_LIMIT);
+        if (!fits<int64_t>(mantissa)) return format(std::to_string(mantissa) + 'e' + std::to_string(exponent), options);
+        const auto power = static_cast<int16_t>(exponent);
+        return written([&](auto... out) {
+            return Calls::format_i64(&handle, static_cast<int64_t>(mantissa), power, &options, out...);
         });
     }
 
-    // The number `mantissa` times ten to the power `exponent`.
-    std::string format(int64_t mantissa, int16_t exponent, const legumeyet_options &options = {}) {
-        return inner::written(
-            [&](auto... out) { return legumeyet_decimal_formatter_format_i64(&handle, mantissa, exponent, &options, out...); });
-    }
+    // The digits of a double are written first, by std::to_chars or as the program likes: then it is a text.
+    template <class T, class... Rest, std::enable_if_t<std::is_floating_point_v<T>, int> = 0> std::string format(T, Rest &&...) = delete;
+    template <class... Rest> std::string format(std::nullptr_t, Rest &&...) = delete;
 
-    // The text of `format` with its parts, in order of their beginning.
+    // The text of `format` with its parts, in order of their beginning; of a compact number those of its sign.
     Annotated format_parts(std::string_view number, const legumeyet_options &options = {}) {
-        return inner::annotated([&](auto... out) {
-            return legumeyet_decimal_formatter_format_parts(&handle, inner::bytes(number), number.size(), &options, out...);
-        });
+        return annotated([&](auto... out) { return Calls::format_parts(&handle, bytes(number), number.size(), &options, out...); });
     }
+};
+
+struct DecimalCalls {
+    static constexpr auto close = legumeyet_decimal_formatter_close;
+    static constexpr auto format = legumeyet_decimal_formatter_format;
+    static constexpr auto format_i64 = legumeyet_decimal_formatter_format_i64;
+    static constexpr auto format_parts = legumeyet_decimal_formatter_format_parts;
+};
+
+struct CompactCalls {
+    static constexpr auto close = legumeyet_compact_formatter_close;
+    static constexpr auto format = legumeyet_compact_formatter_format;
+    static constexpr auto format_i64 = legumeyet_compact_formatter_format_i64;
+    static constexpr auto format_parts = legumeyet_compact_formatter_format_parts;
+};
+
+} // namespace inner
+
+// The formatter of plain numbers for a locale tag. It may outlive its book.
+class DecimalFormatter : public inner::Formatter<legumeyet_decimal_formatter, inner::DecimalCalls> {
+  public:
+    // Of the world's book, which the process opens once and keeps.
+    explicit DecimalFormatter(std::string_view tag, uint32_t grouping = LEGUMEYET_GROUPING_AUTO) {
+        inner::World::with([&](Book &book) { open(book, tag, grouping); });
+    }
+
+    DecimalFormatter(Book &book, std::string_view tag, uint32_t grouping = LEGUMEYET_GROUPING_AUTO) { open(book, tag, grouping); }
 
     // The number that is written so, as digits: `-1234.50` of `-1,234.50` in English.
     std::string read(std::string_view text) {
         return inner::written(
             [&](auto... out) { return legumeyet_decimal_formatter_read(&handle, inner::bytes(text), text.size(), out...); });
     }
+
+  private:
+    void open(Book &book, std::string_view tag, uint32_t grouping) {
+        inner::expect_opened(legumeyet_decimal_formatter_open(&book.handle, inner::bytes(tag), tag.size(), grouping, &handle), tag);
+    }
 };
 
-// The formatter of compact numbers for a locale tag, of a LEGUMEYET_WIDTH. It may outlive the book.
-class CompactDecimalFormatter : inner::Owned<legumeyet_compact_formatter, legumeyet_compact_formatter_close> {
+// The formatter of compact numbers for a locale tag, of a LEGUMEYET_WIDTH. It may outlive its book.
+class CompactDecimalFormatter : public inner::Formatter<legumeyet_compact_formatter, inner::CompactCalls> {
   public:
+    // Of the world's book, which the process opens once and keeps.
+    explicit CompactDecimalFormatter(std::string_view tag, uint32_t width = LEGUMEYET_WIDTH_SHORT,
+                                     uint32_t grouping = LEGUMEYET_GROUPING_MIN2) {
+        inner::World::with([&](Book &book) { open(book, tag, width, grouping); });
+    }
+
     CompactDecimalFormatter(Book &book, std::string_view tag, uint32_t width = LEGUMEYET_WIDTH_SHORT,
                             uint32_t grouping = LEGUMEYET_GROUPING_MIN2) {
-        inner::expect_well(legumeyet_compact_formatter_open(&book.handle, inner::bytes(tag), tag.size(), width, grouping, &handle));
-    }
-
-    std::string format(std::string_view number, const legumeyet_options &options = {}) {
-        return inner::written([&](auto... out) {
-            return legumeyet_compact_formatter_format(&handle, inner::bytes(number), number.size(), &options, out...);
-        });
-    }
-
-    // The number `mantissa` times ten to the power `exponent`.
-    std::string format(int64_t mantissa, int16_t exponent, const legumeyet_options &options = {}) {
-        return inner::written(
-            [&](auto... out) { return legumeyet_compact_formatter_format_i64(&handle, mantissa, exponent, &options, out...); });
-    }
-
-    // The text of `format` with its parts, those of its sign.
-    Annotated format_parts(std::string_view number, const legumeyet_options &options = {}) {
-        return inner::annotated([&](auto... out) {
-            return legumeyet_compact_formatter_format_parts(&handle, inner::bytes(number), number.size(), &options, out...);
-        });
+        open(book, tag, width, grouping);
     }
 
     // The value that the text of `format` shows: `-1.2c6` of `-1.2M`.
     std::string shown(std::string_view number, const legumeyet_options &options = {}) {
-        return inner::written([&](auto... out) {
-            return legumeyet_compact_formatter_shown(&handle, inner::bytes(number), number.size(), &options, out...);
-        });
+        return of_text(legumeyet_compact_formatter_shown, handle, number, options);
     }
 
     // The text of a significand with an exponent, its digits as they are: `-1.20M` of `-1.20c6`.
     std::string format_exact(std::string_view number, const legumeyet_options &options = {}) {
-        return inner::written([&](auto... out) {
-            return legumeyet_compact_formatter_format_exact(&handle, inner::bytes(number), number.size(), &options, out...);
-        });
+        return of_text(legumeyet_compact_formatter_format_exact, handle, number, options);
+    }
+
+  private:
+    void open(Book &book, std::string_view tag, uint32_t width, uint32_t grouping) {
+        inner::expect_opened(legumeyet_compact_formatter_open(&book.handle, inner::bytes(tag), tag.size(), width, grouping, &handle), tag);
     }
 };
 
