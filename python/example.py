@@ -1,7 +1,7 @@
-"""Writes a number as English readers write it: -987,654.321."""
-from legumeyet import Book, Decimal, DecimalFormatter
+"""Writes a number as German, Hindi and Arabic readers write it."""
+from legumeyet import Decimal, DecimalFormatter
 
-BOOK = '[[["en","","latn","-","","+","",".",",",3,3,1]],[["latn","0123456789"]],[],[],[]]'
-
-with Book(BOOK) as book, DecimalFormatter(book, "en") as english:
-    print(english.format(Decimal("-987654.321")))
+german = DecimalFormatter("de")
+print(german.format(Decimal("1234567.891")))
+print(DecimalFormatter("hi").format(Decimal("1234567.891")))
+print(DecimalFormatter("ar-EG").format(Decimal("1234567.891")))

@@ -1,13 +1,15 @@
 """Numbers written as the readers of a locale write them, and read back.
 
-A book of tables gives a formatter for each locale tag:
+A formatter is made of a locale tag, and writes numbers:
 
->>> book = Book('[[["en","","latn","-","","+","",".",",",3,3,1]],[["latn","0123456789"]],[],[],[]]')
->>> english = DecimalFormatter(book, "en")
->>> english.format(Decimal("-987654.321"))
-'-987,654.321'
-
-Where a book has patterns for it, a compact formatter writes the same number as `-988K`.
+>>> DecimalFormatter("de").format(Decimal("1234567.891"))
+'1.234.567,891'
+>>> DecimalFormatter("hi").format(Decimal("1234567.891"))
+'12,34,567.891'
+>>> DecimalFormatter("ar-EG").format(Decimal("1234567.891"))
+'١٬٢٣٤٬٥٦٧٫٨٩١'
+>>> CompactDecimalFormatter("de", width=Width.LONG).format(1234567)
+'1,2 Millionen'
 
 Books and formatters close themselves when they are no longer used; `with` and `close` close them sooner. One of them is used by
 one thread at a time: a call waits for another thread's.
@@ -16,19 +18,24 @@ from decimal import Decimal
 
 from ._formatters import Book, CompactDecimalFormatter, DecimalFormatter, Part
 from ._options import Grouping, Kind, Rounding, Sign, Width
-from ._library import Error, version
+from ._library import ClosedError, Error, InputError, OutOfMemoryError, tag_of_locale_name, version, world_locales
 
 __all__ = [
     "Book",
+    "ClosedError",
     "CompactDecimalFormatter",
     "Decimal",
     "DecimalFormatter",
     "Error",
     "Grouping",
+    "InputError",
     "Kind",
+    "OutOfMemoryError",
     "Part",
     "Rounding",
     "Sign",
     "Width",
+    "tag_of_locale_name",
     "version",
+    "world_locales",
 ]

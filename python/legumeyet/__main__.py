@@ -1,26 +1,27 @@
-"""Writes numbers for a locale tag, each on a line, by the book of a file."""
+"""Writes numbers for a locale, each on a line."""
 import argparse
 import sys
 from typing import List
 
-from legumeyet import Book, CompactDecimalFormatter, DecimalFormatter, Error, Width
+from legumeyet import Book, CompactDecimalFormatter, DecimalFormatter, Error, Width, tag_of_locale_name
 
 
 def main(given: List[str]) -> int:
     """Writes the numbers of the words that are given. A number that is refused has a line on standard error, and the status is 1."""
-    usage = "python3 -m legumeyet [--short | --long] BOOK TAG NUMBER.."
+    usage = "python3 -m legumeyet [--short | --long] [--book FILE] TAG NUMBER.."
     words = argparse.ArgumentParser(usage=usage, description=__doc__)
     width = words.add_mutually_exclusive_group()
     width.add_argument("--short", action="store_const", const=Width.SHORT, dest="width", help="in short compact form, as 1.2K")
     width.add_argument("--long", action="store_const", const=Width.LONG, dest="width", help="in long compact form, as 1.2 thousand")
-    words.add_argument("book", metavar="BOOK", help="the file of a book, which books/make-cldr makes")
-    words.add_argument("tag", metavar="TAG", help="a locale tag, as de-AT")
+    words.add_argument("--book", metavar="FILE", help="a book in place of the world's, as books/make-cldr makes it")
+    words.add_argument("tag", metavar="TAG", help="a locale tag, as de-AT, or a locale's name, as de_AT.UTF-8")
     words.add_argument("numbers", metavar="NUMBER", nargs=argparse.REMAINDER, help="a decimal number, as -987654.321")
     said = words.parse_args(given)
     status = 0
     try:
-        with open(said.book, "rb") as file, Book(file.read()) as book:
-            formatter = DecimalFormatter(book, said.tag) if said.width is None else CompactDecimalFormatter(book, said.tag, said.width)
+        tag = tag_of_locale_name(said.tag)
+        with Book.world() if said.book is None else Book.from_file(said.book) as book:
+            formatter = DecimalFormatter(book, tag) if said.width is None else CompactDecimalFormatter(book, tag, width=said.width)
         for number in said.numbers:
             try:
                 print(formatter.format(number))

@@ -1,27 +1,61 @@
 """The shared library, and its errors."""
 import ctypes
+import itertools
 import os
-from typing import Any, Callable, List, Tuple
+from typing import Any, Callable, Dict, List, Optional, Tuple, Type
 
 NAME = "liblegumeyet.so.1"
-OK, TOO_SMALL = 0, 3
+OK, MEMORY, CLOSED, TOO_SMALL, TAG, LIMIT = 0, 1, 2, 3, 5, 8
 ROOM, PLACES = 256, 32
 
 
-class Error(ValueError):
+class Error(Exception):
     """A call was refused. `number` says why, as legumeyet.h has it, and `word` says it in English.
 
-    >>> Book("[]")
+    An `Error` is made as one of its kinds, by its number: `InputError`, which is a `ValueError`, where what was given is refused;
+    `ClosedError`, which is a `RuntimeError`; `OutOfMemoryError`, which is a `MemoryError`.
+
+    >>> DecimalFormatter("de").read("1,234.5")
     Traceback (most recent call last):
-    legumeyet.Error: 102: no book: the shape of a book, or of an entry
+    legumeyet.InputError: 12: no number is written so
     """
 
     __module__ = "legumeyet"
 
-    def __init__(self, number: int):
-        self.number = number
+    def __new__(cls, number: int, hint: str = "") -> "Error":
+        return super().__new__(kind_of(number) if cls is Error else cls)
+
+    def __init__(self, number: int, hint: str = ""):
+        self.number, self.hint = number, hint
         self.word = error_text(number)
-        super().__init__(f"{number}: {self.word}")
+        super().__init__(f"{number}: {self.word}{hint}")
+
+    def __reduce__(self) -> Tuple[Any, ...]:
+        return Error, (self.number, self.hint)
+
+
+class InputError(Error, ValueError):
+    """What was given is refused: a tag, a number, a text to read back, or a book."""
+
+    __module__ = "legumeyet"
+
+
+class ClosedError(Error, RuntimeError):
+    """The book or the formatter is closed."""
+
+    __module__ = "legumeyet"
+
+
+class OutOfMemoryError(Error, MemoryError):
+    """Memory was refused."""
+
+    __module__ = "legumeyet"
+
+
+def kind_of(number: int) -> Type[Error]:
+    """The kind of an error."""
+    kinds: Dict[int, Type[Error]] = {MEMORY: OutOfMemoryError, CLOSED: ClosedError}
+    return kinds.get(number, InputError)
 
 
 class Handle(ctypes.Structure):
@@ -42,13 +76,21 @@ class Interval(ctypes.Structure):
     _fields_ = [("start", ctypes.c_size_t), ("end", ctypes.c_size_t), ("kind", ctypes.c_uint32)]
 
 
-def found() -> ctypes.CDLL:
-    """The library that LEGUMEYET_LIBRARY names, else the one beside this module, else the one that the machine has."""
+def path_of_library() -> str:
+    """The file that LEGUMEYET_LIBRARY names, or that of the folder; else the one beside this module, else the one that the machine has."""
+    named = os.environ.get("LEGUMEYET_LIBRARY")
+    if named:
+        return os.path.join(named, NAME) if os.path.isdir(named) else named
     beside = os.path.join(os.path.dirname(os.path.abspath(__file__)), NAME)
+    return beside if os.path.exists(beside) else NAME
+
+
+def found() -> ctypes.CDLL:
+    """The library. Raises an ImportError where there is none."""
     try:
-        return ctypes.CDLL(os.environ.get("LEGUMEYET_LIBRARY") or (beside if os.path.exists(beside) else NAME))
+        return ctypes.CDLL(path_of_library())
     except OSError as error:
-        how = "tools/build_c OUT makes the library, and LEGUMEYET_LIBRARY=OUT/liblegumeyet.so names it where it is not installed"
+        how = "tools/build_c OUT makes the library, and LEGUMEYET_LIBRARY=OUT names its folder where it is not installed"
         raise ImportError(f"{error}; {how}") from None
 
 
@@ -63,6 +105,7 @@ def load() -> ctypes.CDLL:
     integer = [ctypes.c_int64, ctypes.c_int16]
     for name, arguments in {
         "book_open": [*given, handle],
+        "book_open_world": [handle],
         "book_close": [handle],
         "book_keep": [handle],
         "book_answer": [handle, *given, *written],
@@ -80,10 +123,12 @@ def load() -> ctypes.CDLL:
         "compact_formatter_shown": [handle, *given, options, *written],
         "compact_formatter_format_exact": [handle, *given, options, *written],
         "error_text": [ctypes.c_int32, *written],
+        "tag_of_locale_name": [ctypes.c_char_p, *written],
         "version": [],
     }.items():
         function = getattr(library, f"legumeyet_{name}")
         function.argtypes, function.restype = arguments, ctypes.c_int32
+    library.legumeyet_world_locale.argtypes, library.legumeyet_world_locale.restype = [size], ctypes.c_char_p
     return library
 
 
@@ -125,6 +170,27 @@ def error_text(number: int) -> str:
     out, length = ctypes.create_string_buffer(ROOM), ctypes.c_size_t()
     is_known = library.legumeyet_error_text(number, out, ROOM, length) == OK
     return out.raw[: length.value].decode() if is_known else "an error of another version"
+
+
+def tag_of_locale_name(name: Optional[str]) -> str:
+    """The tag of a locale's name, as `LANG` and `locale.setlocale` give it: codeset and modifier are cut, and each `_` becomes `-`. `C`,
+    `POSIX`, an empty name and None are `en`. Whether a formatter can be opened of the tag is not looked at.
+
+    >>> [tag_of_locale_name(name) for name in ("de_DE.UTF-8", "sr_RS@latin", "pt_BR", "C.UTF-8", "", None)]
+    ['de-DE', 'sr-RS', 'pt-BR', 'en', 'en', 'en']
+    """
+    given = None if name is None else name.encode("utf-8", "surrogateescape")
+    return written(library.legumeyet_tag_of_locale_name, given).decode("utf-8", "surrogateescape")
+
+
+def world_locales() -> List[str]:
+    """The tags of the world's locales, in order.
+
+    >>> "de-AT" in world_locales()
+    True
+    """
+    tags = map(library.legumeyet_world_locale, itertools.count())
+    return [tag.decode() for tag in itertools.takewhile(lambda tag: tag is not None, tags)]
 
 
 def version() -> int:

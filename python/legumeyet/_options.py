@@ -1,5 +1,6 @@
 """The numbers of options and of parts, as legumeyet.h has them."""
 from enum import IntEnum
+from typing import Type, Union
 
 
 class Grouping(IntEnum):
@@ -68,3 +69,18 @@ class Rounding(IntEnum):
     HALF_CEIL = 7
     HALF_FLOOR = 8
     HALF_EVEN = 9
+
+
+def number_of(kind: Type[IntEnum], option: IntEnum) -> int:
+    """The number of an option of a kind. Raises a TypeError for one of another kind, and for a number."""
+    if not isinstance(option, kind):
+        raise TypeError(f"an option is a {kind.__name__}, and not {option!r}")
+    return int(option)
+
+
+def kind_of(number: int) -> Union[Kind, int]:
+    """The kind of a part, or its number where a later library has one that is not here."""
+    try:
+        return Kind(number)
+    except ValueError:
+        return number

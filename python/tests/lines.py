@@ -1,5 +1,5 @@
 """Writes the answers to the request lines of standard input, under the book of a file. Where a formatter does what a line asks for,
-what it says has to be the answer too: another text stands behind it. Behind the first 5,000 lines the book is kept.
+what it says has to be the answer too: another text follows it. After the first 5,000 lines the book is kept.
 
 usage: python3 lines.py BOOK < LINES > ANSWERS
 """
@@ -21,20 +21,21 @@ def text_for(book, fields):
     """The text for the fields of a request by the call of a formatter, or the number that is read. KeyError: none says what is asked."""
     tag, form, grouping, sign, rounding, number = fields
     grouping, sign = option(Grouping, grouping), option(Sign, sign)
-    position, mode, increment = rounding.split(",") if rounding != "-" else ("0", "keep", "1")
-    rounding = option(Rounding, mode)
-    if increment != "1":
-        raise KeyError(increment)
+    options = {"sign": sign}
+    if rounding != "-":
+        position, mode, increment = rounding.split(",")
+        options.update(rounding=option(Rounding, mode), position=int(position))
+        if increment != "1":
+            raise KeyError(increment)
     if form == "plain":
-        return DecimalFormatter(book, tag, grouping).format(number, sign, rounding, int(position))
+        return DecimalFormatter(book, tag, grouping=grouping).format(number, **options)
     if form == "read":
-        return DecimalFormatter(book, tag, grouping).read(number)
+        return DecimalFormatter(book, tag, grouping=grouping).read(number)
     is_exact, _, width = form.rpartition("-")
-    compact = CompactDecimalFormatter(book, tag, option(Width, width), grouping)
+    compact = CompactDecimalFormatter(book, tag, width=option(Width, width), grouping=grouping)
     if is_exact:
-        return compact.format_exact(number, sign)
-    options = number, sign, rounding, int(position)
-    return f"{compact.format(*options)}\t{compact.shown(*options)}"
+        return compact.format_exact(number, **options)
+    return f"{compact.format(number, **options)}\t{compact.shown(number, **options)}"
 
 
 def by_formatter(book, line):
@@ -57,7 +58,7 @@ def is_said(answer, said):
 
 def main(path):
     """Answers all lines."""
-    with open(path, "rb") as file, Book(file.read()) as book:
+    with Book.from_file(path) as book:
         for count, line in enumerate(sys.stdin.buffer):
             if count == 5000:
                 book.keep()

@@ -2,21 +2,31 @@
 
 usage: python3 -m unittest discover -s python/tests
 """
+import concurrent.futures
 import contextlib
+import copy
+import decimal
 import doctest
 import gc
 import io
+import multiprocessing
 import os
 import pathlib
+import pickle
+import signal
 import subprocess
 import sys
 import tempfile
 import threading
 import unittest
 from decimal import Decimal
+from unittest import mock
 
 import legumeyet
-from legumeyet import Book, CompactDecimalFormatter, DecimalFormatter, Error, Grouping, Rounding, Sign, Width, _formatters, _library
+from legumeyet import (
+    Book, ClosedError, CompactDecimalFormatter, DecimalFormatter, Error, Grouping, InputError, Kind, OutOfMemoryError, Rounding, Sign, Width,
+    _formatters, _library, _options,
+)
 from legumeyet.__main__ import main
 
 JSON = """[[["en","","latn","-","","+","",".",",",3,3,1],["ar","","arab","-","","+","","٫","٬",3,3,1],
@@ -27,12 +37,14 @@ JSON = """[[["en","","latn","-","","+","",".",",",3,3,1],["ar","","arab","-","",
 
 def load_tests(_loader, tests, _pattern):
     """The tests of this file, and the examples."""
-    book = Book(JSON)
-    made = {"english": DecimalFormatter(book, "en"), "short_english": CompactDecimalFormatter(book, "en")}
-    names = {"Book": Book, "Error": Error, "book": book, **made, **vars(legumeyet)}
     for module in (legumeyet, _formatters, _library):
-        tests.addTests(doctest.DocTestSuite(module, extraglobs=names))
+        tests.addTests(doctest.DocTestSuite(module, extraglobs={**vars(legumeyet), "Decimal": Decimal}))
     return tests
+
+
+def written_in_german(number):
+    """What a worker of a pool does."""
+    return DecimalFormatter("de").format(number)
 
 
 class Calls(unittest.TestCase):
@@ -43,7 +55,8 @@ class Calls(unittest.TestCase):
 
     def refused(self, number, call, *words):
         """The call raises the error of this number."""
-        with self.assertRaises(Error) as caught:
+        kind = {1: OutOfMemoryError, 2: ClosedError}.get(number, InputError)
+        with self.assertRaises(kind) as caught:
             call(*words)
         self.assertEqual(caught.exception.number, number)
         self.assertTrue(caught.exception.word)
@@ -52,7 +65,7 @@ class Calls(unittest.TestCase):
         for number, text in [
             (Decimal("-987654.321"), "-987,654.321"), (-1234, "-1,234"), (-(2**63), "-9,223,372,036,854,775,808"),
             (10**20, "100,000,000,000,000,000,000"), (Decimal("0E-2"), "0.00"), (Decimal("2E+3"), "2,000"), (Decimal("-0"), "-0"),
-            ("+5.0", "+5.0"), (Decimal("1.50"), "1.50"), (True, "1"),
+            ("+5.0", "+5.0"), (Decimal("1.50"), "1.50"), (True, "1"), (Decimal("0E+5"), "0"), (Decimal("0E+40000"), "0"), (0, "0"),
         ]:
             self.assertEqual(self.english.format(number), text)
         self.assertEqual(len(self.english.format(10**30000)), 40001)
@@ -60,10 +73,15 @@ class Calls(unittest.TestCase):
     def test_bad_numbers(self):
         for number in ("5.", "", "\0", "1\udcff", "١", Decimal("NaN"), Decimal("Infinity")):
             self.refused(7, self.english.format, number)
-        for number in (10**32768, Decimal("1E+999999"), Decimal("1E-99999"), "1e40000", Decimal("0." + "1" * 40000)):
+        for number in (10**32768, Decimal("1E+999999"), Decimal("1E-99999"), "1e40000", Decimal("0." + "1" * 40000), Decimal("0E-40000")):
             self.refused(8, self.english.format, number)
         for number in (1.5, None, b"1", [1]):
             self.assertRaises(TypeError, self.english.format, number)
+        with decimal.localcontext() as context:
+            context.capitals = 0
+            self.refused(8, self.english.format, Decimal("1E+40000"))
+            self.refused(8, self.english.format, Decimal("-12E-40000"))
+            self.assertEqual(self.english.format(Decimal("1.5E+3")), "1,500")
 
     def test_compact(self):
         for number, text in [
@@ -71,15 +89,15 @@ class Calls(unittest.TestCase):
             (-(2**63), "-9,223,372,036,855M"), (2**64, "18,446,744,073,710M"),
         ]:
             self.assertEqual(self.short.format(number), text)
-        self.assertEqual(self.short.format("-1250000", Sign.ALWAYS, Rounding.TRUNC, 6), "-1M")
-        self.assertEqual(CompactDecimalFormatter(self.book, "en", Width.LONG).format(1650), "1.6 thousand")
+        self.assertEqual(self.short.format("-1250000", sign=Sign.ALWAYS, rounding=Rounding.TRUNC, position=6), "-1M")
+        self.assertEqual(CompactDecimalFormatter(self.book, "en", width=Width.LONG).format(1650), "1.6 thousand")
         self.assertEqual(CompactDecimalFormatter(self.book, "en", grouping=Grouping.NEVER).format(10**10), "10000M")
         self.assertEqual(self.short.format_parts(1650), ("1.6K", []))
         self.assertEqual(self.short.format_parts("+1650"), ("+1.6K", [(2, 0, 1)]))
         for number, value in [(-1172700, "-1.2c6"), (Decimal("950"), "950"), ("0.2222", "0.22"), (10**20, "100000000000000c6")]:
             self.assertEqual(self.short.shown(number), value)
             self.assertEqual(self.short.format_exact(value), self.short.format(number))
-        self.assertEqual(self.short.format_exact("-1.20c6", Sign.NEVER, Rounding.HALF_EVEN, -1), "1.2M")
+        self.assertEqual(self.short.format_exact("-1.20c6", sign=Sign.NEVER, rounding=Rounding.HALF_EVEN, position=-1), "1.2M")
         nines = "9" * 32768
         for number, call, words in [
             (7, self.short.format, ("5.",)), (7, self.short.shown, (Decimal("NaN"),)), (8, self.short.format, ("1e40000",)),
@@ -90,8 +108,6 @@ class Calls(unittest.TestCase):
             self.refused(number, call, *words)
         self.assertRaises(TypeError, self.short.format_exact, 1)
         self.assertRaises(TypeError, self.short.shown, 1.5)
-        self.assertRaises(ValueError, CompactDecimalFormatter, self.book, "en", 2)
-        self.assertRaises(ValueError, self.short.shown, 1, 6)
         for number, tag in ((5, "e"), (5, "\udcff"), (6, "xx"), (6, "ar")):
             self.refused(number, CompactDecimalFormatter, self.book, tag)
 
@@ -131,11 +147,133 @@ class Calls(unittest.TestCase):
         self.assertRaises(TypeError, self.book.answer, 1)
 
     def test_options(self):
-        self.assertEqual(self.english.format("9.65", Sign.ALWAYS, Rounding.HALF_EVEN, -1), "+9.6")
-        self.assertEqual(DecimalFormatter(self.book, "en", Grouping.NEVER).format(12345), "12345")
-        for words in ((6,), (0, 10), (0, 0, 32768), (2**32,), (-1,)):
-            self.assertRaises(ValueError, self.english.format, 1, *words)
-        self.assertRaises(ValueError, DecimalFormatter, self.book, "en", 4)
+        self.assertEqual(self.english.format("9.65", sign=Sign.ALWAYS, rounding=Rounding.HALF_EVEN, position=-1), "+9.6")
+        self.assertEqual(self.english.format("9.65", rounding=Rounding.CEIL), "10")
+        self.assertEqual(self.english.format("1.555", position=-2), "1.56")
+        self.assertEqual(self.english.format("2.5", position=0), "2")
+        self.assertEqual(self.english.format_parts("2.5", position=0)[0], "2")
+        self.assertEqual(self.short.shown("1250000", position=6), "1c6")
+        self.assertEqual(DecimalFormatter(self.book, "en", grouping=Grouping.NEVER).format(12345), "12345")
+        for options in ({"position": 32768}, {"position": -40000}, {"rounding": Rounding.KEEP, "position": -2}):
+            self.assertRaises(ValueError, self.english.format, 1, **options)
+        for options in (
+            {"sign": 1}, {"sign": Rounding.TRUNC}, {"sign": None}, {"rounding": Sign.AUTO}, {"rounding": 9}, {"position": "1"}, {"grouping": 1},
+        ):
+            self.assertRaises(TypeError, self.english.format, 1, **options)
+            self.assertRaises(TypeError, self.short.shown, 1, **options)
+        self.assertRaises(TypeError, self.english.format, 1, Sign.ALWAYS)
+        for options in ({"grouping": 4}, {"grouping": Width.LONG}, {"width": Width.LONG}):
+            self.assertRaises(TypeError, DecimalFormatter, self.book, "en", **options)
+        for options in ({"width": Grouping.NEVER}, {"width": 1}, {"grouping": Width.LONG}):
+            self.assertRaises(TypeError, CompactDecimalFormatter, self.book, "en", **options)
+        self.assertRaises(TypeError, CompactDecimalFormatter, self.book, "en", Width.LONG)
+
+    def test_kind_of_a_later_library(self):
+        self.assertEqual([_options.kind_of(it) for it in (6, 7)], [Kind.FRACTION, 7])
+
+    def test_what_is_no_book(self):
+        for words in ((self.english, "en"), (None, "en"), ("de", "en"), (self.book,), (self.book, None), (None,), (1,), (self.book, 1)):
+            for kind in (DecimalFormatter, CompactDecimalFormatter):
+                self.assertRaises(TypeError, kind, *words)
+
+    def test_errors_travel(self):
+        error = Error(5, ": a hint")
+        for other in (copy.copy(error), copy.deepcopy(error), pickle.loads(pickle.dumps(error))):
+            self.assertEqual((type(other), other.number, str(other)), (InputError, 5, "5: no locale tag: a hint"))
+        self.assertIsInstance(Error(1), MemoryError)
+        self.assertNotIsInstance(Error(1), ValueError)
+        self.assertIsInstance(Error(2), RuntimeError)
+        self.assertNotIsInstance(Error(2), ValueError)
+        self.assertIsInstance(Error(12), ValueError)
+        # a refused number of a worker is told, and the pool works on
+        for how in ("fork", "spawn"):
+            with concurrent.futures.ProcessPoolExecutor(1, multiprocessing.get_context(how)) as pool:
+                with self.assertRaises(InputError) as caught:
+                    pool.submit(written_in_german, "5.").result()
+                self.assertEqual(caught.exception.number, 7)
+                self.assertEqual(pool.submit(written_in_german, Decimal("1234.5")).result(), "1.234,5")
+
+    def test_no_copies(self):
+        for it in (self.book, self.english, self.short):
+            for call in (copy.copy, copy.deepcopy, pickle.dumps):
+                self.assertRaises(TypeError, call, it)
+        self.assertEqual(self.english.format(1234), "1,234")
+
+    def test_signal_inside_a_call(self):
+        texts, written = [], _formatters.written
+
+        def with_signal(*arguments):
+            with mock.patch.object(_formatters, "written", written):
+                signal.raise_signal(signal.SIGUSR1)
+            return written(*arguments)
+
+        before = signal.signal(signal.SIGUSR1, lambda *_: texts.append(self.english.format("1234.5")))
+        try:
+            with mock.patch.object(_formatters, "written", with_signal):
+                texts.append(self.english.format("5.0"))
+        finally:
+            signal.signal(signal.SIGUSR1, before)
+        self.assertEqual(texts, ["1,234.5", "5.0"])
+
+    def test_world(self):
+        for tag, text in (("de", "1.234.567,891"), ("hi", "12,34,567.891"), ("ar-EG", "١٬٢٣٤٬٥٦٧٫٨٩١"), (b"de-AT", "1\xa0234\xa0567,891")):
+            self.assertEqual(DecimalFormatter(tag).format("1234567.891"), text)
+            with Book.world() as world, DecimalFormatter(world, tag) as formatter:
+                self.assertEqual(formatter.format("1234567.891"), text)
+        self.assertEqual(CompactDecimalFormatter("hi", width=Width.LONG).format(1234567), "12 लाख")
+        self.assertEqual(DecimalFormatter("de", grouping=Grouping.NEVER).format(1234), "1234")
+        for tag, hint in (("de_DE", ": 'de_DE' is written 'de-DE'"), (b"e_", ": b'e_' is written 'e-'"), ("e", "")):
+            with self.assertRaises(InputError) as caught:
+                CompactDecimalFormatter(tag)
+            self.assertEqual(str(caught.exception), f"5: no locale tag{hint}")
+        self.refused(6, DecimalFormatter, "xx")
+        locales = legumeyet.world_locales()
+        self.assertEqual((locales, len(set(locales))), (sorted(locales), len(locales)))
+        self.assertTrue({"de", "de-AT", "hi", "ar-EG", "zu-ZA"} <= set(locales))
+
+    def test_world_is_opened_once(self):
+        words = """if True:
+            import os, threading
+            from legumeyet import Book, DecimalFormatter, _formatters
+            opened, world = [], Book.world
+            Book.world = classmethod(lambda cls: opened.append(1) or world())
+            def work():
+                assert DecimalFormatter("de").format(1234) == "1.234"
+            assert _formatters.WORLD._book is None
+            threads = [threading.Thread(target=work) for _ in range(8)]
+            [it.start() for it in threads]
+            # a child of a process with threads, which may be opening or calling
+            children = []
+            for _ in range(20):
+                child = os.fork()
+                if child == 0:
+                    work()
+                    os._exit(0)
+                children.append(child)
+            [it.join() for it in threads]
+            assert [os.waitpid(child, 0)[1] for child in children] == [0] * 20
+            assert opened == [1], opened
+        """
+        subprocess.run([sys.executable, "-W", "ignore::DeprecationWarning", "-c", words], check=True, timeout=60)
+
+    def test_files(self):
+        with tempfile.TemporaryDirectory() as folder:
+            path = pathlib.Path(folder) / "book.json"
+            path.write_text(JSON, encoding="utf-8")
+            for it in (path, str(path), os.fsencode(path)):
+                with Book.from_file(it) as book:
+                    self.assertEqual(DecimalFormatter(book, "en").format(1234), "1,234")
+            path.write_text("[", encoding="utf-8")
+            self.refused(101, Book.from_file, path)
+            self.assertRaises(FileNotFoundError, Book.from_file, f"{folder}/none")
+            self.assertRaises(IsADirectoryError, Book.from_file, folder)
+
+    def test_names_of_locales(self):
+        for name, tag in (
+            ("de_DE", "de-DE"), ("de_DE.UTF-8", "de-DE"), ("sr_RS@latin", "sr-RS"), ("C", "en"), ("POSIX", "en"), ("C.UTF-8", "en"),
+            ("", "en"), (None, "en"), ("zh_Hant_TW", "zh-Hant-TW"), ("de", "de"), ("\udcff_x", "\udcff-x"),
+        ):
+            self.assertEqual(legumeyet.tag_of_locale_name(name), tag)
 
     def test_books_and_tags(self):
         for number, json in ((101, "[1"), (101, ""), (101, b"\xff"), (101, "\udcff"), (102, "[]"), (111, '[[],[],[],[],[],[["en","en"]]]')):
@@ -171,9 +309,9 @@ class Calls(unittest.TestCase):
             book = f"{folder}/book.json"
             pathlib.Path(book).write_text(JSON, encoding="utf-8")
             for words, status, text in [
-                ([book, "en", "-987654.321", "1e3"], 0, "-987,654.321\n1,000\n"), (["--short", book, "en", "-1650"], 0, "-1.6K\n"),
-                (["--long", book, "en", "1650"], 0, "1.6 thousand\n"), ([book, "en", "5.", "5"], 1, "5\n"), ([book, "xx", "5"], 1, ""),
-                ([f"{folder}/none", "en", "5"], 1, ""),
+                (["--book", book, "en", "-987654.321", "1e3"], 0, "-987,654.321\n1,000\n"), (["--short", "--book", book, "en", "-1650"], 0, "-1.6K\n"),
+                (["--long", "--book", book, "en", "1650"], 0, "1.6 thousand\n"), (["en", "5.", "5"], 1, "5\n"), (["xx", "5"], 1, ""),
+                (["--book", f"{folder}/none", "en", "5"], 1, ""), (["de_DE.UTF-8", "1234.5"], 0, "1.234,5\n"),
             ]:
                 out, error = io.StringIO(), io.StringIO()
                 with contextlib.redirect_stdout(out), contextlib.redirect_stderr(error):
@@ -184,6 +322,11 @@ class Calls(unittest.TestCase):
         how = {**os.environ, "LEGUMEYET_LIBRARY": "/none.so"}
         ran = subprocess.run([sys.executable, "-c", "import legumeyet"], env=how, stderr=subprocess.PIPE, check=False)
         self.assertIn(b"ImportError: /none.so", ran.stderr)
+
+    def test_library_of_a_folder(self):
+        path = _library.path_of_library()
+        with mock.patch.dict(os.environ, {"LEGUMEYET_LIBRARY": os.path.dirname(path) or "/"}):
+            self.assertEqual(_library.path_of_library(), os.path.join(os.path.dirname(path) or "/", _library.NAME))
 
     def test_kept(self):
         book = Book(JSON)
