@@ -1,10 +1,10 @@
-//! Writes a number as English readers write it: -987,654.321.
+//! Writes a number as German, Hindi and Arabic readers write it.
 
-use legumeyet::{Book, DecimalFormatter, Error, Grouping, Options};
+use legumeyet::{DecimalFormatter, Error, Options};
 
 fn main() -> Result<(), Error> {
-    let book = Book::from_json(br#"[[["en","","latn","-","","+","",".",",",3,3,1]],[["latn","0123456789"]],[],[],[]]"#)?;
-    let english = DecimalFormatter::new(&book, "en", Grouping::Auto)?;
-    println!("{}", english.format("-987654.321", &Options::default())?);
+    for tag in ["de", "hi", "ar-EG"] {
+        println!("{}", DecimalFormatter::new(tag)?.format("1234567.891", &Options::default())?);
+    }
     Ok(())
 }

@@ -1,5 +1,5 @@
 //! Writes the answers to the request lines of standard input, under the book of a file. Where a formatter does what a line asks for,
-//! what it says has to be the answer too: another text stands behind it. Behind the first 5,000 lines the book is kept.
+//! what it says has to be the answer too: another text follows it. After the first 5,000 lines the book is kept.
 //!
 //! usage: lines BOOK < LINES > ANSWERS
 
@@ -48,11 +48,11 @@ fn mode_of(word: &str) -> Option<Rounding> {
 fn options_of(sign: &str, rounding: &str) -> Option<Options> {
     let sign = sign_of(sign)?;
     if rounding == "-" {
-        return Some(Options { sign, ..Options::default() });
+        return Some(Options::default().sign(sign));
     }
     let words: Vec<&str> = rounding.split(',').collect();
     match words[..] {
-        [position, mode, "1"] => Some(Options { sign, rounding: mode_of(mode)?, position: position.parse().ok()? }),
+        [position, mode, "1"] => Some(Options::default().sign(sign).rounded(mode_of(mode)?, position.parse().ok()?)),
         _ => None,
     }
 }
@@ -66,7 +66,7 @@ fn width_of(form: &str) -> Option<Width> {
     }
 }
 
-/// The text for a number in compact form; but for an exact form with the value shown behind a tab.
+/// The text for a number in compact form; but for an exact form with the value shown after a tab.
 fn compact_text(compact: &CompactDecimalFormatter, form: &str, number: &str, options: &Options) -> Result<String, Error> {
     if form.starts_with("exact-") {
         return compact.format_exact(number, options);
@@ -78,12 +78,12 @@ fn compact_text(compact: &CompactDecimalFormatter, form: &str, number: &str, opt
 fn text_for(book: &Book, fields: &[&str]) -> Option<Result<String, Error>> {
     let [tag, form, grouping, sign, rounding, number] = *fields else { return None };
     let (grouping, options) = (grouping_of(grouping)?, options_of(sign, rounding)?);
-    let plain = || DecimalFormatter::new(book, tag, grouping);
+    let plain = || DecimalFormatter::from_book(book, tag, grouping);
     match form {
         "plain" => Some(plain().and_then(|it| it.format(number, &options))),
         "read" => Some(plain().and_then(|it| it.read(number))),
         _ => {
-            let compact = CompactDecimalFormatter::new(book, tag, width_of(form)?, grouping);
+            let compact = CompactDecimalFormatter::from_book(book, tag, width_of(form)?, grouping);
             Some(compact.and_then(|it| compact_text(&it, form, number, &options)))
         }
     }
@@ -114,7 +114,7 @@ fn answer_of(said: Result<String, Error>) -> String {
 
 fn main() -> Result<(), Box<dyn error::Error>> {
     let path = std::env::args_os().nth(1).ok_or("usage: lines BOOK < LINES > ANSWERS")?;
-    let book = Book::from_json(&std::fs::read(path)?)?;
+    let book = Book::open(path)?;
     let mut out = io::BufWriter::new(io::stdout().lock());
     for (count, line) in io::stdin().lock().split(b'\n').enumerate() {
         let line = line?;

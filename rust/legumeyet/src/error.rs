@@ -1,5 +1,5 @@
 use crate::{owned::written, sys};
-use std::fmt;
+use std::{fmt, io};
 
 /// Why a call was refused: its number, as legumeyet.h has it. `Display` says it in English.
 ///
@@ -14,7 +14,7 @@ pub struct Error(i32);
 impl Error {
     /// Memory was refused.
     pub const MEMORY: Error = Error(1);
-    /// The text is no locale tag.
+    /// The text is no locale tag, as `e`, or as `de_DE`, which is written `de-DE`: `tag_of_locale_name`.
     pub const TAG: Error = Error(5);
     /// The book lacks a table for the tag.
     pub const TABLE: Error = Error(6);
@@ -36,13 +36,13 @@ impl Error {
     pub const BOOK_SHAPE: Error = Error(102);
     /// A locale, or the parent of one, is refused.
     pub const BOOK_TAG: Error = Error(103);
-    /// A name of a numbering system is none.
+    /// A name of a numbering system is not 3 to 8 lower-case letters and digits.
     pub const BOOK_SYSTEM: Error = Error(104);
     /// A tab or a line feed is in the text of a symbol or a pattern.
     pub const BOOK_TEXT: Error = Error(105);
     /// The digits of a system are not ten characters, or a tab or a line feed is among them.
     pub const BOOK_DIGITS: Error = Error(106);
-    /// The condition of a plural category is none.
+    /// The condition of a plural category is not one.
     pub const BOOK_CONDITION: Error = Error(107);
     /// The types of patterns do not rise.
     pub const BOOK_TYPES: Error = Error(108);
@@ -72,7 +72,8 @@ impl fmt::Display for Error {
     fn fmt(&self, out: &mut fmt::Formatter<'_>) -> fmt::Result {
         // SAFETY: `written` passes memory that is as long as it says.
         let text = written(|at, room, length| unsafe { sys::legumeyet_error_text(self.0, at, room, length) });
-        out.write_str(text.as_deref().unwrap_or("an error of another version"))
+        out.write_str(text.as_deref().unwrap_or("an error of another version"))?;
+        out.write_str(if *self == Error::TAG { " (`de_DE` is written `de-DE`)" } else { "" })
     }
 }
 
@@ -83,3 +84,36 @@ impl fmt::Debug for Error {
 }
 
 impl std::error::Error for Error {}
+
+/// Why no book was opened of a file.
+#[derive(Debug)]
+#[non_exhaustive]
+pub enum OpenError {
+    /// The file cannot be read.
+    File(io::Error),
+    /// Its bytes are no book, or memory was refused.
+    Book(Error),
+}
+
+impl fmt::Display for OpenError {
+    fn fmt(&self, out: &mut fmt::Formatter<'_>) -> fmt::Result {
+        match self {
+            OpenError::File(error) => error.fmt(out),
+            OpenError::Book(error) => error.fmt(out),
+        }
+    }
+}
+
+impl std::error::Error for OpenError {}
+
+impl From<io::Error> for OpenError {
+    fn from(error: io::Error) -> OpenError {
+        OpenError::File(error)
+    }
+}
+
+impl From<Error> for OpenError {
+    fn from(error: Error) -> OpenError {
+        OpenError::Book(error)
+    }
+}

@@ -1,13 +1,14 @@
 //! Numbers written as the readers of a locale write them, and read back.
 //!
-//! A book of tables gives a formatter for each locale tag:
+//! A formatter is made of a locale tag, and writes numbers:
 //!
 //! ```
-//! use legumeyet::{Book, DecimalFormatter, Grouping, Options};
+//! use legumeyet::{DecimalFormatter, Options};
 //!
-//! let book = Book::from_json(br#"[[["en","","latn","-","","+","",".",",",3,3,1]],[["latn","0123456789"]],[],[],[]]"#)?;
-//! let english = DecimalFormatter::new(&book, "en", Grouping::Auto)?;
-//! assert_eq!(english.format("-987654.321", &Options::default())?, "-987,654.321");
+//! let as_given = Options::default();
+//! assert_eq!(DecimalFormatter::new("de")?.format("1234567.891", &as_given)?, "1.234.567,891");
+//! assert_eq!(DecimalFormatter::new("hi")?.format("1234567.891", &as_given)?, "12,34,567.891");
+//! assert_eq!(DecimalFormatter::new("ar-EG")?.format("1234567.891", &as_given)?, "١٬٢٣٤٬٥٦٧٫٨٩١");
 //! # Ok::<(), legumeyet::Error>(())
 //! ```
 //!
@@ -22,19 +23,35 @@ mod error;
 mod options;
 mod owned;
 mod sys;
+mod world;
 
-pub use error::Error;
+pub use error::{Error, OpenError};
 pub use options::{Grouping, Kind, Options, Rounding, Sign, Width};
+pub use world::{tag_of_locale_name, world_locales};
 
+use std::fs;
 use std::ops::Range;
+use std::path::Path;
 
 use owned::{annotated, written, Owned};
+use world::with_world;
 
 /// A book of tables.
 #[derive(Debug)]
 pub struct Book(Owned);
 
 impl Book {
+    /// The world's book, which is in the library: `world_locales` lists its locales. Refused by `MEMORY`.
+    pub fn world() -> Result<Book, Error> {
+        // SAFETY: `open` passes a closed handle.
+        Owned::open(sys::legumeyet_book_close, |book| unsafe { sys::legumeyet_book_open_world(book) }).map(Book)
+    }
+
+    /// The book that a file is. Refused where the file cannot be read, and as `from_json`.
+    pub fn open(path: impl AsRef<Path>) -> Result<Book, OpenError> {
+        Ok(Book::from_json(&fs::read(path)?)?)
+    }
+
     /// The book that a JSON text is. Refused by one of the `BOOK` errors, or `MEMORY`.
     pub fn from_json(json: &[u8]) -> Result<Book, Error> {
         // SAFETY: a slice is memory of its length, and `open` passes a closed handle.
@@ -60,8 +77,18 @@ impl Book {
 pub struct DecimalFormatter(Owned);
 
 impl DecimalFormatter {
-    /// The formatter of a tag. Refused by `TAG`, `TABLE`, `MEMORY`.
-    pub fn new(book: &Book, tag: &str, grouping: Grouping) -> Result<DecimalFormatter, Error> {
+    /// The formatter of a tag, of the world's book, which the process opens once and keeps. Refused by `TAG`, `TABLE`, `MEMORY`.
+    pub fn new(tag: &str) -> Result<DecimalFormatter, Error> {
+        DecimalFormatter::with_grouping(tag, Grouping::Auto)
+    }
+
+    /// The same with a grouping.
+    pub fn with_grouping(tag: &str, grouping: Grouping) -> Result<DecimalFormatter, Error> {
+        with_world(|book| DecimalFormatter::from_book(book, tag, grouping))
+    }
+
+    /// The formatter of a book's tag. Refused as `new`.
+    pub fn from_book(book: &Book, tag: &str, grouping: Grouping) -> Result<DecimalFormatter, Error> {
         // SAFETY: as for `Book::from_json`; no other call has the book's handle.
         let open =
             |formatter| unsafe { sys::legumeyet_decimal_formatter_open(book.0.at(), tag.as_ptr(), tag.len(), grouping as u32, formatter) };
@@ -107,22 +134,32 @@ impl DecimalFormatter {
 /// The formatter of compact numbers for a locale tag, short or long. It may outlive the book.
 ///
 /// ```
-/// use legumeyet::{Book, CompactDecimalFormatter, Grouping, Options, Width};
+/// use legumeyet::{CompactDecimalFormatter, Options, Width};
 ///
-/// let json = br#"[[["en","","latn","-","","+","",".",",",3,3,1]],[["latn","0123456789"]],[["en",[]]],
-/// [["en","",[[3,3,[["other",["","K"]]]],[6,6,[["other",["","M"]]]]],null]],[]]"#;
-/// let english = CompactDecimalFormatter::new(&Book::from_json(json)?, "en", Width::Short, Grouping::Min2)?;
+/// let english = CompactDecimalFormatter::new("en", Width::Short)?;
 /// assert_eq!(english.format("-1172700", &Options::default())?, "-1.2M");
 /// assert_eq!(english.shown("-1172700", &Options::default())?, "-1.2c6");
 /// assert_eq!(english.format_exact("-1.20c6", &Options::default())?, "-1.20M");
+/// assert_eq!(CompactDecimalFormatter::new("hi", Width::Long)?.format("1234567", &Options::default())?, "12 लाख");
 /// # Ok::<(), legumeyet::Error>(())
 /// ```
 #[derive(Debug)]
 pub struct CompactDecimalFormatter(Owned);
 
 impl CompactDecimalFormatter {
-    /// The formatter of a tag; compact numbers usually have `Grouping::Min2`. Refused by `TAG`, `TABLE`, `MEMORY`.
-    pub fn new(book: &Book, tag: &str, width: Width, grouping: Grouping) -> Result<CompactDecimalFormatter, Error> {
+    /// The formatter of a tag, of the world's book, which the process opens once and keeps, with `Grouping::Min2`. Refused by `TAG`,
+    /// `TABLE`, `MEMORY`.
+    pub fn new(tag: &str, width: Width) -> Result<CompactDecimalFormatter, Error> {
+        CompactDecimalFormatter::with_grouping(tag, width, Grouping::Min2)
+    }
+
+    /// The same with a grouping.
+    pub fn with_grouping(tag: &str, width: Width, grouping: Grouping) -> Result<CompactDecimalFormatter, Error> {
+        with_world(|book| CompactDecimalFormatter::from_book(book, tag, width, grouping))
+    }
+
+    /// The formatter of a book's tag; compact numbers usually have `Grouping::Min2`. Refused as `new`.
+    pub fn from_book(book: &Book, tag: &str, width: Width, grouping: Grouping) -> Result<CompactDecimalFormatter, Error> {
         let (width, grouping) = (width as u32, grouping as u32);
         // SAFETY: as for `Book::from_json`; no other call has the book's handle.
         let open =
@@ -158,7 +195,7 @@ impl CompactDecimalFormatter {
         })
     }
 
-    /// The value that the text of `format` shows, a significand and behind `c` an exponent where it is not 0: `-1.2c6`. Refused as
+    /// The value that the text of `format` shows, a significand and, after `c`, an exponent where it is not 0: `-1.2c6`. Refused as
     /// `format`.
     pub fn shown(&self, number: &str, options: &Options) -> Result<String, Error> {
         let options = options.numbers();

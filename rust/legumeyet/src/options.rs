@@ -2,6 +2,7 @@ use crate::sys;
 
 /// When grouping separators are written.
 #[derive(Clone, Copy, Debug, Default, PartialEq, Eq)]
+#[non_exhaustive]
 pub enum Grouping {
     /// Where the sizes of the locale place them: `1,234,567`.
     #[default]
@@ -16,6 +17,7 @@ pub enum Grouping {
 
 /// Which patterns compact numbers are written in.
 #[derive(Clone, Copy, Debug, Default, PartialEq, Eq)]
+#[non_exhaustive]
 pub enum Width {
     /// `1.6K`.
     #[default]
@@ -26,6 +28,7 @@ pub enum Width {
 
 /// Which sign is written; it is chosen by what the rounding left.
 #[derive(Clone, Copy, Debug, Default, PartialEq, Eq)]
+#[non_exhaustive]
 pub enum Sign {
     /// The one of the number as it was given: `+5` stays `+5`.
     #[default]
@@ -44,17 +47,20 @@ pub enum Sign {
 
 /// What a part of a text is.
 #[derive(Clone, Copy, Debug, PartialEq, Eq)]
+#[non_exhaustive]
 pub enum Kind {
-    MinusSign = 1,
-    PlusSign = 2,
+    MinusSign,
+    PlusSign,
     /// The integer digits with their separators.
-    Integer = 3,
+    Integer,
     /// A grouping separator, inside an `Integer`.
-    Group = 4,
+    Group,
     /// The decimal separator.
-    Decimal = 5,
+    Decimal,
     /// The fraction digits.
-    Fraction = 6,
+    Fraction,
+    /// The number of a kind that a later library has.
+    Other(u32),
 }
 
 impl Kind {
@@ -65,13 +71,15 @@ impl Kind {
             3 => Kind::Integer,
             4 => Kind::Group,
             5 => Kind::Decimal,
-            _ => Kind::Fraction,
+            6 => Kind::Fraction,
+            other => Kind::Other(other),
         }
     }
 }
 
 /// Which neighbour a number is rounded to.
 #[derive(Clone, Copy, Debug, Default, PartialEq, Eq)]
+#[non_exhaustive]
 pub enum Rounding {
     /// It is not rounded.
     #[default]
@@ -97,16 +105,49 @@ pub enum Rounding {
 }
 
 /// What is made of a number before it is written: it is rounded, and then its sign is chosen. By default it stays as it is.
+///
+/// ```
+/// use legumeyet::{DecimalFormatter, Options, Rounding, Sign};
+///
+/// let options = Options::default().sign(Sign::Always).rounded(Rounding::HalfEven, -1);
+/// assert_eq!(DecimalFormatter::new("de")?.format("9.65", &options)?, "+9,6");
+/// # Ok::<(), legumeyet::Error>(())
+/// ```
 #[derive(Clone, Copy, Debug, Default, PartialEq, Eq)]
+#[non_exhaustive]
 pub struct Options {
+    /// Which sign is written.
     pub sign: Sign,
+    /// Which neighbour the number is rounded to.
     pub rounding: Rounding,
-    /// The magnitude that is rounded at: 0 the ones, -2 the hundredths.
+    /// The magnitude that is rounded at: 0 the ones, -2 the hundredths. Of `Rounding::Keep` it counts for nothing.
     pub position: i16,
 }
 
 impl Options {
+    /// The same with this sign.
+    #[must_use]
+    pub const fn sign(self, sign: Sign) -> Options {
+        Options { sign, ..self }
+    }
+
+    /// The same with this rounding, at this position.
+    #[must_use]
+    pub const fn rounded(self, rounding: Rounding, position: i16) -> Options {
+        Options { rounding, position, ..self }
+    }
+
     pub(crate) fn numbers(&self) -> sys::Options {
         sys::Options { sign: self.sign as u32, rounding: self.rounding as u32, position: self.position }
+    }
+}
+
+#[cfg(test)]
+mod tests {
+    use super::Kind;
+
+    #[test]
+    fn kinds() {
+        assert_eq!((1..=7).map(Kind::of).collect::<Vec<_>>()[4..], [Kind::Decimal, Kind::Fraction, Kind::Other(7)]);
     }
 }

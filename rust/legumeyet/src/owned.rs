@@ -42,8 +42,8 @@ impl Drop for Owned {
     }
 }
 
-/// The text that a call writes, with as much room as it needs: the call is passed memory, its length, and where the text's length goes.
-pub(crate) fn written(mut call: impl FnMut(*mut u8, usize, *mut usize) -> i32) -> Result<String, Error> {
+/// The bytes that a call writes, with as much room as it needs: the call is passed memory, its length, and where the text's length goes.
+pub(crate) fn written_bytes(mut call: impl FnMut(*mut u8, usize, *mut usize) -> i32) -> Result<Vec<u8>, Error> {
     let (mut out, mut length) = (vec![0; 64], 0);
     let mut number = call(out.as_mut_ptr(), out.len(), &mut length);
     if number == sys::TOO_SMALL {
@@ -52,7 +52,12 @@ pub(crate) fn written(mut call: impl FnMut(*mut u8, usize, *mut usize) -> i32) -
     }
     Error::check(number)?;
     out.truncate(length);
-    Ok(String::from_utf8(out).expect("the library writes UTF-8"))
+    Ok(out)
+}
+
+/// The same of a text.
+pub(crate) fn written(call: impl FnMut(*mut u8, usize, *mut usize) -> i32) -> Result<String, Error> {
+    Ok(String::from_utf8(written_bytes(call)?).expect("the library writes UTF-8"))
 }
 
 /// The same with parts: the call is also passed memory for them, their room, and where their count goes.

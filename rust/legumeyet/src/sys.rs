@@ -1,6 +1,7 @@
 //! The functions of legumeyet.h.
 
 use std::ffi::c_void;
+use std::os::raw::c_char;
 
 pub const OK: i32 = 0;
 pub const TOO_SMALL: i32 = 3;
@@ -34,6 +35,8 @@ pub struct Interval {
 #[rustfmt::skip]
 extern "C" {
     pub fn legumeyet_book_open(json: *const u8, json_length: usize, book: *mut Handle) -> i32;
+    pub fn legumeyet_book_open_world(book: *mut Handle) -> i32;
+    pub fn legumeyet_world_locale(at: usize) -> *const c_char;
     pub fn legumeyet_book_close(book: *mut Handle) -> i32;
     pub fn legumeyet_book_keep(book: *mut Handle) -> i32;
     pub fn legumeyet_book_answer(book: *mut Handle, line: *const u8, line_length: usize, out: *mut u8, room: usize, length: *mut usize) -> i32;
@@ -50,6 +53,7 @@ extern "C" {
     pub fn legumeyet_compact_formatter_format_parts(formatter: *mut Handle, number: *const u8, number_length: usize, options: *const Options, out: *mut u8, room: usize, length: *mut usize, intervals: *mut Interval, intervals_room: usize, count: *mut usize) -> i32;
     pub fn legumeyet_compact_formatter_shown(formatter: *mut Handle, number: *const u8, number_length: usize, options: *const Options, out: *mut u8, room: usize, length: *mut usize) -> i32;
     pub fn legumeyet_compact_formatter_format_exact(formatter: *mut Handle, number: *const u8, number_length: usize, options: *const Options, out: *mut u8, room: usize, length: *mut usize) -> i32;
+    pub fn legumeyet_tag_of_locale_name(name: *const c_char, out: *mut u8, room: usize, length: *mut usize) -> i32;
     pub fn legumeyet_error_text(error: i32, out: *mut u8, room: usize, length: *mut usize) -> i32;
     pub fn legumeyet_version() -> u32;
 }

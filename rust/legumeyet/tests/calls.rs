@@ -1,23 +1,22 @@
 //! Each call well and badly.
 
-use legumeyet::{Book, CompactDecimalFormatter, DecimalFormatter, Error, Grouping, Kind, Options, Rounding, Sign, Width};
-use std::thread;
+use legumeyet::{Book, CompactDecimalFormatter, DecimalFormatter, Error, Grouping, Kind, OpenError, Options, Rounding, Sign, Width};
+use std::{env, fs, io, process, thread};
 
 const JSON: &str = r#"[[["en","","latn","-","","+","",".",",",3,3,1],["bad","","latn","","","+","",".",",",3,3,1]],
 [["latn","0123456789"]],[["en",[]]],[["en","",[[3,3,[["other",["","K"]]]],[6,6,[["other",["","M"]]]]],null]],
 [["en","",[[3,3,[["other",[""," thousand"]]]]],null]]]"#;
-const AS_GIVEN: Options = Options { sign: Sign::Keep, rounding: Rounding::Keep, position: 0 };
 
 fn book() -> Book {
     Book::from_json(JSON.as_bytes()).unwrap()
 }
 
 fn english() -> DecimalFormatter {
-    DecimalFormatter::new(&book(), "en", Grouping::Auto).unwrap()
+    DecimalFormatter::from_book(&book(), "en", Grouping::Auto).unwrap()
 }
 
 fn compact(width: Width) -> CompactDecimalFormatter {
-    CompactDecimalFormatter::new(&book(), "en", width, Grouping::Min2).unwrap()
+    CompactDecimalFormatter::from_book(&book(), "en", width, Grouping::Min2).unwrap()
 }
 
 #[test]
@@ -25,19 +24,19 @@ fn numbers() {
     let english = english();
     let long = "1".repeat(1000);
     for (number, want) in [("-987654.321", "-987,654.321"), ("+5.0", "+5.0"), ("-0", "-0")] {
-        assert_eq!(english.format(number, &AS_GIVEN).unwrap(), want);
+        assert_eq!(english.format(number, &Options::default()).unwrap(), want);
     }
-    assert_eq!(english.format(&long, &AS_GIVEN).unwrap().len(), 1333);
-    assert_eq!(english.format_i64(i64::MIN, 0, &AS_GIVEN).unwrap(), "-9,223,372,036,854,775,808");
-    assert_eq!(english.format_i64(500, -2, &AS_GIVEN).unwrap(), "5.00");
-    assert_eq!(english.format_i64(-123456, 1, &AS_GIVEN).unwrap(), "-1,234,560");
-    let rounded = Options { sign: Sign::Always, rounding: Rounding::HalfEven, position: -1 };
+    assert_eq!(english.format(&long, &Options::default()).unwrap().len(), 1333);
+    assert_eq!(english.format_i64(i64::MIN, 0, &Options::default()).unwrap(), "-9,223,372,036,854,775,808");
+    assert_eq!(english.format_i64(500, -2, &Options::default()).unwrap(), "5.00");
+    assert_eq!(english.format_i64(-123456, 1, &Options::default()).unwrap(), "-1,234,560");
+    let rounded = Options::default().sign(Sign::Always).rounded(Rounding::HalfEven, -1);
     assert_eq!(english.format("9.65", &rounded).unwrap(), "+9.6");
     for (number, error) in [("5.", Error::NUMBER), ("", Error::NUMBER), ("1\0", Error::NUMBER), ("1e40000", Error::LIMIT)] {
-        assert_eq!(english.format(number, &AS_GIVEN), Err(error), "{number}");
+        assert_eq!(english.format(number, &Options::default()), Err(error), "{number}");
     }
-    assert_eq!(english.format(&"9".repeat(40000), &AS_GIVEN), Err(Error::LIMIT));
-    assert_eq!(english.format_i64(10, i16::MAX, &AS_GIVEN), Err(Error::LIMIT));
+    assert_eq!(english.format(&"9".repeat(40000), &Options::default()), Err(Error::LIMIT));
+    assert_eq!(english.format_i64(10, i16::MAX, &Options::default()), Err(Error::LIMIT));
 }
 
 #[test]
@@ -46,11 +45,11 @@ fn reads() {
     for (text, number) in [("-1,234.50", "-1234.50"), ("+5", "+5"), ("-0", "-0")] {
         assert_eq!(english.read(text).unwrap(), number);
     }
-    assert_eq!(english.read(&english.format(&long, &AS_GIVEN).unwrap()).unwrap(), long);
+    assert_eq!(english.read(&english.format(&long, &Options::default()).unwrap()).unwrap(), long);
     for text in ["98,7654", "1234", "", "1\0", "٣"] {
         assert_eq!(english.read(text), Err(Error::NOT_WRITTEN), "{text}");
     }
-    let bad = DecimalFormatter::new(&book(), "bad", Grouping::Auto).unwrap();
+    let bad = DecimalFormatter::from_book(&book(), "bad", Grouping::Auto).unwrap();
     assert_eq!(bad.read("1"), Err(Error::UNREADABLE));
 }
 
@@ -58,37 +57,37 @@ fn reads() {
 fn compact_numbers() {
     let (short, nines) = (compact(Width::Short), "9".repeat(32768));
     for (number, text, value) in [("-1172700", "-1.2M", "-1.2c6"), ("950", "950", "950"), ("12345678901", "12,346M", "12346c6")] {
-        assert_eq!(short.format(number, &AS_GIVEN).unwrap(), text);
-        assert_eq!(short.shown(number, &AS_GIVEN).unwrap(), value);
-        assert_eq!(short.format_exact(value, &AS_GIVEN).unwrap(), text);
+        assert_eq!(short.format(number, &Options::default()).unwrap(), text);
+        assert_eq!(short.shown(number, &Options::default()).unwrap(), value);
+        assert_eq!(short.format_exact(value, &Options::default()).unwrap(), text);
     }
-    assert_eq!(compact(Width::Long).format_i64(165, 1, &AS_GIVEN).unwrap(), "1.6 thousand");
-    let rounded = Options { sign: Sign::Always, rounding: Rounding::Trunc, position: 6 };
+    assert_eq!(compact(Width::Long).format_i64(165, 1, &Options::default()).unwrap(), "1.6 thousand");
+    let rounded = Options::default().sign(Sign::Always).rounded(Rounding::Trunc, 6);
     assert_eq!(short.format("1250000", &rounded).unwrap(), "+1M");
-    assert_eq!(short.format_parts("-1650", &AS_GIVEN).unwrap(), ("-1.6K".to_string(), vec![(Kind::MinusSign, 0..1)]));
-    assert_eq!(short.format("5.", &AS_GIVEN), Err(Error::NUMBER));
-    assert_eq!(short.format_i64(10, i16::MAX, &AS_GIVEN), Err(Error::LIMIT));
-    assert_eq!(short.format(&nines, &AS_GIVEN), Err(Error::RANGE));
-    assert_eq!(short.shown(&nines, &AS_GIVEN), Err(Error::RANGE));
-    assert_eq!(short.format_parts(&nines, &AS_GIVEN), Err(Error::RANGE));
+    assert_eq!(short.format_parts("-1650", &Options::default()).unwrap(), ("-1.6K".to_string(), vec![(Kind::MinusSign, 0..1)]));
+    assert_eq!(short.format("5.", &Options::default()), Err(Error::NUMBER));
+    assert_eq!(short.format_i64(10, i16::MAX, &Options::default()), Err(Error::LIMIT));
+    assert_eq!(short.format(&nines, &Options::default()), Err(Error::RANGE));
+    assert_eq!(short.shown(&nines, &Options::default()), Err(Error::RANGE));
+    assert_eq!(short.format_parts(&nines, &Options::default()), Err(Error::RANGE));
     for (number, error) in [("1.2e6", Error::NUMBER), ("1c256", Error::LIMIT), ("1.2c5", Error::EXPONENT)] {
-        assert_eq!(short.format_exact(number, &AS_GIVEN), Err(error), "{number}");
+        assert_eq!(short.format_exact(number, &Options::default()), Err(error), "{number}");
     }
     for (tag, error) in [("e", Error::TAG), ("xx", Error::TABLE), ("bad", Error::TABLE)] {
-        assert_eq!(CompactDecimalFormatter::new(&book(), tag, Width::Short, Grouping::Min2).err(), Some(error));
+        assert_eq!(CompactDecimalFormatter::from_book(&book(), tag, Width::Short, Grouping::Min2).err(), Some(error));
     }
 }
 
 #[test]
 fn parts() {
     let english = english();
-    let (text, parts) = english.format_parts("-1234.5", &AS_GIVEN).unwrap();
+    let (text, parts) = english.format_parts("-1234.5", &Options::default()).unwrap();
     let texts: Vec<_> = parts.iter().map(|(kind, range)| (*kind, &text[range.clone()])).collect();
     let wanted = [(Kind::MinusSign, "-"), (Kind::Integer, "1,234"), (Kind::Group, ","), (Kind::Decimal, "."), (Kind::Fraction, "5")];
     assert_eq!(texts, wanted);
-    let (text, parts) = english.format_parts(&"1".repeat(1000), &AS_GIVEN).unwrap();
+    let (text, parts) = english.format_parts(&"1".repeat(1000), &Options::default()).unwrap();
     assert_eq!((text.len(), parts.len()), (1333, 334));
-    assert_eq!(english.format_parts("5.", &AS_GIVEN), Err(Error::NUMBER));
+    assert_eq!(english.format_parts("5.", &Options::default()), Err(Error::NUMBER));
 }
 
 #[test]
@@ -113,10 +112,11 @@ fn books_and_tags() {
         assert_eq!(Book::from_json(json).err(), Some(error));
     }
     for (tag, error) in [("e", Error::TAG), ("", Error::TAG), (&"a".repeat(100_000), Error::TAG), ("xx", Error::TABLE)] {
-        assert_eq!(DecimalFormatter::new(&book(), tag, Grouping::Auto).err(), Some(error));
+        assert_eq!(DecimalFormatter::from_book(&book(), tag, Grouping::Auto).err(), Some(error));
     }
     assert_eq!(Error::TAG.number(), 5);
-    assert_eq!(Error::TAG.to_string(), "no locale tag");
+    assert_eq!(Error::TAG.to_string(), "no locale tag (`de_DE` is written `de-DE`)");
+    assert_eq!(Error::TABLE.to_string(), "the book lacks a table for the tag");
 }
 
 #[test]
@@ -124,12 +124,12 @@ fn kept() {
     let book = book();
     book.keep().unwrap();
     book.keep().unwrap();
-    let english = DecimalFormatter::new(&book, "en", Grouping::Auto).unwrap();
-    let short = CompactDecimalFormatter::new(&book, "en", Width::Short, Grouping::Min2).unwrap();
+    let english = DecimalFormatter::from_book(&book, "en", Grouping::Auto).unwrap();
+    let short = CompactDecimalFormatter::from_book(&book, "en", Width::Short, Grouping::Min2).unwrap();
     assert_eq!(book.answer(b"en\tplain\tauto\tkeep\t-\t1234").unwrap(), "ok\t1,234");
     drop(book);
-    assert_eq!(english.format("-987654.321", &AS_GIVEN).unwrap(), "-987,654.321");
-    assert_eq!(short.format("-1172700", &AS_GIVEN).unwrap(), "-1.2M");
+    assert_eq!(english.format("-987654.321", &Options::default()).unwrap(), "-987,654.321");
+    assert_eq!(short.format("-1172700", &Options::default()).unwrap(), "-1.2M");
 }
 
 #[test]
@@ -137,12 +137,90 @@ fn threads() {
     let book = book();
     let workers: Vec<_> = (0..4)
         .map(|_| {
-            let formatter = DecimalFormatter::new(&book, "en", Grouping::Auto).unwrap();
-            thread::spawn(move || (0..1000).all(|_| formatter.format("1234", &AS_GIVEN).unwrap() == "1,234"))
+            let formatter = DecimalFormatter::from_book(&book, "en", Grouping::Auto).unwrap();
+            thread::spawn(move || (0..1000).all(|_| formatter.format("1234", &Options::default()).unwrap() == "1,234"))
         })
         .collect();
-    let short = CompactDecimalFormatter::new(&book, "en", Width::Short, Grouping::Min2).unwrap();
+    let short = CompactDecimalFormatter::from_book(&book, "en", Width::Short, Grouping::Min2).unwrap();
     thread::spawn(move || drop(book)).join().unwrap();
-    assert!(thread::spawn(move || short.format("1650", &AS_GIVEN).unwrap() == "1.6K").join().unwrap());
+    assert!(thread::spawn(move || short.format("1650", &Options::default()).unwrap() == "1.6K").join().unwrap());
     assert!(workers.into_iter().all(|it| it.join().unwrap()));
+}
+
+#[test]
+fn world() {
+    let workers: Vec<_> = (0..8)
+        .map(|_| thread::spawn(|| DecimalFormatter::new("de").unwrap().format("1234567.891", &Options::default()).unwrap()))
+        .collect();
+    assert!(workers.into_iter().all(|it| it.join().unwrap() == "1.234.567,891"));
+    let book = Book::world().unwrap();
+    for (tag, text) in [("hi", "12,34,567.891"), ("ar-EG", "١٬٢٣٤٬٥٦٧٫٨٩١"), ("de-AT", "1\u{a0}234\u{a0}567,891")] {
+        assert_eq!(DecimalFormatter::new(tag).unwrap().format("1234567.891", &Options::default()).unwrap(), text);
+        let own = DecimalFormatter::from_book(&book, tag, Grouping::Auto).unwrap();
+        assert_eq!(own.format_i64(1234567891, -3, &Options::default()).unwrap(), text);
+    }
+    let never = DecimalFormatter::with_grouping("de", Grouping::Never).unwrap();
+    assert_eq!(never.format("1234", &Options::default()).unwrap(), "1234");
+    let long = CompactDecimalFormatter::new("hi", Width::Long).unwrap();
+    assert_eq!(long.format("1234567", &Options::default()).unwrap(), "12 लाख");
+    let never = CompactDecimalFormatter::with_grouping("en", Width::Short, Grouping::Never).unwrap();
+    assert_eq!(never.format("12345678901234567", &Options::default()).unwrap(), "12346T");
+    assert_eq!(DecimalFormatter::new("de_DE").err(), Some(Error::TAG));
+    assert_eq!(CompactDecimalFormatter::new("xx", Width::Short).err(), Some(Error::TABLE));
+    let locales: Vec<_> = legumeyet::world_locales().collect();
+    assert!(locales.windows(2).all(|it| it[0] < it[1]));
+    assert!(["de", "de-AT", "hi", "ar-EG", "zu-ZA"].iter().all(|it| locales.contains(it)));
+}
+
+extern "C" {
+    fn fork() -> i32;
+    fn waitpid(child: i32, status: *mut i32, options: i32) -> i32;
+    fn _exit(status: i32) -> !;
+}
+
+/// A child of a process with threads opens a book of its own.
+#[test]
+fn forks() {
+    let text = |tag| DecimalFormatter::new(tag).and_then(|it| it.format("1234567.891", &Options::default()));
+    assert_eq!(text("de"), Ok("1.234.567,891".to_string()));
+    // SAFETY: the child ends by `_exit`, and the pointer is to memory of this function.
+    let status = unsafe {
+        let child = fork();
+        if child == 0 {
+            _exit(i32::from(text("hi") != Ok("12,34,567.891".to_string())));
+        }
+        let mut status = -1;
+        assert_eq!(waitpid(child, &mut status, 0), child);
+        status
+    };
+    assert_eq!(status, 0);
+}
+
+#[test]
+fn files() {
+    let path = env::temp_dir().join(format!("legumeyet-{}.json", process::id()));
+    fs::write(&path, JSON).unwrap();
+    let book = Book::open(&path).unwrap();
+    fs::remove_file(&path).unwrap();
+    assert_eq!(book.answer(b"en\tplain\tauto\tkeep\t-\t1234").unwrap(), "ok\t1,234");
+    assert!(matches!(Book::open(&path), Err(OpenError::File(error)) if error.kind() == io::ErrorKind::NotFound));
+    assert!(matches!(Book::open("/dev/null"), Err(OpenError::Book(Error::BOOK_JSON))));
+}
+
+#[test]
+fn names_of_locales() {
+    for (name, tag) in [
+        ("de_DE", "de-DE"),
+        ("de_DE.UTF-8", "de-DE"),
+        ("sr_RS@latin", "sr-RS"),
+        ("C", "en"),
+        ("POSIX", "en"),
+        ("C.UTF-8", "en"),
+        ("", "en"),
+        ("zh_Hant_TW", "zh-Hant-TW"),
+        ("de\0x", "de"),
+        ("ä_ö", "ä-ö"),
+    ] {
+        assert_eq!(legumeyet::tag_of_locale_name(name), tag);
+    }
 }
