@@ -86,11 +86,13 @@ static void expect_written(const char *tag, const char *number, const char *text
 static void texts(void) {
     expect_written("de", "1234567.891", "1.234.567,891");
     expect_written("de-AT-u-nu-latn", "-1234", "-1\xc2\xa0" "234");
+    expect_written("de-FR", "1234567.891", "1.234.567,891");
     expect_written("hi", "1234567.891", "12,34,567.891");
     expect_written("ar-EG", "-1234.5", "\xd8\x9c-\xd9\xa1\xd9\xac\xd9\xa2\xd9\xa3\xd9\xa4\xd9\xab\xd9\xa5");
     expect_written("he", "-1234.5", "\xe2\x80\x8e-1,234.5");
     expect_written("fa", "-5", "\xe2\x80\x8e\xe2\x88\x92\xdb\xb5");
     expect_written("ps", "+5", "\xe2\x80\x8e+\xe2\x80\x8e\xdb\xb5");
+    expect("no such language", legumeyet_decimal_formatter_open(&world, LEGUMEYET_TEXT("xx"), 0, &plain[0]), LEGUMEYET_TABLE);
     expect("an underscore", legumeyet_decimal_formatter_open(&world, LEGUMEYET_TEXT("de_DE"), 0, &plain[0]), LEGUMEYET_TAG);
 }
 

@@ -44,8 +44,7 @@
  * of one book; to open a formatter is a call on its book. No call is made in a signal handler, or in a forked child of a process with
  * threads.
  *
- * A call takes at most 40 KiB of stack, and 128 KiB where it opens a book of a JSON that is nested far deeper than
- * a book.
+ * A call takes at most 40 KiB of stack, and 128 KiB where it opens a book of a JSON that is nested far deeper than a book.
  */
 #ifndef LEGUMEYET_H
 #define LEGUMEYET_H
@@ -190,7 +189,8 @@ int32_t legumeyet_book_open_world(legumeyet_book *book);
  *
  *     for (at = 0; (tag = legumeyet_world_locale(at)) != NULL; at++) puts(tag);
  *
- * A tag that is not listed, as `de-FR`, is written as the nearest one that is. It is called in any thread at any time.
+ * A formatter can be opened of other tags too: `de-FR` has the tables of its parent `de`. LEGUMEYET_TABLE says that neither a tag nor a
+ * parent of it is listed. This function may be called in any thread at any time.
  */
 const char *legumeyet_world_locale(size_t at);
 
