@@ -16,7 +16,7 @@ ghost use Rattle.icu_decimal_compact.specs.HeldCompact.{compact_tables_of};
 ghost use Rattle.icu_decimal_compact.specs.PatternAt.{pattern_at, patterns_beside};
 
 use crate::formatted_compact::FormattedUnsignedCompactDecimal;
-use crate::loading::load_with;
+use crate::loading::{load_plain, load_rules};
 use fixed_decimal::{Decimal, UnsignedDecimal};
 use icu_decimal_compact_value::{can_show, exponent_for_magnitude, show};
 use icu_decimal_formatter::DecimalFormatter;
@@ -67,8 +67,8 @@ impl<'b> CompactDecimalFormatter<'b> {
     /// The formatter of these preferences and options that writes in short form, `1.6K` in English, with tables of the
     /// provider.
     ///
-    /// It loads symbols, digits, plural rules and patterns. Errors as `load_by_chain`, the first of them. It does not
-    /// allocate.
+    /// It loads symbols, digits, plural rules and patterns, in this order, and asks for nothing after an error. Errors as
+    /// `load_by_chain`, the first of them. It does not allocate.
     pub fn try_new_short_unstable<P>(
         provider: &'b P,
         preferences: CompactDecimalFormatterPreferences,
@@ -88,8 +88,10 @@ impl<'b> CompactDecimalFormatter<'b> {
             (λ id. ⟦<P as DataProvider<DecimalCompactShortV1>>⟧.table provider.now id)
             preferences options.grouping_strategy }
     {
-        let patterns = load_by_locale::<DecimalCompactShortV1, P>(provider, &preferences);
-        load_with(provider, &preferences, options, patterns)
+        let plain = load_plain(provider, &preferences, options)?;
+        let rules = load_rules(provider, &preferences)?;
+        let patterns = load_by_locale::<DecimalCompactShortV1, P>(provider, &preferences)?;
+        Ok(Self::from_tables(plain, rules, patterns))
     }
 
     /// The same in long form: `1.6 thousand` in English. It does not allocate.
@@ -112,8 +114,10 @@ impl<'b> CompactDecimalFormatter<'b> {
             (λ id. ⟦<P as DataProvider<DecimalCompactLongV1>>⟧.table provider.now id)
             preferences options.grouping_strategy }
     {
-        let patterns = load_by_locale::<DecimalCompactLongV1, P>(provider, &preferences);
-        load_with(provider, &preferences, options, patterns)
+        let plain = load_plain(provider, &preferences, options)?;
+        let rules = load_rules(provider, &preferences)?;
+        let patterns = load_by_locale::<DecimalCompactLongV1, P>(provider, &preferences)?;
+        Ok(Self::from_tables(plain, rules, patterns))
     }
 
     /// The formatter of tables that the caller has: a plain formatter, plural rules, and a table of patterns.

@@ -1,4 +1,4 @@
-//! The tables that preferences for compact numbers ask a provider for.
+//! The plain formatter and the plural rules that preferences for compact numbers ask a provider for.
 
 ghost use Rattle.std.specs.Prelude.{◌≡◌};
 ghost use Rattle.std.specs.Result.{result_map_both};
@@ -6,16 +6,13 @@ ghost use Rattle.icu_decimal_chains.specs.Chains.{chain};
 ghost use Rattle.icu_decimal_formatter.specs.Choice.{first_found};
 ghost use Rattle.icu_decimal_formatter.specs.FoundTables.{found_tables};
 ghost use Rattle.icu_decimal_formatter.specs.HeldTables.{tables_of};
-ghost use Rattle.icu_decimal_compact.specs.FoundCompactTables.{rules_identifiers, with_plain};
-ghost use Rattle.icu_decimal_compact.specs.HeldCompact.{compact_tables_of};
+ghost use Rattle.icu_decimal_compact.specs.FoundCompactTables.{rules_identifiers};
 
-use crate::compact_formatter::CompactDecimalFormatter;
 use icu_decimal_formatter::DecimalFormatter;
 use icu_decimal_formatter::preferences::CompactDecimalFormatterPreferences;
 use icu_decimal_formatter::provider::{
     DataProvider, DecimalDigitsV1, DecimalSymbolsV1, ParentProvider, load_by_chain,
 };
-use icu_decimal_patterns::CompactPatterns;
 use icu_decimal_plurals::{PluralRules, PluralsCardinalV1};
 use icu_decimal_symbols::DataError;
 use icu_decimal_symbols::options::{CompactDecimalFormatterOptions, DecimalFormatterOptions};
@@ -54,32 +51,4 @@ pub fn load_rules<'p, P: DataProvider<PluralsCardinalV1> + ParentProvider>(
         .locale_preferences
         .to_data_locale_language_priority();
     load_by_chain::<PluralsCardinalV1, P>(provider, &locale, None)
-}
-
-// The formatter of these preferences and options with patterns that were loaded, or the first error: that of the plain
-// tables, of the rules, of the patterns.
-pub fn load_with<'p, P>(
-    provider: &'p P,
-    preferences: &CompactDecimalFormatterPreferences,
-    options: CompactDecimalFormatterOptions,
-    patterns: Result<&'p CompactPatterns, DataError>,
-) -> Result<CompactDecimalFormatter<'p>, DataError>
-where
-    P: DataProvider<DecimalSymbolsV1>
-        + DataProvider<DecimalDigitsV1>
-        + DataProvider<PluralsCardinalV1>
-        + ParentProvider,
-    ensures { result_map_both compact_tables_of (λ error. error) result ≡ with_plain
-        (found_tables (chain (P.next provider.now) (P.limit provider.now))
-        (λ id. ⟦<P as DataProvider<DecimalSymbolsV1>>⟧.table provider.now id)
-        (λ id. ⟦<P as DataProvider<DecimalDigitsV1>>⟧.table provider.now id)
-        preferences.now options.grouping_strategy)
-        (first_found (λ id. ⟦<P as DataProvider<PluralsCardinalV1>>⟧.table provider.now id)
-        (rules_identifiers (chain (P.next provider.now) (P.limit provider.now)) preferences.now))
-        (result_map_both (λ found. found.now) (λ error. error) patterns.entry) }
-{
-    let plain = load_plain(provider, preferences, options)?;
-    let rules = load_rules(provider, preferences)?;
-    let patterns = patterns?;
-    Ok(CompactDecimalFormatter::from_tables(plain, rules, patterns))
 }

@@ -11,7 +11,8 @@ use std::alloc::Global;
 use std::cell::Cell;
 use std::num::NonZeroUsize;
 
-/// A run over the tables of a book, with a number of formatters kept, which counts or not how often it asks for digits.
+/// A run over the tables of a book, with a number of formatters kept, which counts or not how often it asks for digits
+/// and for patterns.
 #[derive(Clone, Copy)]
 pub struct BookRun<'b> {
     pub book: &'b Book,
@@ -27,9 +28,11 @@ impl Runs for BookRun<'_> {
         out: &mut String,
     ) -> Result<(), Stop> {
         let digits_asked = Cell::new(0);
+        let patterns_asked = Cell::new(0);
         let tables = Counting {
             book: self.book,
             digits_asked: &digits_asked,
+            patterns_asked: &patterns_asked,
         };
         let outcome = run(
             *out.allocator(),
@@ -40,7 +43,12 @@ impl Runs for BookRun<'_> {
         );
         put_outcome(outcome, out)?;
         if self.counts {
-            write!(out, ", digits asked for {}", digits_asked.get())?;
+            write!(
+                out,
+                ", digits asked for {}, patterns for {}",
+                digits_asked.get(),
+                patterns_asked.get()
+            )?;
         }
         Ok(())
     }

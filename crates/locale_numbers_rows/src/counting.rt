@@ -1,4 +1,4 @@
-//! Tables that count how often they are asked for digits.
+//! Tables that count how often they are asked for digits and for patterns.
 use icu_decimal::plurals::PluralRules;
 use icu_decimal::provider::{
     CompactPatterns, DataError, DataIdentifier, DataProvider, DecimalCompactLongV1,
@@ -9,13 +9,20 @@ use icu_locale_core::DataLocale;
 use locale_numbers::{Book, Tables};
 use std::cell::Cell;
 
-/// The tables of a book, and a count of the loads of digits.
+/// The tables of a book, and counts of the loads of digits and of patterns.
 #[derive(Clone, Copy)]
 pub struct Counting<'b> {
     /// The book.
     pub book: &'b Book,
     /// How often digits were asked for, found or not.
     pub digits_asked: &'b Cell<u64>,
+    /// How often patterns of either length were asked for, found or not.
+    pub patterns_asked: &'b Cell<u64>,
+}
+
+// One more of a count.
+fn count(asked: &Cell<u64>) {
+    asked.set(asked.get().saturating_add(1));
 }
 
 impl<'b> DataProvider<DecimalDigitsV1> for Counting<'b> {
@@ -24,8 +31,7 @@ impl<'b> DataProvider<DecimalDigitsV1> for Counting<'b> {
     ghost table = { λ s id. digits_under s.book.now id };
 
     fn load(&self, id: &DataIdentifier) -> Result<&[char; 10], DataError> {
-        self.digits_asked
-            .set(self.digits_asked.get().saturating_add(1));
+        count(self.digits_asked);
         DataProvider::<DecimalDigitsV1>::load(self.book, id)
     }
 }
@@ -56,6 +62,7 @@ impl<'b> DataProvider<DecimalCompactShortV1> for Counting<'b> {
     ghost table = { λ s id. short_under s.book.now id };
 
     fn load(&self, id: &DataIdentifier) -> Result<&CompactPatterns, DataError> {
+        count(self.patterns_asked);
         DataProvider::<DecimalCompactShortV1>::load(self.book, id)
     }
 }
@@ -66,6 +73,7 @@ impl<'b> DataProvider<DecimalCompactLongV1> for Counting<'b> {
     ghost table = { λ s id. long_under s.book.now id };
 
     fn load(&self, id: &DataIdentifier) -> Result<&CompactPatterns, DataError> {
+        count(self.patterns_asked);
         DataProvider::<DecimalCompactLongV1>::load(self.book, id)
     }
 }
