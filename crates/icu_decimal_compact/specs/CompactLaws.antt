@@ -1,8 +1,9 @@
--- Laws of what is shown for a number, sent back as an exact form of the same tables: whether it is written, and that it is one of the type.
+-- Laws of exact forms: their text, and what is shown for a number, sent back as one of the same tables: whether it is written, and that it is one of the type.
 -- Defined in docs/compact-text.md, "Laws".
 -- Cited by the functions of the module `laws`.
 -- It names many files, since its laws are about compact text, exact forms and the values and entries that both show.
-use Rattle.std.specs.Prelude.{◌≡◌, ◌*◌, ◌^◌, ◌==◌, cond, List, None, Some}
+use Rattle.std.specs.Prelude.{◌≡◌, ◌*◌, ◌^◌, ◌==◌, ℕ, cond, List, None, Some, option_map}
+use Rattle.writeable.specs.AnnotatedText.{text_of}
 use Rattle.fixed_decimal.specs.CompactText.{IsCompact}
 use Rattle.fixed_decimal.specs.Number.{IsNumber, Number}
 use Rattle.fixed_decimal.specs.SignedValue.{SignedValue}
@@ -15,7 +16,12 @@ use Rattle.icu_decimal_compact_value.specs.ExactLaws.{UsesShownEntry}
 use Rattle.icu_decimal_compact_value.specs.ShownValue.{magnitude}
 use Rattle.icu_decimal_compact.specs.CompactTables.{CompactTables}
 use Rattle.icu_decimal_compact.specs.CompactText.{compact_decimal_text, significand_of, value_shown}
-use Rattle.icu_decimal_compact.specs.ExactText.{exact_text, written_text}
+use Rattle.icu_decimal_compact.specs.ExactText.{exact_events, exact_formatted, exact_text, written_text}
+
+-- the text of an exact form is that of the events that it is written as, and there is none where it is refused
+abbrev pub ExactTextIsOfEvents : Type 0
+ExactTextIsOfEvents = (t : CompactTables) (d : SignedValue Number) (x : ℕ)
+    → exact_text t d x ≡ option_map (λ shown. text_of (exact_events shown)) (exact_formatted t d x)
 
 -- it is refused exactly where the entry of the shown value's magnitude has another exponent, and else it is written under that entry
 abbrev pub ShownFormAnswers : Type 0

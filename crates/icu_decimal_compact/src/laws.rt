@@ -1,4 +1,5 @@
-//! Laws of compact text: what abstract formatters write, and what is shown for a number, sent back as an exact form.
+//! Laws of compact text: what abstract formatters write, the text of an exact form, and what is shown for a number, sent
+//! back as one.
 //! Where no formatter is passed, no call is made: each clause is the law.
 ghost use Rattle.std.specs.Prelude.{◌≡◌, ◌<◌};
 ghost use Rattle.icu_decimal_patterns.specs.SmallEntries.{AreSmall, IsSmall};
@@ -6,7 +7,7 @@ ghost use Rattle.icu_decimal_compact_value.specs.Entries.{Rises};
 ghost use Rattle.icu_decimal_formatter.specs.HeldTables.{tables_of};
 ghost use Rattle.icu_decimal_plain.specs.PlainText.{decimal_events, decimal_text, formatted, unsigned_text};
 ghost use Rattle.icu_decimal_compact.specs.AbstractLaws.{WritesText, WritesTogether, WritesUnit};
-ghost use Rattle.icu_decimal_compact.specs.CompactLaws.{ShownFormAnswers, ShownFormIsInRange, ShownFormIsShownValue, ShownFormWritesSame, ShownIsCompact, SignificandIsNumber};
+ghost use Rattle.icu_decimal_compact.specs.CompactLaws.{ExactTextIsOfEvents, ShownFormAnswers, ShownFormIsInRange, ShownFormIsShownValue, ShownFormWritesSame, ShownIsCompact, SignificandIsNumber};
 ghost use Rattle.icu_decimal_compact.specs.CompactText.{compact_decimal_events, compact_decimal_text, compact_formatted, compact_of, compact_text};
 ghost use Rattle.icu_decimal_compact.specs.HeldCompact.{compact_tables_of};
 
@@ -49,6 +50,12 @@ pub fn sign_round_unit()
         ⟦<CompactDecimalFormatter<'static> as AbstractFormatter>⟧.unsigned_events
         ⟦<CompactDecimalFormatter<'static> as AbstractFormatter>⟧.affixes
         (λ f number. compact_text (compact_of (compact_tables_of f) number)) }
+{}
+
+/// The text of an exact form is that of what `format_with_exponent` returns for it, and where this is refused there is
+/// no text: -1.20 with the exponent 6 is `-1.20M` in English, with its parts and without.
+pub fn exact_texts_are_of_events()
+    ensures { ExactTextIsOfEvents }
 {}
 
 /// What is shown for a number, sent back as an exact form of the same tables: whether it is written, and as which text.

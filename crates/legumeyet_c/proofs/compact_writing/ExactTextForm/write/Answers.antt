@@ -6,7 +6,7 @@ use Rattle.icu_decimal.specs.CompactTables.{CompactTables}
 use Rattle.icu_decimal.specs.ExactText.{exact_formatted}
 use Rattle.icu_decimal.specs.Pattern.{InPattern}
 use Rattle.icu_decimal.specs.PlainText.{PlainNumber}
-use Rattle.locale_numbers.proofs.CompactAnswerLemmas.{exact_is, exact_none}
+use Rattle.icu_decimal.proofs.CompactTextLemmas.{exact_text_is, no_exact_text}
 use Rattle.legumeyet_c_values.proofs.PuttingLemmas.{put_by, put_refused}
 use Rattle.legumeyet_c.proofs.compact_writing.ExactTextForm.write.Goals as goal
 
@@ -24,7 +24,7 @@ returns-in-Ok c =
     put_by _ _ _ _ _
     (λ text is. record {
       can = search rules;
-      is = exact_is t v.significand v.exponent c.in-Ok.text (sym same ∙ c.in-Ok.ensures.value) ∙ ap Some (sym is);
+      is = exact_text_is t v.significand v.exponent c.in-Ok.text (sym same ∙ c.in-Ok.ensures.value) ∙ ap Some (sym is);
     })
     (λ error none. absurd none)
     c.put.ensures
@@ -39,5 +39,5 @@ returns-in-Err c =
     ∙ ap (λ (x : ℕ). exact_formatted t v.significand x) c.exponent-exponent.ensures in
     put_refused _ _ _ _ _ (λ is. absurd (cc is)) (record {
       can = search rules;
-      is = exact_none t v.significand v.exponent (ap (λ (f : Option (WithSign (InPattern PlainNumber))). is_none f) (sym same) ∙ sym c.in-Err.ensures.refused);
+      is = no_exact_text t v.significand v.exponent (ap (λ (f : Option (WithSign (InPattern PlainNumber))). is_none f) (sym same) ∙ sym c.in-Err.ensures.refused);
     })
