@@ -21,7 +21,7 @@ use Rattle.icu_decimal_reading.specs.declared.error.ReadError.TheVariants.{Unrea
 use Rattle.icu_decimal_reading.specs.Readable.{digit_of, do_signs_differ, is_readable_by, is_same_pair}
 use Rattle.icu_decimal_reading.specs.ReadingLaws.{AreTables, AutoIsAlways, HasOneReading, ReadIsWrittenAgain, TextsHaveOneDecimal, WrittenReadsBack}
 use Rattle.icu_decimal_reading.proofs.NumberLemmas.{fraction_digits_are, is_number, number_again, number_read, whole_digits_are, within_read}
-use Rattle.icu_decimal_reading.proofs.PlainLemmas.{chars_of, digit_first, encoded_decimal, fraction_again, plain_chars, prefix_clear, prefix_for, prefix_utf8, same_chars, suffix_for, suffix_utf8, tests_of, whole_again, whole_some}
+use Rattle.icu_decimal_reading.proofs.PlainLemmas.{chars_of, decimal_utf8, digit_first, encoded_decimal, fraction_again, plain_chars, prefix_clear, prefix_for, prefix_utf8, same_chars, suffix_for, suffix_utf8, tests_of, whole_again, whole_some}
 use Rattle.icu_decimal_reading.proofs.ReadingLemmas.{first_sign, fraction_of, no_sign_fits, reading_past, reading_signed, reading_unreadable, second_sign, third_sign, whole_of}
 use Rattle.icu_decimal_reading.proofs.ScanLemmas.{no_digits}
 
@@ -252,12 +252,16 @@ pub written_again : ReadIsWrittenAgain
 written_again t text v e = (answer_is t text v e).found.written
 
 pub reads_back : WrittenReadsBack
-reads_back t v are readable is utf8 = plain_again t (decimal_text t v) v are readable utf8 (record { decimal = is; written = refl })
+reads_back t v are readable is = plain_again t (decimal_text t v) v are readable (decimal_utf8 t v are is) (record { decimal = is; written = refl })
 
 -- a text that no reading is of has no decimal
 pub nothing_found : (t : Tables) (text : List ℕ) → AreTables t → is_readable_by t ≡ true → IsUtf8 text → plain_reading t text ≡ not_written → HasNoNumber t text
 unfolding is_decimal
 nothing_found t text are readable utf8 e v is same = no_decimal not_written v refl (sym e ∙ plain_again t text v are readable utf8 (record { decimal = is; written = same }))
+
+-- whether it is UTF-8 or not, since the text of a decimal is
+nothing_there : (t : Tables) (text : List ℕ) → AreTables t → is_readable_by t ≡ true → plain_reading t text ≡ not_written → HasNoNumber t text
+nothing_there t text are readable e v is same = nothing_found t text are readable (subst IsUtf8 same (decimal_utf8 t v are is)) e v is same
 
 signed_readable : (t : Tables) (text : List ℕ) (n : Number) (a b c : Bool) → is_text_of t text (with_sign NoSign n) ≡ a → is_text_of t text (with_sign Negative n) ≡ b → is_text_of t text (with_sign Positive n) ≡ c → is_unreadable (signed_reading t text n) ≡ false
 unfolding is_unreadable
@@ -282,23 +286,24 @@ unfolding is_unreadable
 not_written_is t text true is e = is
 not_written_is t text false is e = absurd (false≢true (sym (ap is_unreadable e) ∙ ap is_unreadable (reading_unreadable t text is)))
 
-is_reading_from : (t : Tables) (text : List ℕ) (r : PlainReading) → AreTables t → IsUtf8 text → plain_reading t text ≡ r → IsReading t text r
-is_reading_from t text unreadable are utf8 e = unreadable_is t text e
-is_reading_from t text not_written are utf8 e = let readable = not_written_is t text (is_readable_by t) refl e in (readable, nothing_found t text are readable utf8 e)
-is_reading_from t text (decimal v) are utf8 e = ((answer_is t text v e).readable, plain_found t text v are e)
+is_reading_from : (t : Tables) (text : List ℕ) (r : PlainReading) → AreTables t → plain_reading t text ≡ r → IsReading t text r
+is_reading_from t text unreadable are e = unreadable_is t text e
+is_reading_from t text not_written are e = let readable = not_written_is t text (is_readable_by t) refl e in (readable, nothing_there t text are readable e)
+is_reading_from t text (decimal v) are e = ((answer_is t text v e).readable, plain_found t text v are e)
 
 missing_by : (t : Tables) (text : List ℕ) (r : PlainReading) → AreTables t → is_readable_by t ≡ true → HasNoNumber t text → plain_reading t text ≡ r → not_written ≡ r
 missing_by t text unreadable are readable none e = absurd (false≢true (sym (unreadable_is t text e) ∙ readable))
 missing_by t text not_written are readable none e = refl
 missing_by t text (decimal v) are readable none e = let plain = plain_found t text v are e in absurd (none v plain.decimal plain.written)
 
-reading_is : (t : Tables) (text : List ℕ) (r : PlainReading) → AreTables t → IsUtf8 text → IsReading t text r → r ≡ plain_reading t text
-reading_is t text unreadable are utf8 is = sym (reading_unreadable t text is)
-reading_is t text not_written are utf8 is = missing_by t text (plain_reading t text) are is.0 is.1 refl
-reading_is t text (decimal v) are utf8 is = sym (plain_again t text v are is.0 utf8 is.1)
+reading_is : (t : Tables) (text : List ℕ) (r : PlainReading) → AreTables t → IsReading t text r → r ≡ plain_reading t text
+reading_is t text unreadable are is = sym (reading_unreadable t text is)
+reading_is t text not_written are is = missing_by t text (plain_reading t text) are is.0 is.1 refl
+reading_is t text (decimal v) are is =
+    let plain = is.1 in sym (plain_again t text v are is.0 (subst IsUtf8 plain.written (decimal_utf8 t v are plain.decimal)) plain)
 
 pub one_reading : HasOneReading
-one_reading t text r are utf8 = (λ is. reading_is t text r are utf8 is, λ e. is_reading_from t text r are utf8 (sym e))
+one_reading t text r are = (λ is. reading_is t text r are is, λ e. is_reading_from t text r are (sym e))
 
 pub auto_is_always : AutoIsAlways
 auto_is_always t text = refl

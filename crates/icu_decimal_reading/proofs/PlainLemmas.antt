@@ -1,10 +1,11 @@
 -- The plain text of a decimal as characters: its digits, and nothing that is a digit between, before and behind them.
-use Rattle.std.proofs.Common.{◌≡◌, ℕ, zero, suc, ◌+◌, ◌-◌, ◌<◌, Bool, true, false, cond, not, ◌&&◌, List, [], ◌∷◌, ◌++◌, length, map, slice_index, is_none, refl, sym, ap, ◌∙◌, arith}
+use Rattle.std.proofs.Common.{◌≡◌, ℕ, zero, suc, ◌+◌, ◌-◌, ◌<◌, Bool, true, false, cond, not, ◌&&◌, List, [], ◌∷◌, ◌++◌, length, map, slice_index, is_none, refl, sym, ap, subst, ◌∙◌, arith}
 use Rattle.std.proofs.lemmas.Bool.{and_parts, both_ways, ne_eqb, not-true, or_from}
 use Rattle.std.proofs.lemmas.List.Sums.{sum_by-cons}
-use Rattle.std.specs.List.{sum}
+use Rattle.std.specs.List.{AllByRecursion, sum}
 use Rattle.std.proofs.lemmas.List.{length-map}
-use Rattle.std.proofs.lemmas.Str.{IsUtf8-nil, chars-nil, encodes-append, encodes-chars}
+use Rattle.std.proofs.lemmas.Str.{IsUtf8-append, IsUtf8-encode, IsUtf8-nil, chars-nil, encodes-append, encodes-chars}
+use Rattle.std.specs.Char.{IsScalar}
 use Rattle.std.specs.Cmp.Lexicographic.{bytes_decides}
 use Rattle.std.specs.Int.Digits.{AllBelowBase}
 use Rattle.std.specs.Str.{IsUtf8, bytes_eq, chars}
@@ -12,6 +13,7 @@ use lib.Utf8.{encodes}
 use Rattle.fixed_decimal.specs.Number.{IsNumber, Number, digits_down, fraction_digits, whole_digits}
 use Rattle.fixed_decimal.specs.NumberText.{character}
 use Rattle.fixed_decimal.specs.SignedValue.{SignedValue}
+use Rattle.fixed_decimal.specs.TextLaws.{IsDecimal}
 use Rattle.fixed_decimal.specs.declared.Sign.{Sign}
 use Rattle.fixed_decimal.specs.declared.Sign.TheVariants.{None as NoSign, Negative, Positive}
 use Rattle.icu_decimal_symbols.specs.Symbols.{SymbolStrings}
@@ -237,3 +239,50 @@ digit_first t n are readable is = by (whole_digits n) (whole_some n is) (tens_do
       same = refl;
       digit = ap is_none (found t.digits (chars t.symbols.strings.decimal_separator) (chars t.symbols.strings.grouping_separator) d (marks_of t are readable) tens.0);
     }
+
+-- ---- the text of a decimal is UTF-8
+
+-- a place beyond the table is the character 0
+scalar_at : (table : List ℕ) (d : ℕ) → AllByRecursion IsScalar table → IsScalar (slice_index table d)
+scalar_at [] zero are = refl
+scalar_at [] (suc d) are = refl
+scalar_at (c ∷ cs) zero are = are.0
+scalar_at (c ∷ cs) (suc d) are = scalar_at cs d are.1
+
+utf8_digit : (table : List ℕ) (d : ℕ) → AllByRecursion IsScalar table → IsUtf8 (digit_text table d)
+utf8_digit table d are = IsUtf8-encode (slice_index table d) (scalar_at table d are)
+
+utf8_digits : (table vs : List ℕ) → AllByRecursion IsScalar table → IsUtf8 (chained (map (digit_text table) vs))
+utf8_digits table [] are = IsUtf8-nil
+utf8_digits table (v ∷ vs) are = IsUtf8-append (digit_text table v) (chained (map (digit_text table) vs)) (utf8_digit table v are) (utf8_digits table vs are)
+
+utf8_gap : (b : Bool) (separator : List ℕ) (lists : List (List ℕ)) → IsUtf8 separator → IsUtf8 (chained lists) → IsUtf8 (chained (cond b (separator ∷ []) [] ++ lists))
+utf8_gap true separator lists utf8 rest = IsUtf8-append separator (chained lists) utf8 rest
+utf8_gap false separator lists utf8 rest = rest
+
+utf8_marked : (ends : ℕ → Bool) (table separator vs : List ℕ) → AllByRecursion IsScalar table → IsUtf8 separator → IsUtf8 (chained (marked ends (separator ∷ []) (map (digit_text table) vs)))
+utf8_marked ends table separator [] are utf8 = IsUtf8-nil
+utf8_marked ends table separator (v ∷ vs) are utf8 =
+    let rest = marked ends (separator ∷ []) (map (digit_text table) vs) in
+    let gap = ends (length (map (digit_text table) vs)) in
+    IsUtf8-append (digit_text table v) (chained (cond gap (separator ∷ []) [] ++ rest)) (utf8_digit table v are) (utf8_gap gap separator rest utf8 (utf8_marked ends table separator vs are utf8))
+
+utf8_whole : (t : Tables) (vs : List ℕ) → AreTables t → 0 < length vs → IsUtf8 (whole_text t vs)
+utf8_whole t vs are some =
+    subst IsUtf8
+    (sym (ap chained (joined_is_separated t.strategy t.symbols.grouping_sizes (t.symbols.strings.grouping_separator ∷ []) (map (digit_text t.digits) vs) (omega (arith, some, length-map vs (digit_text t.digits))))))
+    (utf8_marked (ends_of t vs) t.digits t.symbols.strings.grouping_separator vs are.digits are.group)
+
+utf8_fraction : (t : Tables) (vs : List ℕ) → AreTables t → IsUtf8 (fraction_text t vs)
+utf8_fraction t [] are = IsUtf8-nil
+utf8_fraction t (v ∷ vs) are =
+    IsUtf8-append t.symbols.strings.decimal_separator (chained (map (digit_text t.digits) (v ∷ vs))) are.point (utf8_digits t.digits (v ∷ vs) are.digits)
+
+pub decimal_utf8 : (t : Tables) (v : SignedValue Number) → AreTables t → IsDecimal v → IsUtf8 (decimal_text t v)
+decimal_utf8 t v are is =
+    let whole = whole_text t (whole_digits v.absolute) in
+    let fraction = fraction_text t (fraction_digits v.absolute) in
+    IsUtf8-append (prefix_for t v.sign) (unsigned_text t v.absolute ++ suffix_for t v.sign) (prefix_utf8 t v.sign are)
+    (IsUtf8-append (unsigned_text t v.absolute) (suffix_for t v.sign)
+    (IsUtf8-append whole fraction (utf8_whole t (whole_digits v.absolute) are (whole_some v.absolute is)) (utf8_fraction t (fraction_digits v.absolute) are))
+    (suffix_utf8 t v.sign are))

@@ -2,6 +2,8 @@
 -- Defined in docs/reading.md, "Laws".
 -- Cited by the functions of `laws`.
 use Rattle.std.specs.Prelude.{◌≡◌, ◌↔◌, ℕ, true, List, length}
+use Rattle.std.specs.Char.{IsScalar}
+use Rattle.std.specs.List.{AllByRecursion}
 use Rattle.std.specs.Str.{IsUtf8}
 use Rattle.fixed_decimal.specs.Number.{Number}
 use Rattle.fixed_decimal.specs.SignedValue.{SignedValue}
@@ -12,9 +14,10 @@ use Rattle.icu_decimal_reading.specs.Readable.{is_readable_by}
 use Rattle.icu_decimal_reading.specs.DecimalOfText.{IsReading, PlainReading, decimal}
 use Rattle.icu_decimal_reading.specs.PlainReading.{plain_reading}
 
--- what holds of the tables of every formatter: ten digits, and symbols that are texts
+-- what holds of the tables of every formatter: ten digits, each a character, and symbols that are texts
 pub record AreTables (t : Tables) : Type 0 where
   pub ten : length t.digits ≡ 10
+  pub digits : AllByRecursion IsScalar t.digits
   pub minus_prefix : IsUtf8 t.symbols.strings.minus_sign_prefix
   pub minus_suffix : IsUtf8 t.symbols.strings.minus_sign_suffix
   pub plus_prefix : IsUtf8 t.symbols.strings.plus_sign_prefix
@@ -29,13 +32,13 @@ TextsHaveOneDecimal = (t : Tables) (a b : SignedValue Number) → AreTables t �
 
 -- each text has one reading, and the function answers it
 abbrev pub HasOneReading : Type 0
-HasOneReading = (t : Tables) (text : List ℕ) (reading : PlainReading) → AreTables t → IsUtf8 text
+HasOneReading = (t : Tables) (text : List ℕ) (reading : PlainReading) → AreTables t
     → IsReading t text reading ↔ (reading ≡ plain_reading t text)
 
 -- a decimal that was written reads back, with its sign and the digits shown
 abbrev pub WrittenReadsBack : Type 0
 WrittenReadsBack = (t : Tables) (v : SignedValue Number) → AreTables t → is_readable_by t ≡ true → IsDecimal v
-    → IsUtf8 (decimal_text t v) → plain_reading t (decimal_text t v) ≡ decimal v
+    → plain_reading t (decimal_text t v) ≡ decimal v
 
 -- a text that was read, written again, is the same text
 abbrev pub ReadIsWrittenAgain : Type 0

@@ -1,6 +1,8 @@
 //! Which symbols are readable.
 
 ghost use Rattle.std.specs.Prelude.{◌≡◌, [], length, not};
+ghost use Rattle.std.specs.Char.{IsScalar};
+ghost use Rattle.std.specs.List.{AllByRecursion};
 ghost use Rattle.std.specs.Str.{bytes_eq};
 ghost use Rattle.icu_decimal_plain.specs.BorrowedTables.{borrowed_tables};
 ghost use Rattle.icu_decimal_reading.specs.ReadingLaws.{AreTables};
@@ -65,11 +67,28 @@ fn ten_digits(table: &[char; 10]) -> &[char]
     table
 }
 
-// That tables are ten digits and six texts.
+// A digit, which is a character.
+fn character(digit: char) -> char
+    ensures value { result ≡ digit }
+    ensures scalar { IsScalar digit }
+{
+    digit
+}
+
+// That each digit is a character.
+fn are_characters(digits: &[char])
+    ensures { AllByRecursion IsScalar digits.now }
+{
+    for digit in digits {
+        let _ = character(*digit);
+    }
+}
+
+// That tables are ten digits, each a character, and six texts.
 pub(crate) fn are_tables(tables: &DecimalTables<'_>)
     ensures { AreTables (borrowed_tables tables.now) }
 {
-    let _digits = ten_digits(tables.digits());
+    are_characters(ten_digits(tables.digits()));
     let symbols = tables.symbols();
     let _minus_prefix = symbols.minus_sign_prefix();
     let _minus_suffix = symbols.minus_sign_suffix();

@@ -3,6 +3,7 @@ pub mod AnsweringLemmas
 pub mod FoundCompactLemmas
 pub mod FoundLemmas
 pub mod FoundSound
+pub mod FoundTexts
 pub mod FrontLemmas
 pub mod FrontMemory
 pub mod KeptLemmas

@@ -1,6 +1,5 @@
 -- What is read back is written again, and what was written reads back: `specs/Laws.antt`.
 use Rattle.std.proofs.Common.{◌≡◌, ℕ, List, drop, get_or, Option, Some, None, Result, Ok, Err, refl, sym, ap, ◌∙◌, subst, arith}
-use Rattle.std.specs.Str.{IsUtf8}
 use Rattle.fixed_decimal.specs.CompactText.{CompactValue}
 use Rattle.fixed_decimal.specs.Number.{Number}
 use Rattle.fixed_decimal.specs.SignedText.{ReadsSigned, signed_text_of}
@@ -198,27 +197,27 @@ module _ (book : BookTables) (asked : Asked) (tables : Tables) (finds : FindsTab
   sent_again text digits read is = signed_number digits read.value (subst (λ t. ReadsSigned t read.value) read.printed (signed_printed read.value is))
 
   -- and is a decimal that has the text
-  read_plainly : HasOnePlainReading → (text : List ℕ) (value : SignedValue Number) → IsUtf8 text → plain_reading tables text ≡ decimal value → IsPlainText tables text value
-  read_plainly one text value utf8 is = ((one tables text (decimal value) finds.are utf8).1 (sym is)).1
+  read_plainly : HasOnePlainReading → (text : List ℕ) (value : SignedValue Number) → plain_reading tables text ≡ decimal value → IsPlainText tables text value
+  read_plainly one text value is = ((one tables text (decimal value) finds.are).1 (sym is)).1
 
 -- ---- the laws
 
 pub read_again : HasOnePlainReading → TextIsWrittenAgain → ReadIsWrittenAgain
-read_again one again book asked tables text digits finds utf8 same =
+read_again one again book asked tables text digits finds same =
     let read = read_of book asked tables finds text digits same in
-    let plain = read_plainly book asked tables finds one text read.value utf8 read.is in
+    let plain = read_plainly book asked tables finds one text read.value read.is in
     plain_found book asked tables finds Unrounded digits read.value (sent_again book asked tables finds text digits read plain.decimal)
     ∙ ap written (again tables text read.value read.is)
 
 pub reads_back : TextReadsBack → WrittenReadsBack
-reads_back back book asked tables value finds readable is utf8 =
+reads_back back book asked tables value finds readable is =
     read_found book asked tables finds (decimal_text tables value)
-    ∙ ap read_answer (back tables value finds.are readable is utf8)
+    ∙ ap read_answer (back tables value finds.are readable is)
 
 pub rounded_again : HasOnePlainReading → TextsHaveOneDecimal → RoundedIsWrittenAgain
-rounded_again one texts book asked tables text digits plain at finds readable utf8 wrote same =
+rounded_again one texts book asked tables text digits plain at finds readable wrote same =
     let read = read_of book asked tables finds text digits same in
-    let is = read_plainly book asked tables finds one text read.value utf8 read.is in
+    let is = read_plainly book asked tables finds one text read.value read.is in
     let first = written_of book asked tables finds text plain wrote in
     let value : SignedValue Number = changed asked.rounding asked.sign first.value in
     let whole : IsDecimal value = changed_is_decimal asked.rounding asked.sign first.value at (reading_is_decimal asked.text first.value first.is) in

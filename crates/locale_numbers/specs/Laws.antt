@@ -3,7 +3,7 @@
 -- Cited by the functions of `laws`.
 -- Each law is about definitions of other files, of four members, so the imports are many.
 use Rattle.std.specs.Prelude.{◌≡◌, ◌↔◌, Bool, List, ℕ, ◌∷◌, ◌++◌, Result, true, Some, Ok}
-use Rattle.std.specs.Str.{IsUtf8}
+use Rattle.serde_json.specs.Data.{Data}
 use Rattle.fixed_decimal.specs.Number.{Number}
 use Rattle.fixed_decimal.specs.SignedValue.{SignedValue}
 use Rattle.fixed_decimal.specs.SignedText.{signed_text_of}
@@ -18,8 +18,8 @@ use Rattle.icu_locale_core.specs.Pieces.{pieces}
 use Rattle.icu_locale_core.specs.Meaning.{TagMeaning, MeansTag}
 use Rattle.icu_locale_core.specs.NormalText.{normal_text}
 use Rattle.icu_locale_core.specs.TagPreferences.{Preferences, least_of, keyword_piece, keyword_subdivision, numbering_key, subdivision_key}
-use Rattle.locale_numbers_book.specs.Book.{BookTables}
-pub use Rattle.locale_numbers_answers.specs.Laws.{IsReading, HasOneReading, IsCompactReading, HasOneCompactReading, HasOneRounding, IsAtMagnitude}
+use Rattle.locale_numbers_book.specs.Book.{BookTables, IsBook}
+pub use Rattle.locale_numbers_answers.specs.Laws.{IsReading, HasOneReading, IsCompactReading, HasOneCompactReading, HasOneRounding, IsAtMagnitude, RequestsAreAtMagnitude}
 use Rattle.locale_numbers_requests.specs.Request.{tab, Asked}
 use Rattle.locale_numbers_book.specs.Wanted.{wanted_of}
 use Rattle.locale_numbers.specs.Answer.{written, found_in, answer_asked, answer_of}
@@ -80,6 +80,11 @@ pub record FindsTables (book : BookTables) (asked : Asked) (tables : Tables) : T
   pub found : found_in book preferences asked.grouping ≡ Ok tables
   pub are : AreTables tables
 
+-- what is found in a book is so
+abbrev pub FoundTablesAreTexts : Type 0
+FoundTablesAreTexts = (value : Data) (book : BookTables) → IsBook value book → (preferences : Preferences) (grouping : GroupingStrategy) (tables : Tables)
+    → found_in book preferences grouping ≡ Ok tables → AreTables tables
+
 -- what is found is ten digits, and symbols that are texts
 abbrev pub AreTexts : Result Tables DataError → Type 0
 AreTexts found = (tables : Tables) → found ≡ Ok tables → AreTables tables
@@ -87,20 +92,20 @@ AreTexts found = (tables : Tables) → found ≡ Ok tables → AreTables tables
 -- the number that is answered for a text, sent as it is, is written as that text
 abbrev pub ReadIsWrittenAgain : Type 0
 ReadIsWrittenAgain = (book : BookTables) (asked : Asked) (tables : Tables) (text digits : List ℕ)
-    → FindsTables book asked tables → IsUtf8 text
+    → FindsTables book asked tables
     → answer_asked book (Some (reading_request asked text)) ≡ written digits
     → answer_asked book (Some (plain_request asked Unrounded digits)) ≡ written text
 
 -- under readable symbols the text of each decimal reads back as the decimal
 abbrev pub WrittenReadsBack : Type 0
 WrittenReadsBack = (book : BookTables) (asked : Asked) (tables : Tables) (value : SignedValue Number)
-    → FindsTables book asked tables → is_readable_by tables ≡ true → IsDecimal value → IsUtf8 (decimal_text tables value)
+    → FindsTables book asked tables → is_readable_by tables ≡ true → IsDecimal value
     → answer_asked book (Some (reading_request asked (decimal_text tables value))) ≡ written (signed_text_of value)
 
 -- under readable symbols a plain answer, read back and written again with the same rounding and its own sign, is the same text
 abbrev pub RoundedIsWrittenAgain : Type 0
 RoundedIsWrittenAgain = (book : BookTables) (asked : Asked) (tables : Tables) (text digits : List ℕ)
-    → asked.form ≡ Plain → IsAtMagnitude asked.rounding → FindsTables book asked tables → is_readable_by tables ≡ true → IsUtf8 text
+    → asked.form ≡ Plain → IsAtMagnitude asked.rounding → FindsTables book asked tables → is_readable_by tables ≡ true
     → answer_asked book (Some asked) ≡ written text
     → answer_asked book (Some (reading_request asked text)) ≡ written digits
     → answer_asked book (Some (plain_request asked asked.rounding digits)) ≡ written text

@@ -4,7 +4,7 @@
 ghost use Rattle.locale_numbers.specs.Answer.{found_in};
 ghost use Rattle.locale_numbers.specs.CompactAnswer.{found_compact};
 ghost use Rattle.locale_numbers.specs.FormatterKeys.{same_keys};
-ghost use Rattle.locale_numbers.specs.Laws.{AlikeTagsAreAnsweredAlike, NormalTextIsAnsweredAlike, AutoIsAnsweredAsAlways, AreTexts, ReadIsWrittenAgain, RoundedIsWrittenAgain, TellsKeys, WrittenReadsBack};
+ghost use Rattle.locale_numbers.specs.Laws.{AlikeTagsAreAnsweredAlike, NormalTextIsAnsweredAlike, AutoIsAnsweredAsAlways, AreTexts, FoundTablesAreTexts, ReadIsWrittenAgain, RoundedIsWrittenAgain, TellsKeys, WrittenReadsBack};
 ghost use Rattle.locale_numbers.specs.PrintedLaws.{FoundTablesAreSound, IsSoundWhereFound, PrintedIsAnswered, PrintedIsNear, PrintedIsWrittenAgain, PrintedKeepsOrder, PrintedPrintsItself, ZeroIsPrintedForZero};
 ghost use Rattle.locale_numbers_requests.specs.declared.PatternLength.TheVariants.{Short, Long};
 
@@ -21,9 +21,10 @@ use icu_decimal::laws::shown::{exact_forms_of_shown_values, tables_show_values};
 use icu_decimal::options::GroupingStrategy;
 use icu_decimal::{DecimalFormatterPreferences, is_readable};
 pub use locale_numbers_answers::laws::{
-    compact_texts_have_one_reading, roundings_have_one_end, texts_have_one_reading,
+    compact_texts_have_one_reading, requests_are_at_magnitude, roundings_have_one_end,
+    texts_have_one_reading,
 };
-use locale_numbers_book::laws::tables_are_sound;
+use locale_numbers_book::laws::{tables_are_sound, tables_are_texts};
 pub use locale_numbers_book::laws::{data_locales_are_read, tags_are_read};
 use locale_numbers_cache::laws::equal_keys_are_one;
 pub use locale_numbers_cache::laws::{last_used_are_kept, unused_keys_miss};
@@ -50,9 +51,16 @@ pub fn auto_is_answered_as_always()
     ensures { AutoIsAnsweredAsAlways }
 {}
 
-/// What is found in tables is ten digits, and symbols that are texts, as the laws of reading back ask for: with
-/// preferences of `en`, in the sample book, `0` to `9` and `-`, `+`, `.`, `,`. It makes a formatter to tell, and does
-/// not allocate.
+/// What is found in a book is ten digits, each a character, and symbols that are texts, as the laws of reading back ask
+/// for: in `SAMPLE_BOOK` with `en` `0` to `9` and `-`, `+`, `.`, `,`.
+pub fn found_plain_tables_are_texts()
+    ensures { FoundTablesAreTexts }
+{
+    tables_are_texts();
+}
+
+/// What is found in tables of one's own is so too: with preferences of `en`, in the sample book, `0` to `9` and `-`,
+/// `+`, `.`, `,`. It makes a formatter to tell, and does not allocate.
 pub fn found_tables_are_texts<T: Tables>(
     tables: &T,
     preferences: DecimalFormatterPreferences,

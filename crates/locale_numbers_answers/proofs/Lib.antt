@@ -5,6 +5,7 @@ pub mod ExponentLemmas
 pub mod KnownCompactAnswers
 mod KnownValues
 pub mod LawsLemmas
+mod MagnitudeLemmas
 pub mod NumberBounds
 pub mod NumberReadingLemmas
 pub mod PartsLemmas

@@ -1,8 +1,8 @@
--- Laws over the definitions that an answer goes by: each text has one reading, and each rounding one end.
--- Defined in docs/numbers.md, "The text", "Compact and scientific texts" and "Rounding".
+-- Laws over the definitions that an answer goes by: each text has one reading, and each rounding one end; what a line rounds is at a magnitude.
+-- Defined in docs/numbers.md, "The text", "Compact and scientific texts" and "Rounding", and docs/requests.md, "Rounding and sign".
 -- Cited by the functions of `laws`.
 -- Each law compares a function with the relations of `fixed_decimal`, and both are imported.
-use Rattle.std.specs.Prelude.{◌≡◌, ◌<◌, ◌↔◌, List, ℕ, ℤ}
+use Rattle.std.specs.Prelude.{◌≡◌, ◌<◌, ◌↔◌, List, ℕ, ℤ, Some}
 use Rattle.fixed_decimal.specs.CompactText.{IsBeyondCompact, IsNoCompactText, ReadsCompact}
 use Rattle.fixed_decimal.specs.Number.{Number, place}
 use Rattle.fixed_decimal.specs.SignedRounding.{RoundsSigned}
@@ -13,6 +13,7 @@ use Rattle.fixed_decimal.specs.declared.SignedRoundingMode.{SignedRoundingMode}
 use Rattle.locale_numbers_answers.specs.CompactReading.{CompactReading, compact_beyond, compact_nothing, compact_number, compact_reading_of}
 use Rattle.locale_numbers_answers.specs.NumberReading.{Reading, number, beyond, nothing, reading_of}
 use Rattle.locale_numbers_answers.specs.Rounded.{rounded}
+use Rattle.locale_numbers_requests.specs.Request.{Asked, request_of}
 use Rattle.locale_numbers_requests.specs.declared.RoundingAsked.{RoundingAsked}
 use Rattle.locale_numbers_requests.specs.declared.RoundingAsked.TheVariants.{Unrounded, At}
 
@@ -48,3 +49,7 @@ HasOneRounding = (mode : SignedRoundingMode) (increment : RoundingIncrement) (po
 abbrev pub IsAtMagnitude : RoundingAsked → Type 0
 IsAtMagnitude Unrounded = Unit {0}
 IsAtMagnitude (At position mode increment) = place position < 65536
+
+-- and so is the rounding of each line that is a request
+abbrev pub RequestsAreAtMagnitude : Type 0
+RequestsAreAtMagnitude = (line : List ℕ) (asked : Asked) → request_of line ≡ Some asked → IsAtMagnitude asked.rounding

@@ -1,7 +1,8 @@
 -- Worked rows of `specs/Faults.antt`: the fault of a small book for each word, the least number in an entry, and the first faulty entry.
 -- Each is an example of docs/books.md, "Faults", or follows from its rules by hand.
 use Rattle.std.proofs.Common.{◌≡◌, ℕ, List, [], ◌∷◌, codes, Some, None, refl}
-use Rattle.std.specs.Str.{chars}
+use Rattle.std.specs.Char.{encode_utf8}
+use Rattle.std.specs.Str.{chars, is_utf8}
 use Rattle.serde_json.specs.Data.{Data, Items, null, number, unsigned, string, array, no_items, item}
 use Rattle.icu_locale_core.specs.Stepping.{headed_after, whole_after}
 use Rattle.icu_locale_core.specs.TagStages.{with_piece, body_after}
@@ -82,27 +83,27 @@ unfolding data_locale_of tag_of whole_after headed_after body_after with_piece
 short_tag = refl
 
 upper_case_system : book_fault (book [] (digits (codes "LATN") (codes "0123456789") ∷ []) [] [] []) ≡ Some System
-unfolding chars
+unfolding chars is_utf8 encode_utf8
 upper_case_system = refl
 
 tab_in_pattern : book_fault (book [] [] [] (patterns (codes "en") (type 3 3 (9 ∷ []) (codes "K") ∷ []) ∷ []) []) ≡ Some Text
-unfolding data_locale_of tag_of whole_after headed_after body_after with_piece chars
+unfolding data_locale_of tag_of whole_after headed_after body_after with_piece chars is_utf8 encode_utf8
 tab_in_pattern = refl
 
 nine_digits : book_fault (book [] (digits (codes "latn") (codes "012345678") ∷ []) [] [] []) ≡ Some Digits
-unfolding chars
+unfolding chars is_utf8 encode_utf8
 nine_digits = refl
 
 no_condition : book_fault (book [] [] (rules (codes "en") (condition (codes "one") (codes "i is 1") ∷ []) ∷ []) [] []) ≡ Some Condition
-unfolding data_locale_of tag_of whole_after headed_after body_after with_piece chars
+unfolding data_locale_of tag_of whole_after headed_after body_after with_piece chars is_utf8 encode_utf8
 no_condition = refl
 
 types_fall : book_fault (book [] [] [] (patterns (codes "en") (type 6 6 [] (codes "M") ∷ type 3 3 [] (codes "K") ∷ []) ∷ []) []) ≡ Some Types
-unfolding data_locale_of tag_of whole_after headed_after body_after with_piece chars
+unfolding data_locale_of tag_of whole_after headed_after body_after with_piece chars is_utf8 encode_utf8
 types_fall = refl
 
 exponents_fall : book_fault (book [] [] [] [] (patterns (codes "en") (type 3 3 [] (codes "K") ∷ type 6 2 [] (codes "M") ∷ []) ∷ [])) ≡ Some Exponents
-unfolding data_locale_of tag_of whole_after headed_after body_after with_piece chars
+unfolding data_locale_of tag_of whole_after headed_after body_after with_piece chars is_utf8 encode_utf8
 exponents_fall = refl
 
 -- keys are compared as values
@@ -127,20 +128,20 @@ cut_parent = refl
 
 -- of an entry the least number
 tag_before_text : book_fault (book (symbols (codes "e") [] (9 ∷ []) ∷ []) [] [] [] []) ≡ Some Tag
-unfolding data_locale_of tag_of whole_after headed_after body_after with_piece chars
+unfolding data_locale_of tag_of whole_after headed_after body_after with_piece chars is_utf8 encode_utf8
 tag_before_text = refl
 
 system_before_text : book_fault (book (symbols (codes "en") (codes "TH") (9 ∷ []) ∷ []) [] [] [] []) ≡ Some System
-unfolding data_locale_of tag_of whole_after headed_after body_after with_piece chars
+unfolding data_locale_of tag_of whole_after headed_after body_after with_piece chars is_utf8 encode_utf8
 system_before_text = refl
 
 -- of the book the first faulty entry, whatever stands behind it
 first_entry : book_fault (book (symbols (codes "en") [] (9 ∷ []) ∷ null ∷ []) (digits (codes "LATN") [] ∷ []) [] [] []) ≡ Some Text
-unfolding data_locale_of tag_of whole_after headed_after body_after with_piece chars
+unfolding data_locale_of tag_of whole_after headed_after body_after with_piece chars is_utf8 encode_utf8
 first_entry = refl
 
 twice_before_shape : book_fault (book [] (digits (codes "latn") (codes "0123456789") ∷ digits (codes "latn") (codes "0123456789") ∷ null ∷ []) [] [] []) ≡ Some Duplicate
-unfolding chars
+unfolding chars is_utf8 encode_utf8
 twice_before_shape = refl
 
 -- of the entries of parents too, whatever a later one would say

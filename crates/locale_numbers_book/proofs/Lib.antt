@@ -1,5 +1,6 @@
 pub mod FormLemmas
 pub mod ParentLemmas
+pub mod ReadTables
 pub mod SoundLemmas
 pub mod BookLemmas
 pub mod BookChains
@@ -8,3 +9,4 @@ pub mod KnownBooks
 pub mod WantedLemmas
 pub mod FormatterLemmas
 pub mod SampleLemmas
+pub mod TextTables

@@ -61,7 +61,7 @@ unfolding serde_json_on_literals chars is_utf8 encode_utf8
 sample_reads = (IsUtf8-from_is_utf8 _ refl, refl)
 
 sample_is_book : IsBook sample sample_tables
-unfolding data_locale_of tag_of whole_after headed_after body_after with_piece chars
+unfolding data_locale_of tag_of whole_after headed_after body_after with_piece chars is_utf8 encode_utf8
 sample_is_book = record {
   sound = refl;
   symbols = refl;

@@ -21,10 +21,11 @@ use Rattle.locale_numbers_tables.specs.Entries.{all_of, entry_key, field_at, has
 use Rattle.locale_numbers_tables.specs.Faults.{compact_fault, compact_faults, digits_faults, first_broken, first_fault_behind, has_compact_shape, has_locale, rules_faults, symbols_faults}
 use Rattle.locale_numbers_book.specs.Form.{has_form, items_at}
 use Rattle.locale_numbers_tables.specs.Fields.{size_in, system_or_none_in}
-use Rattle.locale_numbers_tables.specs.Keys.{has_no_key_twice, same_key, without_key_twice}
+use Rattle.locale_numbers_tables.specs.Keys.{same_key}
 use Rattle.locale_numbers_book.specs.Laws.{AreSoundTables, BookTablesAreSound, IsSoundTable}
 use Rattle.locale_numbers_book.specs.ParentEntries.{parents_faults}
 use Rattle.locale_numbers_tables.proofs.CompactLemmas.{table_meant}
+use Rattle.locale_numbers_book.proofs.ReadTables.{read_whole}
 
 -- ---- numbers of rows
 
@@ -163,14 +164,6 @@ sound_items (item d ds) before pairs is none =
     (λ table t. sound_entry d table t sound)
     (λ ps p. sound_items ds _ ps p (second_none _ _ none))
 
-read_whole : (o : Option (List Pair)) (pairs : List Pair) → option_and_then (without_key_twice same_key) o ≡ Some pairs → o ≡ Some pairs
-read_whole None pairs is = absurd (cc)
-read_whole (Some ps) pairs is = by (has_no_key_twice same_key ps) is
-  where
-    by : (b : Bool) → (if b then Some ps else None) ≡ Some pairs → Some ps ≡ Some pairs
-    by true same = same
-    by false same = absurd (cc)
-
 pub record LastFaults (d e p : Option BookError) : Type 0 where
   pub fourth : d ≡ None
   pub fifth : e ≡ None
@@ -187,6 +180,6 @@ pub tables_sound : BookTablesAreSound
 tables_sound value book is =
     let none = no_fault_of (has_form value) (symbols_faults (items_at 0 value)) (digits_faults (items_at 1 value)) (rules_faults (items_at 2 value)) (compact_faults (items_at 3 value)) (compact_faults (items_at 4 value))
     (parents_faults [] (items_at 5 value)) is.sound in (
-      sound_items (items_at 3 value) [] book.short (read_whole (all_of compact_entry (items_at 3 value)) book.short is.short) none.fourth,
-      sound_items (items_at 4 value) [] book.long (read_whole (all_of compact_entry (items_at 4 value)) book.long is.long) none.fifth,
+      sound_items (items_at 3 value) [] book.short (read_whole same_key (all_of compact_entry (items_at 3 value)) book.short is.short) none.fourth,
+      sound_items (items_at 4 value) [] book.long (read_whole same_key (all_of compact_entry (items_at 4 value)) book.long is.long) none.fifth,
     )

@@ -1,9 +1,9 @@
 -- Laws of the definitions: which tags and data locales are read, when two keys are one, which tables of patterns are made, when a value
--- is a book, that its chains of parents end, and which tables the sample book has.
+-- is a book, that its symbols and digits are texts, that its chains of parents end, and which tables the sample book has.
 -- Defined in docs/books.md, "Tags", "The form", "Parents", "Faults" and "The sample book".
 -- Cited by the functions of `laws.rt`.
 -- Each law is about definitions of other files, so the imports are many.
-use Rattle.std.specs.Prelude.{◌≡◌, ◌↔◌, List, Option, Some}
+use Rattle.std.specs.Prelude.{◌≡◌, ◌↔◌, ℕ, List, Option, Some, Ok}
 use Rattle.std.specs.List.{AllByRecursion}
 use Rattle.std.specs.Bool.{Decides}
 use Rattle.serde_json.specs.Data.{Data}
@@ -15,14 +15,17 @@ use Rattle.icu_decimal_chains.specs.Chains.{Follows, walk}
 use Rattle.icu_decimal.specs.Entries.{Rises}
 use Rattle.icu_decimal.specs.Identifiers.{Identifier}
 use Rattle.icu_decimal.specs.KeptEntries.{CompactTable, IsTable, Patterns, TypePatterns}
+use Rattle.icu_decimal.specs.ReadingLaws.{AreTables}
 use Rattle.icu_decimal.specs.SmallEntries.{AreSmall}
+use Rattle.icu_decimal.specs.Symbols.{Symbols}
+use Rattle.icu_decimal.specs.declared.options.GroupingStrategy.{GroupingStrategy}
 use Rattle.locale_numbers_book.specs.Book.{BookTables, IsBook}
 use Rattle.locale_numbers_book.specs.Json.{Reads}
 use Rattle.locale_numbers_book.specs.SampleBook.{sample_tables}
 use Rattle.locale_numbers_book.specs.declared.sample_book.TheConstants.{SAMPLE_BOOK}
 use Rattle.locale_numbers_tables.specs.CompactEntries.{table_made}
 use Rattle.locale_numbers_tables.specs.Keys.{same_key}
-use Rattle.locale_numbers_book.specs.Tables.{parent_under, steps_in}
+use Rattle.locale_numbers_book.specs.Tables.{digits_under, parent_under, steps_in, symbols_under}
 use Rattle.locale_numbers_tables.specs.TagReading.{tag_of, data_locale_of}
 
 -- a list of pieces is read as a tag exactly where it means one, and as that one
@@ -57,6 +60,12 @@ AreSoundTables tables = AllByRecursion (λ pair. IsSoundTable pair.1) tables
 -- all tables of patterns of a book are sound
 abbrev pub BookTablesAreSound : Type 0
 BookTablesAreSound = (value : Data) (book : BookTables) → IsBook value book → AreSoundTables book.short × AreSoundTables book.long
+
+-- symbols and digits that stand in a book are texts, and ten digits
+abbrev pub BookTablesAreTexts : Type 0
+BookTablesAreTexts = (value : Data) (book : BookTables) → IsBook value book → (symbols : Symbols) (digits : List ℕ) (strategy : GroupingStrategy)
+    → (id other : Identifier) → symbols_under book id ≡ Ok symbols → digits_under book other ≡ Ok digits
+    → AreTables (record { symbols = symbols; digits = digits; strategy = strategy })
 
 -- the bound on steps cuts no chain of a book: where that many steps lead, no locale comes next
 abbrev pub BookChainsEnd : Type 0

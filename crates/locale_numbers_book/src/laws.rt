@@ -1,6 +1,6 @@
 //! Laws of the definitions, each the contract of a function that does nothing.
 
-ghost use Rattle.locale_numbers_book.specs.Laws.{TagsAreRead, DataLocalesAreRead, KeysAreOneWhereEqual, TablesAreMade, IsOneBook, BookTablesAreSound, BookChainsEnd, SampleBookIsKnown};
+ghost use Rattle.locale_numbers_book.specs.Laws.{TagsAreRead, DataLocalesAreRead, KeysAreOneWhereEqual, TablesAreMade, IsOneBook, BookTablesAreSound, BookTablesAreTexts, BookChainsEnd, SampleBookIsKnown};
 
 /// The function by which a line is answered reads as a tag exactly what means one in the grammar, and as that meaning:
 /// `EN-u-NU-Wxyz` as the language `en` with the system `wxyz`, and `en-` as none.
@@ -35,6 +35,12 @@ pub fn is_one_book()
 /// in `SAMPLE_BOOK` the types 3 and 6 of `en`.
 pub fn tables_are_sound()
     ensures { BookTablesAreSound }
+{}
+
+/// Symbols and digits that stand in a book are six texts and ten characters, as the laws of reading back ask for: in
+/// `SAMPLE_BOOK` under `en` and `latn` `-`, `+`, `.`, `,` and `0` to `9`.
+pub fn tables_are_texts()
+    ensures { BookTablesAreTexts }
 {}
 
 /// The bound on the steps from a locale to its parents cuts no chain of a book: `en-AU`, `en-001`, `en` under

@@ -10,7 +10,8 @@ use Rattle.locale_numbers_tables.specs.TagReading.{tag_of, data_locale_of}
 use Rattle.locale_numbers_tables.specs.Fields.{size_in, system_in, system_or_none_in, digits_in, plain_text_in}
 use Rattle.locale_numbers_tables.specs.Entries.{has_count}
 use Rattle.locale_numbers_tables.specs.Seeding.{hash_under}
-use Rattle.std.specs.Str.{chars}
+use Rattle.std.specs.Char.{encode_utf8}
+use Rattle.std.specs.Str.{chars, is_utf8}
 use Rattle.std.specs.Hash as fed
 use Rattle.std.specs.Hash.FoldHasher.{initial, write, folded_multiply, mix_blocks, read_short, read_u32, read_u64}
 
@@ -104,16 +105,16 @@ upper_case_system = refl
 
 -- ten digits are digits, nine are none
 ten_digits : digits_in (string (codes "0123456789")) ≡ Some (codes "0123456789")
-unfolding chars
+unfolding chars is_utf8 encode_utf8
 ten_digits = refl
 
 nine_digits : digits_in (string (codes "012345678")) ≡ None
-unfolding chars
+unfolding chars is_utf8 encode_utf8
 nine_digits = refl
 
 -- a tab in a symbol
 tab_in_symbol : plain_text_in (string (9 ∷ [])) ≡ None
-unfolding chars
+unfolding chars is_utf8 encode_utf8
 tab_in_symbol = refl
 
 no_fields : has_count 0 (array no_items) ≡ true

@@ -3,6 +3,7 @@ pub mod TagLemmas
 pub mod KeyLemmas
 pub mod TableLemmas
 pub mod FaultLemmas
+mod FieldLemmas
 pub mod AddLemmas
 pub mod RulesLemmas
 pub mod CompactLemmas

@@ -4,6 +4,7 @@
 use Rattle.std.specs.Prelude.{ℕ, ◌==◌, Bool, not, ◌&&◌, ◌||◌, List, [], ◌∷◌, length, nat_lt, chars, Option, Some, None, option_and_then, if◌then◌else◌}
 use Rattle.std.specs.Int.{is_in_range}
 use Rattle.std.specs.List.{list_all}
+use Rattle.std.specs.Str.{is_utf8}
 use Rattle.std.specs.Char.{is_ascii_lowercase, is_ascii_digit}
 use Rattle.serde_json.specs.Data.{Data}
 use Rattle.serde_json.specs.Find.{as_str, as_number, as_u64}
@@ -22,9 +23,12 @@ line_feed = 10
 abbrev pub is_plain : ℕ → Bool
 is_plain c = not (c == tab) && not (c == line_feed)
 
--- a text of such characters, in UTF-8
+-- bytes that are a text of such characters, in UTF-8
+abbrev pub plain_text : List ℕ → Option (List ℕ)
+plain_text bytes = if is_utf8 bytes && list_all is_plain (chars bytes) then Some bytes else None
+
 abbrev pub plain_text_in : Data → Option (List ℕ)
-plain_text_in field = option_and_then (λ text. if list_all is_plain (chars text) then Some text else None) (as_str field)
+plain_text_in field = option_and_then plain_text (as_str field)
 
 abbrev pub is_small_letter_or_digit : ℕ → Bool
 is_small_letter_or_digit b = is_ascii_lowercase b || is_ascii_digit b

@@ -9,15 +9,15 @@ ghost use Rattle.locale_numbers_tables.specs.Entries.{field_at, has_count, is_te
 ghost use Rattle.icu_locale_core.specs.TagAllocation.{tag_may_grow};
 ghost use Rattle.locale_numbers_tables.specs.Allocation.{locale_may_grow};
 ghost use Rattle.locale_numbers_tables.specs.TagReading.{data_locale_of};
-ghost use Rattle.locale_numbers_tables.specs.Fields.{is_plain, is_small_letter_or_digit, is_system_name, plain_text_in, system_named, system_in, system_or_none_in, locale_in, size_in, digits_in, ten_characters};
+ghost use Rattle.locale_numbers_tables.specs.Fields.{is_plain, is_small_letter_or_digit, is_system_name, plain_text, plain_text_in, system_named, system_in, system_or_none_in, locale_in, size_in, digits_in, ten_characters};
 
 use icu_locale_core::{DataLocale, ParseError};
 use serde_json::Value;
 use std::alloc::{AllocError, Global};
 use tinystr::TinyAsciiStr;
 
-/// Whether no tab and no line feed stands in a text.
-pub fn is_plain_text(text: &str) -> bool
+// Whether no tab and no line feed stands in a text.
+fn is_plain_text(text: &str) -> bool
     ensures { result ≡ list_all is_plain (chars text.now) }
 {
     text.chars().all(|c| c != '\t' && c != '\n')
@@ -47,16 +47,23 @@ pub fn is_text_at(entry: &Value, place: usize) -> bool
     text_at(entry, place).is_some()
 }
 
-// The text at a place of an entry, where no tab and no line feed stands in it.
-fn plain_text(entry: &Value, place: usize) -> Option<&str>
-    ensures { option_map (λ text. text.now) result ≡ field_at plain_text_in place (view entry.now) }
+/// A text, where no tab and no line feed stands in it.
+pub fn plain_alone(text: &str) -> Option<&str>
+    ensures { option_map (λ text. text.now) result ≡ plain_text text.now }
 {
-    let text = text_at(entry, place)?;
     if is_plain_text(text) {
         Some(text)
     } else {
         None
     }
+}
+
+// The text at a place of an entry, where no tab and no line feed stands in it.
+fn plain_text(entry: &Value, place: usize) -> Option<&str>
+    ensures { option_map (λ text. text.now) result ≡ field_at plain_text_in place (view entry.now) }
+{
+    let text = text_at(entry, place)?;
+    plain_alone(text)
 }
 
 /// Whether a text without tab and line feed stands at a place of an entry.

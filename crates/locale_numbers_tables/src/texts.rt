@@ -11,7 +11,7 @@ fn is_plain_text(text: &Value) -> bool
     ensures { result ≡ is_plain_text (view text.now) }
 {
     match text.as_str() {
-        Some(text) => fields::is_plain_text(text),
+        Some(text) => fields::plain_alone(text).is_some(),
         None => false,
     }
 }
