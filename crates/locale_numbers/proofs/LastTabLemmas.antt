@@ -7,7 +7,7 @@ use Rattle.fixed_decimal.specs.NumberText.{behind_point, character}
 use Rattle.fixed_decimal.specs.SignedText.{sign_text}
 use Rattle.fixed_decimal.specs.declared.Sign.{Sign}
 use Rattle.fixed_decimal.specs.declared.Sign.TheVariants.{None as Unsigned, Positive, Negative}
-use Rattle.locale_numbers.specs.Printed.{HasNoTab}
+use Rattle.locale_numbers.specs.Laws.{HasNoTab}
 use Rattle.locale_numbers_requests.specs.Request.{tab}
 
 no_tab_in : (c d : List ℕ) → HasNoTab (c ++ tab ∷ d) → ⊥

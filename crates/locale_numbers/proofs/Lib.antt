@@ -1,5 +1,6 @@
 pub mod AlikeTags
 pub mod AnsweringLemmas
+pub mod FieldLines
 pub mod FoundCompactLemmas
 pub mod FoundLemmas
 pub mod FoundSound

@@ -20,7 +20,8 @@ use Rattle.locale_numbers.specs.Answer.{answer_asked, answer_in, answer_tagged, 
 use Rattle.locale_numbers.specs.CompactAnswer.{can_be_shown, compact_answer, compact_with, exact_written, text_and_value}
 use Rattle.locale_numbers_answers.specs.CompactReading.{compact_number, compact_reading_of}
 use Rattle.locale_numbers_answers.specs.NumberReading.{reading_of}
-use Rattle.locale_numbers.specs.Printed.{FindsCompact, HasNoTab, Prints, PrintsSize, exact_request, number_shown, size_of}
+use Rattle.locale_numbers.specs.Laws.{HasNoTab}
+use Rattle.locale_numbers.specs.Printed.{FindsCompact, Prints, PrintsSize, exact_request, number_shown, size_of}
 use Rattle.locale_numbers.specs.PrintedLaws.{PrintedIsAnswered, PrintedIsWrittenAgain}
 use Rattle.locale_numbers_requests.specs.Request.{Asked, tab}
 use Rattle.locale_numbers_requests.specs.declared.Refusal.TheVariants as refusal

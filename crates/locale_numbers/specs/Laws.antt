@@ -2,7 +2,9 @@
 -- Defined in docs/requests.md, "Answer line", and docs/numbers.md, "The text" and "Rounding".
 -- Cited by the functions of `laws`.
 -- Each law is about definitions of other files, of four members, so the imports are many.
-use Rattle.std.specs.Prelude.{◌≡◌, ◌↔◌, Bool, List, ℕ, ◌∷◌, ◌++◌, Result, true, Some, Ok}
+use Rattle.std.specs.Prelude.{◌≡◌, ◌≢◌, ◌↔◌, Bool, List, ℕ, [], ◌∷◌, ◌++◌, Result, true, Some, Ok}
+use Rattle.std.specs.List.{AllByRecursion}
+use Rattle.std.specs.Str.{IsUtf8}
 use Rattle.serde_json.specs.Data.{Data}
 use Rattle.fixed_decimal.specs.Number.{Number}
 use Rattle.fixed_decimal.specs.SignedValue.{SignedValue}
@@ -20,7 +22,7 @@ use Rattle.icu_locale_core.specs.NormalText.{normal_text}
 use Rattle.icu_locale_core.specs.TagPreferences.{Preferences, least_of, keyword_piece, keyword_subdivision, numbering_key, subdivision_key}
 use Rattle.locale_numbers_book.specs.Book.{BookTables, IsBook}
 pub use Rattle.locale_numbers_answers.specs.Laws.{IsReading, HasOneReading, IsCompactReading, HasOneCompactReading, HasOneRounding, IsAtMagnitude, RequestsAreAtMagnitude}
-use Rattle.locale_numbers_requests.specs.Request.{tab, Asked}
+use Rattle.locale_numbers_requests.specs.Request.{tab, Asked, request_in}
 use Rattle.locale_numbers_book.specs.Wanted.{wanted_of}
 use Rattle.locale_numbers.specs.Answer.{written, found_in, answer_asked, answer_of}
 use Rattle.locale_numbers.specs.declared.formatter_key.FormatterKey.{FormatterKey}
@@ -28,6 +30,28 @@ use Rattle.locale_numbers_requests.specs.declared.Form.TheVariants.{Plain, Read}
 use Rattle.locale_numbers_requests.specs.declared.SignAsked.TheVariants.{Keep}
 use Rattle.locale_numbers_requests.specs.declared.RoundingAsked.{RoundingAsked}
 use Rattle.locale_numbers_requests.specs.declared.RoundingAsked.TheVariants.{Unrounded}
+
+-- ---- lines
+
+-- no tab stands in a text
+abbrev pub HasNoTab : List ℕ → Type 0
+HasNoTab text = AllByRecursion (λ c. c ≢ tab) text
+
+-- a text that may be a field: UTF-8, without tabs
+pub record IsField (text : List ℕ) : Type 0 where
+  pub utf8 : IsUtf8 text
+  pub no_tab : HasNoTab text
+
+-- fields as a line, with a tab between each two
+abbrev pub joined_fields : List (List ℕ) → List ℕ
+joined_fields [] = []
+joined_fields (field ∷ []) = field
+joined_fields (field ∷ next ∷ more) = field ++ tab ∷ joined_fields (next ∷ more)
+
+-- a line is answered as what its fields ask is: so each law over requests is one over lines
+abbrev pub LinesAskTheirFields : Type 0
+LinesAskTheirFields = (book : BookTables) (list : List (List ℕ)) → AllByRecursion IsField list
+    → answer_of book (joined_fields list) ≡ answer_asked book (request_in list)
 
 -- ---- tags
 

@@ -2,8 +2,7 @@
 -- Defined in docs/requests.md, "Answer line", and docs/compact-text.md, "Laws".
 -- Cited by PrintedLaws.antt.
 -- It joins requests, tables and values shown, which are defined in three members and imported from each.
-use Rattle.std.specs.Prelude.{◌≡◌, ◌≢◌, ◌⊎◌, ◌*◌, ◌^◌, ℕ, List, ◌∷◌, ◌++◌, Some, Ok}
-use Rattle.std.specs.List.{AllByRecursion}
+use Rattle.std.specs.Prelude.{◌≡◌, ◌⊎◌, ◌*◌, ◌^◌, ℕ, List, ◌∷◌, ◌++◌, Some, Ok}
 use Rattle.fixed_decimal.specs.CompactText.{CompactValue}
 use Rattle.fixed_decimal.specs.Number.{Number}
 use Rattle.fixed_decimal.specs.SignedValue.{SignedValue}
@@ -19,7 +18,7 @@ use Rattle.locale_numbers.specs.Answer.{answer_asked, written}
 use Rattle.locale_numbers_answers.specs.Changing.{changed}
 use Rattle.locale_numbers.specs.CompactAnswer.{found_compact}
 use Rattle.locale_numbers_answers.specs.CompactReading.{compact_number, compact_reading_of}
-use Rattle.locale_numbers.specs.Laws.{IsAtMagnitude}
+use Rattle.locale_numbers.specs.Laws.{HasNoTab, IsAtMagnitude}
 use Rattle.locale_numbers_answers.specs.NumberReading.{number, reading_of}
 use Rattle.locale_numbers_requests.specs.Request.{Asked, tab}
 use Rattle.locale_numbers_book.specs.Wanted.{wanted_of}
@@ -27,10 +26,6 @@ use Rattle.locale_numbers_requests.specs.declared.Form.TheVariants.{Compact, Exa
 use Rattle.locale_numbers_requests.specs.declared.PatternLength.{PatternLength}
 use Rattle.locale_numbers_requests.specs.declared.RoundingAsked.TheVariants.{Unrounded}
 use Rattle.locale_numbers_requests.specs.declared.SignAsked.TheVariants.{Keep}
-
--- no tab stands in a text
-abbrev pub HasNoTab : List ℕ → Type 0
-HasNoTab text = AllByRecursion (λ c. c ≢ tab) text
 
 -- the answer to a request is a text, and behind its last tab the value printed
 pub record Prints (book : BookTables) (asked : Asked) (text printed : List ℕ) : Type 0 where

@@ -4,7 +4,7 @@
 ghost use Rattle.locale_numbers.specs.Answer.{found_in};
 ghost use Rattle.locale_numbers.specs.CompactAnswer.{found_compact};
 ghost use Rattle.locale_numbers.specs.FormatterKeys.{same_keys};
-ghost use Rattle.locale_numbers.specs.Laws.{AlikeTagsAreAnsweredAlike, NormalTextIsAnsweredAlike, AutoIsAnsweredAsAlways, AreTexts, FoundTablesAreTexts, ReadIsWrittenAgain, RoundedIsWrittenAgain, TellsKeys, WrittenReadsBack};
+ghost use Rattle.locale_numbers.specs.Laws.{AlikeTagsAreAnsweredAlike, NormalTextIsAnsweredAlike, AutoIsAnsweredAsAlways, AreTexts, FoundTablesAreTexts, LinesAskTheirFields, ReadIsWrittenAgain, RoundedIsWrittenAgain, TellsKeys, WrittenReadsBack};
 ghost use Rattle.locale_numbers.specs.PrintedLaws.{FoundTablesAreSound, IsSoundWhereFound, PrintedIsAnswered, PrintedIsNear, PrintedIsWrittenAgain, PrintedKeepsOrder, PrintedPrintsItself, ZeroIsPrintedForZero};
 ghost use Rattle.locale_numbers_requests.specs.declared.PatternLength.TheVariants.{Short, Long};
 
@@ -32,6 +32,13 @@ pub use locale_numbers_lines::laws::{
     each_input_splits, lines_are_the_pieces, outputs_join, whole_lines_are_the_pieces,
 };
 use locale_numbers_requests::PatternLength;
+
+/// A line is answered as what its fields ask is, where these are UTF-8 and no tab stands in them: so each law over
+/// requests holds of lines. The line of `en`, `plain`, `auto`, `keep`, `-`, `1000` with a tab between each two is
+/// answered by `ok`, a tab and `1,000`, and that of five fields by `shape`.
+pub fn lines_ask_their_fields()
+    ensures { LinesAskTheirFields }
+{}
 
 /// Of a tag its language, script, region and first variant count, and its `sd` and `nu` where they read: nothing else
 /// in a tag changes an answer, neither `rg` nor any other keyword, attribute, extension, private subtag or later

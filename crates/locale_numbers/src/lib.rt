@@ -39,6 +39,7 @@ pub use locale_numbers_book::{Book, BookError, FormatterError, SAMPLE_BOOK};
 pub use locale_numbers_lines::{
     ByteReadFault, ByteReader, ByteWriteFault, ByteWriter, Report, RunError, Tracked,
 };
+pub use locale_numbers_requests::{Form, PatternLength, RoundingAsked, SignAsked};
 pub use program_run::program;
 pub use running::run;
 pub use starting::start;
