@@ -1,5 +1,5 @@
--- Known values of the definitions: what tags ask for, the words and the lines of the program.
-use Rattle.std.proofs.Common.{◌≡◌, [], ◌∷◌, codes, Option, option_map, Some, None, refl}
+-- Known values of the definitions: what tags ask for, fields as a line, keys of formatters, the words and the lines of the program.
+use Rattle.std.proofs.Common.{◌≡◌, [], ◌∷◌, ◌++◌, codes, true, false, Option, option_map, Some, None, refl}
 use Rattle.locale_numbers_lines.specs.declared.RunError.TheVariants as run
 use Rattle.locale_numbers_book.specs.declared.BookError.TheVariants as book
 use Rattle.locale_numbers.specs.declared.fault.ProgramFault.TheVariants.{Usage, Book, Run}
@@ -10,7 +10,12 @@ use Rattle.icu_locale_core.specs.Subtags.{Text}
 use Rattle.icu_locale_core.specs.TagPreferences.{DataLocaleMeaning, Preferences, language_priority}
 use Rattle.locale_numbers_book.specs.TagReading.{tag_of}
 use Rattle.locale_numbers_book.specs.Wanted.{wanted_of}
+use Rattle.locale_numbers.specs.FormatterKeys.{same_grouping, same_kind}
+use Rattle.locale_numbers.specs.Laws.{joined_fields}
 use Rattle.locale_numbers.specs.Words.{words_said, capacity_named}
+use Rattle.locale_numbers.specs.declared.formatter_key.Kind.TheVariants as kind
+use Rattle.icu_decimal.specs.declared.options.GroupingStrategy.TheVariants.{Auto, Always}
+use Rattle.locale_numbers_requests.specs.declared.PatternLength.TheVariants.{Short, Long}
 
 -- ---- what tags ask for
 
@@ -98,3 +103,25 @@ read_status = refl
 
 memory_status : status_of (Book book.Memory) ≡ 6
 memory_status = refl
+
+-- ---- lines of fields, and keys
+
+no_field : joined_fields [] ≡ []
+no_field = refl
+
+one_field : joined_fields (codes "en" ∷ []) ≡ codes "en"
+one_field = refl
+
+-- an empty field in the middle
+three_fields : joined_fields (codes "en" ∷ [] ∷ codes "1" ∷ []) ≡ codes "en" ++ 9 ∷ 9 ∷ codes "1"
+three_fields = refl
+
+-- `auto` and `always` group alike, and are two all the same
+two_groupings : same_grouping Auto Always ≡ false
+two_groupings = refl
+
+two_lengths : same_kind (kind.Compact Short) (kind.Compact Long) ≡ false
+two_lengths = refl
+
+one_kind : same_kind (kind.Compact Long) (kind.Compact Long) ≡ true
+one_kind = refl

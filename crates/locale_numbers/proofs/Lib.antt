@@ -14,4 +14,5 @@ pub mod LastTabLemmas
 pub mod PrintedLemmas
 pub mod PrintedSizes
 pub mod ReadingTrips
+pub mod SameKeyLemmas
 pub use Rattle.locale_numbers_answers.proofs.CompactAnswerLemmas

@@ -2,8 +2,10 @@
 -- Defined in docs/requests.md, "What a cache keeps".
 -- Cited by `run`.
 -- A key depends on the tag, the form, the grouping and the text, and each of these is defined in a file of its own to import.
-use Rattle.std.specs.Prelude.{ℕ, Bool, ◌&&◌, List, [], map, min, Option, Some, None, is_ok}
+use Rattle.std.specs.Prelude.{ℕ, Bool, true, false, ◌&&◌, List, [], map, min, Option, Some, None, is_ok}
 use Rattle.icu_decimal.specs.declared.options.GroupingStrategy.{GroupingStrategy}
+use Rattle.icu_decimal.specs.declared.options.GroupingStrategy.TheVariants.{Auto, Never, Always, Min2}
+use Rattle.icu_locale_core.specs.SamePreferences.{same_preferences}
 use Rattle.icu_locale_core.specs.TagPreferences.{Preferences}
 use Rattle.locale_numbers_book.specs.Book.{BookTables}
 use Rattle.locale_numbers_cache.specs.Cached.{most, used}
@@ -16,6 +18,8 @@ use Rattle.locale_numbers_requests.specs.Request.{Asked, request_of}
 use Rattle.locale_numbers_book.specs.Wanted.{wanted_of}
 use Rattle.locale_numbers_requests.specs.declared.Form.{Form}
 use Rattle.locale_numbers_requests.specs.declared.Form.TheVariants as form
+use Rattle.locale_numbers_requests.specs.declared.PatternLength.{PatternLength}
+use Rattle.locale_numbers_requests.specs.declared.PatternLength.TheVariants.{Short, Long}
 use Rattle.locale_numbers.specs.declared.formatter_key.FormatterKey.{FormatterKey}
 use Rattle.locale_numbers.specs.declared.formatter_key.Kind.{Kind}
 use Rattle.locale_numbers.specs.declared.formatter_key.Kind.TheVariants as kind
@@ -73,11 +77,35 @@ finds_kind (kind.Compact length) book preferences grouping = is_ok (found_compac
 abbrev pub finds : BookTables → FormatterKey → Bool
 finds book key = finds_kind key.kind book key.preferences key.grouping
 
--- two keys are one: what the tags prefer, the kind and the grouping are the same, by these tests
-abbrev pub same_keys : (Preferences → Preferences → Bool) → (Kind → Kind → Bool) → (GroupingStrategy → GroupingStrategy → Bool) → FormatterKey → FormatterKey → Bool
-same_keys preferences kinds groupings one other =
-    preferences one.preferences other.preferences && (kinds one.kind other.kind && groupings one.grouping other.grouping)
+-- two lengths of patterns are one
+abbrev pub same_length : PatternLength → PatternLength → Bool
+same_length Short Short = true
+same_length Long Long = true
+same_length _ _ = false
 
--- how many formatters are made for these lines, where so many may be kept: one for each use of a key that is not kept
-abbrev pub makes : (FormatterKey → FormatterKey → Bool) → BookTables → ℕ → List (List ℕ) → ℕ
-makes same book capacity lines = min (misses same capacity [] (used (finds book) (map key_of lines))) most
+-- two kinds of tables are one
+abbrev pub same_kind : Kind → Kind → Bool
+same_kind kind.Plain kind.Plain = true
+same_kind (kind.Compact one) (kind.Compact other) = same_length one other
+same_kind _ _ = false
+
+-- two groupings are one; `auto` and `always` are two
+abbrev pub same_grouping : GroupingStrategy → GroupingStrategy → Bool
+same_grouping Auto Auto = true
+same_grouping Never Never = true
+same_grouping Always Always = true
+same_grouping Min2 Min2 = true
+same_grouping _ _ = false
+
+-- two keys are one: what the tags prefer, the kind and the grouping are the same
+abbrev pub same_keys : FormatterKey → FormatterKey → Bool
+same_keys one other =
+    same_preferences one.preferences other.preferences && (same_kind one.kind other.kind && same_grouping one.grouping other.grouping)
+
+-- how many formatters are made for these lines by a test of keys, where so many may be kept: one for each use of a key that is not kept
+abbrev pub makes_by : (FormatterKey → FormatterKey → Bool) → BookTables → ℕ → List (List ℕ) → ℕ
+makes_by same book capacity lines = min (misses same capacity [] (used (finds book) (map key_of lines))) most
+
+-- how many are made for them
+abbrev pub makes : BookTables → ℕ → List (List ℕ) → ℕ
+makes book capacity lines = makes_by same_keys book capacity lines

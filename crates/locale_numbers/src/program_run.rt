@@ -6,15 +6,12 @@ ghost use Rattle.std.specs.declared.io.ErrorKind.TheVariants.{OutOfMemory};
 ghost use Rattle.locale_numbers_lines.specs.Run.{WritesAll, WritesTold, WritesPart, WritesFirst, CountsLines, CountsMade, MayReadOnceAnswered};
 ghost use Rattle.locale_numbers_book.specs.Book.{BookTables};
 ghost use Rattle.locale_numbers.specs.Answer.{answer_of};
-ghost use Rattle.locale_numbers.specs.FormatterKeys.{makes, same_keys};
+ghost use Rattle.locale_numbers.specs.FormatterKeys.{makes};
 ghost use Rattle.locale_numbers.specs.Program.{Says, OfText, OfBook, IsRefusal, IsOfFile, MayCome, IsBeforeLines};
 
 use crate::fault::ProgramFault;
-use crate::formatter_key::Kind;
 use crate::running::run;
 use crate::words::Words;
-use icu_decimal::DecimalFormatterPreferences;
-use icu_decimal::options::GroupingStrategy;
 use locale_numbers_book::{Book, BookError, SAMPLE_BOOK, book_from};
 use locale_numbers_lines::{ByteReader, ByteWriter, Report, RunError};
 use std::alloc::Global;
@@ -138,9 +135,7 @@ fn report<I: Read + Drop, R: ByteReader, W: ByteWriter>(
 
     // As many formatters are kept as the words say.
     ensures made { IfOk result (λ report. OfBook SAMPLE_BOOK.now words.now.book (λ book.
-        CountsMade (makes (same_keys ⟦<DecimalFormatterPreferences as PartialEq>⟧.eq
-        ⟦<Kind as PartialEq>⟧.eq ⟦<GroupingStrategy as PartialEq>⟧.eq)
-        book words.now.capacity) (R.remaining reader.old) report.made)) }
+        CountsMade (makes book words.now.capacity) (R.remaining reader.old) report.made)) }
     ensures stays_well { OnOk result (
         (R.failed reader.new ≡ false) × (W.failed writer.new ≡ false)) }
 

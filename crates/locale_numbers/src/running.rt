@@ -4,16 +4,15 @@ ghost use Rattle.std.specs.Prelude.{◌≡◌, ◌≤◌, false, true, IfOk, OnO
 ghost use Rattle.locale_numbers_lines.specs.Outcomes.{ends_in_write};
 ghost use Rattle.locale_numbers_lines.specs.Run.{WritesAll, WritesTold, WritesPart, WritesFirst, CountsLines, CountsMade, MayReadOnceAnswered};
 ghost use Rattle.locale_numbers.specs.Answer.{answer_of};
-ghost use Rattle.locale_numbers.specs.FormatterKeys.{makes, same_keys};
+ghost use Rattle.locale_numbers.specs.FormatterKeys.{makes};
 
-use crate::formatter_key::Kind;
+use crate::formatter_key::FormatterKey;
 use crate::kept::Kept;
 use crate::kept_formatter::FormatterMaker;
 use crate::line_answerer::LineAnswerer;
 use crate::tables::Tables;
 use fixed_decimal::Decimal;
-use icu_decimal::DecimalFormatterPreferences;
-use icu_decimal::options::GroupingStrategy;
+use locale_numbers_cache::laws::equal_keys_are_one;
 use locale_numbers_cache::{FormatterCache, ReadKeys};
 use locale_numbers_lines::{ByteReader, ByteWriter, Report, RunError, run_with};
 use std::alloc::Global;
@@ -61,9 +60,7 @@ pub fn run<T: Tables, R: ByteReader, W: ByteWriter>(
         (W.contents writer.old) (W.contents writer.new)) }
     ensures lines { IfOk result (λ report. CountsLines (R.remaining reader.old) report.lines) }
     ensures made { IfOk result (λ report.
-        CountsMade (makes (same_keys ⟦<DecimalFormatterPreferences as PartialEq>⟧.eq
-        ⟦<Kind as PartialEq>⟧.eq ⟦<GroupingStrategy as PartialEq>⟧.eq)
-        (T.book tables.now) capacity) (R.remaining reader.old) report.made) }
+        CountsMade (makes (T.book tables.now) capacity) (R.remaining reader.old) report.made) }
     ensures reader_stays_well { OnOk result (R.failed reader.new ≡ false) }
     ensures writer_stays_well { OnOk result (W.failed writer.new ≡ false) }
     ensures read { IsErrOf result RunError.Read →
@@ -85,6 +82,7 @@ pub fn run<T: Tables, R: ByteReader, W: ByteWriter>(
     ensures memory_only { IsErrOf result RunError.Memory →
         (R.failed reader.new ≡ false) × (W.failed writer.new ≡ false) }
 {
+    equal_keys_are_one::<FormatterKey>();
     let formatters = FormatterCache::new(alloc, capacity)?;
     let kept = Kept {
         maker: FormatterMaker { tables },

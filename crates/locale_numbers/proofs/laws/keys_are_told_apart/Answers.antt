@@ -1,4 +1,5 @@
+use Rattle.locale_numbers.proofs.SameKeyLemmas.{keys_decide}
 use Rattle.locale_numbers.proofs.laws.keys_are_told_apart.Goals as goal
 
 pub returns : goal.returns
-returns c = c.equal_keys_are_one.ensures
+returns c = keys_decide

@@ -1,0 +1,61 @@
+-- The test of two keys is true exactly where they are one, so any other such test is the same.
+use Rattle.std.proofs.Common.{◌≡◌, Bool, refl, ap, Decides}
+use Rattle.std.proofs.lemmas.Bool.Decides.{Decides-and, Decides-like, same_from_decides}
+use Rattle.icu_decimal.specs.declared.options.GroupingStrategy.{GroupingStrategy}
+use Rattle.icu_decimal.specs.declared.options.GroupingStrategy.TheVariants.{Auto, Never, Always, Min2}
+use Rattle.icu_locale_core.specs.SamePreferences.{same_preferences}
+use Rattle.icu_locale_core.specs.TagPreferences.{Preferences}
+use Rattle.icu_locale_core.proofs.SameLemmas.{same_locale_preferences, texts_decide}
+use Rattle.locale_numbers.specs.FormatterKeys.{same_grouping, same_keys, same_kind, same_length}
+use Rattle.locale_numbers.specs.Laws.{TellsKeys}
+use Rattle.locale_numbers.specs.declared.formatter_key.FormatterKey.{FormatterKey}
+use Rattle.locale_numbers.specs.declared.formatter_key.Kind.{Kind}
+use Rattle.locale_numbers.specs.declared.formatter_key.Kind.TheVariants.{Plain, Compact}
+use Rattle.locale_numbers_requests.specs.declared.PatternLength.{PatternLength}
+use Rattle.locale_numbers_requests.specs.declared.PatternLength.TheVariants.{Short, Long}
+
+lengths_decide : (a b : PatternLength) → Decides (same_length a b) (a ≡ b)
+lengths_decide Short Short = (λ e. refl, λ e. refl)
+lengths_decide Short Long = (λ e. cc, λ e. cc)
+lengths_decide Long Short = (λ e. cc, λ e. cc)
+lengths_decide Long Long = (λ e. refl, λ e. refl)
+
+kinds_decide : (a b : Kind) → Decides (same_kind a b) (a ≡ b)
+kinds_decide Plain Plain = (λ e. refl, λ e. refl)
+kinds_decide Plain (Compact m) = (λ e. cc, λ e. cc)
+kinds_decide (Compact l) Plain = (λ e. cc, λ e. cc)
+kinds_decide (Compact l) (Compact m) = (λ e. ap Compact ((lengths_decide l m).0 e), λ e. (lengths_decide l m).1 (cc))
+
+groupings_decide : (a b : GroupingStrategy) → Decides (same_grouping a b) (a ≡ b)
+groupings_decide Auto Auto = (λ e. refl, λ e. refl)
+groupings_decide Auto Never = (λ e. cc, λ e. cc)
+groupings_decide Auto Always = (λ e. cc, λ e. cc)
+groupings_decide Auto Min2 = (λ e. cc, λ e. cc)
+groupings_decide Never Auto = (λ e. cc, λ e. cc)
+groupings_decide Never Never = (λ e. refl, λ e. refl)
+groupings_decide Never Always = (λ e. cc, λ e. cc)
+groupings_decide Never Min2 = (λ e. cc, λ e. cc)
+groupings_decide Always Auto = (λ e. cc, λ e. cc)
+groupings_decide Always Never = (λ e. cc, λ e. cc)
+groupings_decide Always Always = (λ e. refl, λ e. refl)
+groupings_decide Always Min2 = (λ e. cc, λ e. cc)
+groupings_decide Min2 Auto = (λ e. cc, λ e. cc)
+groupings_decide Min2 Never = (λ e. cc, λ e. cc)
+groupings_decide Min2 Always = (λ e. cc, λ e. cc)
+groupings_decide Min2 Min2 = (λ e. refl, λ e. refl)
+
+preferences_decide : (a b : Preferences) → Decides (same_preferences a b) (a ≡ b)
+preferences_decide a b = Decides-like (same_preferences a b)
+    (λ h i. record { locale = h.0 i; numbering_system = h.1 i })
+    (λ e. (ap (λ p. p.locale) e, ap (λ p. p.numbering_system) e))
+    (Decides-and _ _ (same_locale_preferences a.locale b.locale) (texts_decide a.numbering_system b.numbering_system))
+
+pub keys_decide : (one other : FormatterKey) → Decides (same_keys one other) (one ≡ other)
+keys_decide one other = Decides-like (same_keys one other)
+    (λ h i. record { preferences = h.0 i; kind = h.1.0 i; grouping = h.1.1 i })
+    (λ e. (ap (λ k. k.preferences) e, (ap (λ k. k.kind) e, ap (λ k. k.grouping) e)))
+    (Decides-and _ _ (preferences_decide one.preferences other.preferences)
+    (Decides-and _ _ (kinds_decide one.kind other.kind) (groupings_decide one.grouping other.grouping)))
+
+pub test_is : (same : FormatterKey → FormatterKey → Bool) → TellsKeys same → same ≡ same_keys
+test_is same tells = λ i one other. same_from_decides (same one other) (same_keys one other) (tells one other) (keys_decide one other) i
