@@ -1,6 +1,7 @@
 -- What a reader must believe: which tables are asked for, plural rules, patterns, the value that compact text shows, and the
 -- text of a number with its parts.
 pub use Rattle.icu_decimal_compact.specs.AbstractText
+pub use Rattle.icu_decimal_compact.specs.Chains
 pub use Rattle.icu_decimal_compact.specs.CompactTables
 pub use Rattle.icu_decimal_compact.specs.CompactText
 pub use Rattle.icu_decimal_compact.specs.ExactText
@@ -37,6 +38,7 @@ pub use Rattle.icu_decimal_compact_value.specs.Entries
 pub use Rattle.icu_decimal_compact_value.specs.ExactForms
 pub use Rattle.icu_decimal_compact_value.specs.Significand
 pub use Rattle.icu_decimal_compact_value.specs.ShownValue
+pub use Rattle.icu_decimal_compact_value.specs.Steps
 pub use Rattle.icu_decimal_plain.specs.Affixes
 pub use Rattle.icu_decimal_compact.specs.FoundTables
 pub use Rattle.icu_decimal_grouping.specs.Grouper

@@ -13,6 +13,8 @@ pub mod PatternAt
 -- statements of laws
 pub mod AbstractLaws
 pub mod CompactLaws
+-- The chains of locales along which tables are asked for, for the crates above.
+pub use Rattle.icu_decimal_chains.specs.Chains
 -- What formatters of plain text hold, and which tables are asked for, for the crates above.
 pub use Rattle.icu_decimal_formatter.specs.Choice
 pub use Rattle.icu_decimal_formatter.specs.FoundLaws

@@ -20,10 +20,14 @@ pub mod PrintedLaws
 pub use Rattle.locale_numbers_book.specs.Book
 pub use Rattle.locale_numbers_book.specs.BookError
 pub use Rattle.locale_numbers_book.specs.Faults as BookFaults
+pub use Rattle.locale_numbers_book.specs.Form as BookForm
 pub use Rattle.locale_numbers_book.specs.Json
 pub use Rattle.locale_numbers_book.specs.Keys as BookKeys
 pub use Rattle.locale_numbers_book.specs.Laws as BookLaws
+pub use Rattle.locale_numbers_book.specs.ParentEntries
+pub use Rattle.locale_numbers_book.specs.Parents
 pub use Rattle.locale_numbers_book.specs.Refusal as BookRefusal
+pub use Rattle.locale_numbers_book.specs.SampleBook
 pub use Rattle.locale_numbers_book.specs.Tables
 pub use Rattle.locale_numbers_book.specs.TagFormatters
 pub use Rattle.locale_numbers_book.specs.Wanted

@@ -25,7 +25,10 @@ pub use locale_numbers_answers::laws::{
     texts_have_one_reading,
 };
 use locale_numbers_book::laws::{tables_are_sound, tables_are_texts};
-pub use locale_numbers_book::laws::{data_locales_are_read, tags_are_read};
+pub use locale_numbers_book::laws::{
+    chains_end, cycles_are_met, data_locales_are_read, is_one_book, sample_book_is_known,
+    tags_are_read,
+};
 pub use locale_numbers_cache::laws::{last_used_are_kept, unused_keys_miss};
 pub use locale_numbers_lines::laws::{
     each_input_splits, lines_are_the_pieces, outputs_join, whole_lines_are_the_pieces,

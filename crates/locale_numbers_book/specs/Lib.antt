@@ -14,6 +14,8 @@ pub mod Arrays
 pub mod BookAllocation
 -- Statements of laws.
 pub mod Laws
+-- Of the inner crate of parents: the step from a locale to the next, and the entries that close no cycle.
+pub use Rattle.locale_numbers_parents.specs.Parents
 -- Of the inner crate of tables: entries, fields and keys.
 pub use Rattle.locale_numbers_tables.specs.BookError
 pub use Rattle.locale_numbers_tables.specs.CompactEntries

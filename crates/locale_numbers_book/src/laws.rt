@@ -2,6 +2,8 @@
 
 ghost use Rattle.locale_numbers_book.specs.Laws.{TagsAreRead, DataLocalesAreRead, KeysAreOneWhereEqual, TablesAreMade, IsOneBook, BookTablesAreSound, BookTablesAreTexts, BookChainsEnd, SampleBookIsKnown};
 
+pub use locale_numbers_parents::laws::cycles_are_met;
+
 /// The function by which a line is answered reads as a tag exactly what means one in the grammar, and as that meaning:
 /// `EN-u-NU-Wxyz` as the language `en` with the system `wxyz`, and `en-` as none.
 pub fn tags_are_read()
