@@ -1,6 +1,8 @@
--- A call that refuses before it has written leaves what was there; what was found last is one thing.
+-- A call that refuses before it has written leaves what was there; what was found last is one thing; what makes a call succeed is not so where it fails.
 use Rattle.std.proofs.Common.{◌≡◌, List, [], ℕ, sym, ◌∙◌, Option, Some, Result, Ok, Err, OnErr}
+use Rattle.std.proofs.lemmas.Bool.{false≢true}
 use Rattle.std.proofs.lemmas.List.{append-nil}
+use Rattle.std.specs.Prelude.{IsOk}
 pub use Rattle.std.proofs.lemmas.Result.{on_ok_weaker as on_ok_by}
 use Rattle.locale_numbers_lines.specs.Growth.{Grows}
 
@@ -11,3 +13,7 @@ grows_by_none (Err e) held = record { more = []; grew = sym (append-nil held) }
 -- of two that the latest is, one is the other
 pub one_of : {K : Type 0} (one other : K) (latest : Option K) → latest ≡ Some one → latest ≡ Some other → one ≡ other
 one_of one other latest is found = let same : Some one ≡ Some other = sym is ∙ found in cc
+
+pub not_on_err : {T E : Type 0} (r : Result T E) (Q : Type 0) → (Q → IsOk r) → OnErr r (Q → ⊥)
+not_on_err (Ok t) Q succeeds = tt
+not_on_err (Err e) Q succeeds = λ q. false≢true (succeeds q)

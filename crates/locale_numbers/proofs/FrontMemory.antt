@@ -13,7 +13,7 @@ use Rattle.locale_numbers.specs.CompactAnswer.{found_compact}
 use Rattle.locale_numbers_answers.specs.CompactReading.{compact_reading_of}
 use Rattle.locale_numbers.specs.FormatterKeys.{kind_of}
 use Rattle.locale_numbers.specs.KeptFormatters.{answer_of_kind}
-use Rattle.locale_numbers.specs.Front.{FitsForm, MayTakeBehind, MayTakeIn, MayTakeKeyed, answer_behind, answer_keyed, asked_behind, if_text}
+use Rattle.locale_numbers.specs.Front.{FitsForm, HasKeyThat, MayTakeBehind, MayTakeIn, MayTakeKeyed, answer_behind, answer_keyed, asked_behind, if_text}
 use Rattle.locale_numbers_answers.specs.NumberReading.{reading_of}
 use Rattle.locale_numbers_requests.specs.Request.{Asked}
 use Rattle.locale_numbers.specs.declared.formatter_key.FormatterKey.{FormatterKey}
@@ -53,6 +53,10 @@ module _ (book : BookTables) (asked : Option Front) (front : Front) (key : Forma
   -- the key is of the kind of the form
   kind_fits : IfSome asked FitsForm → key.kind ≡ kind_of front.form
   kind_fits fits = subst (λ k. IfSome k (λ (x : FormatterKey). x.kind ≡ kind_of front.form)) keyed (subst (λ a. IfSome a FitsForm) is fits)
+
+  -- what holds of the front's key holds of this one
+  pub of_key : (P : FormatterKey → Type 0) → HasKeyThat P asked → P key
+  of_key P holds = subst (λ k. IfSome k P) keyed (subst (HasKeyThat P) is holds)
 
   -- to a number
   pub answer_number : WritesNumber front.form → IfSome asked FitsForm

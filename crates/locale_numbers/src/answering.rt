@@ -40,11 +40,12 @@ pub(crate) fn answer_behind_front<'a, F: Formatters<'a>>(
         ≡ string_bytes out.old ++ answer_behind (F.book formatters.old) front.now text.now) }
     ensures err { OnErr result (Grows (string_bytes out.old) (string_bytes out.new)) }
 
-    // Where there is room for the answer, and handing out a formatter takes none, only a text of more than eight digits
-    // may be out of memory, to write a number only one of more than `value` had, and a rounding to multiples of 25 that
-    // may lengthen one of eight.
+    // Where there is room for the answer, and handing out the formatter of the front's key takes none, only a text of
+    // more than eight digits may be out of memory, to write a number only one of more than `value` had, and a rounding
+    // to multiples of 25 that may lengthen one of eight.
     ensures room { HasRoom out.old (answer_behind (F.book formatters.old) front.now text.now)
-        → ¬ (F.may_take_memory formatters.old) → ¬ (MayTakeBehind (F.book formatters.old) front.now text.now value.old)
+        → HasKeyThat (λ key. ¬ (F.may_take_memory formatters.old key)) front.now
+        → ¬ (MayTakeBehind (F.book formatters.old) front.now text.now value.old)
         → IsOk result }
     ensures counted { OnOk result ((more : List (Option FormatterKey)) →
         F.counted_over formatters.old (key_behind front.now text.now ∷ more) ≡ F.counted_over formatters.new more) }

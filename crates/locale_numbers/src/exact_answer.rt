@@ -38,10 +38,10 @@ fn write_exact_answer_of_key<'a, F: Formatters<'a>>(
         (record { significand = significand.now; exponent = exponent })) }
     ensures err { OnErr result (Grows (string_bytes out.old) (string_bytes out.new)) }
 
-    // Where there is room for the answer, and handing out a formatter takes none, it does not allocate.
+    // Where there is room for the answer, and handing out the formatter of the key takes none, it does not allocate.
     ensures room { HasRoom out.old (exact_with (found_compact length (F.book formatters.old)
         key.now.preferences key.now.grouping)
-        (record { significand = significand.now; exponent = exponent })) → ¬ (F.may_take_memory formatters.old)
+        (record { significand = significand.now; exponent = exponent })) → ¬ (F.may_take_memory formatters.old key.now)
         → IsOk result }
     ensures counted { OnOk result ((more : List (Option FormatterKey)) →
         F.counted_over formatters.old (Some key.now ∷ more) ≡ F.counted_over formatters.new more) }
@@ -77,11 +77,11 @@ pub(crate) fn answer_exact<'a, F: Formatters<'a>>(
         key.now.preferences key.now.grouping) sign (compact_reading_of text.now)) }
     ensures err { OnErr result (Grows (string_bytes out.old) (string_bytes out.new)) }
 
-    // Where there is room for the answer, and handing out a formatter takes none, only a number of more than eight
-    // digits may be out of memory.
+    // Where there is room for the answer, and handing out the formatter of the key takes none, only a number of more
+    // than eight digits may be out of memory.
     ensures room { HasRoom out.old (exact_to (found_compact length (F.book formatters.old)
         key.now.preferences key.now.grouping) sign (compact_reading_of text.now))
-        → ¬ (F.may_take_memory formatters.old) → ¬ (ReadsLongCompact text.now) → IsOk result }
+        → ¬ (F.may_take_memory formatters.old key.now) → ¬ (ReadsLongCompact text.now) → IsOk result }
     ensures counted { OnOk result ((more : List (Option FormatterKey)) →
         F.counted_over formatters.old (key_exact key.now (compact_reading_of text.now) ∷ more)
         ≡ F.counted_over formatters.new more) }

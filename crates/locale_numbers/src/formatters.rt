@@ -22,8 +22,8 @@ pub(crate) trait Formatters<'a> {
     // How many formatters it will have counted once lines with these keys are answered too.
     ghost counted_over: { Self → List (Option FormatterKey) → ℕ };
 
-    // Finding one may allocate.
-    ghost may_take_memory: { Self → Type 0 };
+    // Finding the formatter of a key may allocate.
+    ghost may_take_memory: { Self → FormatterKey → Type 0 };
 
     // The formatter that was found last is that of the key.
     ghost holds: { Self → FormatterKey → Type 0 };
@@ -38,7 +38,7 @@ pub(crate) trait Formatters<'a> {
             counted_over self.old (Some key.now ∷ more) ≡ counted_over self.new more) }
         ensures same { book self.new ≡ book self.old }
         ensures ready { is_ready self.new }
-        ensures room { OnErr result (may_take_memory self.old) };
+        ensures room { OnErr result (may_take_memory self.old key.now) };
 
     /// The formatter of a key. The condition is that it was found last. It does not allocate.
     fn found(&self, key: &Hashed<FormatterKey>) -> &KeptFormatter<'a>

@@ -28,7 +28,7 @@ pub(crate) fn hold<'a, F: Formatters<'a>>(
         F.counted_over formatters.old (Some key.now ∷ more) ≡ F.counted_over formatters.new more) }
     ensures same { F.book formatters.new ≡ F.book formatters.old }
     ensures ready { F.is_ready formatters.new }
-    ensures room { OnErr result (F.may_take_memory formatters.old) }
+    ensures room { OnErr result (F.may_take_memory formatters.old key.now) }
 {
     if *is_held {
         let _ = formatters.found(key);

@@ -17,8 +17,9 @@ pub(crate) struct Kept<'a, T: Tables> {
 }
 
 impl<'a, T: Tables> Formatters<'a> for Kept<'a, T> {
-    ghost use Rattle.std.specs.Prelude.{⊤, refl};
-    ghost use Rattle.locale_numbers_cache.specs.Cached.{IsLatest, IsSound, made_over};
+    ghost use Rattle.std.specs.Prelude.{IsTrue, refl};
+    ghost use Rattle.locale_numbers_cache.specs.Cached.{IsLatest, IsSound, made_over, recent_of};
+    ghost use Rattle.locale_numbers_cache.specs.Recent.{has};
     ghost use Rattle.locale_numbers.specs.FormatterKeys.{finds};
     ghost use Rattle.locale_numbers.specs.KeptFormatters.{IsKeptFor};
 
@@ -30,7 +31,8 @@ impl<'a, T: Tables> Formatters<'a> for Kept<'a, T> {
     ghost counted_over = { λ s keys. made_over ⟦<FormatterKey as PartialEq>⟧.eq (finds (T.book s.maker.tables.now))
         s.formatters keys };
 
-    ghost may_take_memory = { λ s. ⊤ };
+    // Only of a key that is not kept.
+    ghost may_take_memory = { λ s key. ¬ (IsTrue (has ⟦<FormatterKey as PartialEq>⟧.eq key (recent_of s.formatters))) };
 
     ghost holds = { λ s key. IsLatest (IsKeptFor (T.book s.maker.tables.now)) key s.formatters };
 

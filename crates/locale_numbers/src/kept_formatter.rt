@@ -152,7 +152,7 @@ impl<'a, T: Tables> Formatters<'a> for MadeFormatter<'a, T> {
 
     ghost counted_over = { λ s keys. 0 };
 
-    ghost may_take_memory = { λ s. ⊥ };
+    ghost may_take_memory = { λ s key. ⊥ };
 
     ghost holds = { λ s key. MatchOption s.made ⊥ (λ made. IsMadeFor (T.book s.tables.now) key made) };
 

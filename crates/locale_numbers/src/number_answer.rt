@@ -57,7 +57,7 @@ fn write_answer_of_key<'a, F: Formatters<'a>>(
     ensures err { OnErr result (Grows (string_bytes out.old) (string_bytes out.new)) }
     ensures room { HasRoom out.old (answer_of_kind key.now.kind (F.book formatters.old)
         key.now.preferences key.now.grouping value.old)
-        → ¬ (F.may_take_memory formatters.old) → IsOk result }
+        → ¬ (F.may_take_memory formatters.old key.now) → IsOk result }
     ensures counted { OnOk result ((more : List (Option FormatterKey)) →
         F.counted_over formatters.old (Some key.now ∷ more) ≡ F.counted_over formatters.new more) }
     ensures same { F.book formatters.new ≡ F.book formatters.old }
@@ -93,13 +93,13 @@ pub(crate) fn answer_number<'a, F: Formatters<'a>>(
         (reading_of text.now))) }
     ensures err { OnErr result (Grows (string_bytes out.old) (string_bytes out.new)) }
 
-    // Where there is room for the answer, and handing out a formatter takes none, only a number of more than eight
-    // digits, and of more than `value` had, may be out of memory, and a rounding to multiples of 25 that may lengthen
-    // one of eight.
+    // Where there is room for the answer, and handing out the formatter of the key takes none, only a number of more
+    // than eight digits, and of more than `value` had, may be out of memory, and a rounding to multiples of 25 that may
+    // lengthen one of eight.
     ensures room { HasRoom out.old (if_text text.now (answer_to
         (answer_of_kind key.now.kind (F.book formatters.old) key.now.preferences key.now.grouping) sign rounding
         (reading_of text.now)))
-        → ¬ (F.may_take_memory formatters.old) → ¬ (ReadsMore text.now value.old)
+        → ¬ (F.may_take_memory formatters.old key.now) → ¬ (ReadsMore text.now value.old)
         → ¬ (MayGrowRead rounding (reading_of text.now)) → IsOk result }
     ensures counted { OnOk result ((more : List (Option FormatterKey)) →
         F.counted_over formatters.old (key_if_text text.now (key_text key.now (reading_of text.now)) ∷ more)

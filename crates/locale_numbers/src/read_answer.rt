@@ -37,11 +37,11 @@ pub(crate) fn answer_read<'a, F: Formatters<'a>>(
         text.now) }
     ensures err { OnErr result (Grows (string_bytes out.old) (string_bytes out.new)) }
 
-    // Where there is room for the answer, and handing out a formatter takes none, only a text of more than eight digits
-    // may be out of memory.
+    // Where there is room for the answer, and handing out the formatter of the key takes none, only a text of more than
+    // eight digits may be out of memory.
     ensures room { HasRoom out.old (read_with (found_in (F.book formatters.old) key.now.preferences key.now.grouping)
         text.now)
-        → ¬ (F.may_take_memory formatters.old)
+        → ¬ (F.may_take_memory formatters.old key.now)
         → ¬ (HasManyDigitsWith (found_in (F.book formatters.old) key.now.preferences key.now.grouping) text.now)
         → IsOk result }
     ensures counted { OnOk result ((more : List (Option FormatterKey)) →
