@@ -67,8 +67,8 @@ impl<'b> CompactDecimalFormatter<'b> {
     /// The formatter of these preferences and options that writes in short form, `1.6K` in English, with tables of the
     /// provider.
     ///
-    /// It loads symbols, digits, plural rules and patterns, in this order, and asks for nothing after an error. Errors as
-    /// `load_by_chain`, the first of them. It does not allocate.
+    /// It loads symbols, digits, plural rules and patterns, in this order, and asks for nothing after an error. Errors
+    /// as `load_by_chain`, the first of them. It does not allocate.
     pub fn try_new_short_unstable<P>(
         provider: &'b P,
         preferences: CompactDecimalFormatterPreferences,

@@ -1,5 +1,5 @@
-//! Laws of compact text: what abstract formatters write, the text of an exact form, and what is shown for a number, sent
-//! back as one.
+//! Laws of compact text: what abstract formatters write, the text of an exact form, and what is shown for a number,
+//! sent back as one.
 //! Where no formatter is passed, no call is made: each clause is the law.
 ghost use Rattle.std.specs.Prelude.{◌≡◌, ◌<◌};
 ghost use Rattle.icu_decimal_patterns.specs.SmallEntries.{AreSmall, IsSmall};
