@@ -32,7 +32,7 @@ pair_apart p s q r other first second =
     both_ways (is_same_pair p s q r) (not-true (is_same_pair p s q r) other) (and_from (bytes_eq p q) (bytes_eq s r) ((bytes_decides p q).1 first) ((bytes_decides s r).1 second))
 
 -- signs with one pair of affixes are one
-signs_tell : (t : Tables) (a b : Sign) → is_readable_by t ≡ true → prefix_for t a ≡ prefix_for t b → suffix_for t a ≡ suffix_for t b → a ≡ b
+pub signs_tell : (t : Tables) (a b : Sign) → is_readable_by t ≡ true → prefix_for t a ≡ prefix_for t b → suffix_for t a ≡ suffix_for t b → a ≡ b
 signs_tell t a b readable = by a b (tests_of t readable).signs
   where
     minus_apart : do_signs_differ t.symbols.strings ≡ true → t.symbols.strings.minus_sign_prefix ≡ [] → t.symbols.strings.minus_sign_suffix ≡ [] → ⊥
@@ -63,7 +63,7 @@ signs_tell t a b readable = by a b (tests_of t readable).signs
     by Positive Positive signs p s = refl
 
 -- what stands before the first digit
-front_of : List ℕ → List ℕ → List ℕ
+pub front_of : List ℕ → List ℕ → List ℕ
 front_of ds [] = []
 front_of ds (c ∷ cs) = cond (is_none (digit_of ds c)) (c ∷ front_of ds cs) []
 
@@ -79,7 +79,7 @@ front_is ds (c ∷ cs) rest x clear digit =
     ap (λ b. cond b (c ∷ front_of ds (cs ++ x ∷ rest)) []) parts.0 ∙ ap (λ t. c ∷ t) (front_is ds cs rest x parts.1 digit)
 
 -- what stands before the first digit of a decimal's text is its prefix
-front_again : (t : Tables) (v : SignedValue Number) → AreTables t → is_readable_by t ≡ true → IsNumber v.absolute → front_of t.digits (plain_chars t v) ≡ chars (prefix_for t v.sign)
+pub front_again : (t : Tables) (v : SignedValue Number) → AreTables t → is_readable_by t ≡ true → IsNumber v.absolute → front_of t.digits (plain_chars t v) ≡ chars (prefix_for t v.sign)
 front_again t v are readable is =
     let start = digit_first t v.absolute are readable is in
     ap (λ cs. front_of t.digits (chars (prefix_for t v.sign) ++ (cs ++ chars (suffix_for t v.sign)))) start.same

@@ -195,7 +195,7 @@ no_end (n ∷ k ∷ ns) above =
     let some = sum_above k ns above.1 in or_from _ _ (ne_eqb 0 (sum (k ∷ ns)) (λ none. omega (arith, some, none))) (no_end (k ∷ ns) above.1)
 
 -- no group ends at the last digit
-last_ends : (t : Tables) (vs : List ℕ) → 0 < length vs → ends_of t vs 0 ≡ false
+pub last_ends : (t : Tables) (vs : List ℕ) → 0 < length vs → ends_of t vs 0 ≡ false
 last_ends t vs some =
     no_end (group_sizes t.strategy t.symbols.grouping_sizes (length (map (digit_text t.digits) vs))) (are_sizes t.strategy t.symbols.grouping_sizes (length (map (digit_text t.digits) vs)) (omega (arith, some, length-map vs (digit_text t.digits)))).above
 

@@ -1,4 +1,4 @@
-//! The digits of a table.
+//! The digits of a table, and where they are in a text.
 
 ghost use Rattle.std.specs.Prelude.{◌≡◌, ◌≤◌, ◌<◌, true, [], ◌∷◌, length, IfSome, IfNone, is_some, is_none, filter_map};
 ghost use Rattle.std.specs.List.{list_all};
@@ -13,11 +13,12 @@ fn place_of(table: &[char], character: char) -> Option<usize>
     table.iter().position(|digit| *digit == character)
 }
 
-// Which digit a character is, in a table where no digit stands twice.
-//
-// In most tables the characters follow one another, so that the distance from the first one is the digit.
+/// Which digit a character is, in a table where no digit stands twice: `7` is 7 in that of ASCII, and `x` none.
+///
+/// In most tables the characters follow one another, so that the distance from the first one is the digit. Does not
+/// allocate.
 #[tactic(auto, using(crate::proofs::ScanLemmas::digit_here))]
-pub(crate) fn digit_in(table: &[char; 10], character: char) -> Option<u8>
+pub fn digit_in(table: &[char; 10], character: char) -> Option<u8>
     requires { all_differ table.now ≡ true }
     ensures value { result ≡ digit_of table.now character }
     ensures ten { IfSome result (λ d. d < 10) }
@@ -32,8 +33,10 @@ pub(crate) fn digit_in(table: &[char; 10], character: char) -> Option<u8>
     }
 }
 
-// Whether a character is a digit, in a table where no digit stands twice.
-fn is_digit(table: &[char; 10], character: char) -> bool
+/// Whether a character is a digit, in a table where no digit stands twice: `7` is one in that of ASCII, and `x` is not.
+///
+/// Does not allocate.
+pub fn is_digit(table: &[char; 10], character: char) -> bool
     requires { all_differ table.now ≡ true }
     ensures { result ≡ is_some (digit_of table.now character) }
 {
@@ -54,9 +57,11 @@ pub(crate) fn do_all_differ(table: &[char]) -> bool
     true
 }
 
-// The first character of a text, and what follows it.
+/// The first character of a text, and what follows it: `-` and `5` of `-5`. Returns `None` of the empty text.
+///
+/// Does not allocate.
 #[tactic(auto, using(std::proofs::lemmas::Str::chars_past_char))]
-pub(crate) fn split_character(text: &str) -> Option<(char, &str)>
+pub fn split_character(text: &str) -> Option<(char, &str)>
     ensures some { IfSome result (λ r. chars text.now ≡ r.0 ∷ chars r.1.now) }
     ensures less { IfSome result (λ r. length r.1.now < length text.now) }
     ensures none { IfNone result (chars text.now ≡ []) }
@@ -66,9 +71,11 @@ pub(crate) fn split_character(text: &str) -> Option<(char, &str)>
     Some((first, characters.as_str()))
 }
 
-// Whether no digit stands in a text.
+/// Whether no digit of a table stands in a text: none of ASCII stands in `-.`, and one in `-5`.
+///
+/// Does not allocate.
 #[tactic(auto, using(crate::proofs::StepLemmas::clear_not, crate::proofs::StepLemmas::clear_more, crate::proofs::StepLemmas::clear_end))]
-pub(crate) fn has_none(table: &[char; 10], text: &str) -> bool
+pub fn has_none(table: &[char; 10], text: &str) -> bool
     ensures { result ≡ list_all (λ c. is_none (digit_of table.now c)) (chars text.now) }
 {
     let mut left = text;
@@ -99,9 +106,12 @@ pub(crate) fn count_in(table: &[char; 10], text: &str) -> usize
     count
 }
 
-// Whether a separator stands at the front of a text, and a digit behind it.
+/// Whether a separator stands at the front of a text, and a digit directly behind it: `.` before `.5`, and not before
+/// `.-5`. The table has no digit twice.
+///
+/// Does not allocate.
 #[tactic(auto, using(crate::proofs::StepLemmas::begins_more, crate::proofs::StepLemmas::begins_apart, crate::proofs::StepLemmas::begins_short, crate::proofs::StepLemmas::begins_digit, crate::proofs::StepLemmas::begins_end))]
-pub(crate) fn does_fraction_follow(table: &[char; 10], separator: &str, text: &str) -> bool
+pub fn does_fraction_follow(table: &[char; 10], separator: &str, text: &str) -> bool
     requires { all_differ table.now ≡ true }
     ensures { result ≡ begins_fraction table.now (chars separator.now) (chars text.now) }
 {

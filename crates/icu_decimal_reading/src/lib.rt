@@ -12,7 +12,7 @@
 //! ```
 #![tactic(auto)]
 
-mod digits;
+pub mod digits;
 mod error;
 mod gathered;
 pub mod laws;
@@ -25,4 +25,4 @@ mod symbols;
 
 pub use error::ReadError;
 pub use reading::{read_plain, read_readable};
-pub use symbols::is_readable;
+pub use symbols::{are_tables, is_readable};

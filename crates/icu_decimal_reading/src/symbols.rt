@@ -84,8 +84,10 @@ fn are_characters(digits: &[char])
     }
 }
 
-// That tables are ten digits, each a character, and six texts.
-pub(crate) fn are_tables(tables: &DecimalTables<'_>)
+/// Says of any tables that they are ten digits, each a character, and six texts, which the laws of reading ask of them.
+///
+/// Nothing is computed, and nothing is allocated.
+pub fn are_tables(tables: &DecimalTables<'_>)
     ensures { AreTables (borrowed_tables tables.now) }
 {
     are_characters(ten_digits(tables.digits()));
