@@ -1,0 +1,85 @@
+-- What a call answers that reads a text in several ways.
+use Rattle.std.proofs.Common.{◌≡◌, ◌⊎◌, inl, inr, ℕ, Bool, true, false, cond, List, Result, Ok, Err, IfOk, IsErrOf, sym, ap, ◌∙◌}
+use Rattle.std.proofs.lemmas.Bool.{and_parts, false≢true}
+use Rattle.std.specs.Str.{IsUtf8}
+use Rattle.fixed_decimal.specs.Number.{Number}
+use Rattle.fixed_decimal.specs.SignedValue.{SignedValue}
+use Rattle.icu_decimal_symbols.specs.declared.options.GroupingStrategy.TheVariants.{Never}
+use Rattle.icu_decimal_symbols.specs.Symbols.{Symbols}
+use Rattle.icu_decimal_plain.specs.PlainText.{Tables}
+use Rattle.icu_decimal_reading.specs.DecimalOfText.{IsAnswered, PlainReading, decimal, not_written, unreadable}
+use Rattle.icu_decimal_lenient.specs.LenientReading.{AreKept, HasNoTyped, IsTypedText, IsUnreadable, folded_reading, is_leniently_readable_by, lenient_reading, or_else, read_folded, with_folded}
+use Rattle.icu_decimal_lenient.specs.Folding.{folded_symbols, folded_text}
+use Rattle.icu_decimal_reading.specs.Readable.{all_differ, is_readable_by}
+use Rattle.icu_decimal_reading.specs.ReadingLaws.{AreTables}
+use Rattle.icu_decimal_reading.specs.declared.error.ReadError.{ReadError}
+use Rattle.icu_decimal_reading.specs.declared.error.ReadError.TheVariants.{Unreadable, NotWritten, Memory}
+use Rattle.icu_decimal_reading.proofs.ReadingLemmas.{digits_differ as exact_digits}
+use Rattle.icu_decimal_lenient.proofs.LenientLemmas.{lenient_is_typed, lenient_is_unreadable, lenient_misses}
+
+-- the first one is a decimal
+pub answered_first : (v : SignedValue Number) (first second : PlainReading) → first ≡ decimal v → or_else first second ≡ decimal v
+answered_first v first second is = ap (λ r. or_else r second) is
+
+-- the first one has none
+pub answered_second : (r : Result (SignedValue Number) ReadError) (first second : PlainReading) → first ≡ not_written → IsAnswered r second → IsAnswered r (or_else first second)
+answered_second (Ok v) first second none answered = ap (λ p. or_else p second) none ∙ answered
+answered_second (Err Unreadable) first second none answered = ap (λ p. or_else p second) none ∙ answered
+answered_second (Err NotWritten) first second none answered = ap (λ p. or_else p second) none ∙ answered
+answered_second (Err Memory) first second none answered = tt
+
+-- ---- what is kept
+
+pub digits_differ : (t : Tables) → true ≡ is_leniently_readable_by t → all_differ t.digits ≡ true
+digits_differ t readable = exact_digits t (and_parts (is_readable_by t) (is_readable_by (with_folded Never (folded_symbols t))) (sym readable)).0
+
+pub are_kept : (t : Tables) (folded : Symbols) → true ≡ is_leniently_readable_by t → folded ≡ folded_symbols t → AreKept t folded
+are_kept t folded readable is = record { readable = sym readable; folds = is }
+
+pub kept_readable : (t : Tables) (folded : Symbols) → AreKept t folded → is_readable_by (with_folded Never folded) ≡ true
+kept_readable t folded kept =
+    ap (λ s. is_readable_by (with_folded Never s)) kept.folds ∙ (and_parts (is_readable_by t) (is_readable_by (with_folded Never (folded_symbols t))) kept.readable).1
+
+pub unreadable_reading : (t : Tables) (text : List ℕ) → is_leniently_readable_by t ≡ false → folded_reading t text ≡ unreadable
+unreadable_reading t text lacks = ap (λ b. cond b (read_folded (folded_symbols t) (folded_text t.digits text)) unreadable) lacks
+
+-- symbols that are not readable
+pub lacks_reading : (t : Tables) (text : List ℕ) → false ≡ is_readable_by t → lenient_reading t text ≡ unreadable
+lacks_reading t text lacks = (lenient_is_unreadable t text).1 (inl (sym lacks))
+
+-- ---- what an answer means
+
+-- by the second tables
+pub typed_later : (t other : Tables) (text : List ℕ) (r : Result (SignedValue Number) ReadError) → IfOk r (λ v. IsTypedText other text v) → IfOk r (λ v. IsTypedText t text v ⊎ IsTypedText other text v)
+typed_later t other text (Ok v) is = inr is
+typed_later t other text (Err e) is = tt
+
+pub answered_typed : (t : Tables) (text : List ℕ) (r : Result (SignedValue Number) ReadError) → AreTables t → IsAnswered r (lenient_reading t text) → IfOk r (λ v. IsTypedText t text v)
+answered_typed t text (Ok v) are answered = lenient_is_typed t text v are answered
+answered_typed t text (Err e) are answered = tt
+
+is_missing : Result (SignedValue Number) ReadError → Bool
+is_missing (Ok v) = false
+is_missing (Err Unreadable) = false
+is_missing (Err NotWritten) = true
+is_missing (Err Memory) = false
+
+pub answered_no_typed : (t : Tables) (text : List ℕ) (r : Result (SignedValue Number) ReadError) → AreTables t → IsUtf8 text → IsAnswered r (lenient_reading t text) → IsErrOf r NotWritten → HasNoTyped t text
+unfolding is_missing
+answered_no_typed t text (Ok v) are utf8 answered is = absurd (false≢true (ap is_missing is))
+answered_no_typed t text (Err Unreadable) are utf8 answered is = absurd (false≢true (ap is_missing is))
+answered_no_typed t text (Err Memory) are utf8 answered is = absurd (false≢true (ap is_missing is))
+answered_no_typed t text (Err NotWritten) are utf8 answered is = lenient_misses t text are utf8 answered
+
+is_refused : Result (SignedValue Number) ReadError → Bool
+is_refused (Ok v) = false
+is_refused (Err Unreadable) = true
+is_refused (Err NotWritten) = false
+is_refused (Err Memory) = false
+
+pub answered_unreadable : (t : Tables) (text : List ℕ) (r : Result (SignedValue Number) ReadError) → IsAnswered r (lenient_reading t text) → IsErrOf r Unreadable → IsUnreadable t text
+unfolding is_refused
+answered_unreadable t text (Ok v) answered is = absurd (false≢true (ap is_refused is))
+answered_unreadable t text (Err NotWritten) answered is = absurd (false≢true (ap is_refused is))
+answered_unreadable t text (Err Memory) answered is = absurd (false≢true (ap is_refused is))
+answered_unreadable t text (Err Unreadable) answered is = (lenient_is_unreadable t text).0 answered

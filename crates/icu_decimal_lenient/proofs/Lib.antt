@@ -1,0 +1,11 @@
+pub mod FillStepLemmas
+pub mod FilledLemmas
+pub mod FoldStepLemmas
+pub mod FoldingLemmas
+pub mod GroupingLemmas
+pub mod KnownFolds
+pub mod KnownLenient
+pub mod KnownLocales
+pub mod LenientLemmas
+pub mod LenientStepLemmas
+pub mod ReadableLemmas

@@ -1,0 +1,45 @@
+//! Laws of lenient reading. No call is made: each clause is the law.
+ghost use Rattle.icu_decimal_lenient.specs.LenientLaws.{EachGroupingIsLenient, ExactIsLenient, FoldOfTextIsText, GroupingsHaveOneDecimal, LenientIsTyped, LenientIsUnreadable, LenientMisses, SecondLeavesFirst, SecondReadsRest, TwoGroupingsAreEnough, WrittenReadsLeniently};
+
+/// The fold of a decimal's text is its text with the folded symbols: `1’234.5` of Switzerland is `1'234.5`.
+pub fn folds_are_texts()
+    ensures { FoldOfTextIsText }
+{}
+
+/// Each text of a decimal is one without groups, or one with all of them: in English that of 1234 is `1234` or `1,234`.
+pub fn two_groupings_are_enough()
+    ensures { TwoGroupingsAreEnough }
+{}
+
+/// Under readable symbols no two decimals are written alike, though the one is in groups and the other is not.
+pub fn groupings_have_one_decimal()
+    ensures { GroupingsHaveOneDecimal }
+{}
+
+/// What is read exactly is read leniently, as the same decimal, and so is what is read exactly under another grouping:
+/// in English `1,234` and `1234` are 1234.
+pub fn exact_is_lenient()
+    ensures same { ExactIsLenient }
+    ensures grouped { EachGroupingIsLenient }
+{}
+
+/// What a text is read as: a decimal only where the text is one of that decimal, none only where it is one of none, and
+/// unreadable exactly where the symbols do not tell. In English ` 1234.5 ` is 1234.5, and `1,23` is none.
+pub fn lenient_reading_is_the_reading()
+    ensures decimal { LenientIsTyped }
+    ensures none { LenientMisses }
+    ensures unreadable { LenientIsUnreadable }
+{}
+
+/// Under readable symbols a decimal that was written reads back leniently, with its sign and the digits shown: in
+/// English `1,234.50` as 1234.50.
+pub fn written_reads_leniently()
+    ensures { WrittenReadsLeniently }
+{}
+
+/// Second tables add to what is read, and change nothing of what the first ones read: with those of `ar-EG-u-nu-latn`
+/// after those of `ar-EG` also `1,234.5` is read.
+pub fn second_tables_only_add()
+    ensures first { SecondLeavesFirst }
+    ensures rest { SecondReadsRest }
+{}

@@ -1,0 +1,22 @@
+//! What people type, read: a text that is, folded, one that a formatter writes, grouped wholly or not at all.
+//!
+//! In English `1234.5`, ` 1,234.5 `, `.5` and `−5` with U+2212 are read, and `1,23` is not: nothing is dropped or
+//! guessed. The rules are in docs/reading.md.
+//!
+//! ```rust
+//! use icu_decimal_lenient::LenientTables;
+//!
+//! let kept = LenientTables::new(alloc, &tables)?;                     // once a form field
+//! let number = kept.read(alloc, " 1234.5 ")?;                         // 1234.5
+//! ```
+#![tactic(auto)]
+
+mod filling;
+mod folded;
+mod folding;
+pub mod laws;
+mod lenient;
+mod readable;
+
+pub use lenient::{LenientTables, read_lenient};
+pub use readable::is_leniently_readable;
