@@ -3,6 +3,7 @@
 
 pub use icu_decimal_compact::{laws as compact, table_laws as tables};
 pub use icu_decimal_compact_value::laws as shown;
+pub use icu_decimal_lenient::laws as lenient;
 pub use icu_decimal_patterns::laws as patterns;
 pub use icu_decimal_reading::laws as reading;
 

@@ -19,6 +19,7 @@
 pub mod error;
 pub mod input;
 pub mod laws;
+mod lenient;
 pub mod pattern;
 pub mod plurals;
 pub mod provider;
@@ -30,8 +31,10 @@ pub use icu_decimal_compact::{
     FormattedUnsignedCompactDecimal, preferences,
 };
 pub use icu_decimal_grouping::grouper;
+pub use icu_decimal_lenient::LenientTables;
 pub use icu_decimal_plain::{
     DecimalTables, FormattedDecimal, FormattedSign, FormattedUnsignedDecimal,
 };
 pub use icu_decimal_symbols::{Cow, options, parts};
+pub use lenient::{is_leniently_readable, read_lenient};
 pub use reading::{is_readable, read_plain, read_readable};

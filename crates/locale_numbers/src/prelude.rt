@@ -4,6 +4,7 @@
 pub use fixed_decimal::{Decimal, Sign};
 pub use icu_decimal::error::{ReadError, WriteFault};
 pub use icu_decimal::{AbstractFormatter, CompactDecimalFormatter, DecimalFormatter, read_plain};
+pub use icu_decimal::{LenientTables, read_lenient};
 pub use icu_locale_core::Locale;
 pub use locale_numbers_book::{Book, BookError, FormatterError, SAMPLE_BOOK};
 pub use writeable::{Affixed, Part, PartsSink, Sink, TextSink, Writeable};
