@@ -6,6 +6,16 @@ use crate::{copies, formatters, plurals, preferences, shown, tables};
 use rows::{Stop, Table};
 use std::alloc::Global;
 
+const NO_SIGNS: Signs<'static> = Signs {
+    minus: "",
+    plus: "",
+};
+
+const ENGLISH_SIGNS: Signs<'static> = Signs {
+    minus: "-",
+    plus: "+",
+};
+
 /// The table of the calls of `icu_decimal`.
 #[derive(Clone, Copy)]
 pub struct Calls {
@@ -42,6 +52,7 @@ fn answer_by(name: &str, passed: &[&str], out: &mut String) -> Result<(), Stop> 
         "preferences" => preferences::answer(passed, out),
         "options" => preferences::options(passed, out),
         "plain" => answer_by_marks(name, passed, out),
+        "read_lenient" | "read_kept" | "read_or_english" => answer_by_signs(name, passed, out),
         "under" => answer_under_marks(passed, out),
         _ => answer_by_formatter(name, passed, out),
     }
@@ -79,7 +90,35 @@ fn answer_by_marks<'r>(name: &'r str, fields: &'r [&'r str], out: &mut String) -
         grouping,
         rules: "",
         table: "",
-        marks: Some(Marks::of(Signs::None, decimal, group, sizes, digits)?),
+        marks: Some(Marks::of(NO_SIGNS, decimal, group, sizes, digits)?),
+        passed,
+    };
+    formatters::answer(call, out)
+}
+
+// The answer of a call of a plain formatter with separators, sizes, digits and prefixes of signs of its row.
+fn answer_by_signs<'r>(name: &'r str, fields: &'r [&'r str], out: &mut String) -> Result<(), Stop> {
+    let [
+        decimal,
+        group,
+        sizes,
+        digits,
+        minus,
+        plus,
+        grouping,
+        passed @ ..,
+    ] = fields
+    else {
+        return Err(Stop::Unknown);
+    };
+    let signs = Signs { minus, plus };
+    let call = FormatterCall {
+        name,
+        form: "plain",
+        grouping,
+        rules: "",
+        table: "",
+        marks: Some(Marks::of(signs, decimal, group, sizes, digits)?),
         passed,
     };
     formatters::answer(call, out)
@@ -109,7 +148,7 @@ fn answer_under_marks(fields: &[&str], out: &mut String) -> Result<(), Stop> {
         grouping,
         rules,
         table,
-        marks: Some(Marks::of(Signs::Before, decimal, group, sizes, digits)?),
+        marks: Some(Marks::of(ENGLISH_SIGNS, decimal, group, sizes, digits)?),
         passed,
     };
     formatters::answer(call, out)

@@ -5,7 +5,7 @@ use crate::marks::Marks;
 use crate::plurals::rules_of;
 use crate::refusals::{made, parsed};
 use crate::tables::{LATIN, OneLocale, table_of};
-use crate::{abstract_formatter, compact};
+use crate::{abstract_formatter, compact, typed};
 use fixed_decimal::Decimal;
 use icu_decimal::options::{
     CompactDecimalFormatterOptions, DecimalFormatterOptions, GroupingStrategy,
@@ -107,6 +107,9 @@ fn by_plain(
     let formatter = plain_of(provider, call.grouping, out)?;
     match call.passed {
         [number] if call.name == "plain" => put_plain(&formatter, number, out),
+        [text] if call.name.starts_with("read_") => {
+            typed::answer(&formatter, call.name, text, out)
+        }
         passed => abstract_formatter::answer(&formatter, provider.rules, call.name, passed, out),
     }
 }

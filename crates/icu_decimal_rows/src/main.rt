@@ -15,6 +15,7 @@ mod preferences;
 mod refusals;
 mod shown;
 mod tables;
+mod typed;
 mod with_unit;
 
 use calls::Calls;

@@ -11,26 +11,16 @@ pub struct Marks<'r> {
     decimal: &'r str,
     group: &'r str,
     sizes: GroupingSizes,
-    signs: Signs,
+    signs: Signs<'r>,
     /// The ten digits, that of zero first.
     pub digits: [char; 10],
 }
 
-/// The affixes of signs: none, or `-` and `+` in front.
+/// The prefixes of signs, which have no suffixes.
 #[derive(Clone, Copy)]
-pub enum Signs {
-    None,
-    Before,
-}
-
-impl Signs {
-    // The text in front of a number with this sign.
-    fn prefix(self, alloc: Global, sign: &str) -> Result<String, AllocError> {
-        match self {
-            Signs::None => Ok(String::new(alloc)),
-            Signs::Before => String::from_str(alloc, sign),
-        }
-    }
+pub struct Signs<'r> {
+    pub minus: &'r str,
+    pub plus: &'r str,
 }
 
 // The three sizes of `3,2,1`: primary, secondary and least.
@@ -69,7 +59,7 @@ fn digits_of(field: &str) -> Result<[char; 10], Stop> {
 impl<'r> Marks<'r> {
     /// The marks that fields spell, with these signs.
     pub fn of(
-        signs: Signs,
+        signs: Signs<'r>,
         decimal: &'r str,
         group: &'r str,
         sizes: &str,
@@ -91,8 +81,8 @@ impl<'r> Marks<'r> {
             Err(_) => return Err(Stop::Unknown),
         };
         let (decimal_separator, grouping_separator) = self.separators(alloc)?;
-        let minus_sign_prefix = self.signs.prefix(alloc, "-")?;
-        let plus_sign_prefix = self.signs.prefix(alloc, "+")?;
+        let minus_sign_prefix = String::from_str(alloc, self.signs.minus)?;
+        let plus_sign_prefix = String::from_str(alloc, self.signs.plus)?;
         let texts = DecimalSymbolStrsBuilder {
             minus_sign_prefix,
             minus_sign_suffix: String::new(alloc),
