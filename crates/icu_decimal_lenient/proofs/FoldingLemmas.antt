@@ -5,7 +5,8 @@ use Rattle.std.proofs.lemmas.List.{length-map}
 use Rattle.std.proofs.lemmas.List.Elements.{filter_map-append}
 use Rattle.std.proofs.lemmas.Str.{chars_from_encodes, chars-encodes, scalars-chars, chars-nil}
 use Rattle.std.proofs.Math.Utf8.{scalars}
-use Rattle.std.specs.List.{cons_option}
+use Rattle.std.specs.Char.{IsScalar}
+use Rattle.std.specs.List.{AllByRecursion, cons_option}
 use Rattle.std.specs.Int.Digits.{AllBelowBase}
 use Rattle.std.specs.Str.{IsUtf8, chars}
 use lib.Utf8.{encodes, scalar, low_scalar}
@@ -83,9 +84,13 @@ chars_folded ds text ten utf8 = chars-encodes (folded_chars ds (chars text)) (fo
 pub folded_utf8 : (ds text : List ℕ) → length ds ≡ 10 → IsUtf8 text → IsUtf8 (folded_text ds text)
 folded_utf8 ds text ten utf8 = (folded_chars ds (chars text), (folded_scalars ds (chars text) ten (scalars-chars text utf8), refl))
 
+plain_scalars : AllByRecursion IsScalar plain_digits
+plain_scalars = (refl, (refl, (refl, (refl, (refl, (refl, (refl, (refl, (refl, (refl, tt))))))))))
+
 pub are_folded : (t : Tables) (strategy : GroupingStrategy) → AreTables t → AreTables (folded_tables strategy t)
 are_folded t strategy are = record {
   ten = refl;
+  digits = plain_scalars;
   minus_prefix = folded_utf8 t.digits t.symbols.strings.minus_sign_prefix are.ten are.minus_prefix;
   minus_suffix = folded_utf8 t.digits t.symbols.strings.minus_sign_suffix are.ten are.minus_suffix;
   plus_prefix = folded_utf8 t.digits t.symbols.strings.plus_sign_prefix are.ten are.plus_prefix;
@@ -95,7 +100,7 @@ are_folded t strategy are = record {
 }
 
 pub are_alike : (t : Tables) → AreTables t → AreTables (folded_alike t)
-are_alike t are = let folds = are_folded t t.strategy are in record { ten = refl; minus_prefix = folds.minus_prefix; minus_suffix = folds.minus_suffix; plus_prefix = folds.plus_prefix; plus_suffix = folds.plus_suffix; point = folds.point; group = folds.group }
+are_alike t are = let folds = are_folded t t.strategy are in record { ten = refl; digits = folds.digits; minus_prefix = folds.minus_prefix; minus_suffix = folds.minus_suffix; plus_prefix = folds.plus_prefix; plus_suffix = folds.plus_suffix; point = folds.point; group = folds.group }
 
 -- ---- the characters of a number
 

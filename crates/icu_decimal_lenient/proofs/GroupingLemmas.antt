@@ -79,7 +79,7 @@ two_groupings t v = by (is_grouped t.strategy t.symbols.grouping_sizes (count_of
 -- ---- under two groupings a text has one decimal
 
 pub are_under : (t : Tables) (strategy : GroupingStrategy) → AreTables t → AreTables (under strategy t)
-are_under t strategy are = record { ten = are.ten; minus_prefix = are.minus_prefix; minus_suffix = are.minus_suffix; plus_prefix = are.plus_prefix; plus_suffix = are.plus_suffix; point = are.point; group = are.group }
+are_under t strategy are = record { ten = are.ten; digits = are.digits; minus_prefix = are.minus_prefix; minus_suffix = are.minus_suffix; plus_prefix = are.plus_prefix; plus_suffix = are.plus_suffix; point = are.point; group = are.group }
 
 head_same : (x y : ℕ) (xs ys : List ℕ) → x ∷ xs ≡ y ∷ ys → x ≡ y
 head_same x y xs ys e = cc

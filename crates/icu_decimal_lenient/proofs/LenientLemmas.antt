@@ -35,7 +35,7 @@ second_reading t text v (decimal w) are readable utf8 is written e =
     ap decimal (groupings_one t Never Always w v are readable plain.decimal is (plain.written ∙ sym written))
 
 pub are_grouped : (t : Tables) (strategy : GroupingStrategy) → AreTables t → AreTables (grouped_as strategy t)
-are_grouped t strategy are = record { ten = are.ten; minus_prefix = are.minus_prefix; minus_suffix = are.minus_suffix; plus_prefix = are.plus_prefix; plus_suffix = are.plus_suffix; point = are.point; group = are.group }
+are_grouped t strategy are = record { ten = are.ten; digits = are.digits; minus_prefix = are.minus_prefix; minus_suffix = are.minus_suffix; plus_prefix = are.plus_prefix; plus_suffix = are.plus_suffix; point = are.point; group = are.group }
 
 -- the text of a decimal, under any grouping
 pub either_again : (t : Tables) (text : List ℕ) (v : SignedValue Number) → AreTables t → is_readable_by t ≡ true → IsUtf8 text → IsDecimal v → decimal_text t v ≡ text
@@ -77,7 +77,7 @@ each_grouping_is_lenient t strategy text v are utf8 readable e = by (plain_readi
         ap decimal (groupings_one t t.strategy strategy w v are holds own.decimal other.decimal (own.written ∙ sym other.written))
 
 pub written_reads_leniently : WrittenReadsLeniently
-written_reads_leniently t v are readable is utf8 = exact_is_lenient t (decimal_text t v) v (reads_back t v are readable is utf8)
+written_reads_leniently t v are readable is = exact_is_lenient t (decimal_text t v) v (reads_back t v are readable is)
 
 -- ---- what is read leniently is a text of the decimal
 

@@ -65,7 +65,7 @@ LenientIsUnreadable = (t : Tables) (text : List ℕ) → (lenient_reading t text
 -- what the formatter writes is read leniently as the decimal that it writes
 abbrev pub WrittenReadsLeniently : Type 0
 WrittenReadsLeniently = (t : Tables) (v : SignedValue Number) → AreTables t → is_readable_by t ≡ true → IsDecimal v
-    → IsUtf8 (decimal_text t v) → lenient_reading t (decimal_text t v) ≡ decimal v
+    → lenient_reading t (decimal_text t v) ≡ decimal v
 
 -- with second tables, what the first ones read is read as before
 abbrev pub SecondLeavesFirst : Type 0
