@@ -23,8 +23,10 @@ fn last_separator(text: &[u8], separator: u8) -> Option<usize>
     memrchr(separator, text)
 }
 
-// The first piece of a text, and what stands behind its separator, where it ends with one.
-pub(crate) fn cut_field(text: &[u8], separator: u8) -> (&[u8], Option<&[u8]>)
+/// The first piece of a text, and what follows its separator, where it ends with one.
+///
+/// Cut at tabs, `de`, a tab and `plain` is `de` and `plain`, and `de` is `de` and nothing. It does not allocate.
+pub fn cut_field(text: &[u8], separator: u8) -> (&[u8], Option<&[u8]>)
     ensures { MatchOption result.1 (cut_at separator text.now ≡ result.0.now ∷ [])
         (λ rest. cut_at separator text.now ≡ result.0.now ∷ cut_at separator rest.now) }
 {

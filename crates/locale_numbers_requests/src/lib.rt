@@ -21,7 +21,7 @@ mod rounding_field;
 mod sign_field;
 mod word_table;
 
-pub use cutting::cut_last;
+pub use cutting::{cut_field, cut_last};
 pub use digits::{are_digits, capped_number};
 pub use refusal::Refusal;
 pub use request::{Form, PatternLength, Request, as_text, is_text, read_request};
