@@ -1,0 +1,3 @@
+mod KnownValues
+mod LineLemmas
+mod RoundingLemmas

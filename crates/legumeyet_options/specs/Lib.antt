@@ -1,0 +1,5 @@
+pub mod Fields
+pub mod Line
+pub mod LocaleName
+pub mod Outcomes
+pub mod Roundings

@@ -1,0 +1,76 @@
+//! What help says after the options.
+
+/// The end of `legumeyet -h`.
+pub const AFTER_HELP: &str =
+    "Example: legumeyet --tag de 1234567.891 prints 1.234.567,891. --help says more.";
+
+/// The end of `legumeyet --help`: tags, numbers, parts, lines, statuses, examples.
+pub const AFTER_LONG_HELP: &str = "\
+Tags:
+  --tag takes a locale tag, as de or ar-EG-u-nu-thai, or the name of a locale, as LANG and setlocale
+  have it: de_DE is taken as de-DE, what follows a dot or an at sign is left out, as in de_DE.UTF-8,
+  and C and POSIX are taken as en. Without --tag, or with no TAG after it, the name is that of the
+  environment: of LC_ALL, LC_NUMERIC or LANG, the first that is not empty, else C. Put -- between
+  --tag without a TAG and a number. The tag of a line of --lines is a locale tag: write de-DE, not
+  de_DE.
+
+Numbers:
+  A number is written as 1234567.891, -0.5 or 1.5e6; for exact-short and exact-long as 1.20c6, which
+  is 1.20 million; for --form read it is a text, as 1.234.567,891. Words after -- are no options:
+  -- -1.20c6. With - the numbers are those of standard input, a line each.
+
+Rounding:
+  --round -2 rounds to hundredths, 0 to whole numbers, 3 to thousands. A mode may follow, and then an
+  increment: -2,floor and -2,half-even,5. The modes are expand, trunc, ceil, floor, half-expand,
+  half-trunc, half-ceil, half-floor and half-even, the increments 1, 2, 5 and 25. Without them it is
+  half-even and 1. Exact forms and texts that are read are not rounded.
+
+Lines:
+  A line of --lines has six fields with tabs between: tag, form, grouping, sign, rounding and number.
+  The first five have the words of the options; a rounding is - for none, or has all of its three
+  words. The answer to a line is ok, a tab and the text, for short and long also a tab and the value
+  that is shown; or err, a tab and the first of these words that applies:
+
+    shape        the line does not have six fields of known words
+    tag          the tag is no locale tag
+    number       the text is no decimal number
+    limit        the number has a digit or an exponent beyond magnitudes -32768 to 32767
+    table        the book has no tables for the tag
+    range        the value shown, or an exact form, reaches beyond these magnitudes
+    exponent     numbers of this magnitude are shown with another exponent
+    unreadable   two numbers may have one text under the tag's symbols
+    not-written  no number is written so under this tag and grouping
+
+Statuses:
+  0  all is written; of --lines, each line has an answer, which may be err
+  1  a number or a text is refused: a line on standard error says why, and the others are written
+  2  the words are wrong
+  3  the file of --book can't be read
+  4  the file of --book is no book
+  5  standard input or output failed
+  6  out of memory
+
+Examples:
+  $ legumeyet --tag de 1234567.891
+  1.234.567,891
+
+  $ legumeyet --tag de --form long 1234567
+  1,2 Millionen
+
+  $ legumeyet --tag de --round -2 --parts -1234.567
+  -1.234,57
+    minusSign -
+    integer 1.234
+    group .
+    decimal ,
+    fraction 57
+
+  $ legumeyet --tag de --read 1.234.567,891
+  1234567.891
+
+  $ printf '1234.5\\n-7\\n' | legumeyet --tag hi-u-nu-deva -
+  १,२३४.५
+  -७
+
+  $ printf 'de\\tshort\\tauto\\tkeep\\t-\\t1234567\\n' | legumeyet --lines
+  ok\t1,2 Mio.\t12c5";

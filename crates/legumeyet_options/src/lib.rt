@@ -1,0 +1,18 @@
+//! What the words of the command `legumeyet` ask for: its options, the tag of a locale's name, and the request line of a
+//! number.
+
+#![tactic(auto)]
+
+mod fields;
+mod help;
+pub mod laws;
+mod locale_name;
+mod options;
+mod outcome;
+mod rounding;
+
+pub use fields::{Fields, front_of, is_asked, put_line};
+pub use locale_name::tag_of_name;
+pub use options::command;
+pub use outcome::text_said;
+pub use rounding::whole_rounding;
