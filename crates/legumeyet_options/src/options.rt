@@ -83,7 +83,7 @@ fn parts<'a>(alloc: Global) -> Result<Arg<'a>, AllocError> {
     Arg::new(alloc, "parts")
         .long("parts")
         .action(ArgAction::SetTrue)
-        .help("Prints the parts of each text after it, in plain, short or long form")
+        .help("Prints each text and then its parts, a line each, in plain, short or long form")
         .conflicts_with("read")
 }
 
@@ -131,7 +131,9 @@ fn capacity<'a>(alloc: Global) -> Result<Arg<'a>, AllocError> {
         .value_parser(ValueParser::unsigned(1, 65_535))
         .default_value("512")
         .help("How many formatters are kept for --lines, from 1 to 65535")
-        .requires_arg("lines")
+        .conflicts_with("numbers")?
+        .conflicts_with("read")?
+        .conflicts_with("locales")
 }
 
 fn numbers<'a>(alloc: Global) -> Result<Arg<'a>, AllocError> {
