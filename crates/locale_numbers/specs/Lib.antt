@@ -11,6 +11,7 @@ pub mod Program
 pub mod KeptFormatters
 pub mod Front
 pub mod LineState
+pub mod KeptAnswers
 -- Statements of laws.
 pub mod SameKeys
 pub mod Laws
@@ -53,6 +54,7 @@ pub use Rattle.locale_numbers_answers.specs.ReadAnswer
 pub use Rattle.locale_numbers_answers.specs.Rounded
 -- Of the inner crates: lines, readers and writers.
 pub use Rattle.locale_numbers_lines.specs.ByteIo
+pub use Rattle.locale_numbers_lines.specs.Growth
 pub use Rattle.locale_numbers_lines.specs.Laws as LineLaws
 pub use Rattle.locale_numbers_lines.specs.Lines
 pub use Rattle.locale_numbers_lines.specs.Outcomes

@@ -14,6 +14,7 @@
 #![tactic(auto)]
 
 mod answering;
+mod answers;
 mod exact_answer;
 mod fault;
 mod formatter_key;
@@ -34,12 +35,14 @@ mod tables;
 mod words;
 
 pub use answering::answer;
+pub use answers::Answers;
 pub use fault::ProgramFault;
 pub use locale_numbers_book::{Book, BookError, FormatterError, SAMPLE_BOOK};
 pub use locale_numbers_lines::{
     ByteReadFault, ByteReader, ByteWriteFault, ByteWriter, Report, RunError, Tracked,
 };
 pub use locale_numbers_requests::{Form, PatternLength, RoundingAsked, SignAsked};
+pub use locale_numbers_world::{WORLD_BOOK, WORLD_LOCALES, world_tags, world_text};
 pub use program_run::program;
 pub use running::run;
 pub use starting::start;

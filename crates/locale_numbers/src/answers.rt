@@ -1,0 +1,77 @@
+//! Answers to lines that come one by one, by formatters that are kept.
+
+ghost use Rattle.std.specs.Prelude.{◌≡◌, ◌≤◌, ◌++◌, IfOk, OnOk, OnErr, string_bytes};
+ghost use Rattle.locale_numbers_lines.specs.Growth.{Grows};
+ghost use Rattle.locale_numbers.specs.Answer.{answer_of};
+
+use crate::kept::Kept;
+use crate::kept_formatter::FormatterMaker;
+use crate::line_answerer::LineAnswerer;
+use crate::tables::Tables;
+use fixed_decimal::Decimal;
+use locale_numbers_cache::{FormatterCache, ReadKeys};
+use locale_numbers_lines::Answerer;
+use std::alloc::{AllocError, Global};
+use std::marker::Model;
+
+/// What answers lines by a book, and keeps the formatters that it made: for a caller that has its lines one by one, where
+/// [`run`](crate::run) wants a reader of them.
+///
+/// A clause sees the book.
+#[derive(Drop)]
+pub struct Answers<'a, T: Tables> {
+    tables: &'a T,
+    answerer: LineAnswerer<'a, T>,
+}
+
+impl<'a, T: Tables> Model for Answers<'a, T> {
+    ghost use Rattle.locale_numbers_book.specs.Book.{BookTables};
+    ghost use Rattle.locale_numbers.specs.KeptAnswers.{IsAnswerer};
+
+    ghost Value = { BookTables };
+
+    ghost view = { λ s. T.book s.tables.now };
+
+    // What answers has what it keeps by its own tables, and answers as these do.
+    ghost invariant = { λ s. IsAnswerer (T.book s.tables.now) (T.book s.answerer.kept.maker.tables.now)
+        s.answerer.kept.formatters s.answerer.read s.answerer.is_held };
+}
+
+impl<'a, T: Tables> Answers<'a, T> {
+    /// The answers of a book, which keep the `capacity` formatters that were used last, 1 at least.
+    ///
+    /// Allocates. `AllocError`: out of memory.
+    pub fn new(alloc: Global, tables: &'a T, capacity: usize) -> Result<Answers<'a, T>, AllocError>
+        requires room { 1 ≤ capacity }
+        ensures book { IfOk result (λ answers. answers ≡ T.book tables.now) }
+    {
+        let formatters = FormatterCache::new(alloc, capacity)?;
+        let kept = Kept {
+            maker: FormatterMaker { tables },
+            formatters,
+        };
+        Ok(Answers {
+            tables,
+            answerer: LineAnswerer {
+                alloc,
+                kept,
+                read: ReadKeys::new(alloc)?,
+                is_held: false,
+                value: Decimal::zero(alloc),
+            },
+        })
+    }
+
+    /// Writes the answer to a line, without a line feed, after what `out` holds: that of [`answer`](crate::answer).
+    ///
+    /// Of the sample book `en`, `plain`, `auto`, `keep`, `-` and `1234.5` with tabs between give `ok`, a tab and
+    /// `1,234.5`. Allocates where the formatter is not kept, and for the text. `AllocError`: out of memory; a part of the
+    /// answer may then be written.
+    pub fn answer_onto(&mut self, line: &[u8], out: &mut String) -> Result<(), AllocError>
+        ensures text { OnOk result (string_bytes out.new ≡ string_bytes out.old ++ answer_of self.old line.now) }
+        ensures same { self.new ≡ self.old }
+        ensures err { OnErr result (Grows (string_bytes out.old) (string_bytes out.new)) }
+    {
+        self.answerer.answer_onto(line, out)
+    }
+}
