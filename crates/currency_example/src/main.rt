@@ -1,11 +1,11 @@
-//! Writes amounts of money and percents, by a plain or a compact formatter.
+//! Writes amounts of money and percents for German, Hindi and Arabic readers, by a plain or a compact formatter.
 
 #![tactic(auto)]
 
 use anyhow::Result;
-use locale_numbers::prelude::{AbstractFormatter, Affixed, Book, Decimal, SAMPLE_BOOK};
+use locale_numbers::prelude::{AbstractFormatter, Affixed, Book, Decimal, world_text};
 
-/// Prints a number between a unit's two texts, and its sign round all: `-€1,234.50`, `12.5 %`.
+/// Prints a number between a unit's two texts, and its sign round all: `-1.234,50 €`, `-₹9,87,654`.
 fn print_unit<F: AbstractFormatter>(
     rt: &HostRuntime,
     formatter: &F,
@@ -26,17 +26,21 @@ fn print_unit<F: AbstractFormatter>(
     Ok(())
 }
 
-/// Prints money, a percent, and money in short form, as English readers write them.
+/// Prints money, whole and in short form, and a percent, as German, Hindi and Arabic readers write them.
 fn print_all(rt: &HostRuntime, book: &Book) -> Result<()> {
-    let plain = book.formatter(rt.alloc(), "en")?;
-    print_unit(rt, &plain, "€", "-1234.50", "")?;
-    print_unit(rt, &plain, "", "12.5", " %")?;
-    let short = book.short_formatter(rt.alloc(), "en")?;
-    print_unit(rt, &short, "€", "1234.50", "")
+    let german = book.formatter(rt.alloc(), "de")?;
+    print_unit(rt, &german, "", "-1234.50", " €")?;
+    print_unit(rt, &german, "", "12.5", " %")?;
+    let hindi = book.formatter(rt.alloc(), "hi")?;
+    print_unit(rt, &hindi, "₹", "-987654", "")?;
+    let short_hindi = book.short_formatter(rt.alloc(), "hi")?;
+    print_unit(rt, &short_hindi, "₹", "-987654", "")?;
+    let arabic = book.formatter(rt.alloc(), "ar-EG")?;
+    print_unit(rt, &arabic, "", "1234.50", " ج.م.")
 }
 
 fn main(rt: HostRuntime) -> Result<()> {
-    let book = Book::from_json(rt.alloc(), SAMPLE_BOOK.as_bytes())?;
+    let book = Book::from_json(rt.alloc(), world_text().as_bytes())?;
     let printed = print_all(&rt, &book);
     drop(book);
     printed

@@ -1,10 +1,11 @@
-//! Writes a number for English readers, whole, in its parts and short, and reads what they type.
+//! Writes a number for German readers, in its parts too, and reads what they type; writes it for Hindi and Arabic readers,
+//! whole and short.
 
 #![tactic(auto)]
 
 use anyhow::Result;
 use locale_numbers::prelude::{
-    Book, Decimal, DecimalFormatter, PartsSink, ReadError, SAMPLE_BOOK, Writeable, read_plain,
+    Book, Decimal, DecimalFormatter, PartsSink, ReadError, Writeable, read_plain, world_text,
 };
 
 /// A report: the number's text, and each part of it.
@@ -28,22 +29,30 @@ fn print_field(rt: &HostRuntime, plain: &DecimalFormatter<'_>, typed: &str) -> R
     Ok(())
 }
 
-/// Both, and a label of a chart: the number in short form, where that can show it.
-fn print_all(rt: &HostRuntime, book: &Book, number: &Decimal) -> Result<()> {
-    let plain = book.formatter(rt.alloc(), "en")?;
-    print_parts(rt, &plain, number)?;
-    print_field(rt, &plain, "1,234.50")?;
-    print_field(rt, &plain, "98,7654")?;
-    let short = book.short_formatter(rt.alloc(), "en")?;
+/// A label of a chart: the number whole, and in short form, where that can show it.
+fn print_label(rt: &HostRuntime, book: &Book, tag: &str, number: &Decimal) -> Result<()> {
+    let plain = book.formatter(rt.alloc(), tag)?;
+    println!(rt; "{}", plain.format(number))?;
+    let short = book.short_formatter(rt.alloc(), tag)?;
     if short.can_format(number) {
         println!(rt; "{}", short.format_to_string(rt.alloc(), number)?)?;
     }
     Ok(())
 }
 
+/// All of them, by a book of all locales.
+fn print_all(rt: &HostRuntime, book: &Book, number: &Decimal) -> Result<()> {
+    let german = book.formatter(rt.alloc(), "de")?;
+    print_parts(rt, &german, number)?;
+    print_field(rt, &german, "1.234,50")?;
+    print_field(rt, &german, "98.7654")?;
+    print_label(rt, book, "hi", number)?;
+    print_label(rt, book, "ar-EG", number)
+}
+
 fn main(rt: HostRuntime) -> Result<()> {
     let number = Decimal::try_from_str(rt.alloc(), "-987654.321")?;
-    let book = Book::from_json(rt.alloc(), SAMPLE_BOOK.as_bytes())?;
+    let book = Book::from_json(rt.alloc(), world_text().as_bytes())?;
     let printed = print_all(&rt, &book, &number);
     drop(book);
     printed
