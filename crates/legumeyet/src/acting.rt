@@ -1,0 +1,255 @@
+//! What the words ask for.
+
+use crate::book_text::{book_of, read_text};
+use crate::environment::tag_for;
+use crate::input::put_input;
+use crate::numbers::{Asked, put_number, put_texts};
+use crate::report::{tell_fields, tell_parts, tell_tag};
+use clap::ArgMatches;
+use legumeyet_options::{Fields, front_of, is_asked, whole_rounding};
+use locale_numbers::{
+    Answers, Book, ProgramFault, RunError, Tracked, WORLD_LOCALES, run, world_text,
+};
+use std::alloc::{AllocError, Global};
+use std::io::Write;
+
+// How many formatters a call keeps: one to write and one to read.
+const KEPT: usize = 2;
+
+// A word of an option, or another where it has none.
+fn word<'a>(matches: &ArgMatches<'a>, id: &str, other: &'static str) -> &'a str {
+    match matches.get_str(id) {
+        Some(text) => text,
+        None => other,
+    }
+}
+
+// What is asked for by a book: the words, the tag, and the front of each number's and each text's request line.
+#[derive(Clone, Copy)]
+struct Fronts<'m, 'a> {
+    matches: &'m ArgMatches<'a>,
+    tag: &'m str,
+    front: &'m str,
+    reading: &'m str,
+}
+
+// How many formatters are kept for request lines.
+fn capacity_of(matches: &ArgMatches<'_>) -> usize {
+    match matches.get_one::<u16>("capacity") {
+        Some(capacity) => usize::from(capacity).max(1),
+        None => 512,
+    }
+}
+
+// Answers the request lines of standard input.
+fn answer_lines(
+    rt: &HostRuntime,
+    book: &Book,
+    matches: &ArgMatches<'_>,
+) -> Result<u8, ProgramFault> {
+    let mut reader = Tracked::new(rt.stdin());
+    let mut writer = Tracked::new(rt.stdout());
+    match run(
+        rt.alloc(),
+        book,
+        capacity_of(matches),
+        &mut reader,
+        &mut writer,
+    ) {
+        Ok(_) => Ok(0),
+        Err(fault) => Err(ProgramFault::Run(fault)),
+    }
+}
+
+// Writes the numbers of the words; `-` stands for those of standard input. Returns the status.
+fn put_words(
+    rt: &HostRuntime,
+    answers: &mut Answers<'_, Book>,
+    asked: &Asked<'_>,
+    numbers: &[&str],
+) -> Result<u8, ProgramFault> {
+    let mut status = 0u8;
+    let mut out = rt.stdout();
+    for number in numbers {
+        status |= if *number == "-" {
+            put_input(rt, answers, asked)?
+        } else {
+            put_number(rt, answers, asked, number.as_bytes(), &mut out)?
+        };
+    }
+    Ok(status)
+}
+
+// Writes the numbers of the texts to be read, and returns the status.
+fn put_read(
+    rt: &HostRuntime,
+    answers: &mut Answers<'_, Book>,
+    fronts: &Fronts<'_, '_>,
+) -> Result<u8, ProgramFault> {
+    let asked = Asked {
+        tag: fronts.tag,
+        front: fronts.reading.as_bytes(),
+        parts: None,
+    };
+    match fronts.matches.get_strs("read") {
+        Some(texts) => put_texts(rt, answers, &asked, texts, &mut rt.stdout()),
+        None => Ok(0),
+    }
+}
+
+// Writes the numbers that are to be written, and returns the status.
+fn put_written(
+    rt: &HostRuntime,
+    book: &Book,
+    answers: &mut Answers<'_, Book>,
+    fronts: &Fronts<'_, '_>,
+) -> Result<u8, ProgramFault> {
+    let parts = if fronts.matches.get_flag("parts") {
+        Some(book)
+    } else {
+        None
+    };
+    let asked = Asked {
+        tag: fronts.tag,
+        front: fronts.front.as_bytes(),
+        parts,
+    };
+    match fronts.matches.get_strs("numbers") {
+        Some(numbers) => put_words(rt, answers, &asked, numbers),
+        None => Ok(0),
+    }
+}
+
+// Writes what is read and what is written, in this order, and returns the status.
+fn put_all(
+    rt: &HostRuntime,
+    book: &Book,
+    answers: &mut Answers<'_, Book>,
+    fronts: &Fronts<'_, '_>,
+) -> Result<u8, ProgramFault> {
+    let read = put_read(rt, answers, fronts)?;
+    let written = put_written(rt, book, answers, fronts)?;
+    Ok(read | written)
+}
+
+// Does what is asked for by a book, and returns the status.
+fn act_by(rt: &HostRuntime, book: &Book, fronts: &Fronts<'_, '_>) -> Result<u8, ProgramFault> {
+    if fronts.matches.get_flag("lines") {
+        return answer_lines(rt, book, fronts.matches);
+    }
+    match Answers::new(rt.alloc(), book, KEPT) {
+        Ok(mut answers) => {
+            let done = put_all(rt, book, &mut answers, fronts);
+            drop(answers);
+            done
+        }
+        Err(_) => Err(ProgramFault::Run(RunError::Memory)),
+    }
+}
+
+// Does what is asked for by the book of a text, and returns the status.
+fn act_by_text(rt: &HostRuntime, text: &[u8], fronts: &Fronts<'_, '_>) -> Result<u8, ProgramFault> {
+    match book_of(rt.alloc(), text) {
+        Ok(book) => {
+            let done = act_by(rt, &book, fronts);
+            drop(book);
+            done
+        }
+        Err(fault) => Err(fault),
+    }
+}
+
+// Does what is asked for by the book that the words name, or by that of all locales.
+fn act_asked(rt: &HostRuntime, fronts: &Fronts<'_, '_>) -> Result<u8, ProgramFault> {
+    match fronts.matches.get_str("book") {
+        None => act_by_text(rt, world_text().as_bytes(), fronts),
+        Some(path) => match read_text(rt, path) {
+            Ok(text) => act_by_text(rt, &text, fronts),
+            Err(fault) => Err(fault),
+        },
+    }
+}
+
+// The front of each number's request line.
+fn front_by(alloc: Global, matches: &ArgMatches<'_>, tag: &str) -> Result<String, AllocError> {
+    let rounding = whole_rounding(alloc, word(matches, "round", "-"))?;
+    let fields = Fields {
+        tag,
+        form: word(matches, "form", "plain"),
+        grouping: word(matches, "grouping", "auto"),
+        sign: word(matches, "sign", "keep"),
+        rounding: rounding.as_str(),
+    };
+    front_of(alloc, &fields)
+}
+
+// The front of each request line of a text that is read.
+fn reading_by(alloc: Global, matches: &ArgMatches<'_>, tag: &str) -> Result<String, AllocError> {
+    let fields = Fields {
+        tag,
+        form: "read",
+        grouping: word(matches, "grouping", "auto"),
+        sign: "keep",
+        rounding: "-",
+    };
+    front_of(alloc, &fields)
+}
+
+// The tag and the two fronts that the words say.
+fn make_fronts(rt: &HostRuntime, matches: &ArgMatches<'_>) -> Result<[String; 3], AllocError> {
+    let tag = tag_for(rt, matches.get_str("tag"))?;
+    let front = front_by(rt.alloc(), matches, tag.as_str())?;
+    let reading = reading_by(rt.alloc(), matches, tag.as_str())?;
+    Ok([tag, front, reading])
+}
+
+// Whether a form writes a number as it is asked for, so that its text has parts.
+fn has_parts(form: &str) -> bool {
+    form == "plain" || form == "short" || form == "long"
+}
+
+// Does what the words ask for by a book, where their fronts are those of requests, and returns the status.
+fn act_checked(rt: &HostRuntime, fronts: &Fronts<'_, '_>) -> Result<u8, ProgramFault> {
+    let form = word(fronts.matches, "form", "plain");
+    if !is_asked(fronts.reading.as_bytes()) {
+        return Ok(tell_tag(rt));
+    }
+    if !is_asked(fronts.front.as_bytes()) {
+        let sign = word(fronts.matches, "sign", "keep");
+        let rounding = word(fronts.matches, "round", "-");
+        return Ok(tell_fields(rt, form, sign, rounding));
+    }
+    if fronts.matches.get_flag("parts") && !has_parts(form) {
+        return Ok(tell_parts(rt, form));
+    }
+    act_asked(rt, fronts)
+}
+
+// Lists the locales of the book of all locales.
+fn list_locales(rt: &HostRuntime) -> Result<u8, ProgramFault> {
+    match rt.stdout().write_all(WORLD_LOCALES.as_bytes()) {
+        Ok(()) => Ok(0),
+        Err(_) => Err(ProgramFault::Run(RunError::Write)),
+    }
+}
+
+/// Does what the words ask for, and returns the status.
+pub fn act(rt: &HostRuntime, matches: &ArgMatches<'_>) -> Result<u8, ProgramFault> {
+    if matches.get_flag("locales") {
+        return list_locales(rt);
+    }
+    let texts = match make_fronts(rt, matches) {
+        Ok(texts) => texts,
+        Err(_) => return Err(ProgramFault::Run(RunError::Memory)),
+    };
+    let [tag, front, reading] = &texts;
+    act_checked(
+        rt,
+        &Fronts {
+            matches,
+            tag: tag.as_str(),
+            front: front.as_str(),
+            reading: reading.as_str(),
+        },
+    )
+}

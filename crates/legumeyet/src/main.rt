@@ -1,0 +1,58 @@
+//! Writes numbers as the readers of a locale write them, and reads such texts back: `legumeyet --tag de 1234567.891`.
+
+#![tactic(auto)]
+
+mod acting;
+mod book_text;
+mod environment;
+mod input;
+mod numbers;
+mod parts;
+mod report;
+
+use acting::act;
+use clap::ArgMatches;
+use legumeyet_options::command;
+use report::{tell_fault, tell_usage, tell_words};
+use std::alloc::Global;
+use std::env;
+use std::process::ExitCode;
+
+// What the words say, or why they are wrong; help and the version are such errors too.
+fn parsed<'a>(alloc: Global, words: &'a [String]) -> Result<ArgMatches<'a>, clap::Error> {
+    command(alloc)?.try_get_matches_from(words)
+}
+
+// The status of a call by these words.
+fn status_of(rt: &HostRuntime, words: &[String]) -> u8 {
+    match parsed(rt.alloc(), words) {
+        Ok(matches) => {
+            let done = act(rt, &matches);
+            drop(matches);
+            match done {
+                Ok(status) => status,
+                Err(fault) => tell_fault(rt, &fault),
+            }
+        }
+        Err(error) => {
+            let status = tell_usage(rt, &error);
+            drop(error);
+            status
+        }
+    }
+}
+
+fn main(rt: HostRuntime) -> ExitCode {
+    let all = match env::args(&rt) {
+        Ok(all) => all,
+        Err(_) => return ExitCode::from(tell_words(&rt)),
+    };
+    match all.collect::<Vec<String>>(rt.alloc()) {
+        Ok(words) => {
+            let status = status_of(&rt, &words);
+            drop(words);
+            ExitCode::from(status)
+        }
+        Err(_) => ExitCode::from(6),
+    }
+}
