@@ -1,5 +1,7 @@
 //! What the words ask for.
 
+ghost use Rattle.std.specs.Prelude.{◌≤◌};
+
 use crate::book_text::{book_of, read_text};
 use crate::environment::tag_for;
 use crate::input::put_input;
@@ -34,7 +36,9 @@ struct Fronts<'m, 'a> {
 }
 
 // How many formatters are kept for request lines.
-fn capacity_of(matches: &ArgMatches<'_>) -> usize {
+fn capacity_of(matches: &ArgMatches<'_>) -> usize
+    ensures room { 1 ≤ result }
+{
     match matches.get_one::<u16>("capacity") {
         Some(capacity) => usize::from(capacity).max(1),
         None => 512,

@@ -1,5 +1,7 @@
 //! The parts of a number's text.
 
+ghost use Rattle.std.specs.Prelude.{◌≡◌, false};
+
 use fixed_decimal::ParseError;
 use icu_decimal::options::{CompactDecimalFormatterOptions, DecimalFormatterOptions};
 use icu_decimal::{CompactDecimalFormatter, DecimalFormatter, DecimalFormatterPreferences};
@@ -59,7 +61,9 @@ fn fill_plain(
     request: &Request<'_>,
     number: &Decimal,
     sink: &mut PartsSink,
-) -> Result<(), AllocError> {
+) -> Result<(), AllocError>
+    requires ready { sink.old.refused ≡ false }
+{
     let options = DecimalFormatterOptions::from(request.grouping);
     let Ok(formatter) = DecimalFormatter::try_new_unstable(book, preferences, options) else {
         return Ok(());
@@ -75,7 +79,9 @@ fn fill_compact(
     formatter: &CompactDecimalFormatter<'_>,
     number: &Decimal,
     sink: &mut PartsSink,
-) -> Result<(), AllocError> {
+) -> Result<(), AllocError>
+    requires ready { sink.old.refused ≡ false }
+{
     if !formatter.can_format(number) {
         return Ok(());
     }
@@ -94,7 +100,9 @@ fn fill_by_length(
     request: &Request<'_>,
     number: &Decimal,
     sink: &mut PartsSink,
-) -> Result<(), AllocError> {
+) -> Result<(), AllocError>
+    requires ready { sink.old.refused ≡ false }
+{
     let options = CompactDecimalFormatterOptions::from(request.grouping);
     let made = match length {
         PatternLength::Short => {
@@ -117,7 +125,9 @@ fn fill(
     request: &Request<'_>,
     number: &Decimal,
     sink: &mut PartsSink,
-) -> Result<(), AllocError> {
+) -> Result<(), AllocError>
+    requires ready { sink.old.refused ≡ false }
+{
     match request.form {
         Form::Plain => fill_plain(book, preferences, request, number, sink),
         Form::Compact(length) => {
@@ -134,7 +144,9 @@ fn fill_text(
     front: &[u8],
     text: &[u8],
     sink: &mut PartsSink,
-) -> Result<(), AllocError> {
+) -> Result<(), AllocError>
+    requires ready { sink.old.refused ≡ false }
+{
     let Some(request) = read_request(front) else {
         return Ok(());
     };
