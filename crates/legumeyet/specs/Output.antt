@@ -1,6 +1,6 @@
 -- What is written for numbers: the text of each answer with a line feed after it, in order; nothing for a refusal.
 -- Defined in docs/command.md, "Output".
--- Cited by `put_texts` and the steps of it.
+-- Cited by `put_number`, `put_texts` and the steps of them.
 use Rattle.std.specs.Prelude.{ℕ, List, [], ◌∷◌, ◌++◌, Option, Some, None}
 use Rattle.legumeyet_options.specs.Outcomes.{text_said}
 use Rattle.locale_numbers.specs.Answer.{answer_of}

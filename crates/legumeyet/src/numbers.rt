@@ -1,6 +1,6 @@
 //! Numbers and texts, of the words or of standard input, written line by line.
 
-ghost use Rattle.std.specs.Prelude.{◌≡◌, ◌++◌, ◌∷◌, [], IfOk, OnOk, map, string_bytes};
+ghost use Rattle.std.specs.Prelude.{◌≡◌, ◌++◌, ◌∷◌, [], None, IfOk, OnOk, map, string_bytes};
 ghost use Rattle.std.specs.Io.KnownBytes.{Appends};
 ghost use Rattle.locale_numbers.specs.Answer.{answer_of};
 ghost use Rattle.legumeyet.specs.Output.{line_feed, lines_shown, shown, status_said};
@@ -128,7 +128,11 @@ pub fn put_number<W: Write>(
     asked: &Asked<'_>,
     text: &[u8],
     out: &mut W,
-) -> Result<u8, ProgramFault> {
+) -> Result<u8, ProgramFault>
+    ensures output { asked.now.parts ≡ None → OnOk result (Appends (W.contents out.old) (W.contents out.new)
+        (shown (answer_of answers.old (asked.now.front.now ++ text.now)))) }
+    ensures same { answers.new ≡ answers.old }
+{
     let status = put_one(rt, answers, asked, text, out)?;
     match asked.parts {
         Some(book) if status == 0 => put_parts(rt, book, asked.front, text, out)?,
