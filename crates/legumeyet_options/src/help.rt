@@ -73,4 +73,4 @@ Examples:
   -७
 
   $ printf 'de\\tshort\\tauto\\tkeep\\t-\\t1234567\\n' | legumeyet --lines
-  ok\t1,2 Mio.\t12c5";
+  ok\t1,2 Mio.\t1.2c6";

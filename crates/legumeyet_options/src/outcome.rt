@@ -8,7 +8,7 @@ use locale_numbers_requests::cut_field;
 
 /// The text that an answer has, without the value shown after it, or `None` where it is a refusal.
 ///
-/// Of `ok`, `1,2 Mio.` and `12c5` with tabs between it is `1,2 Mio.`. It does not allocate.
+/// Of `ok`, `1,2 Mio.` and `1.2c6` with tabs between it is `1,2 Mio.`. It does not allocate.
 pub fn text_said(answer: &[u8]) -> Option<&[u8]>
     ensures value { option_map (λ text. text.now) result ≡ text_said (fields answer.now) }
 {
