@@ -61,6 +61,9 @@ extern "C" {
 /* The version of this header: functions and numbers are added, and none of them ever changes its meaning. */
 #define LEGUMEYET_VERSION 1
 
+/* The minor version, which rises when a function or a number is added. */
+#define LEGUMEYET_MINOR 0
+
 /* The two arguments that a text with a NUL at its end is given by. */
 #define LEGUMEYET_TEXT(text) (const uint8_t *)(text), strlen(text)
 

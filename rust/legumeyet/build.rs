@@ -1,4 +1,5 @@
-//! Links the library in the folder that LEGUMEYET_LIBRARY names, statically; without it the shared one of the machine.
+//! Links the library in the folder that LEGUMEYET_LIBRARY names, statically; without it that of the crate, where it has one for the target,
+//! and else the shared one of the machine.
 
 use std::env;
 use std::path::{Path, PathBuf};
@@ -12,19 +13,31 @@ fn folder_of(path: &Path) -> PathBuf {
     }
 }
 
-fn main() {
+/// The folder with the library that LEGUMEYET_LIBRARY names, if it is set.
+fn named_folder() -> Option<PathBuf> {
     // LEGUMEYET_LIB is the older name
     let names = ["LEGUMEYET_LIBRARY", "LEGUMEYET_LIB"];
     names.iter().for_each(|name| println!("cargo:rerun-if-env-changed={name}"));
-    match names.iter().find_map(|name| env::var_os(name).filter(|it| !it.is_empty())) {
-        Some(named) => {
-            let folder = folder_of(Path::new(&named));
-            let is_there = folder.is_absolute() && folder.join("liblegumeyet.a").is_file();
-            assert!(
-                is_there,
-                "LEGUMEYET_LIBRARY is the absolute path of a folder that has liblegumeyet.a, and {} is not",
-                folder.display()
-            );
+    let named = names.iter().find_map(|name| env::var_os(name).filter(|it| !it.is_empty()))?;
+    let folder = folder_of(Path::new(&named));
+    let is_there = folder.is_absolute() && folder.join("liblegumeyet.a").is_file();
+    assert!(
+        is_there,
+        "LEGUMEYET_LIBRARY is the absolute path of a folder that has liblegumeyet.a, and {} is not",
+        folder.display()
+    );
+    Some(folder)
+}
+
+/// The folder with the library for the target that a released crate has.
+fn own_folder() -> Option<PathBuf> {
+    let (crate_folder, target) = (env::var_os("CARGO_MANIFEST_DIR")?, env::var_os("TARGET")?);
+    Some(Path::new(&crate_folder).join("lib").join(target)).filter(|it| it.join("liblegumeyet.a").is_file())
+}
+
+fn main() {
+    match named_folder().or_else(own_folder) {
+        Some(folder) => {
             println!("cargo:rerun-if-changed={}", folder.join("liblegumeyet.a").display());
             println!("cargo:rustc-link-search=native={}", folder.display());
             println!("cargo:rustc-link-lib=static=legumeyet");

@@ -76,7 +76,7 @@ fn compact_text(compact: &CompactDecimalFormatter, form: &str, number: &str, opt
 
 /// The text for a request by the call of a formatter, where one does what is asked.
 fn text_for(book: &Book, fields: &[&str]) -> Option<Result<String, Error>> {
-    let [tag, form, grouping, sign, rounding, number] = *fields else { return None };
+    let [tag, form, grouping, sign, rounding, number] = <[&str; 6]>::try_from(fields).ok()?;
     let (grouping, options) = (grouping_of(grouping)?, options_of(sign, rounding)?);
     let plain = || DecimalFormatter::from_book(book, tag, grouping);
     match form {

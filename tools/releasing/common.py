@@ -1,0 +1,108 @@
+"""The version of what is released, the commit that it is made of, and commands that end in one line."""
+import functools
+import gzip
+import io
+import os
+import pathlib
+import re
+import subprocess
+
+from launching.common import COMMAND, TOP, Fault
+
+TOP = pathlib.Path(TOP)
+HEADER = TOP / "include/legumeyet.h"
+
+
+def said_by(*words, **how):
+    """What a command says in its one line. Raises a Fault with its last words where it fails."""
+    words = [str(word) for word in words]
+    try:
+        ran = subprocess.run(words, cwd=TOP, stdin=subprocess.DEVNULL, stdout=subprocess.PIPE, stderr=subprocess.PIPE, check=False, **how)
+    except FileNotFoundError:
+        raise Fault(f"the command {words[0]} is not on the PATH") from None
+    if ran.returncode:
+        last = ((ran.stderr.strip() or ran.stdout.strip()).decode(errors="replace").splitlines() or ["it said nothing"])[-1]
+        name = os.path.basename(words[0])
+        raise Fault(last if last.startswith(f"{name}: ") else f"{name} failed: {last}")
+    return ran.stdout.decode().strip()
+
+
+@functools.lru_cache
+def commit(form):
+    """What the last commit has, in a form of `git log`."""
+    return said_by("git", "log", "-1", f"--format={form}")
+
+
+@functools.lru_cache
+def is_changed():
+    """Whether a file of the commit was changed since."""
+    return bool(said_by("git", "status", "--porcelain", "--untracked-files=no"))
+
+
+@functools.lru_cache
+def header_version():
+    """The version of the header for C, with its minor number, as `1.0`."""
+    text = HEADER.read_text(encoding="utf-8")
+    return ".".join(re.search(rf"^#define LEGUMEYET_{name} (\d+)$", text, re.M)[1] for name in ("VERSION", "MINOR"))
+
+
+@functools.lru_cache
+def version():
+    """The version of packages: that of the header, and how many commits there are up to this one. So each commit on another has a higher
+    version. Where files were changed since, `+changed` is added."""
+    return f"{header_version()}.{said_by('git', 'rev-list', '--count', 'HEAD')}{'+changed' if is_changed() else ''}"
+
+
+def stamped(text):
+    """The text of pyproject.toml or Cargo.toml, with the version of packages in place of its own, whose first number has to agree."""
+    own = re.search(r'^version = "(\d+)[\d.]*"$', text, re.M)
+    if not own or own[1] != header_version().partition(".")[0]:
+        raise Fault(f"a version of the packages for Python and Rust is not that of {HEADER.relative_to(TOP)}")
+    return f'{text[:own.start()]}version = "{version()}"{text[own.end():]}'
+
+
+def committed(folder):
+    """The files of the repository below a folder, by their paths from it. What git does not know is left out."""
+    listed = said_by("git", "ls-files", "-z", "--", folder).split("\0")
+    return {os.path.relpath(path, folder): (TOP / path).read_bytes() for path in listed if path}
+
+
+def licences():
+    """The licences of what is inside: that of the code, and that of CLDR's data, of which the world's book is made."""
+    return {path.name: path.read_bytes() for path in (TOP / "LICENSE", TOP / "books/LICENSE-Unicode")}
+
+
+def newest_glibc(*files):
+    """The newest version of glibc that programs and libraries ask for, as `2.34`."""
+    named = " ".join(said_by("objdump", "-T", it) for it in files)
+    return max(re.findall(r"\bGLIBC_(\d+\.\d+)", named), key=lambda it: [int(number) for number in it.split(".")])
+
+
+def program_of(named):
+    """The path of the program that a word names, or of the proved command. Raises a Fault where it is not built of the sources as they are."""
+    if named is None:
+        return said_by(TOP / "locale_numbers", "--built", COMMAND)
+    if not os.path.isfile(named):
+        raise Fault(f"{named} is no file")
+    return os.path.abspath(named)
+
+
+def library_of(named, folder, archive=None):
+    """The folder that a word names, or one with the library as tools/build_c makes it, of the archive of the proved crate or of another."""
+    if named is not None:
+        if not os.path.isfile(f"{named}/liblegumeyet.a"):
+            raise Fault(f"{named} has no liblegumeyet.a: it is no folder of tools/build_c")
+        return os.path.abspath(named)
+    words = ["--archive", os.path.abspath(archive)] if archive else []
+    ran = subprocess.run([TOP / "tools/build_c", *words, folder / "library"], stdin=subprocess.DEVNULL, check=False)
+    if ran.returncode:
+        raise Fault("tools/build_c made no library")
+    return str(folder / "library")
+
+
+def compressed(data):
+    """Bytes as gzip has them, without a time and a name."""
+    raw = io.BytesIO()
+    with gzip.GzipFile(filename="", mode="wb", compresslevel=9, fileobj=raw, mtime=0) as file:
+        file.write(data)
+    return raw.getvalue()
