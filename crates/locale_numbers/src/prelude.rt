@@ -3,8 +3,10 @@
 
 pub use fixed_decimal::{Decimal, Sign};
 pub use icu_decimal::error::{ReadError, WriteFault};
-pub use icu_decimal::{AbstractFormatter, CompactDecimalFormatter, DecimalFormatter, read_plain};
-pub use icu_decimal::{LenientTables, read_lenient};
+pub use icu_decimal::{
+    AbstractFormatter, CompactDecimalFormatter, DecimalFormatter, LenientTables, read_lenient,
+    read_plain,
+};
 pub use icu_locale_core::Locale;
 pub use locale_numbers_book::{Book, BookError, FormatterError, SAMPLE_BOOK};
 pub use locale_numbers_world::{WORLD_BOOK, WORLD_LOCALES, world_tags, world_text};
