@@ -5,6 +5,7 @@ pub mod LanguageTextLemmas
 pub mod NormalizingLemmas
 pub mod OneVariantReader
 pub mod OneVariantSteps
+pub mod SeenLemmas
 pub mod SingleFrontLemmas
 pub mod SingleLawLemmas
 pub mod SingleStageLemmas

@@ -1,17 +1,26 @@
--- Pieces spell a set exactly where each is of it, none stands twice, and each of it is there.
-use Rattle.std.proofs.Common.{◌≡◌, Bool, true, false, not, ◌||◌, ◌⊎◌, inl, inr, List, [], ◌∷◌, map, sym, refl, ap, ◌∙◌, subst}
-use Rattle.std.specs.Prelude.{IsTrue, ◌↔◌}
+-- Pieces spell a set exactly where they are as many as its texts and each of these is one of them.
+use Rattle.std.proofs.Common.{◌≡◌, ℕ, suc, ◌≤◌, Bool, true, false, ◌&&◌, ◌||◌, ◌⊎◌, inl, inr, List, [], ◌∷◌, length, map, sym, refl, ap, ◌∙◌, subst, arith}
+use Rattle.std.specs.Prelude.{IsTrue, ◌↔◌, ◌==◌}
 use Rattle.std.specs.List.{AllByRecursion, IsDistinct, list_all}
 use Rattle.std.specs.Char.{to_ascii_lowercase}
 use Rattle.std.specs.Cmp.{both_ways}
-use Rattle.std.proofs.lemmas.Bool.{and_parts, and_from, or_parts, or_right, not-true, false≢true}
+use Rattle.std.specs.Cmp.Lexicographic.{nat_list_eq_equiv}
+use Rattle.std.specs.Set.{distinct_count}
+use Rattle.std.proofs.lemmas.Bool.{and_parts, and_from, or_parts, or_right, false≢true, eqb-true}
+use Rattle.std.proofs.lemmas.List.{length-map}
+use Rattle.std.proofs.lemmas.Map.Made.{length-le_from_is_member, length-from_keys, IsDistinct-from_count, distinct_count-from_IsDistinct}
 use Rattle.icu_locale_core_grammar.specs.Subtags.{Text, is_variant, same_text, lower}
 use Rattle.icu_locale_core_grammar.specs.Collections.{AreApart, Rises, contains_text, set_of}
 use Rattle.icu_locale_core_grammar.specs.WellFormed.{AreLower}
 use Rattle.icu_locale_core_grammar.proofs.CaseLemmas.{lower_keeps, variant_changed}
-use Rattle.icu_locale_core_grammar.proofs.CollectionLemmas.{same_text_equal, none_same}
+use Rattle.icu_locale_core_grammar.proofs.CollectionLemmas.{same_text_equal}
+use Rattle.icu_locale_core_grammar.proofs.NormalBodies.{apart_from_rising}
 use Rattle.icu_locale_core_grammar.proofs.SetLemmas.{contains_first, contains-set_of, Rises-set_of, rising_same}
-use Rattle.icu_locale_core_langid.specs.Spelling.{SpellsSet, is_among, stand_once, stands_in}
+use Rattle.icu_locale_core_langid.specs.Spelling.{IsVariantSet, SpellsSet, stands_in}
+
+-- the piece is a variant of the set
+abbrev pub is_among : List Text → Text → Bool
+is_among set p = is_variant p && contains_text (lower p) set
 
 -- ---- what a list contains
 
@@ -25,35 +34,11 @@ contains_cases q t ts e = by (same_text q t) refl e
     by true is f = inl (same_text_equal q t is)
     by false is f = inr f
 
--- ---- pieces that stand once
-
 each_differs : (t : Text) (us : List Text) → contains_text t us ≡ false → AllByRecursion (λ u. same_text t u ≡ false) us
 each_differs t [] e = tt
 each_differs t (u ∷ us) e = let f = or_parts (same_text t u) (contains_text t us) e in (f.0, each_differs t us f.1)
 
-once_apart : (ps : List Text) → stand_once ps ≡ true → AreApart (map lower ps)
-unfolding IsDistinct
-once_apart [] e = tt
-once_apart (p ∷ ps) e =
-    let f = and_parts (not (contains_text (lower p) (map lower ps))) (stand_once ps) e in
-    (each_differs (lower p) (map lower ps) (not-true (contains_text (lower p) (map lower ps)) f.0), once_apart ps f.1)
-
-apart_once : (ps : List Text) → AreApart (map lower ps) → stand_once ps ≡ true
-unfolding IsDistinct
-apart_once [] apart = refl
-apart_once (p ∷ ps) apart =
-    and_from (not (contains_text (lower p) (map lower ps))) (stand_once ps) (ap not (none_same (lower p) (map lower ps) apart.0)) (apart_once ps apart.1)
-
 -- ---- where the tests pass, the set is spelled
-
-from_pieces : (q : Text) (set ps : List Text) → list_all (is_among set) ps ≡ true → contains_text q (map lower ps) ≡ true → contains_text q set ≡ true
-from_pieces q set [] all there = cc
-from_pieces q set (p ∷ ps) all there =
-    let f = and_parts (is_among set p) (list_all (is_among set) ps) all in
-    elim (contains_cases q (lower p) (map lower ps) there) [
-      | inl e ↦ subst (λ t. contains_text t set ≡ true) (sym e) (and_parts (is_variant p) (contains_text (lower p) set) f.0).1
-      | inr more ↦ from_pieces q set ps f.1 more
-    ]
 
 from_set : (q : Text) (ps vs : List Text) → AreLower is_variant vs → list_all (stands_in ps) vs ≡ true → contains_text q vs ≡ true → contains_text q (map lower ps) ≡ true
 from_set q ps [] normal all there = cc
@@ -64,12 +49,45 @@ from_set q ps (v ∷ vs) normal all there =
       | inr more ↦ from_set q ps vs normal.1 f.1 more
     ]
 
-pub set_spelled : (ps set : List Text) → Rises set → AreLower is_variant set → list_all (is_among set) ps ≡ true → stand_once ps ≡ true → list_all (stands_in ps) set ≡ true → SpellsSet ps set
-set_spelled ps set rises normal among once all = record {
-  apart = once_apart ps once;
-  same = rising_same (set_of (map lower ps)) set (Rises-set_of (map lower ps)) rises
-      (λ q. contains-set_of q (map lower ps) ∙ both_ways (contains_text q (map lower ps)) (contains_text q set) (from_pieces q set ps among) (from_set q ps set normal all));
-}
+-- as many texts as a set has, with each of it among them, are those of the set
+set_apart : (set : List Text) (q : Text) → Rises set → contains_text q set ≡ false → AreApart (q ∷ set)
+unfolding IsDistinct
+set_apart set q rises none = (each_differs q set none, apart_from_rising set rises)
+
+module _ (set ts : List Text) (rises : Rises set) (all : (q : Text) → contains_text q set ≡ true → contains_text q ts ≡ true) (many : length ts ≡ length set) where
+  none_besides : (q : Text) → contains_text q ts ≡ true → contains_text q set ≡ false → ⊥
+  none_besides q there none =
+      let each : (r : Text) → contains_text r (q ∷ set) ≡ true → contains_text r ts ≡ true =
+      λ r e. elim (contains_cases r q set e) [
+        | inl same ↦ subst (λ t. contains_text t ts ≡ true) (sym same) there
+        | inr more ↦ all r more
+      ] in
+      let long : suc (length set) ≤ length ts = length-le_from_is_member nat_list_eq_equiv (q ∷ set) ts (set_apart set q rises none) each in
+      omega (arith, many)
+
+  only_those : (q : Text) → contains_text q ts ≡ true → contains_text q set ≡ true
+  only_those q there = by (contains_text q set) refl
+    where
+      by : (b : Bool) → contains_text q set ≡ b → b ≡ true
+      by true e = refl
+      by false e = absurd (none_besides q there e)
+
+  pub same_texts : (q : Text) → contains_text q set ≡ contains_text q ts
+  same_texts q = both_ways (contains_text q set) (contains_text q ts) (all q) (only_those q)
+
+  pub texts_apart : AreApart ts
+  texts_apart =
+      let count : length set ≡ distinct_count same_text ts = length-from_keys nat_list_eq_equiv set ts (apart_from_rising set rises) same_texts in
+      IsDistinct-from_count nat_list_eq_equiv ts (sym count ∙ sym many)
+
+  pub texts_are_set : set_of ts ≡ set
+  texts_are_set = rising_same (set_of ts) set (Rises-set_of ts) rises (λ q. contains-set_of q ts ∙ sym (same_texts q))
+
+pub set_spelled : (ps set : List Text) → IsVariantSet set → length ps ≡ length set → list_all (stands_in ps) set ≡ true → SpellsSet ps set
+set_spelled ps set held many all =
+    let there : (q : Text) → contains_text q set ≡ true → contains_text q (map lower ps) ≡ true = λ q e. from_set q ps set held.each all e in
+    let count : length (map lower ps) ≡ length set = length-map ps lower ∙ many in
+    record { apart = texts_apart set (map lower ps) held.rises there count; same = texts_are_set set (map lower ps) held.rises there count }
 
 -- ---- and only there
 
@@ -106,24 +124,25 @@ module _ (ps set : List Text) (normal : AreLower is_variant set) (spells : Spell
       let there : contains_text (lower p) set ≡ true = sym (contained (lower p)) ∙ e in
       and_from (is_variant p) (contains_text (lower p) set) (sym (variant_changed to_ascii_lowercase lower_keeps p) ∙ member_is (lower p) set normal there) there)
 
-  pub pieces_once : stand_once ps ≡ true
-  pieces_once = apart_once ps spells.apart
-
   pub set_there : list_all (stands_in ps) set ≡ true
   set_there = every_text (stands_in ps) set (λ v e. ap (λ t. contains_text t (map lower ps)) (stays_lower v set normal e) ∙ contained v ∙ e)
 
--- ---- the three tests together
+  pub as_many : Rises set → length ps ≡ length set
+  as_many rises =
+      sym (length-map ps lower) ∙ sym (distinct_count-from_IsDistinct nat_list_eq_equiv (map lower ps) spells.apart)
+      ∙ sym (length-from_keys nat_list_eq_equiv set (map lower ps) (apart_from_rising set rises) (λ q. sym (contained q)))
 
-pub not_among : (ps set : List Text) → AreLower is_variant set → false ≡ list_all (is_among set) ps → SpellsSet ps set → ⊥
-not_among ps set normal fails spells = false≢true (fails ∙ pieces_among ps set normal spells)
+-- ---- the two tests together
 
-pub not_once : (ps set : List Text) → AreLower is_variant set → false ≡ stand_once ps → SpellsSet ps set → ⊥
-not_once ps set normal fails spells = false≢true (fails ∙ pieces_once ps set normal spells)
+equal_counts : (m n : ℕ) → m ≡ n → (m == n) ≡ true
+equal_counts m n e = grind arith
 
-pub spelled_by_last : (ps set : List Text) (r : Bool) → Rises set → AreLower is_variant set → true ≡ list_all (is_among set) ps → true ≡ stand_once ps → r ≡ list_all (stands_in ps) set
-    → IsTrue r ↔ SpellsSet ps set
-spelled_by_last ps set r rises normal among once last =
-    (λ yes. set_spelled ps set rises normal (sym among) (sym once) (sym last ∙ yes), λ spells. last ∙ set_there ps set normal spells)
+pub not_as_many : (ps set : List Text) → IsVariantSet set → false ≡ (length ps == length set) → SpellsSet ps set → ⊥
+not_as_many ps set held fails spells = false≢true (fails ∙ equal_counts (length ps) (length set) (as_many ps set held.each spells held.rises))
+
+pub spelled_by_last : (ps set : List Text) (r : Bool) → IsVariantSet set → true ≡ (length ps == length set) → r ≡ list_all (stands_in ps) set → IsTrue r ↔ SpellsSet ps set
+spelled_by_last ps set r held many last =
+    (λ yes. set_spelled ps set held (eqb-true (length ps) (length set) (sym many)) (sym last ∙ yes), λ spells. last ∙ set_there ps set held.each spells)
 
 pub answer_no : {A : Type 0} → (A → ⊥) → IsTrue false ↔ A
 answer_no none = (λ e. absurd (false≢true e), λ a. absurd (none a))

@@ -13,8 +13,8 @@ use Rattle.icu_locale_core_grammar.specs.TagStages.{language_after, language_end
 use Rattle.icu_locale_core_grammar.proofs.CaseLemmas.{lower_keeps, variant_changed, lower-lower, lowered_twice, lower-title, lower-upper}
 use Rattle.icu_locale_core_grammar.proofs.CaseSteps.{language_ignores, alike_means}
 use Rattle.icu_locale_core_grammar.proofs.LanguageReader.{language_reader}
-use Rattle.icu_locale_core_langid.specs.Spelling.{IsBehind, Takes, SpellsSet, is_among}
-use Rattle.icu_locale_core_langid.proofs.SpelledSetLemmas.{pieces_among, answer_no}
+use Rattle.icu_locale_core_langid.specs.Spelling.{IsBehind, Takes, SpellsSet}
+use Rattle.icu_locale_core_langid.proofs.SpelledSetLemmas.{is_among, pieces_among, answer_no}
 
 -- ---- what is behind is one list
 

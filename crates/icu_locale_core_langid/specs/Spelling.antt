@@ -1,9 +1,10 @@
 -- When pieces spell a language identifier that is given: part by part, whatever the case, the variants in any order.
 -- Defined in docs/tags.md, "Language identifiers as values"; that these are the pieces which mean it is proved.
 -- Cited by the private calls of `LanguageIdentifier::normalizing_eq`.
-use Rattle.std.specs.Prelude.{◌≡◌, Bool, true, false, not, ◌&&◌, List, [], ◌∷◌, ◌++◌, map}
+use Rattle.std.specs.Prelude.{◌≡◌, ℕ, ◌<◌, Bool, true, false, List, ◌++◌, length, map, slice_index_or}
 use Rattle.icu_locale_core_grammar.specs.Subtags.{Text, is_variant, lower}
 use Rattle.icu_locale_core_grammar.specs.Collections.{AreApart, contains_text, set_of}
+use Rattle.icu_locale_core_subtag_lists.specs.SubtagSets.{IsSubtagSet}
 
 -- the pieces begin with these texts but for case, and `rest` is behind them
 pub record IsBehind (ts ps rest : List Text) : Type 0 where
@@ -21,16 +22,16 @@ pub record SpellsSet (ps set : List Text) : Type 0 where
   pub apart : AreApart (map lower ps)
   pub same : set_of (map lower ps) ≡ set
 
--- ---- the three tests of it
+-- ---- the tests of it
 
--- the piece is a variant of the set
-abbrev pub is_among : List Text → Text → Bool
-is_among set p = is_variant p && contains_text (lower p) set
+-- the texts are variants in lower case, and rise
+abbrev pub IsVariantSet : List Text → Type 0
+IsVariantSet vs = IsSubtagSet is_variant lower vs
 
--- no piece occurs twice
-abbrev pub stand_once : List Text → Bool
-stand_once [] = true
-stand_once (p ∷ ps) = not (contains_text (lower p) (map lower ps)) && stand_once ps
+-- the text is at i
+pub record IsAt (t : Text) (us : List Text) (i : ℕ) : Type 0 where
+  pub within : i < length us
+  pub there : (d : Text) → slice_index_or us i d ≡ t
 
 -- the text is one of the pieces
 abbrev pub stands_in : List Text → Text → Bool

@@ -1,12 +1,12 @@
 //! Whether a text reads as a given language identifier; nothing allocates.
 
-ghost use Rattle.std.specs.Prelude.{◌≡◌, ◌↔◌, [], ◌∷◌, map, option_to_list, IsTrue};
+ghost use Rattle.std.specs.Prelude.{◌≡◌, ◌==◌, ◌<◌, ◌≤◌, ◌^◌, ◌↔◌, false, [], ◌∷◌, length, option_to_list, IsTrue, MatchOption};
 ghost use Rattle.std.specs.List.{list_all};
 ghost use Rattle.icu_locale_core_grammar.specs.Subtags.{lower};
 ghost use Rattle.icu_locale_core_grammar.specs.Collections.{contains_text};
 ghost use Rattle.icu_locale_core_grammar.specs.Pieces.{pieces};
 ghost use Rattle.icu_locale_core_grammar.specs.LanguagePart.{MeansLanguage};
-ghost use Rattle.icu_locale_core_langid.specs.Spelling.{Takes, SpellsSet, is_among, stand_once, stands_in};
+ghost use Rattle.icu_locale_core_langid.specs.Spelling.{IsAt, IsVariantSet, Takes, SpellsSet, stands_in};
 
 use crate::language_identifier::LanguageIdentifier;
 use crate::laws::identifiers_read_back;
@@ -36,57 +36,70 @@ fn takes_optional<R: SubtagRule<N>, const N: usize>(
     }
 }
 
-// Whether the text is one of the pieces but for case.
-fn stands_among(text: &[u8], pieces: SubtagIterator<'_>) -> bool
-    ensures { result ≡ contains_text (lower text.now) (map lower pieces.entry) }
-{
-    for piece in pieces {
-        if text.eq_ignore_ascii_case(piece) {
-            return true;
-        }
-    }
-    false
-}
+// How many variants one pass over the pieces looks for.
+const WINDOW: usize = 4096;
 
-// Whether no piece occurs twice, whatever its case.
-fn stand_apart(pieces: SubtagIterator<'_>) -> bool
-    ensures { result ≡ stand_once pieces.entry }
+// Whether there are this many pieces; no more of them are looked at.
+fn are_as_many(pieces: SubtagIterator<'_>, count: usize) -> bool
+    ensures { result ≡ (length pieces.entry == count) }
 {
-    let mut behind = pieces.again();
-    for piece in pieces {
-        behind.next();
-        if stands_among(piece, behind.again()) {
+    let mut left = count;
+    for _piece in pieces {
+        if left == 0 {
             return false;
         }
+        left -= 1;
     }
-    true
+    left == 0
 }
 
-// Whether each piece is a variant of the set.
-fn are_of(pieces: SubtagIterator<'_>, set: &Variants) -> bool
-    ensures { result ≡ list_all (is_among set.now) pieces.entry }
+// The index of the piece among these variants, where it is one of them.
+fn index_of(piece: &[u8], variants: &[Variant]) -> Option<usize>
+    requires { IsVariantSet variants.now }
+    ensures { MatchOption result (contains_text (lower piece.now) variants.now ≡ false)
+        (IsAt (lower piece.now) variants.now) }
 {
+    match Variant::try_from_utf8(piece) {
+        Ok(variant) => variants.binary_search(&variant).ok(),
+        Err(_) => None,
+    }
+}
+
+// Whether every mark is set.
+fn are_set(marks: &[bool]) -> bool
+    ensures { result ≡ list_all (λ mark. mark) marks.now }
+{
+    marks.iter().all(|mark| *mark)
+}
+
+// Whether each of these variants, N at most, is one of the pieces; it passes over the pieces once.
+fn are_among<const N: usize>(variants: &[Variant], pieces: SubtagIterator<'_>) -> bool
+    requires few { length variants.now ≤ N }
+    requires held { N < 2 ^ 63 }
+    requires set { IsVariantSet variants.now }
+    ensures { result ≡ list_all (stands_in pieces.entry) variants.now }
+{
+    let mut seen = [false; N];
     for piece in pieces {
-        match Variant::try_from_utf8(piece) {
-            Ok(variant) => {
-                if !set.contains(&variant) {
-                    return false;
-                }
-            }
-            Err(_) => return false,
+        if let Some(index) = index_of(piece, variants) {
+            seen[index] = true;
         }
     }
-    true
+    are_set(&seen[..variants.len()])
 }
 
-// Whether each variant is one of the pieces.
+// Whether each of these variants is one of the pieces.
 fn are_there(variants: &[Variant], pieces: &SubtagIterator<'_>) -> bool
+    requires { IsVariantSet variants.now }
     ensures { result ≡ list_all (stands_in pieces.now) variants.now }
 {
-    for variant in variants {
-        if !stands_among(variant.as_str().as_bytes(), pieces.again()) {
+    let mut rest = variants;
+    while !rest.is_empty() {
+        let (window, behind) = rest.split_at(rest.len().min(WINDOW));
+        if !are_among::<WINDOW>(window, pieces.again()) {
             return false;
         }
+        rest = behind;
     }
     true
 }
@@ -96,18 +109,18 @@ fn spell_set(pieces: &SubtagIterator<'_>, set: &Variants) -> bool
     ensures { IsTrue result ↔ SpellsSet pieces.now set.now }
 {
     let variants = set.as_slice();
-    if !are_of(pieces.again(), set) {
-        return false;
-    }
-    if !stand_apart(pieces.again()) {
+    if !are_as_many(pieces.again(), variants.len()) {
         return false;
     }
     are_there(variants, pieces)
 }
 
 impl LanguageIdentifier {
-    /// Whether the text reads as this identifier: `EN-latn` and `en-Latn` do as `en-Latn`, `en` does not. It does not
-    /// allocate.
+    /// Whether the text reads as this identifier: `EN-latn` and `en-Latn` do as `en-Latn`, `en` does not.
+    ///
+    /// The variants may be in any order. It does not allocate. A text with another count of variants is refused after
+    /// one pass; else it passes over the text once for every 4,096 variants, and a piece costs the logarithm of their
+    /// count.
     pub fn normalizing_eq(&self, other: &str) -> bool
         ensures { IsTrue result ↔ MeansLanguage (pieces other.now) self.now }
     {

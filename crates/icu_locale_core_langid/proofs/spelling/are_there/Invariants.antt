@@ -1,7 +1,13 @@
-use Rattle.std.proofs.Common.{◌≡◌, drop}
+use Rattle.std.proofs.Common.{◌≡◌, length}
 use Rattle.std.specs.List.{list_all}
-use Rattle.icu_locale_core_langid.specs.Spelling.{stands_in}
+use Rattle.icu_locale_core_langid.specs.Spelling.{IsVariantSet, stands_in}
 use Rattle.icu_locale_core_langid.proofs.spelling.are_there.Given as goal
 
-abbrev pub invariant-loop-variant : goal.invariant-loop-variant
-invariant-loop-variant l = list_all (stands_in l.pieces) (drop l.variant-index l.variants) ≡ list_all (stands_in l.pieces) l.variants
+abbrev pub invariant-loop-rest : goal.invariant-loop-rest
+invariant-loop-rest l = record {
+  set : IsVariantSet l.rest;
+  same : list_all (stands_in l.pieces) l.rest ≡ list_all (stands_in l.pieces) l.variants;
+}
+
+abbrev pub decreases-loop-rest : goal.decreases-loop-rest
+decreases-loop-rest l = length l.rest
