@@ -46,6 +46,11 @@ pub fault_before_extension : tag_may_grow (pieces (codes "de-toolongpiece-u-ca-b
 unfolding whole_after headed_after body_after with_piece
 fault_before_extension = refl
 
+-- a piece at fault behind a keyword, which is then not kept
+pub fault_behind_keyword : tag_may_grow (pieces (codes "en-u-nu-toolongpiece")) ≡ false
+unfolding whole_after headed_after body_after with_piece
+fault_behind_keyword = refl
+
 -- ---- memory
 
 pub keyword_kept : tag_may_grow (pieces (codes "en-u-ca")) ≡ true

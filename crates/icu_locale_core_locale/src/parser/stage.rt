@@ -1,7 +1,7 @@
 //! The stages of a tag that is being read.
 
-ghost use Rattle.std.specs.Prelude.{◌≡◌, ◌<◌, ℕ, List, [], true, false, None, Some, length, IfOk, IsOk, MatchOption};
-ghost use Rattle.icu_locale_core_grammar.specs.Subtags.{is_private_piece};
+ghost use Rattle.std.specs.Prelude.{◌≡◌, ◌<◌, ◌&&◌, ℕ, List, [], true, false, None, Some, length, IfOk, IsOk, MatchOption};
+ghost use Rattle.icu_locale_core_grammar.specs.Subtags.{is_private_piece, is_singleton};
 ghost use Rattle.icu_locale_core_grammar.specs.Stepping.{InFront, InBlock};
 ghost use Rattle.icu_locale_core_grammar.specs.TagStages.{body_after as body_stage_after, body_ends, language_after as language_stage_after, stage_behind};
 ghost use Rattle.icu_locale_core_grammar.specs.Meaning.{put_part as put_meaning};
@@ -140,7 +140,7 @@ fn end_body(
     Ok(true)
 }
 
-// Behind an extension that does not take the piece.
+// Behind an extension that does not take the piece, which is at fault where it is no single character.
 #[tactic(auto, unfolding(icu_locale_core_grammar::specs::Stepping::whole_after))]
 fn after_ended(
     alloc: Global,
@@ -153,11 +153,16 @@ fn after_ended(
     ensures step { body_stage_after (body_view body) piece.now ≡ None
         → IfOk result
         (GoesOn (InBlock id (singletons seen) extensions.blocks (body_key body) (body_view body)) piece.now) }
-    ensures room { body_keeps (body_view body) ≡ false → length seen < 36 → IsOk result }
+    ensures room { (is_singleton piece.now && body_keeps (body_view body)) ≡ false
+        → length seen < 36 → IsOk result }
 {
+    if !is_one_character(piece) {
+        drop((id, seen, extensions, body));
+        return Ok(Attempt::Stops(ParseError::InvalidExtension));
+    }
     match end_body(alloc, &mut seen, &mut extensions, body) {
         Ok(true) => {
-            let repeated = is_one_character(piece) && has_come(seen.as_slice(), piece);
+            let repeated = has_come(seen.as_slice(), piece);
             match stage_after_part(alloc, id, seen, extensions, piece) {
                 Some(stage) => Ok(Attempt::Goes(stage)),
                 None if repeated => Ok(Attempt::Stops(ParseError::DuplicatedExtension)),
