@@ -1,8 +1,12 @@
 -- The definitions at known keywords, fields and values.
 use Rattle.std.proofs.Common.{◌≡◌, true, false, [], ◌∷◌, None, Some, codes, refl}
 use Rattle.std.specs.declared.cmp.Ordering.TheVariants.{Less, Greater}
+use Rattle.icu_locale_core_grammar.specs.Subtags.{is_key, is_field_key}
 use Rattle.icu_locale_core_grammar.specs.Collections.{Entry}
+use Rattle.icu_locale_core_grammar.specs.Meaning.{keyword_needs_value, field_needs_value}
+use Rattle.icu_locale_core_grammar.specs.Pieces.{pieces}
 use Rattle.icu_locale_core_grammar.specs.TagOrder.{texts_cmp, entries_cmp}
+use Rattle.icu_locale_core_keywords_fields.specs.Allocation.{begins_entry, keeps_value}
 use Rattle.icu_locale_core_keywords_fields.specs.EntryChanges.{set_entry, without_key, joined_maps}
 use Rattle.icu_locale_core_keywords_fields.specs.EntryText.{value_text, entries_text, hyphened_entries}
 use Rattle.icu_locale_core_keywords_fields.specs.Values.{without_true, with_subtag}
@@ -19,6 +23,34 @@ latn = (codes "nu", codes "latn" ∷ [])
 
 abbrev phonebook : Entry
 phonebook = (codes "co", codes "phonebk" ∷ [])
+
+-- ---- memory
+
+-- what is kept of these pieces is nothing
+pub fault_behind_key : begins_entry is_key keyword_needs_value (pieces (codes "nu-toolongpiece")) ≡ false
+fault_behind_key = refl
+
+pub empty_behind_key : begins_entry is_key keyword_needs_value (pieces (codes "nu-")) ≡ false
+empty_behind_key = refl
+
+pub fault_behind_true : begins_entry is_field_key field_needs_value (pieces (codes "m0-true-toolongpiece")) ≡ false
+fault_behind_true = refl
+
+pub only_true : keeps_value (pieces (codes "true")) ≡ false
+only_true = refl
+
+-- and of these something
+pub key_kept : begins_entry is_key keyword_needs_value (pieces (codes "nu")) ≡ true
+key_kept = refl
+
+pub true_ends_field : begins_entry is_field_key field_needs_value (pieces (codes "m0-true")) ≡ true
+true_ends_field = refl
+
+pub kept_before_fault : begins_entry is_key keyword_needs_value (pieces (codes "nu-thai-toolongpiece")) ≡ true
+kept_before_fault = refl
+
+pub value_kept : keeps_value (pieces (codes "true-abc")) ≡ true
+value_kept = refl
 
 -- ---- changes
 

@@ -6,8 +6,6 @@ use Rattle.icu_locale_core_grammar.specs.Subtags.{Text, is_value, is_true, lower
 use Rattle.icu_locale_core_grammar.specs.Pieces.{pieces}
 use Rattle.icu_locale_core_grammar.specs.PartReaders.{listed, value_after}
 use Rattle.icu_locale_core_grammar.specs.Stepping.{run, IsReader}
-use Rattle.icu_locale_core_grammar.proofs.Runs.{first_step}
-use Rattle.icu_locale_core_subtag_lists.specs.Reading.{begins}
 use Rattle.icu_locale_core_grammar.proofs.CallerLemmas.{run_more, none_left, read_whole, refused_unmeant, cut_unmeant}
 
 pub record IsReading {S : Type 0} (step : S → Text → Option S) (start : S) (ps left : List Text) (s : S) : Type 0 where
@@ -43,31 +41,13 @@ pub listed_filled : (text : Text) (b : Bool) (left : List Text) → b ≡ (lengt
 listed_filled [] b left e f g = cc
 listed_filled (c ∷ cs) b left e f g = sym g
 
--- ---- a value whose first piece is of another kind: no piece is kept
-
-was_value : (p : Text) (vs t : List Text) → value_after vs p ≡ Some t → is_value p ≡ true
+-- a piece that a value takes
+pub was_value : (p : Text) (vs t : List Text) → value_after vs p ≡ Some t → is_value p ≡ true
 was_value p vs t e = by (is_value p) refl e
   where
     by : (b : Bool) → is_value p ≡ b → (if b then Some (if is_true p then vs else vs ++ lower p ∷ []) else None) ≡ Some t → is_value p ≡ true
     by true is f = is
     by false is f = cc
-
-begins_taken : (ps now left taken : List Text) (p : Text) (s : List Text) → ps ≡ taken ++ now → now ≡ p ∷ left → run value_after (Some []) taken ≡ Some s → is_value p ≡ true → begins is_value ps ≡ true
-begins_taken ps now left [] p s parts cut reached is = ap (begins is_value) (parts ∙ cut) ∙ is
-begins_taken ps now left (q ∷ qs) p s parts cut reached is =
-    let f = first_step value_after [] s q qs reached in
-    ap (begins is_value) parts ∙ was_value q [] f.0 f.1
-
-begins_listed : (text : Text) → begins is_value (pieces text) ≡ false → begins is_value (listed text) ≡ false
-begins_listed [] e = refl
-begins_listed (b ∷ bs) e = e
-
-pub no_piece_kept : (text : Text) (now left : List Text) (p : Text) (s : List Text) → now ≡ p ∷ left → IsReading value_after [] (listed text) now s → begins is_value (pieces text) ≡ false → is_value p ≡ false
-no_piece_kept text now left p s cut so_far none = by (is_value p) refl
-  where
-    by : (b : Bool) → is_value p ≡ b → is_value p ≡ false
-    by true is = let wrong : true ≡ false = sym (begins_taken (listed text) now left so_far.taken p s so_far.parts cut so_far.reached is) ∙ begins_listed text none in cc
-    by false is = is
 
 -- a subtag of a rule whose normal case is lower case, its fault left out
 pub read_lower : {E : Type 0} (accepts : Text → Bool) (normal : Text → Text) (fault : E) (piece : Text) (r : Result Text E) (o : Option Text)

@@ -20,7 +20,8 @@ impl<K: EntryKind> EntriesOf<K> {
     ///
     /// `NU-thai-ca-buddhist-nu-latn` has `ca` with `buddhist` and `nu` with `thai`; the empty text is the empty map.
     /// `ParseError::InvalidExtension`: the text is no such list, or a field has no value. `ParseError::Memory`: out of
-    /// memory. It does not allocate where the first piece is no key, or a field has no piece of a value behind it.
+    /// memory. It does not allocate where neither a piece of a value but `true` nor the end of an entry comes before the
+    /// first piece at fault, as in `nu-toolongpiece`.
     pub fn try_from_str(alloc: Global, s: &str) -> Result<Self, ParseError>
         ensures value { IfOk result (MeansEntries K.accepts K.needs (listed s.now)) }
         ensures fault { IfErr result (IsRefused (MeansEntries K.accepts K.needs (listed s.now))) }

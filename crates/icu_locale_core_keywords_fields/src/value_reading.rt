@@ -3,11 +3,10 @@
 ghost use Rattle.std.specs.Prelude.{◌≡◌, false, [], Some, None, IfOk, IfErr, IsOk, OnErr, MatchBool};
 ghost use Rattle.std.specs.Result.{IsErrOf};
 ghost use Rattle.icu_locale_core_grammar.specs.declared.error.ParseError.{ParseError};
-ghost use Rattle.icu_locale_core_grammar.specs.Subtags.{is_value};
 ghost use Rattle.icu_locale_core_grammar.specs.Pieces.{pieces};
 ghost use Rattle.icu_locale_core_grammar.specs.PartReaders.{value_after, ReadsValue};
-ghost use Rattle.icu_locale_core_keywords_fields.specs.Allocation.{value_grows};
-ghost use Rattle.icu_locale_core_subtag_lists.specs.Reading.{IsRefused, begins};
+ghost use Rattle.icu_locale_core_keywords_fields.specs.Allocation.{keeps_value, value_grows};
+ghost use Rattle.icu_locale_core_subtag_lists.specs.Reading.{IsRefused};
 
 use crate::kind::EntryKind;
 use crate::value::ValueOf;
@@ -36,13 +35,13 @@ impl<K: EntryKind> ValueOf<K> {
     /// The value of this text: pieces of 3 to 8 letters and digits between hyphens, in lower case, without `true`.
     ///
     /// `ABC-true-def` is `abc-def`, and the empty text the empty value. `ParseError::InvalidExtension`: a piece is of
-    /// another kind. `ParseError::Memory`: out of memory. It does not allocate where the first piece is of another
-    /// kind.
+    /// another kind. `ParseError::Memory`: out of memory. It does not allocate where only `true` comes before the first
+    /// piece of another kind or the end, as in `true-toolongpiece`.
     pub fn try_from_str(alloc: Global, s: &str) -> Result<Self, ParseError>
         ensures value { IfOk result (ReadsValue s.now) }
         ensures fault { IfErr result (IsRefused (ReadsValue s.now)) }
         ensures succeeds { s.now ≡ [] → IsOk result }
-        ensures room { begins is_value (pieces s.now) ≡ false → ¬ (IsErrOf result ParseError.Memory) }
+        ensures room { keeps_value (pieces s.now) ≡ false → ¬ (IsErrOf result ParseError.Memory) }
     {
         Self::try_from_utf8(alloc, s.as_bytes())
     }
@@ -53,7 +52,7 @@ impl<K: EntryKind> ValueOf<K> {
         ensures value { IfOk result (ReadsValue code_units.now) }
         ensures fault { IfErr result (IsRefused (ReadsValue code_units.now)) }
         ensures succeeds { code_units.now ≡ [] → IsOk result }
-        ensures room { begins is_value (pieces code_units.now) ≡ false → ¬ (IsErrOf result ParseError.Memory) }
+        ensures room { keeps_value (pieces code_units.now) ≡ false → ¬ (IsErrOf result ParseError.Memory) }
     {
         let mut value = Self::new_empty(alloc);
         if code_units.is_empty() {

@@ -29,10 +29,10 @@ returns-in-Ok-None-clause-fault g c =
 
 pub returns-in-Err-clause-room : goal.returns-in-Err-clause-room
 returns-in-Err-clause-room g c = λ none wanted.
-    let taken : false ≡ true = c.in-Err.ensures.room (no_growth g.K.SubtagRule.accepts g.K.EntryKind.needs c.args.code_units.now _ _ _ _ c.in-Some.ensures.steps c.loop-piece.invariant none) in
+    let taken : false ≡ true = c.in-Err.ensures.room (no_growth g.K.SubtagRule.accepts g.K.EntryKind.needs g.met.K.EntryKind.keys.no_value c.args.code_units.now _ _ _ _ c.in-Some.ensures.steps c.loop-piece.invariant none) in
     cc
 
 pub returns-in-Err-headed_finish-clause-room : goal.returns-in-Err-headed_finish-clause-room
 returns-in-Err-headed_finish-clause-room g c = λ none wanted.
-    let ended : false ≡ true = c.in-Err-headed_finish.ensures.room (none_kept g.K.SubtagRule.accepts g.K.EntryKind.needs c.args.code_units.now _ _ c.in-None.ensures.steps.0 c.loop-piece.invariant none) in
+    let ended : false ≡ true = c.in-Err-headed_finish.ensures.room (none_kept g.K.SubtagRule.accepts g.K.EntryKind.needs g.met.K.EntryKind.keys.no_value c.args.code_units.now _ _ c.in-None.ensures.steps.0 c.loop-piece.invariant none) in
     cc

@@ -1,5 +1,6 @@
-use Rattle.std.proofs.Common.{inr, refl, ◌∙◌}
+use Rattle.std.proofs.Common.{◌≡◌, true, false, inr, refl, ◌∙◌}
 use Rattle.icu_locale_core_grammar.proofs.PartReaders.{value_reader}
+use Rattle.icu_locale_core_keywords_fields.proofs.AllocationLemmas.{no_piece_kept}
 use Rattle.icu_locale_core_keywords_fields.proofs.ReadingLemmas.{reading_begins, reading_goes_on, reading_meant, reading_refused, listed_filled}
 use Rattle.icu_locale_core_keywords_fields.proofs.value.ValueOf.try_from_utf8.Goals as goal
 
@@ -18,3 +19,8 @@ returns-in-Ok-false-clause-fault g c =
 
 pub returns-clause-value : goal.returns-clause-value
 returns-clause-value g c = reading_meant value_reader _ _ _ _ c.in-None.ensures.steps.0 c.loop-piece.invariant refl
+
+pub returns-in-Err-clause-room : goal.returns-in-Err-clause-room
+returns-in-Err-clause-room g c = λ none wanted.
+    let taken : false ≡ true = c.in-Err.ensures.room (no_piece_kept c.args.code_units.now _ _ _ _ c.in-Some.ensures.steps c.loop-piece.invariant none) in
+    cc
