@@ -1,6 +1,6 @@
 //! The attributes of a `u` extension.
 
-ghost use Rattle.std.specs.Prelude.{◌≡◌, false, [], ◌++◌, IsOk, IfOk, IfErr, OnOk, OnErr};
+ghost use Rattle.std.specs.Prelude.{◌≡◌, true, false, [], ◌++◌, IsOk, IfOk, IfErr, OnOk, OnErr};
 ghost use Rattle.std.specs.Result.{IsErrOf};
 ghost use Rattle.icu_locale_core_grammar.specs.declared.error.ParseError.{ParseError};
 ghost use Rattle.icu_locale_core_grammar.specs.Subtags.{is_attribute};
@@ -8,6 +8,7 @@ ghost use Rattle.icu_locale_core_grammar.specs.Collections.{Rises, set_of};
 ghost use Rattle.icu_locale_core_grammar.specs.Pieces.{pieces};
 ghost use Rattle.icu_locale_core_grammar.specs.PartReaders.{ReadsAttributes};
 ghost use Rattle.icu_locale_core_subtag_lists.specs.Reading.{IsRefused, begins};
+ghost use Rattle.icu_locale_core_subtag_lists.specs.SubtagSets.{has_all_of};
 
 use crate::growing_set::GrowingSet;
 use crate::laws::texts_rise;
@@ -70,30 +71,56 @@ impl SubtagSet<AttributeRule> {
         Ok(growing)
     }
 
-    /// Adds the attributes of the other set to this one.
-    ///
-    /// `bar`, `foo` with `baz`, `foo` becomes `bar`, `baz`, `foo`. `AllocError`: out of memory; the set is then as
-    /// before. It does not allocate where either set is empty.
-    pub fn extend_from_attributes(&mut self, other: Attributes) -> Result<(), AllocError>
-        ensures succeeds { other ≡ [] → IsOk result }
-        ensures empty { self.old ≡ [] → IsOk result }
-        ensures value { OnOk result (self.new ≡ set_of (self.old ++ other)) }
-        ensures err { OnErr result (self.new ≡ self.old) }
+    /// Whether each of these attributes is in the set: `bar`, `foo` has all of `foo`, and not all of `baz`, `foo`. It
+    /// does not allocate.
+    pub fn has_all(&self, attributes: &[Attribute]) -> bool
+        ensures { result ≡ has_all_of self.now attributes.now }
     {
-        if other.is_empty() {
-            texts_rise(self);
-            return Ok(());
+        for attribute in attributes {
+            if !self.contains(attribute) {
+                return false;
+            }
         }
-        if self.is_empty() {
+        true
+    }
+
+    /// The attributes of both sets: `bar`, `foo` joined with `baz`, `foo` is `bar`, `baz`, `foo`.
+    ///
+    /// `AllocError`: out of memory; the other set is then dropped. It does not allocate where the other has all of this
+    /// set.
+    pub fn joined(&self, other: Attributes) -> Result<Attributes, AllocError>
+        ensures within { has_all_of other self.now ≡ true → IsOk result }
+        ensures value { IfOk result (λ set. set ≡ set_of (self.now ++ other)) }
+    {
+        if other.has_all(self.as_slice()) {
             texts_rise(&other);
-            *self = other;
-            return Ok(());
+            return Ok(other);
         }
         let mut joined = self.growing()?;
         for attribute in other.as_slice() {
             joined.push(*attribute)?;
         }
-        *self = joined.settled();
+        Ok(joined.settled())
+    }
+
+    /// Adds the attributes of the other set to this one.
+    ///
+    /// `bar`, `foo` with `baz`, `foo` becomes `bar`, `baz`, `foo`. `AllocError`: out of memory; the set is then as
+    /// before. It does not allocate where one of the two has all of the other.
+    pub fn extend_from_attributes(&mut self, other: Attributes) -> Result<(), AllocError>
+        ensures succeeds { other ≡ [] → IsOk result }
+        ensures empty { self.old ≡ [] → IsOk result }
+        ensures there { has_all_of self.old other ≡ true → IsOk result }
+        ensures within { has_all_of other self.old ≡ true → IsOk result }
+        ensures value { OnOk result (self.new ≡ set_of (self.old ++ other)) }
+        ensures err { OnErr result (self.new ≡ self.old) }
+    {
+        if self.has_all(other.as_slice()) {
+            texts_rise(self);
+            return Ok(());
+        }
+        let joined = self.joined(other)?;
+        *self = joined;
         Ok(())
     }
 }
