@@ -1,15 +1,16 @@
 //! The extension `u`.
 
-ghost use Rattle.std.specs.Prelude.{◌≡◌, false, [], ◌∷◌, ◌++◌, IsOk, IfOk, IfErr, OnOk, OnErr};
+ghost use Rattle.std.specs.Prelude.{◌≡◌, true, false, [], ◌∷◌, ◌++◌, IsOk, IfOk, IfErr, OnOk, OnErr};
 ghost use Rattle.std.specs.Result.{IsErrOf};
 ghost use Rattle.icu_locale_core_grammar.specs.declared.error.ParseError.{ParseError};
 ghost use Rattle.icu_locale_core_grammar.specs.Subtags.{is_unicode};
 ghost use Rattle.icu_locale_core_grammar.specs.Pieces.{pieces};
 ghost use Rattle.icu_locale_core_grammar.specs.Meaning.{no_unicode};
 ghost use Rattle.icu_locale_core_grammar.specs.Collections.{set_of};
-ghost use Rattle.icu_locale_core_keywords_fields.specs.EntryChanges.{joined_maps};
+ghost use Rattle.icu_locale_core_keywords_fields.specs.EntryChanges.{HasKeysOf, joined_maps};
 ghost use Rattle.icu_locale_core_grammar.specs.PartReaders.{ReadsUnicode};
 ghost use Rattle.icu_locale_core_subtag_lists.specs.Reading.{IsRefused};
+ghost use Rattle.icu_locale_core_subtag_lists.specs.SubtagSets.{has_all_of};
 ghost use Rattle.icu_locale_core_extensions.specs.ExtensionsValue.{is_empty_unicode};
 ghost use Rattle.icu_locale_core_extensions.specs.Allocation.{unicode_may_grow, grows_behind};
 
@@ -82,20 +83,24 @@ impl Unicode {
     /// Adds the attributes and keywords of the other extension to this one; of equal keys the other's value is kept.
     ///
     /// `u-foo-nu-thai` with `u-bar-nu-latn` becomes `u-bar-foo-nu-latn`. `AllocError`: out of memory; the extension is
-    /// then as before. It does not allocate where either is empty.
+    /// then as before. It does not allocate where one of the two has all attributes and all keys of the other, as
+    /// `u-nu-thai` with `u-nu-latn`.
     pub fn extend(&mut self, other: Unicode) -> Result<(), AllocError>
         ensures succeeds { other ≡ no_unicode → IsOk result }
         ensures empty { self.old ≡ no_unicode → IsOk result }
+        ensures there { has_all_of self.old.head other.head ≡ true → HasKeysOf self.old.entries other.entries
+            → IsOk result }
+        ensures within { has_all_of other.head self.old.head ≡ true → HasKeysOf other.entries self.old.entries
+            → IsOk result }
         ensures attributes { OnOk result (self.new.head ≡ set_of (self.old.head ++ other.head)) }
         ensures keywords { OnOk result (self.new.entries ≡ joined_maps other.entries self.old.entries) }
         ensures err { OnErr result (self.new ≡ self.old) }
     {
-        if other.attributes.is_empty() {
+        if self.attributes.has_all(other.attributes.as_slice()) {
             texts_rise(&self.attributes);
             return self.keywords.extend_from_keywords(other.keywords);
         }
-        let mut attributes = self.attributes.try_clone()?;
-        attributes.extend_from_attributes(other.attributes)?;
+        let attributes = self.attributes.joined(other.attributes)?;
         self.keywords.extend_from_keywords(other.keywords)?;
         self.attributes = attributes;
         Ok(())

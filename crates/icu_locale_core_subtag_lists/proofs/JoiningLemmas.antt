@@ -1,7 +1,7 @@
 -- Joining a set with more texts: the set so far, and what is left.
-use Rattle.std.proofs.Common.{◌≡◌, ℕ, ◌≤◌, Bool, true, false, ◌||◌, List, ◌∷◌, [], ◌++◌, ◌==◌, length, fold, drop, sym, refl, ap, subst, ◌∙◌, append-nil}
-use Rattle.std.proofs.lemmas.Bool.{eqb-true, and_parts}
-use Rattle.std.proofs.lemmas.List.{drop_all, nil_from_length}
+use Rattle.std.proofs.Common.{◌≡◌, ℕ, ◌≤◌, Bool, true, false, ◌||◌, List, ◌∷◌, [], ◌++◌, length, fold, drop, sym, refl, ap, subst, ◌∙◌}
+use Rattle.std.proofs.lemmas.Bool.{and_parts}
+use Rattle.std.proofs.lemmas.List.{drop_all}
 use Rattle.icu_locale_core_grammar.specs.Subtags.{Text, same_text}
 use Rattle.icu_locale_core_grammar.specs.Collections.{Rises, contains_text, set_of}
 use Rattle.icu_locale_core_grammar.proofs.ListLemmas.{fold-append}
@@ -48,15 +48,3 @@ pub joined_to_all : (set ts : List Text) → has_all_of ts set ≡ true → Rise
 joined_to_all set ts all rises =
     rising_same ts (set_of (set ++ ts)) rises (Rises-set_of (set ++ ts))
     (λ q. sym (contains-set_of q (set ++ ts) ∙ contains-append q set ts ∙ or_there (contains_text q set) (contains_text q ts) (has_each ts set all q)))
-
--- a set and no more texts
-pub none_joined : (set ts : List Text) → (length ts == 0) ≡ true → Rises set → set ≡ set_of (set ++ ts)
-none_joined set ts none rises =
-    let empty : ts ≡ [] = nil_from_length ts (eqb-true (length ts) 0 none) in
-    sym (ap (λ l. set_of (set ++ l)) empty ∙ ap set_of (append-nil set) ∙ set_of_rising set rises)
-
--- no set yet, and the texts of one
-pub joined_to_none : (set ts : List Text) → (length set == 0) ≡ true → Rises ts → ts ≡ set_of (set ++ ts)
-joined_to_none set ts none rises =
-    let empty : set ≡ [] = nil_from_length set (eqb-true (length set) 0 none) in
-    sym (ap (λ (s : List Text). set_of (s ++ ts)) empty ∙ set_of_rising ts rises)
