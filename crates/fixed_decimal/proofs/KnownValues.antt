@@ -1,19 +1,26 @@
 -- Rows of docs/numbers.md on whole, compact and scientific texts, equality and calls, so that a wrong definition does not pass.
-use Rattle.std.proofs.Common.{◌≡◌, ℕ, ◌+◌, ◌*◌, ◌^◌, true, false, inl, inr, List, [], ◌∷◌, codes, refl, sym, arith, lit≤}
+use Rattle.std.proofs.Math.Nat.{mul-le-mul_right}
+use Rattle.std.proofs.lemmas.Bool.{cases_lt}
+use Rattle.std.proofs.Common.{◌≡◌, ℕ, ◌+◌, ◌*◌, ◌^◌, ◌<◌, ◌≤◌, ℤ, pos, true, false, inl, inr, List, [], ◌∷◌, codes, refl, sym, subst, arith, lit≤, ⊎_elim}
 use Rattle.fixed_decimal_signed.specs.Number.{Number}
 use Rattle.fixed_decimal_signed.specs.NumberText.{Reads, digit_zero}
 use Rattle.fixed_decimal_signed.proofs.KnownValues.{padded, one, one_read, minus_one_read, plain_one_read}
 use Rattle.fixed_decimal_signed.proofs.TextPartsLemmas.{cons_head, cons_tail}
-use Rattle.fixed_decimal.specs.Calls.{Run}
+use Rattle.fixed_decimal_signed.proofs.TenLemmas.{tens_positive}
+use Rattle.fixed_decimal.specs.Calls.{Run, MayGrowIn}
 use Rattle.fixed_decimal.specs.CompactText.{behind_compact_mark, StartsNoZero, SpellsCompact, ReadsCompact, IsBeyondCompact, IsNoCompactText, compact_text_of}
 use Rattle.fixed_decimal.specs.IntegerText.{ReadsInteger, ReadsFraction}
 use Rattle.fixed_decimal.specs.PlainText.{MarksExponent, HasNoMark, compact_mark}
 use Rattle.fixed_decimal.specs.ScientificText.{ReadsScientific, scientific_text_of}
 use Rattle.fixed_decimal.specs.ExponentEquality.{are_equal_compact}
 use Rattle.fixed_decimal_signed.specs.SignedText.{ReadsSigned}
-use Rattle.fixed_decimal.specs.declared.call.Call.TheVariants.{SetSign, ApplySignDisplay}
+use Rattle.fixed_decimal.specs.declared.call.Call.TheVariants.{Round, SetSign, ApplySignDisplay}
 use Rattle.fixed_decimal_signed.specs.declared.Sign.TheVariants.{None, Negative, Positive}
 use Rattle.fixed_decimal_signed.specs.declared.SignDisplay.TheVariants as choice
+use Rattle.fixed_decimal_signed.specs.declared.RoundingIncrement.TheVariants.{MultiplesOf25}
+use Rattle.fixed_decimal_signed.specs.declared.SignedRoundingMode.TheVariants.{Unsigned}
+use Rattle.fixed_decimal_signed.specs.declared.UnsignedRoundingMode.TheVariants.{Trunc}
+use Rattle.fixed_decimal_signed.specs.Rounding.{TakesOdd}
 use Rattle.fixed_decimal.proofs.CompactTextLemmas.{found_compact}
 
 -- texts
@@ -140,3 +147,23 @@ exponents_tell = refl
 
 signs_in_turn : Run (SetSign Negative ∷ (ApplySignDisplay choice.Never ∷ [])) (record { sign = Positive; absolute = one }) (record { sign = None; absolute = one })
 signs_in_turn = (record { sign = Negative; absolute = one }, (refl, (record { sign = None; absolute = one }, (refl, refl))))
+
+-- in units of any size: down to a multiple of 25, 110000010 becomes 110000000, an even count of 25
+down_to_an_even_count : (unit : ℕ) → 0 < unit → ¬ (TakesOdd Trunc (25 * unit) (110000010 * unit))
+down_to_an_even_count unit some h =
+    let count = h.rounded.multiple.0 in
+    let is : h.multiple ≡ count * (25 * unit) = h.rounded.multiple.1 in
+    let under : h.multiple ≤ 110000010 * unit = h.rounded.under in
+    let reach : 4400000 * (25 * unit) ≤ h.multiple = h.rounded.greatest (4400000 * (25 * unit)) (4400000, refl) (omega arith) in
+    let least : 4400000 ≤ count =
+    ⊎_elim (λ less. let more : (count + 1) * (25 * unit) ≤ 4400000 * (25 * unit) = mul-le-mul_right (25 * unit) (omega (arith, less)) in absurd (omega arith)) (λ over. over) (cases_lt count 4400000) in
+    let most : count ≤ 4400000 =
+    ⊎_elim (λ more. let over : 4400001 * (25 * unit) ≤ count * (25 * unit) = mul-le-mul_right (25 * unit) (omega (arith, more)) in absurd (omega arith)) (λ within. within) (cases_lt 4400000 count) in
+    let same : count ≡ 4400000 = omega arith in
+    let all : h.multiple ≡ 4400000 * (25 * unit) = subst (λ c. h.multiple ≡ c * (25 * unit)) same is in
+    h.odd (2200000, omega arith)
+
+-- down to a multiple of 25 at the ones, 110000010 becomes 110000000, and that wants no memory
+no_memory_to_an_even_count : ¬ (MayGrowIn (Round (pos 0) (Unsigned Trunc) MultiplesOf25 ∷ []) (record { sign = None; absolute = record { count = 110000010 * 10 ^ 32768; low = 32768; high = 32776 } }))
+no_memory_to_an_even_count (inl h) = down_to_an_even_count (10 ^ 32768) (tens_positive 32768) h.odd
+no_memory_to_an_even_count (inr h) = h.1.1

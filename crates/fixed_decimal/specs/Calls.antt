@@ -3,11 +3,10 @@
 -- Cited by `run_calls`, and by the law that a run has one end.
 use Rattle.std.specs.Prelude.{◌≡◌, ℕ, ◌==◌, ◌⊎◌, List, [], ◌∷◌}
 use Rattle.fixed_decimal_signed.specs.Number.{Number, place}
-use Rattle.fixed_decimal_signed.specs.Range.{MayGrowAt}
+use Rattle.fixed_decimal_signed.specs.RoundingMemory.{MayGrow}
 use Rattle.fixed_decimal_signed.specs.Shifts.{Shifts, TrimsStart, TrimsEnd, TrimsWhole, PadsStart, PadsEnd, Cuts}
-use Rattle.fixed_decimal_signed.specs.declared.RoundingIncrement.TheVariants.{MultiplesOf25}
 use Rattle.fixed_decimal_signed.specs.SignChoice.{chosen_sign}
-use Rattle.fixed_decimal_signed.specs.SignedRounding.{RoundsSigned}
+use Rattle.fixed_decimal_signed.specs.SignedRounding.{RoundsSigned, size_mode}
 use Rattle.fixed_decimal_signed.specs.SignedText.{ReadsSigned}
 use Rattle.fixed_decimal_signed.specs.SignedValue.{SignedValue, OnAbsolute}
 use Rattle.fixed_decimal.specs.declared.call.Call.{Call}
@@ -39,7 +38,7 @@ pub record RunsFrom (text : List ℕ) (calls : List Call) (new : SignedValue Num
 
 -- the call is a rounding that may allocate, on this decimal; no other call allocates
 abbrev pub MayGrowBy : Call → SignedValue Number → Type 0
-MayGrowBy (Round position mode increment) old = (increment ≡ MultiplesOf25) × MayGrowAt (place position) old.absolute.count
+MayGrowBy (Round position mode increment) old = MayGrow (size_mode old.sign mode) increment (place position) old.absolute.count
 MayGrowBy (MultiplyPow10 delta) old = ⊥
 MayGrowBy TrimStart old = ⊥
 MayGrowBy TrimEnd old = ⊥

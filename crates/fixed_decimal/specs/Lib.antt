@@ -26,5 +26,6 @@ pub use Rattle.fixed_decimal_signed.specs.NumberText
 pub use Rattle.fixed_decimal_signed.specs.TextParts
 pub use Rattle.fixed_decimal_signed.specs.Range
 pub use Rattle.fixed_decimal_signed.specs.Rounding
+pub use Rattle.fixed_decimal_signed.specs.RoundingMemory
 pub use Rattle.fixed_decimal_signed.specs.Shifts
 pub use Rattle.fixed_decimal_signed.specs.Stored

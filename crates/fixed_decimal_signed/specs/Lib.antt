@@ -17,5 +17,6 @@ pub use Rattle.fixed_decimal_unsigned.specs.NumberText
 pub use Rattle.fixed_decimal_unsigned.specs.TextParts
 pub use Rattle.fixed_decimal_unsigned.specs.Range
 pub use Rattle.fixed_decimal_unsigned.specs.Rounding
+pub use Rattle.fixed_decimal_unsigned.specs.RoundingMemory
 pub use Rattle.fixed_decimal_unsigned.specs.Shifts
 pub use Rattle.fixed_decimal_unsigned.specs.Stored

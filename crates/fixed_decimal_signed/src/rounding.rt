@@ -2,8 +2,8 @@
 
 ghost use Rattle.std.specs.Prelude.{◌≡◌, ◌≢◌, ℕ, ◌+◌, ◌*◌, ◌^◌, ◌<◌, ◌≤◌, OnOk, OnErr, IfOk, IfErr, IsOk};
 ghost use Rattle.fixed_decimal_unsigned.specs.Number.{place};
-ghost use Rattle.fixed_decimal_unsigned.specs.Range.{HoldsDigits, MayGrowAt};
-ghost use Rattle.fixed_decimal_unsigned.specs.Rounding.{TakesOdd, increment_number};
+ghost use Rattle.fixed_decimal_unsigned.specs.Range.{HoldsDigits};
+ghost use Rattle.fixed_decimal_unsigned.specs.RoundingMemory.{MayGrow};
 ghost use Rattle.fixed_decimal_signed.specs.SignedRounding.{RoundsSigned, size_mode};
 
 use crate::decimal::Decimal;
@@ -27,10 +27,8 @@ impl Signed<UnsignedDecimal> {
         turns: &mut Turns<L>,
     ) -> Result<(), AllocError>
         ensures succeeds { increment ≢ RoundingIncrement.MultiplesOf25 → IsOk result }
-        ensures room { OnErr result (MayGrowAt (place position) self.old.absolute.count) }
-        ensures odd { OnErr result
-            (TakesOdd (size_mode self.old.sign mode) (increment_number increment * 10 ^ place position)
-            self.old.absolute.count) }
+        ensures room { OnErr result
+            (MayGrow (size_mode self.old.sign mode) increment (place position) self.old.absolute.count) }
         ensures value { OnOk result (RoundsSigned mode increment (place position) self.old self.new) }
         ensures same { OnErr result (self.new ≡ self.old) }
         ensures turns { (low digits : ℕ) → HoldsDigits self.old.absolute.count low digits
@@ -53,10 +51,8 @@ impl Signed<UnsignedDecimal> {
         increment: RoundingIncrement,
     ) -> Result<(), AllocError>
         ensures succeeds { increment ≢ RoundingIncrement.MultiplesOf25 → IsOk result }
-        ensures room { OnErr result (MayGrowAt (place position) self.old.absolute.count) }
-        ensures odd { OnErr result
-            (TakesOdd (size_mode self.old.sign mode) (increment_number increment * 10 ^ place position)
-            self.old.absolute.count) }
+        ensures room { OnErr result
+            (MayGrow (size_mode self.old.sign mode) increment (place position) self.old.absolute.count) }
         ensures value { OnOk result (RoundsSigned mode increment (place position) self.old self.new) }
         ensures same { OnErr result (self.new ≡ self.old) }
     {
@@ -132,10 +128,8 @@ impl Signed<UnsignedDecimal> {
         increment: RoundingIncrement,
     ) -> Result<Decimal, AllocFailed<Decimal>>
         ensures succeeds { increment ≢ RoundingIncrement.MultiplesOf25 → IsOk result }
-        ensures room { OnErr result (MayGrowAt (place position) self.absolute.count) }
-        ensures odd { OnErr result
-            (TakesOdd (size_mode self.sign mode) (increment_number increment * 10 ^ place position)
-            self.absolute.count) }
+        ensures room { OnErr result
+            (MayGrow (size_mode self.sign mode) increment (place position) self.absolute.count) }
         ensures value { IfOk result (λ v. RoundsSigned mode increment (place position) self v) }
         ensures same { IfErr result (λ e. e.value ≡ self) }
     {

@@ -1,13 +1,17 @@
 -- The highest and the lowest place with a digit that is not zero: those of the first and the last kept digit.
-use Rattle.std.proofs.Common.{◌≡◌, ℕ, ℤ, pos, negsuc, ◌+◌, ◌-◌, ◌%◌, ◌^◌, ◌<◌, ◌≤◌, List, length, get_or, sym, ap, ◌∙◌, subst, arith, ⊎_elim}
+use Rattle.std.proofs.Common.{◌≡◌, ℕ, ℤ, pos, negsuc, ◌+◌, ◌-◌, ◌*◌, ◌%◌, ◌^◌, ◌<◌, ◌≤◌, List, length, get_or, sym, ap, ◌∙◌, subst, refl, arith, ⊎_elim}
 use Rattle.std.proofs.Math.Nat.{eq-zero-or-pos}
 use Rattle.std.proofs.lemmas.Bool.{cases_lt}
 use Rattle.std.proofs.lemmas.List.{take_all}
 use Rattle.std.specs.Int.Digits.{number_from_digits, AllBelowBase}
 use Rattle.fixed_decimal_unsigned.specs.Number.{Number, digit, place}
 use Rattle.fixed_decimal_unsigned.specs.NonzeroPlaces.{IsFirstPlace, IsLastPlace}
-use Rattle.fixed_decimal_unsigned.specs.Range.{MayGrowAt}
+use Rattle.fixed_decimal_unsigned.specs.RoundingMemory.{MayGrowAt, MayGrow}
 use Rattle.fixed_decimal_digits.specs.DigitList.{IsTrimmed, count_of}
+use Rattle.fixed_decimal_digits.specs.Rounding.{TakesOdd, increment_number}
+use Rattle.fixed_decimal_digits.specs.declared.RoundingIncrement.{RoundingIncrement}
+use Rattle.fixed_decimal_digits.specs.declared.RoundingIncrement.TheVariants.{MultiplesOf1, MultiplesOf2, MultiplesOf5, MultiplesOf25}
+use Rattle.fixed_decimal_digits.specs.declared.UnsignedRoundingMode.{UnsignedRoundingMode}
 use Rattle.fixed_decimal_unsigned.specs.Stored.{IsStored}
 use Rattle.fixed_decimal_digits.proofs.TenLemmas.{digit_under, tens_apart}
 use Rattle.fixed_decimal_digits.proofs.LoopLemmas.{front_last}
@@ -56,7 +60,7 @@ last_is : (p n top : ℕ) → p + n ≡ top → top + 1 - n ≡ p + 1
 last_is p n top e = omega arith
 
 -- where a rounding to multiples of 25 asks for more room
-pub grows_at : (ds : List ℕ) (top low high : ℕ) → IsStored ds top low high → (old : Number) → number_made (count_of ds top) low high ≡ old → (p q : ℕ) → p ≡ q → p + 8 ≤ top → p + length ds ≡ top → MayGrowAt q old.count
+grows_at : (ds : List ℕ) (top low high : ℕ) → IsStored ds top low high → (old : Number) → number_made (count_of ds top) low high ≡ old → (p q : ℕ) → p ≡ q → p + 8 ≤ top → p + length ds ≡ top → MayGrowAt q old.count
 grows_at ds top low high s old e p q at far end =
     let kept : IsTrimmed ds top = trimmed_of ds top low high s in
     let some : 0 < length ds = omega arith in
@@ -67,6 +71,21 @@ grows_at ds top low high s old e p q at far end =
           omega arith;
       last = subst (IsLastPlace (count_of ds top)) (last_is p (length ds) top end) (last_place ds top kept some);
     }))
+
+only_twenty_five : (increment : RoundingIncrement) → ¬ (¬ (increment ≡ MultiplesOf25)) → increment ≡ MultiplesOf25
+only_twenty_five MultiplesOf1 h = absurd (h (λ e. cc))
+only_twenty_five MultiplesOf2 h = absurd (h (λ e. cc))
+only_twenty_five MultiplesOf5 h = absurd (h (λ e. cc))
+only_twenty_five MultiplesOf25 h = refl
+
+-- where a rounding asks for more room
+pub may_grow : (mode : UnsignedRoundingMode) (increment : RoundingIncrement) (ds : List ℕ) (top low high : ℕ) → IsStored ds top low high → (old : Number) → number_made (count_of ds top) low high ≡ old
+    → (p q : ℕ) → p ≡ q → ¬ (¬ (increment ≡ MultiplesOf25)) → p + 8 ≤ top → p + length ds ≡ top → TakesOdd mode (increment_number increment * 10 ^ p) (count_of ds top) → MayGrow mode increment q old.count
+may_grow mode increment ds top low high s old e p q at named far end odd = record {
+  twenty_five = only_twenty_five increment named;
+  at = grows_at ds top low high s old e p q at far end;
+  odd = subst (λ k. TakesOdd mode (increment_number increment * 10 ^ k) old.count) at (subst (λ v. TakesOdd mode (increment_number increment * 10 ^ p) v.count) e odd);
+}
 
 module _ (ds : List ℕ) (top low high : ℕ) (s : IsStored ds top low high) (old : Number) (e : number_made (count_of ds top) low high ≡ old) (r : ℤ) where
   kept : IsTrimmed ds top

@@ -9,6 +9,7 @@ pub mod Number
 pub mod NonzeroPlaces
 pub mod NumberText
 pub mod Range
+pub mod RoundingMemory
 pub mod Shifts
 pub mod ShortText
 pub mod Stored

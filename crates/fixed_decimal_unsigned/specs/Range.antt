@@ -3,7 +3,6 @@
 -- Cited by the roundings, the shifts, the trims, the pads and the cuts, and by each call that may allocate.
 use Rattle.std.specs.Prelude.{◌≡◌, ℕ, ◌+◌, ◌*◌, ◌%◌, ◌^◌, ◌<◌, ◌≤◌, min}
 use Rattle.fixed_decimal_unsigned.specs.Number.{Number}
-use Rattle.fixed_decimal_unsigned.specs.NonzeroPlaces.{IsLastPlace}
 use Rattle.fixed_decimal_digits.specs.Rounding.{Takes, increment_number}
 use Rattle.fixed_decimal_digits.specs.declared.UnsignedRoundingMode.{UnsignedRoundingMode}
 use Rattle.fixed_decimal_digits.specs.declared.RoundingIncrement.{RoundingIncrement}
@@ -43,9 +42,3 @@ pub record IsLonger (other count : ℕ) : Type 0 where
   pub places : ℕ
   pub holds : HoldsDigits other low places
   pub more : (at : ℕ) → ¬ (HoldsDigits count at places)
-
--- the last digit that is not zero is right above a place, and the first at least eight above it: to write a multiple of
--- 25 there may allocate
-pub record MayGrowAt (place count : ℕ) : Type 0 where
-  pub first : 10 ^ (place + 8) ≤ count
-  pub last : IsLastPlace count (place + 1)

@@ -2,8 +2,9 @@
 
 ghost use Rattle.std.specs.Prelude.{◌≡◌, ◌≢◌, ℕ, ◌+◌, ◌*◌, ◌^◌, ◌<◌, ◌≤◌, OnOk, OnErr, IsOk};
 ghost use Rattle.fixed_decimal_unsigned.specs.Number.{place};
-ghost use Rattle.fixed_decimal_unsigned.specs.Range.{Rounds, HoldsDigits, MayGrowAt};
-ghost use Rattle.fixed_decimal_digits.specs.Rounding.{IsLimited, TakesOdd, increment_number};
+ghost use Rattle.fixed_decimal_unsigned.specs.Range.{Rounds, HoldsDigits};
+ghost use Rattle.fixed_decimal_unsigned.specs.RoundingMemory.{MayGrow};
+ghost use Rattle.fixed_decimal_digits.specs.Rounding.{IsLimited};
 ghost use Rattle.fixed_decimal_digits.specs.DigitList.{IsTrimmed, count_of};
 
 use crate::places::place_of;
@@ -28,8 +29,7 @@ impl UnsignedDecimal {
         turns: &mut Turns<L>,
     ) -> Result<(), AllocError>
         ensures succeeds { increment ≢ RoundingIncrement.MultiplesOf25 → IsOk result }
-        ensures room { OnErr result (MayGrowAt (place position) self.old.count) }
-        ensures odd { OnErr result (TakesOdd mode (increment_number increment * 10 ^ place position) self.old.count) }
+        ensures room { OnErr result (MayGrow mode increment (place position) self.old.count) }
         ensures value { OnOk result (Rounds mode increment (place position) self.old self.new) }
         ensures same { OnErr result (self.new ≡ self.old) }
         ensures turns { (low digits : ℕ) → HoldsDigits self.old.count low digits → turns.new ≤ turns.old + digits + 2 }

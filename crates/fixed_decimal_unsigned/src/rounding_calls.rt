@@ -2,8 +2,8 @@
 
 ghost use Rattle.std.specs.Prelude.{◌≡◌, ◌≢◌, ◌*◌, ◌^◌, ◌<◌, OnOk, OnErr, IfOk, IfErr, IsOk};
 ghost use Rattle.fixed_decimal_unsigned.specs.Number.{place};
-ghost use Rattle.fixed_decimal_unsigned.specs.Range.{Rounds, MayGrowAt};
-ghost use Rattle.fixed_decimal_digits.specs.Rounding.{TakesOdd, increment_number};
+ghost use Rattle.fixed_decimal_unsigned.specs.Range.{Rounds};
+ghost use Rattle.fixed_decimal_unsigned.specs.RoundingMemory.{MayGrow};
 
 use crate::unsigned_decimal::UnsignedDecimal;
 use fixed_decimal_digits::{RoundingIncrement, Turns, UnsignedRoundingMode};
@@ -24,8 +24,7 @@ impl UnsignedDecimal {
         requires parts { blank.parts ≡ L.parts }
         requires some { 0 < L.parts }
         ensures succeeds { increment ≢ RoundingIncrement.MultiplesOf25 → IsOk result }
-        ensures room { OnErr result (MayGrowAt (place position) self.old.count) }
-        ensures odd { OnErr result (TakesOdd mode (increment_number increment * 10 ^ place position) self.old.count) }
+        ensures room { OnErr result (MayGrow mode increment (place position) self.old.count) }
         ensures value { OnOk result (Rounds mode increment (place position) self.old self.new) }
         ensures same { OnErr result (self.new ≡ self.old) }
     {
@@ -45,8 +44,7 @@ impl UnsignedDecimal {
         increment: RoundingIncrement,
     ) -> Result<(), AllocError>
         ensures succeeds { increment ≢ RoundingIncrement.MultiplesOf25 → IsOk result }
-        ensures room { OnErr result (MayGrowAt (place position) self.old.count) }
-        ensures odd { OnErr result (TakesOdd mode (increment_number increment * 10 ^ place position) self.old.count) }
+        ensures room { OnErr result (MayGrow mode increment (place position) self.old.count) }
         ensures value { OnOk result (Rounds mode increment (place position) self.old self.new) }
         ensures same { OnErr result (self.new ≡ self.old) }
     {
@@ -96,8 +94,7 @@ impl UnsignedDecimal {
         increment: RoundingIncrement,
     ) -> Result<UnsignedDecimal, AllocFailed<UnsignedDecimal>>
         ensures succeeds { increment ≢ RoundingIncrement.MultiplesOf25 → IsOk result }
-        ensures room { OnErr result (MayGrowAt (place position) self.count) }
-        ensures odd { OnErr result (TakesOdd mode (increment_number increment * 10 ^ place position) self.count) }
+        ensures room { OnErr result (MayGrow mode increment (place position) self.count) }
         ensures value { IfOk result (λ v. Rounds mode increment (place position) self v) }
         ensures same { IfErr result (λ e. e.value ≡ self) }
     {

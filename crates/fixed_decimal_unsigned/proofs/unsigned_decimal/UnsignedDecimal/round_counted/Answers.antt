@@ -1,10 +1,10 @@
-use Rattle.std.proofs.Common.{◌≡◌, max, sym, ap, ◌∙◌, subst, arith}
+use Rattle.std.proofs.Common.{◌≡◌, max, sym, ap, ◌∙◌, subst, true≢false, arith}
 use Rattle.std.proofs.lemmas.Int.{to_z-of_z}
 use Rattle.writeable.specs.Taking.{on_err}
 use Rattle.fixed_decimal_unsigned.specs.Number.{place}
 use Rattle.fixed_decimal_digits.specs.DigitList.{count_of}
 use Rattle.fixed_decimal_unsigned.specs.Range.{HoldsDigits}
-use Rattle.fixed_decimal_unsigned.proofs.NonzeroLemmas.{grows_at}
+use Rattle.fixed_decimal_unsigned.proofs.NonzeroLemmas.{may_grow}
 use Rattle.fixed_decimal_unsigned.proofs.RangeLemmas.{trimmed_of, holds_length, rounded_kept, rounds_made, limited_multiple, turns_bounded}
 use Rattle.fixed_decimal_unsigned.proofs.unsigned_decimal.UnsignedDecimal.round_counted.Goals as goal
 
@@ -13,7 +13,8 @@ returns-in_err-top-clause-room g c =
     let i = c.self.inside in
     let at : c.place_of-place.result ≡ place c.args.position = grind (arith, to_z-of_z, c.place_of-place.ensures) in
     on_err c.from_residual.result
-    (grows_at i.digits.items i.top i.low i.high c.self.invariant c.args.self.now c.self.view_is c.place_of-place.result (place c.args.position) at c.in_err-top.ensures.room c.in_err-top.ensures.last)
+    (may_grow c.args.mode c.args.increment i.digits.items i.top i.low i.high c.self.invariant c.args.self.now c.self.view_is c.place_of-place.result (place c.args.position) at (λ other. true≢false (sym (c.in_err-top.ensures.succeeds other)))
+    c.in_err-top.ensures.room c.in_err-top.ensures.last c.in_err-top.ensures.odd)
 
 pub returns-in_err-top-clause-turns : goal.returns-in_err-top-clause-turns
 returns-in_err-top-clause-turns g c = λ low digits holds.
