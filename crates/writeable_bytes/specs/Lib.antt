@@ -1,2 +1,3 @@
 pub mod Laid
 pub mod LaidText
+pub mod Numbers
