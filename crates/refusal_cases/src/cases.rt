@@ -1,7 +1,7 @@
 //! Which call a row asks for.
 
 use crate::case::Case;
-use crate::{decimals, entries, given, locales, sets, sinks};
+use crate::{decimals, entries, given, locales, runs, sets, sinks};
 use rows::{Stop, Table};
 
 /// The table of the calls that change a receiver.
@@ -43,6 +43,7 @@ fn answer_case(case: Case<'_>, out: &mut String) -> Result<(), Stop> {
     match kind {
         "Variants" | "Attributes" | "Private" => sets::answer(case, out),
         "Value" | "Keywords" | "Fields" | "Unicode" => entries::answer(case, out),
+        "Call" if case.call == "Call::Round" => runs::answer(case, out),
         "GivenDigits" if case.call == "GivenDigits::push" => given::answer(case, out),
         "Locale" | "DataLocale" | "LocalePreferences" => locales::answer(case, out),
         "TextSink" | "PartsSink" => sinks::answer(case, out),

@@ -15,6 +15,7 @@ mod entries;
 mod given;
 mod in_place;
 mod locales;
+mod runs;
 mod sets;
 mod sinks;
 
