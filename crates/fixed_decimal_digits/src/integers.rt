@@ -7,8 +7,8 @@ use crate::digits::Digits;
 use fixed_decimal_digit_words::{WORD_DIGITS, word_of_number};
 use std::alloc::AllocError;
 
-// Ten to the power of the digits that a word has.
-const WORD_LIMIT: u128 = 10_000_000_000_000_000;
+/// Ten to the power of the sixteen digits that a word has.
+pub const WORD_LIMIT: u128 = 10_000_000_000_000_000;
 
 // Puts the digits of a number, at most sixteen, into a list in place of those that are there.
 #[tactic(auto, using(fixed_decimal_digit_words::proofs::CutWordLemmas::front_counted, crate::proofs::LongNumberLemmas::number_of_first, crate::proofs::LongNumberLemmas::first_reaches, crate::proofs::LongNumberLemmas::none_of_zero))]

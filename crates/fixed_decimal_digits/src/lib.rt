@@ -34,7 +34,7 @@ pub use fixed_decimal_digit_words::{
     CutWord, WORD_DIGITS, cut_word, digit_of, digits_in_words, strip_zeros, word_behind,
     word_of_number,
 };
-pub use integers::push_number;
+pub use integers::{WORD_LIMIT, push_number};
 pub use modes::{RoundingIncrement, UnsignedRoundingMode};
 pub use places::ONES;
 pub use rounding_pair::round_digits;

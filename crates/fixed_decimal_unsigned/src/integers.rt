@@ -6,11 +6,10 @@ ghost use Rattle.fixed_decimal_unsigned.specs.Range.{IsLong};
 
 use crate::reading::{Ends, assembled};
 use crate::unsigned_decimal::UnsignedDecimal;
-use fixed_decimal_digits::{Digits, ONES, cut_word, push_number, strip_zeros, word_of_number};
+use fixed_decimal_digits::{
+    Digits, ONES, WORD_LIMIT, cut_word, push_number, strip_zeros, word_of_number,
+};
 use std::alloc::{AllocError, Global};
-
-// Ten to the power of the digits that a word has.
-const WORD_LIMIT: u128 = 10_000_000_000_000_000;
 
 // The whole number as a decimal: it is not 0, and its digits fit in a word.
 fn from_word(alloc: Global, number: u64) -> Result<UnsignedDecimal, AllocError>
