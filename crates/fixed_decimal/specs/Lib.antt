@@ -15,6 +15,7 @@ pub use Rattle.fixed_decimal_signed.specs.SignedText
 pub use Rattle.fixed_decimal_signed.specs.SignedValue
 pub use Rattle.fixed_decimal_signed.specs.WholeNumbers
 pub use Rattle.fixed_decimal_signed.specs.Concatenation
+pub use Rattle.fixed_decimal_signed.specs.DigitCount
 pub use Rattle.fixed_decimal_signed.specs.Equality
 pub use Rattle.fixed_decimal_signed.specs.ErrorNumbers
 pub use Rattle.fixed_decimal_signed.specs.GivenDigits

@@ -5,7 +5,7 @@ ghost use Rattle.std.specs.Int.Digits.{digits_of};
 ghost use Rattle.writeable.specs.AnnotatedText.{bytes};
 ghost use Rattle.writeable.specs.Taking.{HasBegun};
 ghost use Rattle.fixed_decimal_signed.specs.NumberText.{AreDigits, spelled, character};
-ghost use Rattle.fixed_decimal_signed.specs.Range.{IsLong};
+ghost use Rattle.fixed_decimal_signed.specs.DigitCount.{IsLong};
 ghost use Rattle.fixed_decimal.specs.CompactText.{SpellsCompact, ReadsCompact, ReadsLongCompact, IsBeyondCompact, IsNoCompactText, IsCompact, behind_compact_mark, compact_text_of};
 ghost use Rattle.fixed_decimal.specs.PlainParts.{IsCompactExponent, IsNotCompact};
 ghost use Rattle.fixed_decimal_signed.specs.SignedText.{signed_text_of};

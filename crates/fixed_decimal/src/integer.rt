@@ -1,7 +1,7 @@
 //! Whole numbers: decimals that show no digit behind the point.
 
 ghost use Rattle.std.specs.Prelude.{◌≡◌, ◌<◌, ◌≤◌, length, IfOk, IsErrOf, IsOk, OnErr};
-ghost use Rattle.fixed_decimal_signed.specs.Range.{IsLong};
+ghost use Rattle.fixed_decimal_signed.specs.DigitCount.{IsLong};
 ghost use Rattle.fixed_decimal.specs.IntegerText.{ShowsNoFraction, ReadsInteger, IsBeyondInteger};
 ghost use Rattle.fixed_decimal_signed.specs.SignedText.{ReadsLongSigned, IsNoSignedText, signed_text_of};
 ghost use Rattle.fixed_decimal.specs.TextLaws.{IsWholeNumber};

@@ -3,7 +3,7 @@
 ghost use Rattle.std.specs.Prelude.{◌≡◌, ◌⊎◌, ◌++◌, codes, false, is_err, length, IfOk, IfSome, IfNone, IsErrOf, OnOk, OnErr};
 ghost use Rattle.writeable.specs.AnnotatedText.{bytes};
 ghost use Rattle.writeable.specs.Taking.{HasBegun};
-ghost use Rattle.fixed_decimal_signed.specs.Range.{IsLong};
+ghost use Rattle.fixed_decimal_signed.specs.DigitCount.{IsLong};
 ghost use Rattle.fixed_decimal_signed.specs.declared.ParseError.{ParseError};
 ghost use Rattle.fixed_decimal.specs.PlainParts.{IsNotScientific, without_limit};
 ghost use Rattle.fixed_decimal.specs.ScientificText.{SpellsScientific, ReadsScientific, ReadsLongScientific, IsNoScientificText, IsScientific, scientific_text_of};

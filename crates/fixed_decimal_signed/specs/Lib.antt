@@ -6,6 +6,7 @@ pub mod SignedText
 pub mod SignedValue
 pub mod WholeNumbers
 pub use Rattle.fixed_decimal_unsigned.specs.Concatenation
+pub use Rattle.fixed_decimal_unsigned.specs.DigitCount
 pub use Rattle.fixed_decimal_unsigned.specs.Equality
 pub use Rattle.fixed_decimal_unsigned.specs.ErrorNumbers
 pub use Rattle.fixed_decimal_unsigned.specs.GivenDigits

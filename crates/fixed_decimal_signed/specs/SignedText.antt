@@ -4,7 +4,7 @@
 use Rattle.std.specs.Prelude.{◌≡◌, ℕ, List, [], ◌∷◌, ◌++◌}
 use Rattle.fixed_decimal_unsigned.specs.Number.{Number}
 use Rattle.fixed_decimal_unsigned.specs.NumberText.{minus, Reads, IsBeyond, IsNoText, text_of}
-use Rattle.fixed_decimal_unsigned.specs.Range.{IsLong, IsLonger}
+use Rattle.fixed_decimal_unsigned.specs.DigitCount.{IsLong, IsLonger}
 use Rattle.fixed_decimal_signed.specs.SignedValue.{SignedValue}
 use Rattle.fixed_decimal_signed.specs.declared.sign.Sign.{Sign}
 use Rattle.fixed_decimal_signed.specs.declared.sign.Sign.TheVariants.{None, Negative, Positive}

@@ -2,7 +2,7 @@
 
 ghost use Rattle.std.specs.Prelude.{◌≡◌, ◌++◌, IfOk, IsErrOf, OnErr, OnOk};
 ghost use Rattle.fixed_decimal_unsigned.specs.Number.{IsNumber};
-ghost use Rattle.fixed_decimal_unsigned.specs.Range.{IsLong};
+ghost use Rattle.fixed_decimal_unsigned.specs.DigitCount.{IsLong};
 ghost use Rattle.fixed_decimal_unsigned.specs.Shifts.{plain_zero};
 ghost use Rattle.fixed_decimal_signed.specs.WholeNumbers.{IsWhole};
 ghost use Rattle.fixed_decimal_signed.specs.SignedText.{sign_text, ReadsSigned, ReadsLongSigned, ReadsLongerSigned, IsBeyondSigned, IsNoSignedText, StartsNoSign};

@@ -1,7 +1,7 @@
 //! Decimals made from integers of each width, signed and unsigned.
 
 ghost use Rattle.std.specs.Prelude.{◌≡◌, IfOk, IsOk, OnErr, pos, ◌<ℤ◌, ◌↔◌, IsTrue};
-ghost use Rattle.fixed_decimal_unsigned.specs.Range.{IsLong};
+ghost use Rattle.fixed_decimal_unsigned.specs.DigitCount.{IsLong};
 ghost use Rattle.fixed_decimal_signed.specs.WholeNumbers.{IsWhole, IsSignedWhole, sign_of, size_of};
 
 use crate::decimal::Decimal;

@@ -2,7 +2,7 @@
 
 ghost use Rattle.std.specs.Prelude.{◌≡◌, ◌≢◌, ℕ, ◌+◌, ◌*◌, ◌^◌, ◌<◌, ◌≤◌, OnOk, OnErr, IfOk, IfErr, IsOk};
 ghost use Rattle.fixed_decimal_unsigned.specs.Number.{place};
-ghost use Rattle.fixed_decimal_unsigned.specs.Range.{HoldsDigits};
+ghost use Rattle.fixed_decimal_unsigned.specs.DigitCount.{HoldsDigits};
 ghost use Rattle.fixed_decimal_unsigned.specs.RoundingMemory.{MayGrow};
 ghost use Rattle.fixed_decimal_signed.specs.SignedRounding.{RoundsSigned, size_mode};
 

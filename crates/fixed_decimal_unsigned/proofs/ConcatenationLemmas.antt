@@ -9,7 +9,7 @@ use Rattle.fixed_decimal_unsigned.specs.declared.error.ConcatenateError.{Concate
 use Rattle.fixed_decimal_unsigned.specs.declared.error.ConcatenateError.TheVariants.{Overlap, Memory}
 use Rattle.fixed_decimal_unsigned.specs.Number.{Number, digit}
 use Rattle.fixed_decimal_unsigned.specs.NonzeroPlaces.{IsFirstPlace, IsLastPlace}
-use Rattle.fixed_decimal_unsigned.specs.Range.{HoldsDigits}
+use Rattle.fixed_decimal_unsigned.specs.DigitCount.{HoldsDigits}
 use Rattle.fixed_decimal_digits.specs.DigitList.{IsTrimmed, count_of}
 use Rattle.fixed_decimal_unsigned.specs.Stored.{IsStored}
 use Rattle.fixed_decimal_digits.proofs.TenLemmas.{tens_split, tens_next}

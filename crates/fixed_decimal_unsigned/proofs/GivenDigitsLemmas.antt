@@ -3,7 +3,7 @@ use Rattle.std.proofs.Common.{◌≡◌, ℕ, zero, suc, ◌+◌, ◌-◌, ◌*�
 use Rattle.std.proofs.lemmas.Nat.{mod-mul-add}
 use Rattle.std.specs.Int.Digits.{number_from_digits, AllBelowBase}
 use Rattle.fixed_decimal_unsigned.specs.GivenDigits.{DigitsGiven, IsKept, with_digit}
-use Rattle.fixed_decimal_unsigned.specs.Range.{IsLong}
+use Rattle.fixed_decimal_unsigned.specs.DigitCount.{IsLong}
 use Rattle.fixed_decimal_digits.proofs.TenLemmas.{tens_apart, tens_next}
 use Rattle.fixed_decimal_digits.proofs.DigitsLemmas.{number_reaches, below_joined}
 use Rattle.fixed_decimal_unsigned.proofs.ConcatenationLemmas.{joined, joined_length, joined_number, zeros_below}

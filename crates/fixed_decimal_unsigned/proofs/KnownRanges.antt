@@ -2,7 +2,8 @@
 use Rattle.std.proofs.Common.{◌≡◌, ℕ, zero, suc, pos, negsuc, ◌+◌, ◌*◌, ◌%◌, ◌^◌, ◌<◌, ◌≤◌, inl, refl, subst, arith, lit≤, ⊎_elim, inr}
 use Rattle.std.proofs.lemmas.Bool.{cases_lt}
 use Rattle.fixed_decimal_unsigned.specs.Number.{Number, digit}
-use Rattle.fixed_decimal_unsigned.specs.Range.{IsHighest, IsLowest, IsLong}
+use Rattle.fixed_decimal_unsigned.specs.DigitCount.{IsLong}
+use Rattle.fixed_decimal_unsigned.specs.Range.{IsHighest, IsLowest}
 use Rattle.fixed_decimal_unsigned.specs.Shifts.{Shifts, Cuts, plain_zero, TrimsStart, TrimsEnd, PadsStart, PadsEnd}
 use Rattle.fixed_decimal_unsigned.specs.NonzeroPlaces.{IsFirstPlace, IsLastPlace}
 use Rattle.fixed_decimal_unsigned.specs.Concatenation.{Overlaps, Concatenates}

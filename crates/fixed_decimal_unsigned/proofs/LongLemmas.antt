@@ -5,7 +5,7 @@ use Rattle.std.proofs.lemmas.Bool.{cases_lt}
 use Rattle.std.specs.Char.{digit_value}
 use Rattle.std.specs.Int.Digits.{number_from_digits}
 use Rattle.fixed_decimal_unsigned.specs.NumberText.{spelled}
-use Rattle.fixed_decimal_unsigned.specs.Range.{HoldsDigits, IsLong}
+use Rattle.fixed_decimal_unsigned.specs.DigitCount.{HoldsDigits, IsLong}
 use Rattle.fixed_decimal_digits.specs.DigitList.{count_of}
 use Rattle.fixed_decimal_unsigned.specs.Stored.{IsStored}
 use Rattle.fixed_decimal_digits.proofs.TenLemmas.{tens_positive, tens_apart, tens_split, digit_under}

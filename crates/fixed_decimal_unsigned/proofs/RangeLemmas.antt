@@ -5,7 +5,8 @@ use Rattle.fixed_decimal_unsigned.specs.Number.{Number}
 use Rattle.fixed_decimal_digits.specs.Rounding.{count_limit, IsLimited, IsRounded, IsMultiple, increment_number}
 use Rattle.fixed_decimal_digits.specs.declared.RoundingIncrement.{RoundingIncrement}
 use Rattle.fixed_decimal_digits.specs.DigitList.{IsTrimmed, count_of}
-use Rattle.fixed_decimal_unsigned.specs.Range.{IsHighest, HoldsDigits, Rounds}
+use Rattle.fixed_decimal_unsigned.specs.DigitCount.{HoldsDigits}
+use Rattle.fixed_decimal_unsigned.specs.Range.{IsHighest, Rounds}
 use Rattle.fixed_decimal_unsigned.specs.Stored.{IsStored}
 use Rattle.fixed_decimal_digits.specs.declared.UnsignedRoundingMode.{UnsignedRoundingMode}
 use Rattle.fixed_decimal_digits.proofs.TenLemmas.{tens_apart, tens_positive}

@@ -10,7 +10,7 @@ use Rattle.fixed_decimal_digits.proofs.NumberWordLemmas.{text_spells, spells_wid
 use Rattle.fixed_decimal_digits.proofs.WordLemmas.{digits_joined, power_positive, powers_rise, value_below}
 use Rattle.fixed_decimal_unsigned.specs.Number.{Number}
 use Rattle.fixed_decimal_unsigned.specs.NumberText.{AreDigits, spelled, point, behind_point, Parts, Spells, AreEndsIn, IsWithin, number_at, number_of, mantissa_of, up_of, down_of, Reads}
-use Rattle.fixed_decimal_unsigned.specs.Range.{HoldsDigits}
+use Rattle.fixed_decimal_unsigned.specs.DigitCount.{HoldsDigits}
 use Rattle.fixed_decimal_unsigned.specs.ShortText.{SpellsShort}
 use Rattle.fixed_decimal_unsigned.proofs.LongLemmas.{more_mantissa}
 

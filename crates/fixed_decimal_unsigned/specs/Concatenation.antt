@@ -4,7 +4,7 @@
 use Rattle.std.specs.Prelude.{◌≡◌, ℕ, ◌+◌, ◌<◌, ◌≤◌, min, max}
 use Rattle.fixed_decimal_unsigned.specs.Number.{Number}
 use Rattle.fixed_decimal_unsigned.specs.NonzeroPlaces.{IsFirstPlace, IsLastPlace}
-use Rattle.fixed_decimal_unsigned.specs.Range.{IsLong}
+use Rattle.fixed_decimal_unsigned.specs.DigitCount.{IsLong}
 use Rattle.fixed_decimal_unsigned.specs.declared.error.ConcatenateError.{ConcatenateError}
 use Rattle.fixed_decimal_unsigned.specs.declared.error.ConcatenateError.TheVariants.{Overlap, Memory}
 

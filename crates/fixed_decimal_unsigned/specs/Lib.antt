@@ -1,5 +1,6 @@
 pub mod BorrowedParts
 pub mod Concatenation
+pub mod DigitCount
 pub mod Equality
 pub mod ErrorNumbers
 pub mod GivenDigits

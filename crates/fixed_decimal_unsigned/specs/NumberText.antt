@@ -5,7 +5,7 @@ use Rattle.std.specs.Prelude.{◌≡◌, ℕ, ◌+◌, ◌-◌, ◌*◌, ◌^◌
 use Rattle.std.specs.Str.Parse.{digits_value}
 pub use Rattle.fixed_decimal_digits.specs.DigitText.{digit_zero, character, AreDigits}
 use Rattle.fixed_decimal_unsigned.specs.Number.{Number, whole_digits, fraction_digits}
-use Rattle.fixed_decimal_unsigned.specs.Range.{IsLong, IsLonger}
+use Rattle.fixed_decimal_unsigned.specs.DigitCount.{IsLong, IsLonger}
 
 -- the characters that a text may hold beside digits
 abbrev pub point : ℕ

@@ -1,7 +1,8 @@
 -- The visible range after a call: the least range that holds what the call says it holds.
 -- Defined in docs/numbers.md, "Ranges".
--- Cited by the roundings, the shifts, the trims, the pads and the cuts, and by each call that may allocate.
+-- Cited by the roundings, the shifts, the trims, the pads and the cuts.
 use Rattle.std.specs.Prelude.{◌≡◌, ℕ, ◌+◌, ◌*◌, ◌%◌, ◌^◌, ◌<◌, ◌≤◌, min}
+pub use Rattle.fixed_decimal_unsigned.specs.DigitCount.{HoldsDigits, IsLong, IsLonger}
 use Rattle.fixed_decimal_unsigned.specs.Number.{Number}
 use Rattle.fixed_decimal_digits.specs.Rounding.{Takes, increment_number}
 use Rattle.fixed_decimal_digits.specs.declared.UnsignedRoundingMode.{UnsignedRoundingMode}
@@ -25,20 +26,3 @@ pub record Rounds (mode : UnsignedRoundingMode) (increment : RoundingIncrement) 
   pub taken : Takes mode (increment_number increment * 10 ^ place) old.count new.count
   pub low : new.low ≡ min place 32768
   pub high : IsHighest old.high place new.count new.high
-
--- every digit of a count that is not zero is at one of the `places` places from `low` up
-pub record HoldsDigits (count low places : ℕ) : Type 0 where
-  pub whole : count % 10 ^ low ≡ 0
-  pub below : count < 10 ^ (low + places)
-
--- from the first to the last digit that is not zero a count has more than eight digits: up to eight do not allocate
-abbrev pub IsLong : ℕ → Type 0
-IsLong count = (low : ℕ) → ¬ (HoldsDigits count low 8)
-
--- from the first to the last digit that is not zero a count has more digits than `other`: `places` places hold those of
--- `other`, and nowhere those of the count
-pub record IsLonger (other count : ℕ) : Type 0 where
-  pub low : ℕ
-  pub places : ℕ
-  pub holds : HoldsDigits other low places
-  pub more : (at : ℕ) → ¬ (HoldsDigits count at places)

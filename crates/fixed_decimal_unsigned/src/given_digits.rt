@@ -2,7 +2,7 @@
 ghost use Rattle.std.specs.Prelude.{◌≡◌, ◌+◌, ◌-◌, ◌*◌, ◌^◌, ◌<◌, ◌≤◌, ◌↔◌, IfOk, IfSome, OnErr, OnOk, IsSome};
 ghost use Rattle.fixed_decimal_unsigned.specs.GivenDigits.{with_digit};
 ghost use Rattle.fixed_decimal_unsigned.specs.NumberText.{AreEndsIn, number_at};
-ghost use Rattle.fixed_decimal_unsigned.specs.Range.{IsLong};
+ghost use Rattle.fixed_decimal_unsigned.specs.DigitCount.{IsLong};
 
 use crate::reading::{assembled, moved_ends};
 use crate::unsigned_decimal::UnsignedDecimal;

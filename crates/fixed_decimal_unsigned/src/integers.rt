@@ -2,7 +2,7 @@
 
 ghost use Rattle.std.specs.Prelude.{◌<◌, ◌^◌, IfOk, OnErr, IsOk};
 ghost use Rattle.fixed_decimal_unsigned.specs.Integers.{IsInteger};
-ghost use Rattle.fixed_decimal_unsigned.specs.Range.{IsLong};
+ghost use Rattle.fixed_decimal_unsigned.specs.DigitCount.{IsLong};
 
 use crate::reading::{Ends, assembled};
 use crate::unsigned_decimal::UnsignedDecimal;

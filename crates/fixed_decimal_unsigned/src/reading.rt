@@ -5,7 +5,7 @@ ghost use Rattle.std.specs.Int.Digits.{number_from_digits, AllBelowBase};
 ghost use Rattle.std.specs.Char.{digit_value};
 ghost use Rattle.fixed_decimal_unsigned.specs.NumberText.{AreDigits, spelled, AreEndsIn, IsWithin, number_of, Reads, ReadsLong, ReadsLonger, IsBeyond, IsNoText};
 ghost use Rattle.fixed_decimal_unsigned.specs.BorrowedParts.{parts_of};
-ghost use Rattle.fixed_decimal_unsigned.specs.Range.{HoldsDigits, IsLong};
+ghost use Rattle.fixed_decimal_unsigned.specs.DigitCount.{HoldsDigits, IsLong};
 ghost use Rattle.fixed_decimal_unsigned.specs.Stored.{IsStored};
 ghost use Rattle.fixed_decimal_digits.specs.DigitList.{count_of};
 

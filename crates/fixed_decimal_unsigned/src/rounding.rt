@@ -2,7 +2,8 @@
 
 ghost use Rattle.std.specs.Prelude.{◌≡◌, ◌≢◌, ℕ, ◌+◌, ◌*◌, ◌^◌, ◌<◌, ◌≤◌, OnOk, OnErr, IsOk};
 ghost use Rattle.fixed_decimal_unsigned.specs.Number.{place};
-ghost use Rattle.fixed_decimal_unsigned.specs.Range.{Rounds, HoldsDigits};
+ghost use Rattle.fixed_decimal_unsigned.specs.DigitCount.{HoldsDigits};
+ghost use Rattle.fixed_decimal_unsigned.specs.Range.{Rounds};
 ghost use Rattle.fixed_decimal_unsigned.specs.RoundingMemory.{MayGrow};
 ghost use Rattle.fixed_decimal_digits.specs.Rounding.{IsLimited};
 ghost use Rattle.fixed_decimal_digits.specs.DigitList.{IsTrimmed, count_of};

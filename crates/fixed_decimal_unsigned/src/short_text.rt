@@ -5,7 +5,7 @@ ghost use Rattle.std.specs.Int.Digits.{number_from_digits, AllBelowBase};
 ghost use Rattle.fixed_decimal_digits.specs.DigitList.{count_of};
 ghost use Rattle.fixed_decimal_digits.specs.DigitWord.{word_digits};
 ghost use Rattle.fixed_decimal_unsigned.specs.NumberText.{number_at};
-ghost use Rattle.fixed_decimal_unsigned.specs.Range.{HoldsDigits, IsLong};
+ghost use Rattle.fixed_decimal_unsigned.specs.DigitCount.{HoldsDigits, IsLong};
 ghost use Rattle.fixed_decimal_unsigned.specs.ShortText.{SpellsShort};
 ghost use Rattle.fixed_decimal_unsigned.specs.Stored.{IsStored};
 

@@ -4,7 +4,7 @@ ghost use Rattle.std.specs.Prelude.{◌≡◌, ◌==◌, ◌<◌, IfOk, OnErr, f
 ghost use Rattle.std.specs.Range.{range_inclusive_start, range_inclusive_end, range_inclusive_exhausted};
 ghost use Rattle.fixed_decimal_unsigned.specs.Number.{place, digit, IsNumber};
 ghost use Rattle.fixed_decimal_unsigned.specs.Integers.{IsInteger};
-ghost use Rattle.fixed_decimal_unsigned.specs.Range.{IsLong};
+ghost use Rattle.fixed_decimal_unsigned.specs.DigitCount.{IsLong};
 
 use crate::places::{magnitude_of, place_of};
 use fixed_decimal_digits::{Digits, ONES, digit_at_place};

@@ -2,7 +2,7 @@ use Rattle.std.proofs.Common.{ℕ, length, refl, subst}
 use Rattle.fixed_decimal_digits.specs.DigitList.{count_of}
 use Rattle.fixed_decimal_unsigned.specs.BorrowedParts.{parts_of}
 use Rattle.fixed_decimal_unsigned.specs.NumberText.{number_of}
-use Rattle.fixed_decimal_unsigned.specs.Range.{HoldsDigits, IsLong}
+use Rattle.fixed_decimal_unsigned.specs.DigitCount.{HoldsDigits, IsLong}
 use Rattle.fixed_decimal_unsigned.proofs.ShortTextLemmas.{short_number, short_reads}
 use Rattle.fixed_decimal_unsigned.proofs.reading.read_text.Goals as goal
 

@@ -1,7 +1,7 @@
 use Rattle.std.proofs.Common.{subst}
 use Rattle.writeable.specs.Taking.{on_err}
 use Rattle.fixed_decimal_signed.specs.Number.{Number}
-use Rattle.fixed_decimal_signed.specs.Range.{IsLong}
+use Rattle.fixed_decimal_signed.specs.DigitCount.{IsLong}
 use Rattle.fixed_decimal_signed.specs.SignedValue.{SignedValue}
 use Rattle.fixed_decimal.proofs.integer.FixedInteger.try_clone.Goals as goal
 

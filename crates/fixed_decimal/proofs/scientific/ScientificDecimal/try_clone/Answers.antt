@@ -1,6 +1,6 @@
 use Rattle.std.proofs.Common.{inl, inr, subst}
 use Rattle.writeable.specs.Taking.{on_err}
-use Rattle.fixed_decimal_signed.specs.Range.{IsLong}
+use Rattle.fixed_decimal_signed.specs.DigitCount.{IsLong}
 use Rattle.fixed_decimal.specs.ScientificText.{ScientificValue, IsScientific}
 use Rattle.fixed_decimal.proofs.scientific.ScientificDecimal.try_clone.Goals as goal
 

@@ -2,7 +2,7 @@ use Rattle.std.proofs.Common.{◌≡◌, ◌+◌, ◌*◌, ◌<◌, ◌∙◌, [
 use Rattle.std.proofs.lemmas.Bool.{cases_lt}
 use Rattle.std.proofs.lemmas.List.{append_assoc}
 use Rattle.writeable.specs.Taking.{on_err}
-use Rattle.fixed_decimal_unsigned.specs.Range.{IsLong}
+use Rattle.fixed_decimal_unsigned.specs.DigitCount.{IsLong}
 use Rattle.fixed_decimal_unsigned.proofs.ConcatenationLemmas.{joined}
 use Rattle.fixed_decimal_unsigned.proofs.GivenDigitsLemmas.{other_given, other_kept, other_long}
 use Rattle.fixed_decimal_unsigned.proofs.given_digits.GivenDigits.push_other.Goals as goal

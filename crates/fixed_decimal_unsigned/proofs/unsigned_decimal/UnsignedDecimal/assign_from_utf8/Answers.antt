@@ -1,5 +1,5 @@
 use Rattle.std.proofs.Common.{◌+◌, ◌-◌, length, subst}
-use Rattle.fixed_decimal_unsigned.specs.Range.{HoldsDigits}
+use Rattle.fixed_decimal_unsigned.specs.DigitCount.{HoldsDigits}
 use Rattle.fixed_decimal_unsigned.proofs.LongLemmas.{kept_holds}
 use Rattle.fixed_decimal_unsigned.proofs.unsigned_decimal.UnsignedDecimal.assign_from_utf8.Goals as goal
 

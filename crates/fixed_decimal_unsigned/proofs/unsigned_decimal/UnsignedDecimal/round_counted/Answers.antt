@@ -3,7 +3,7 @@ use Rattle.std.proofs.lemmas.Int.{to_z-of_z}
 use Rattle.writeable.specs.Taking.{on_err}
 use Rattle.fixed_decimal_unsigned.specs.Number.{place}
 use Rattle.fixed_decimal_digits.specs.DigitList.{count_of}
-use Rattle.fixed_decimal_unsigned.specs.Range.{HoldsDigits}
+use Rattle.fixed_decimal_unsigned.specs.DigitCount.{HoldsDigits}
 use Rattle.fixed_decimal_unsigned.proofs.NonzeroLemmas.{may_grow}
 use Rattle.fixed_decimal_unsigned.proofs.RangeLemmas.{trimmed_of, holds_length, rounded_kept, rounds_made, limited_multiple, turns_bounded}
 use Rattle.fixed_decimal_unsigned.proofs.unsigned_decimal.UnsignedDecimal.round_counted.Goals as goal

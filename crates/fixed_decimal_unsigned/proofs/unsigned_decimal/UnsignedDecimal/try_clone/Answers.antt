@@ -1,6 +1,6 @@
 use Rattle.std.proofs.Common.{subst}
 use Rattle.writeable.specs.Taking.{on_err}
-use Rattle.fixed_decimal_unsigned.specs.Range.{IsLong}
+use Rattle.fixed_decimal_unsigned.specs.DigitCount.{IsLong}
 use Rattle.fixed_decimal_unsigned.proofs.LongLemmas.{long_kept}
 use Rattle.fixed_decimal_unsigned.proofs.unsigned_decimal.UnsignedDecimal.try_clone.Goals as goal
 
