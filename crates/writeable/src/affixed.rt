@@ -32,9 +32,10 @@ impl<'a, T> Model for Affixed<'a, T> {
 /// The text before, the value with its parts, the text behind: `€5 net`.
 ///
 /// `Error`, only where the sink refused: it has taken a beginning. Writing allocates only what the sink and the value
-/// do. The hint is the value's, with the lengths of the two texts added: of `€5 net` exactly 8.
+/// do. The hint is the value's, with the lengths of the two texts added to its ends; so it is at least these, 7 of
+/// `€5 net`.
 impl<'a, T: Writeable> Writeable for Affixed<'a, T> {
-    ghost use Rattle.std.specs.Prelude.{length};
+    ghost use Rattle.std.specs.Prelude.{◌+◌, ◌≤◌, length, min};
     ghost use Rattle.writeable.specs.Affixed.{affixed};
     ghost use Rattle.writeable.specs.AnnotatedText.{text_of};
     ghost use Rattle.writeable.specs.LengthHint.{IsWithinHint};
@@ -48,7 +49,8 @@ impl<'a, T: Writeable> Writeable for Affixed<'a, T> {
     }
 
     fn writeable_length_hint(&self) -> LengthHint
-        ensures { IsWithinHint result (length (text_of (affixed T.events self.now))) }
+        ensures within { IsWithinHint result (length (text_of (affixed T.events self.now))) }
+        ensures low { min (length self.now.before + length self.now.behind) usize.MAX ≤ result.low }
     {
         self.value
             .writeable_length_hint()

@@ -1,6 +1,6 @@
 //! Bounds on the length of a text, known before it is written.
 
-ghost use Rattle.std.specs.Prelude.{◌≡◌, ℕ, ◌+◌, None, Some};
+ghost use Rattle.std.specs.Prelude.{◌≡◌, ℕ, ◌+◌, None, Some, min};
 ghost use Rattle.writeable.specs.LengthHint.{IsWithinHint};
 
 /// How long a text is, in bytes: at least `low`, and at most `high` where that is known. Of `a,b`
@@ -41,7 +41,8 @@ impl LengthHint {
     // The hint of a text that has `bytes` more: `exact(3)` by 2 is from 5 to 5. An end that no
     // `usize` holds says what is known without it.
     pub(crate) fn longer_by(self, bytes: usize) -> Self
-        ensures { (n : ℕ) → IsWithinHint self n → IsWithinHint result (n + bytes) }
+        ensures within { (n : ℕ) → IsWithinHint self n → IsWithinHint result (n + bytes) }
+        ensures low { result.low ≡ min (self.low + bytes) usize.MAX }
     {
         LengthHint {
             low: self.low.saturating_add(bytes),

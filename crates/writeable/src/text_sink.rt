@@ -1,7 +1,10 @@
 //! A text held in memory, its parts left out.
 
-ghost use Rattle.std.specs.Prelude.{◌≡◌, ◌++◌, false, [], IfOk, IsOk, OnOk, OnErr};
+ghost use Rattle.std.specs.Prelude.{◌≡◌, ◌++◌, false, [], IfOk, IsOk, OnOk, OnErr, is_err};
 ghost use Rattle.std.specs.String.{string_bytes};
+ghost use Rattle.writeable.specs.AnnotatedText.{bytes};
+ghost use Rattle.writeable.specs.HeldText.{HoldsMore, LacksMemory};
+ghost use Rattle.writeable.specs.Taking.{HasBegun};
 
 use crate::error::Error;
 use crate::part::Part;
@@ -11,7 +14,8 @@ use std::marker::Model;
 
 /// A sink that holds the text and leaves out the parts: of `a,b` with parts it holds `a,b`.
 ///
-/// It refuses only bytes, and only where it is out of memory; it never refuses a part.
+/// It refuses only bytes, and only where it is out of memory; it never refuses a part. A refused `write_str` leaves the
+/// text as it was.
 #[derive(Drop)]
 pub struct TextSink {
     text: String,
@@ -91,14 +95,13 @@ impl TextSink {
 }
 
 impl Sink for TextSink {
-    ghost use Rattle.std.specs.Prelude.{◌≡◌, ◌++◌, Bool};
-    ghost use Rattle.writeable.specs.AnnotatedText.{text_of, HasText};
-    ghost use Rattle.writeable.specs.HeldText.{HeldText};
+    ghost use Rattle.std.specs.Prelude.{Bool};
+    ghost use Rattle.writeable.specs.HeldText.{HeldText, HoldsMore, LacksMemory};
     ghost use Rattle.writeable.specs.SinkLaws.{has_text_joined, text_nothing, text_joins};
 
-    ghost takes = { λ s es t. t.text ≡ s.text ++ text_of es };
+    ghost takes = { HoldsMore };
 
-    ghost lacks_room = { λ _ es. HasText es };
+    ghost lacks_room = { LacksMemory };
 
     ghost refused = { λ s. s.refused };
 
@@ -113,7 +116,13 @@ impl Sink for TextSink {
     }
 
     #[tactic(auto, using(crate::proofs::AnnotatedTextLemmas::text_of_bytes))]
-    fn write_str(&mut self, text: &str) -> Result<(), Error> {
+    fn write_str(&mut self, text: &str) -> Result<(), Error>
+        requires { self.old.refused ≡ false }
+        ensures ok { OnOk result (HoldsMore self.old (bytes text.now) self.new) }
+        ensures refused { self.new.refused ≡ is_err result }
+        ensures begun { OnErr result (HasBegun HoldsMore LacksMemory self.old (bytes text.now) self.new) }
+        ensures kept { OnErr result (self.new.text ≡ self.old.text) }
+    {
         match self.text.push_str(text) {
             Ok(()) => Ok(()),
             Err(_) => {

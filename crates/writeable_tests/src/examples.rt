@@ -8,6 +8,7 @@ use std::test::Fail;
 use writeable::{
     Affixed, CompareSink, Error, LengthHint, Part, Sink, Writeable, display, strict_cmp,
 };
+use writeable_bytes::TooSmall;
 
 #[derive(Drop)]
 struct Shown(Pair);
@@ -43,6 +44,7 @@ fn parts_errors_and_hints(rt: HostRuntime) {
     assert_eq!(rt; part.value, "integer");
     assert!(rt; OUTER != INNER);
     assert_eq!(rt; Error.number(), 1);
+    assert_eq!(rt; TooSmall { needed: 3 }.number(), 1);
     expect_hint(&rt, LengthHint::exact(3), 3, Some(3));
     expect_hint(&rt, LengthHint::at_least(2), 2, None);
     expect_hint(&rt, "a,b".writeable_length_hint(), 3, Some(3));

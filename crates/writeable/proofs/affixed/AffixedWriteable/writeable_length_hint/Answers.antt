@@ -6,10 +6,10 @@ use Rattle.writeable.proofs.AnnotatedTextLemmas.{affixed_length}
 use Rattle.writeable.proofs.affixed.AffixedWriteable.writeable_length_hint.Goals as goal
 
 -- the length of the value, and those of the two texts
-pub returns : goal.returns
-returns g c =
+pub returns-clause-within : goal.returns-clause-within
+returns-clause-within g c =
     let inside = c.self.inside in
     let events = g.T.Writeable.events in
     subst (λ between. IsWithinHint c.longer_by-2.result (length (text_of (affixed events between)))) c.self.view_is
     (subst (λ n. IsWithinHint c.longer_by-2.result n) (affixed_length inside.before.now inside.behind.now (events inside.value))
-    (c.longer_by-2.ensures _ (c.longer_by.ensures _ c.writeable_length_hint.ensures)))
+    (c.longer_by-2.ensures.within _ (c.longer_by.ensures.within _ c.writeable_length_hint.ensures)))
