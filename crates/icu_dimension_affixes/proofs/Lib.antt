@@ -1,0 +1,3 @@
+pub mod KnownValues
+pub mod PlaceLemmas
+pub mod UnitTextLemmas

@@ -1,0 +1,6 @@
+pub mod HeldUnits
+pub mod PartlessUnits
+pub mod UnitPatterns
+pub mod UnitPlaces
+pub mod UnitText
+pub mod UnitTextLaws
