@@ -1,0 +1,2 @@
+pub mod FractionLemmas
+pub mod KnownValues

@@ -1,0 +1,4 @@
+pub mod Fractions
+pub mod FractionLaws
+pub mod FractionRounding
+pub mod RoundedDigit
