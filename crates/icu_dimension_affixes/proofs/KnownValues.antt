@@ -1,6 +1,7 @@
 -- Values from outside that a wrong definition does not survive: the tables of docs/units.md.
-use Rattle.std.proofs.Common.{◌≡◌, ℕ, ◌*◌, ◌^◌, true, false, List, [], ◌∷◌, ◌++◌, Option, None, Some, refl}
+use Rattle.std.proofs.Common.{◌≡◌, ℕ, Bool, ◌*◌, ◌^◌, true, false, List, [], ◌∷◌, ◌++◌, Option, None, Some, refl}
 use Rattle.std.specs.Prelude.{codes}
+use Rattle.std.specs.Str.{chars}
 use Rattle.writeable.specs.AnnotatedText.{AnnotatedText, Interval, annotated, bytes, closing, opening}
 use Rattle.fixed_decimal.specs.Number.{Number}
 use Rattle.fixed_decimal.specs.SignedValue.{SignedValue}
@@ -11,6 +12,7 @@ use Rattle.icu_decimal_symbols.specs.declared.options.GroupingStrategy.TheVarian
 use Rattle.icu_decimal_plain.specs.Affixes.{decimal_part}
 use Rattle.icu_dimension_affixes.specs.UnitPatterns.{AffixesText, PatternChoice, PatternTexts, chosen}
 use Rattle.icu_dimension_affixes.specs.UnitPlaces.{placeholder, places}
+use Rattle.icu_dimension_affixes.specs.UnitReading.{is_unit_readable_by, reader_texts}
 use Rattle.icu_dimension_affixes.specs.UnitText.{UnitName, UnitSettings, sign_pair, text_between, unit_decimal_events, unit_decimal_text, unit_formatted}
 use Rattle.icu_dimension_affixes.specs.declared.affixes.UnitPlace.TheVariants.{Before, After}
 use Rattle.icu_dimension_affixes.specs.declared.patterns.LetterEnds.{LetterEnds}
@@ -201,3 +203,25 @@ five_in_parentheses = refl
 five_text : unit_decimal_text (written_with english_strings english_accounting (currency (codes "$"))) (five Negative) ≡ codes "($5)"
 unfolding five lib.Utf8.encode
 five_text = refl
+
+-- Readable: English with the sign of the euro; not with a digit in the unit, nor where a minus sign is written as none.
+
+abbrev readable : PatternTexts → List ℕ → Bool
+readable pattern text = is_unit_readable_by (reader_texts (written_with english_strings pattern (currency text)))
+
+euros_are_readable : readable english_accounting euro ≡ true
+unfolding chars
+euros_are_readable = refl
+
+digit_in_the_unit : readable english_standard (codes "m2") ≡ false
+unfolding chars
+digit_in_the_unit = refl
+
+signs_alike : readable (with_own (unit_before [] [] []) (unit_before [] [] []) (unit_before (codes "+") [] [])) (codes "$") ≡ false
+unfolding chars
+signs_alike = refl
+
+-- without a unit the affixes of the symbols tell the signs apart
+no_unit : readable english_standard [] ≡ true
+unfolding chars
+no_unit = refl

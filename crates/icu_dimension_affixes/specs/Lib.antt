@@ -1,6 +1,9 @@
+pub mod HeldReaders
 pub mod HeldUnits
 pub mod PartlessUnits
 pub mod UnitPatterns
 pub mod UnitPlaces
+pub mod UnitReading
+pub mod UnitReadingLaws
 pub mod UnitText
 pub mod UnitTextLaws

@@ -20,6 +20,8 @@ pub mod laws;
 mod number_in_unit;
 pub mod parts;
 mod patterns;
+mod reader;
+mod sign_affixes;
 mod tables;
 mod unit;
 
@@ -27,5 +29,6 @@ pub use affixes::{UnitAffixes, UnitPlace};
 pub use error::UnitPatternError;
 pub use number_in_unit::NumberInUnit;
 pub use patterns::{LetterEnds, UnitPattern, UnitPatterns};
+pub use reader::UnitReader;
 pub use tables::{FormattedUnit, UnitTables};
 pub use unit::{Unit, UnitKind};
