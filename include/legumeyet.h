@@ -62,7 +62,7 @@ extern "C" {
 #define LEGUMEYET_VERSION 1
 
 /* The minor version, which rises when a function or a number is added. */
-#define LEGUMEYET_MINOR 0
+#define LEGUMEYET_MINOR 1
 
 /* The two arguments that a text with a NUL at its end is given by. */
 #define LEGUMEYET_TEXT(text) (const uint8_t *)(text), strlen(text)
@@ -122,7 +122,7 @@ enum {
     LEGUMEYET_SIGN_NEGATIVE = 5     /* a minus on a number that is not zero, and else none */
 };
 
-/* Which multiple of the increment, at the position, the number is rounded to. */
+/* Which multiple of the increment, at the position, a number is rounded to. */
 enum {
     LEGUMEYET_ROUND_KEEP = 0,        /* it is not rounded */
     LEGUMEYET_ROUND_EXPAND = 1,      /* away from zero */
@@ -134,6 +134,12 @@ enum {
     LEGUMEYET_ROUND_HALF_CEIL = 7,   /* to the nearest, a tie upwards */
     LEGUMEYET_ROUND_HALF_FLOOR = 8,  /* to the nearest, a tie downwards */
     LEGUMEYET_ROUND_HALF_EVEN = 9    /* to the nearest, a tie to the even one */
+};
+
+/* What becomes of the zeros at the end of the fraction digits. */
+enum {
+    LEGUMEYET_TRAILING_ZEROS_KEEP = 0, /* they stay: `1.50` */
+    LEGUMEYET_TRAILING_ZEROS_TRIM = 1  /* they are trimmed, and the decimal separator where no digit is left: `1.5`, and `2` of `2.00` */
 };
 
 /* The kinds of parts. */
@@ -164,11 +170,26 @@ typedef struct {
     bool is_open;
 } legumeyet_compact_formatter;
 
-/* What is made of a number before it is written: it is rounded, and then its sign is chosen. Zeroed, the number stays as it is. */
+/*
+ * What is made of a number before it is written: it is rounded, then trimmed, then padded, and then its sign is chosen. Zeroed, the
+ * number stays as it is. Of LEGUMEYET_ROUND_KEEP the position and the increment count for nothing.
+ *
+ * At most two fraction digits, and none that is not needed: the rounding LEGUMEYET_ROUND_HALF_EVEN, the position -2 and
+ * LEGUMEYET_TRAILING_ZEROS_TRIM write 1.995 as `2`, 1.5 as `1.5` and 1.255 as `1.26`. With `minimum_fraction_digits` 1 too 1.995 is `2.0`.
+ * To the nearest twentieth: LEGUMEYET_ROUND_HALF_EVEN, the position -2 and the increment 5 write 1.23 as `1.25`.
+ *
+ * LEGUMEYET_OPTION of a sign, a rounding, an increment or a choice of zeros that is not in its list, of a least count of digits above
+ * 32767, and of a reserved number that is not 0.
+ */
 typedef struct {
-    uint32_t sign;     /* a LEGUMEYET_SIGN */
-    uint32_t rounding; /* a LEGUMEYET_ROUND */
-    int16_t position;  /* the magnitude that is rounded at: 0 the ones, -2 the hundredths; of LEGUMEYET_ROUND_KEEP it counts for nothing */
+    uint32_t sign;                    /* a LEGUMEYET_SIGN */
+    uint32_t rounding;                /* a LEGUMEYET_ROUND */
+    int16_t position;                 /* the magnitude that is rounded at: 0 the ones, -2 the hundredths */
+    uint16_t trailing_zeros;          /* a LEGUMEYET_TRAILING_ZEROS */
+    uint32_t increment;               /* 1, 2, 5 or 25: it is rounded to a multiple of this, at the position; 0 is 1 */
+    uint16_t minimum_integer_digits;  /* as many integer digits are shown at least, by zeros in front: with 3 7 is `007` */
+    uint16_t minimum_fraction_digits; /* as many fraction digits are shown at least, by zeros at the end: with 2 7.5 is `7.50` */
+    uint32_t reserved[2];             /* 0 */
 } legumeyet_options;
 
 /* A part of a text: the bytes from `start` up to `end`. */
@@ -263,8 +284,8 @@ int32_t legumeyet_decimal_formatter_close(legumeyet_decimal_formatter *formatter
  *
  * With the rounding LEGUMEYET_ROUND_HALF_EVEN at -1 and the sign LEGUMEYET_SIGN_ALWAYS `9.75` is written `+9.8`.
  *
- * Returns 0; LEGUMEYET_CLOSED; LEGUMEYET_OPTION, of the sign or the rounding; LEGUMEYET_NUMBER; LEGUMEYET_LIMIT; LEGUMEYET_MEMORY, which
- * a number of eight digits at most never takes; LEGUMEYET_TOO_SMALL.
+ * Returns 0; LEGUMEYET_CLOSED; LEGUMEYET_OPTION, of the options; LEGUMEYET_NUMBER; LEGUMEYET_LIMIT; LEGUMEYET_MEMORY, which a number of
+ * eight digits at most takes only where an increment of 25 gives it a ninth; LEGUMEYET_TOO_SMALL.
  */
 int32_t legumeyet_decimal_formatter_format(legumeyet_decimal_formatter *formatter, const uint8_t *number, size_t number_length,
                                            const legumeyet_options *options, uint8_t *out, size_t room, size_t *length);
@@ -279,6 +300,22 @@ int32_t legumeyet_decimal_formatter_format(legumeyet_decimal_formatter *formatte
  */
 int32_t legumeyet_decimal_formatter_format_i64(legumeyet_decimal_formatter *formatter, int64_t mantissa, int16_t exponent,
                                                const legumeyet_options *options, uint8_t *out, size_t room, size_t *length);
+
+/*
+ * Writes as legumeyet_decimal_formatter_format_i64 does, of a number without a sign: 18446744073709551615 and -2 as
+ * `184,467,440,737,095,516.15` in English.
+ */
+int32_t legumeyet_decimal_formatter_format_u64(legumeyet_decimal_formatter *formatter, uint64_t mantissa, int16_t exponent,
+                                               const legumeyet_options *options, uint8_t *out, size_t room, size_t *length);
+
+/*
+ * Writes a double, by the shortest decimal number that gives it back where it is read as a double: 0.1 as `0.1`, 1234.5 as `1,234.5` in
+ * English, 5.0 as `5`, 1e21 as `1,000,000,000,000,000,000,000`, and -0.0 as `-0`.
+ *
+ * Returns as legumeyet_decimal_formatter_format, but for LEGUMEYET_LIMIT; LEGUMEYET_NUMBER of what is not finite.
+ */
+int32_t legumeyet_decimal_formatter_format_double(legumeyet_decimal_formatter *formatter, double number,
+                                                  const legumeyet_options *options, uint8_t *out, size_t room, size_t *length);
 
 /*
  * Writes as legumeyet_decimal_formatter_format does, and lists the parts of the text in order of their beginning: of `-1,234.5` the
@@ -304,6 +341,21 @@ int32_t legumeyet_decimal_formatter_read(legumeyet_decimal_formatter *formatter,
                                          size_t room, size_t *length);
 
 /*
+ * Reads a text that somebody typed: as legumeyet_decimal_formatter_read does what the formatter writes, and other texts by folding. In
+ * English ` 1234.5 `, `1,234.5`, `.5`, `5.` and `-5` with the minus sign U+2212 are read, as `1234.5`, `1234.5`, `0.5`, `5` and `-5`;
+ * `1,23`, `1,234,5` and `1 234` are not.
+ *
+ * docs/reading.md of the repository has what is folded. A separator is never dropped: digits are grouped wholly, by the sizes of the
+ * locale, or not at all. ASCII digits are read in every locale; the separators are always those of the formatter. A call folds the
+ * symbols for a text that the formatter does not write so, and keeps nothing of it.
+ *
+ * Returns as legumeyet_decimal_formatter_read; LEGUMEYET_UNREADABLE also where two numbers may have one text once the symbols are
+ * folded, but not of a text that the formatter writes; LEGUMEYET_MEMORY also where the formatter does not write the text.
+ */
+int32_t legumeyet_decimal_formatter_read_lenient(legumeyet_decimal_formatter *formatter, const uint8_t *text, size_t text_length,
+                                                 uint8_t *out, size_t room, size_t *length);
+
+/*
  * Opens the formatter of compact numbers for a locale tag, short or long: those of `en` write 1650 as `1.6K` and as `1.6 thousand`.
  *
  * `width` is a LEGUMEYET_WIDTH. The grouping that compact numbers have by default is LEGUMEYET_GROUPING_MIN2: `1000T`, `10,000T`.
@@ -322,10 +374,11 @@ int32_t legumeyet_compact_formatter_close(legumeyet_compact_formatter *formatter
 /*
  * Writes a decimal number that is given as text: `-1172700` as `-1.2M` in short English.
  *
- * The options change the number before it is shown: rounded at 6 it is `-1M`, and 950 with LEGUMEYET_SIGN_ALWAYS is `+950`.
+ * The options change the number before it is shown: rounded at 6 it is `-1M`, and 950 with LEGUMEYET_SIGN_ALWAYS is `+950`. What is shown
+ * has no zeros at the end of its fraction, so a least count of fraction digits does nothing.
  *
- * Returns 0; LEGUMEYET_CLOSED; LEGUMEYET_OPTION, of the sign or the rounding; LEGUMEYET_NUMBER; LEGUMEYET_LIMIT; LEGUMEYET_RANGE;
- * LEGUMEYET_MEMORY, which a number of eight digits at most never takes; LEGUMEYET_TOO_SMALL.
+ * Returns 0; LEGUMEYET_CLOSED; LEGUMEYET_OPTION, of the options; LEGUMEYET_NUMBER; LEGUMEYET_LIMIT; LEGUMEYET_RANGE;
+ * LEGUMEYET_MEMORY, which a number of eight digits at most takes only where an increment of 25 gives it a ninth; LEGUMEYET_TOO_SMALL.
  */
 int32_t legumeyet_compact_formatter_format(legumeyet_compact_formatter *formatter, const uint8_t *number, size_t number_length,
                                            const legumeyet_options *options, uint8_t *out, size_t room, size_t *length);
@@ -337,6 +390,21 @@ int32_t legumeyet_compact_formatter_format(legumeyet_compact_formatter *formatte
  */
 int32_t legumeyet_compact_formatter_format_i64(legumeyet_compact_formatter *formatter, int64_t mantissa, int16_t exponent,
                                                const legumeyet_options *options, uint8_t *out, size_t room, size_t *length);
+
+/*
+ * Writes as legumeyet_compact_formatter_format_i64 does, of a number without a sign: 18446744073709551615 and -9 as `18B` in short
+ * English.
+ */
+int32_t legumeyet_compact_formatter_format_u64(legumeyet_compact_formatter *formatter, uint64_t mantissa, int16_t exponent,
+                                               const legumeyet_options *options, uint8_t *out, size_t room, size_t *length);
+
+/*
+ * Writes a double, by the number that legumeyet_decimal_formatter_format_double writes it by: -1172700.0 as `-1.2M` in short English.
+ *
+ * Returns as legumeyet_compact_formatter_format, but for LEGUMEYET_LIMIT; LEGUMEYET_NUMBER of what is not finite.
+ */
+int32_t legumeyet_compact_formatter_format_double(legumeyet_compact_formatter *formatter, double number,
+                                                  const legumeyet_options *options, uint8_t *out, size_t room, size_t *length);
 
 /*
  * Writes as legumeyet_compact_formatter_format does, and lists the parts of the text, which are those of its sign: of `-1.2M` the minus
@@ -362,9 +430,10 @@ int32_t legumeyet_compact_formatter_shown(legumeyet_compact_formatter *formatter
  *
  * What legumeyet_compact_formatter_shown writes is such a text. The options change the significand: rounded at -1 it is `-1.2M`.
  *
- * Returns 0; LEGUMEYET_CLOSED; LEGUMEYET_OPTION, of the sign or the rounding; LEGUMEYET_NUMBER, where the text is no compact number, as
- * `1.2e6`; LEGUMEYET_LIMIT, also of an exponent above 255; LEGUMEYET_MEMORY, which a significand of eight digits at most never takes;
- * LEGUMEYET_RANGE, where the magnitude of both together is above 32767; LEGUMEYET_EXPONENT; LEGUMEYET_TOO_SMALL.
+ * Returns 0; LEGUMEYET_CLOSED; LEGUMEYET_OPTION, of the options; LEGUMEYET_NUMBER, where the text is no compact number, as `1.2e6`;
+ * LEGUMEYET_LIMIT, also of an exponent above 255; LEGUMEYET_MEMORY, which a significand of eight digits at most takes only where an
+ * increment of 25 gives it a ninth; LEGUMEYET_RANGE, where the magnitude of both together is above 32767; LEGUMEYET_EXPONENT;
+ * LEGUMEYET_TOO_SMALL.
  */
 int32_t legumeyet_compact_formatter_format_exact(legumeyet_compact_formatter *formatter, const uint8_t *number, size_t number_length,
                                                  const legumeyet_options *options, uint8_t *out, size_t room, size_t *length);
@@ -388,6 +457,9 @@ int32_t legumeyet_tag_of_locale_name(const char *name, uint8_t *out, size_t room
 
 /* The version of the library, as LEGUMEYET_VERSION is that of this header. */
 uint32_t legumeyet_version(void);
+
+/* The minor version of the library, as LEGUMEYET_MINOR is that of this header: a function that came later is not in the library. */
+uint32_t legumeyet_minor(void);
 
 #ifdef __cplusplus
 }
