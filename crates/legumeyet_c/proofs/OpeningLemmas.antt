@@ -10,7 +10,7 @@ use Rattle.legumeyet_c.specs.Opening.{Finds, IsFindingFault, IsOpening, IsTagFau
 -- a call that is refused before it opens
 pub opening_refused : {T : Type 0} (seen : Option Content → Option T) (is_found : T → Type 0) (fault : CallError → Type 0) (handle : Option Content) (error : CallError)
     → fault error → IsOpening seen is_found fault handle handle (Err error)
-opening_refused seen is_found fault handle error cause = record { opened = λ none. absurd (cc none); cause = cause; same = refl }
+opening_refused seen is_found fault handle error cause = record { opened = λ none. absurd (cc none); unkept = λ none. absurd (cc none); cause = cause; same = refl }
 
 -- what finds more, with more faults
 pub opening_by : {T : Type 0} (seen : Option Content → Option T) {finds found : T → Type 0} {fault faulty : CallError → Type 0} (before after : Option Content) (outcome : Result (Unit {0}) CallError)
@@ -18,11 +18,13 @@ pub opening_by : {T : Type 0} (seen : Option Content → Option T) {finds found 
     → IsOpening seen finds fault before after outcome → IsOpening seen found faulty before after outcome
 opening_by seen before after (Ok done) text cause opening = record {
   opened = λ ok. let opened = opening.opened ok in (opened.0, text opened.0 opened.1, opened.2);
+  unkept = opening.unkept;
   cause = tt;
   same = tt;
 }
 opening_by seen before after (Err error) text cause opening = record {
   opened = λ none. absurd (cc none);
+  unkept = λ none. absurd (cc none);
   cause = cause error opening.cause;
   same = opening.same;
 }

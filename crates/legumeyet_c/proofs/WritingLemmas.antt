@@ -1,5 +1,6 @@
 -- What is written behind a handle, and faults that are not that a text is too long.
 use Rattle.std.proofs.Common.{◌≡◌, ◌≢◌, ℕ, List, Option, Some, None, Result, Ok, Err, IfOk, IfErr, refl, sym, subst, inl, inr}
+use Rattle.icu_decimal.specs.PlainReading.{PlainReading}
 use Rattle.icu_decimal.specs.PlainText.{Tables}
 use Rattle.locale_numbers.specs.Book.{BookTables}
 use Rattle.legumeyet_c_values.specs.Putting.{IsPut}
@@ -54,6 +55,7 @@ answer_fault_other None error is = λ same. absurd (cc (is, same))
 answer_fault_other (Some book) error is = λ same. absurd (cc (is, same))
 
 -- nor of a text that is read back
-pub read_fault_other : (open_tables : Option Tables) (text : List ℕ) (error : CallError) → IsReadFault open_tables text error → error ≢ TooSmall
-read_fault_other None text error is = λ same. absurd (cc (is, same))
-read_fault_other (Some tables) text error caused = λ same. subst (λ (e : CallError). IsUnread tables text e) same caused
+pub read_fault_other : (read : Tables → List ℕ → PlainReading) (allocates : Tables → List ℕ → Type 0) (open_tables : Option Tables) (text : List ℕ) (error : CallError)
+    → IsReadFault read allocates open_tables text error → error ≢ TooSmall
+read_fault_other read allocates None text error is = λ same. absurd (cc (is, same))
+read_fault_other read allocates (Some tables) text error caused = λ same. subst (λ (e : CallError). IsUnread read allocates tables text e) same caused

@@ -14,7 +14,7 @@ use Rattle.icu_decimal.specs.ExactForms.{IsInRange}
 use Rattle.icu_decimal.specs.ExactText.{exact_text}
 use Rattle.icu_decimal.specs.ShownChoice.{CanShow}
 use Rattle.writeable.specs.AnnotatedText.{AnnotatedText, annotated}
-use Rattle.legumeyet_c_values.specs.Numbers.{GivesCompact, IsChangeFault, IsCompactNumberFault}
+use Rattle.legumeyet_c_values.specs.Numbers.{GivesCompact, IsChangeFault, IsCompactNumberFault, IsSignificand}
 use Rattle.legumeyet_c_values.specs.declared.Choices.{Choices}
 use Rattle.legumeyet_c_values.specs.declared.CallError.{CallError}
 use Rattle.legumeyet_c_values.specs.declared.CallError.TheVariants.{Memory, TooSmall, Range, Exponent}
@@ -87,4 +87,4 @@ WritesExact tables choices given text = Writes IsExactText tables (GivesCompact 
 
 abbrev pub IsExactWritingFault : Option CompactTables → Option Choices → List ℕ → CallError → Type 0
 IsExactWritingFault tables choices given error =
-    IsWritingFault IsExactFault tables (GivesCompact choices given) (IsChangeFault choices (IsCompactNumberFault given)) error
+    IsWritingFault IsExactFault tables (GivesCompact choices given) (IsChangeFault choices (IsSignificand given) (IsCompactNumberFault given)) error

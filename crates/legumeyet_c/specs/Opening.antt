@@ -22,9 +22,10 @@ use Rattle.legumeyet_c_values.specs.declared.CallError.TheVariants.{Memory, Clos
 use Rattle.legumeyet_c.specs.Kinds.{book_in, is_kept}
 use Rattle.legumeyet_c.specs.declared.content.Content.{Content}
 
--- what was found is open to the calls that see this of a content; after a fault the handle has what it had, of whatever kind
+-- what was found is open to the calls that see this of a content, and is not kept; after a fault the handle has what it had, of whatever kind
 pub record IsOpening {T : Type 0} (seen : Option Content → Option T) (is_found : T → Type 0) (fault : CallError → Type 0) (before after : Option Content) (outcome : Result (Unit {0}) CallError) : Type 0 where
   pub opened : IsOk outcome → (x : T) × is_found x × (seen after ≡ Some x)
+  pub unkept : IsOk outcome → is_kept after ≡ false
   pub cause : IfErr outcome fault
   pub same : IfErr outcome (λ error. after ≡ before)
 

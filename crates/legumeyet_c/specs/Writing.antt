@@ -2,11 +2,12 @@
 -- Defined in include/legumeyet.h.
 -- Cited by the exports that write numbers; DecimalWriting.antt and CompactWriting.antt have what they say.
 use Rattle.std.specs.Prelude.{◌≡◌, ◌⊎◌, ℕ, ℤ, List, Option, Some, None, Result, Ok, Err}
+use Rattle.std.specs.Float.Ieee.{Float}
 use Rattle.fixed_decimal.specs.Number.{Number}
 use Rattle.fixed_decimal.specs.SignedText.{ReadsSigned}
 use Rattle.fixed_decimal.specs.SignedValue.{SignedValue}
 use Rattle.legumeyet_c_values.specs.Choices.{choices_of}
-use Rattle.legumeyet_c_values.specs.Numbers.{Gives, IsChangeFault, IsNumberFault, IsScaled, IsScaledFault}
+use Rattle.legumeyet_c_values.specs.Numbers.{Gives, IsChangeFault, IsDoubleFault, IsNumberFault, IsOfDouble, IsScaled, IsScaledFault}
 use Rattle.legumeyet_c_values.specs.declared.Options.{Options}
 use Rattle.legumeyet_c_values.specs.declared.CallError.{CallError}
 use Rattle.legumeyet_c_values.specs.declared.CallError.TheVariants.{Closed}
@@ -42,7 +43,7 @@ WritesNumber says tables options number text = Writes says tables (Gives (choice
 
 abbrev pub IsNumberWritingFault : {T : Type 0} → (T → SignedValue Number → CallError → Type 0) → Option T → Options → List ℕ → CallError → Type 0
 IsNumberWritingFault fails tables options number error =
-    IsWritingFault fails tables (Gives (choices_of options) (ReadsSigned number)) (IsChangeFault (choices_of options) (IsNumberFault number)) error
+    IsWritingFault fails tables (Gives (choices_of options) (ReadsSigned number)) (IsChangeFault (choices_of options) (ReadsSigned number) (IsNumberFault number)) error
 
 -- ---- of an integer times a power of ten, changed as options say
 
@@ -51,7 +52,16 @@ WritesScaled says tables options mantissa exponent text = Writes says tables (Gi
 
 abbrev pub IsScaledWritingFault : {T : Type 0} → (T → SignedValue Number → CallError → Type 0) → Option T → Options → ℤ → ℤ → CallError → Type 0
 IsScaledWritingFault fails tables options mantissa exponent error =
-    IsWritingFault fails tables (Gives (choices_of options) (IsScaled mantissa exponent)) (IsChangeFault (choices_of options) (IsScaledFault mantissa exponent)) error
+    IsWritingFault fails tables (Gives (choices_of options) (IsScaled mantissa exponent)) (IsChangeFault (choices_of options) (IsScaled mantissa exponent) (IsScaledFault mantissa exponent)) error
+
+-- ---- of a double, changed as options say
+
+abbrev pub WritesDouble : {T X : Type 0} → (T → SignedValue Number → X → Type 0) → Option T → Options → Float → X → Type 0
+WritesDouble says tables options number text = Writes says tables (Gives (choices_of options) (IsOfDouble number)) text
+
+abbrev pub IsDoubleWritingFault : {T : Type 0} → (T → SignedValue Number → CallError → Type 0) → Option T → Options → Float → CallError → Type 0
+IsDoubleWritingFault fails tables options number error =
+    IsWritingFault fails tables (Gives (choices_of options) (IsOfDouble number)) (IsChangeFault (choices_of options) (IsOfDouble number) (IsDoubleFault number)) error
 
 -- ---- of a value that is there, or of why there is none
 

@@ -1,6 +1,6 @@
 //! Books: `legumeyet_book_open`, `legumeyet_book_close`.
 
-ghost use Rattle.std.specs.Prelude.{◌≡◌, None};
+ghost use Rattle.std.specs.Prelude.{◌≡◌, None, IsSome};
 ghost use Rattle.legumeyet_c_values.specs.Putting.{Answers};
 ghost use Rattle.legumeyet_c.specs.Kinds.{book_in};
 ghost use Rattle.legumeyet_c.specs.Opening.{IsBookFault, IsClosing, IsOpening, SaysBook};
@@ -36,6 +36,7 @@ pub extern "C" fn legumeyet_book_open(alloc: Global, json: &[u8], book: &mut Boo
 #[unsafe(no_mangle)]
 pub extern "C" fn legumeyet_book_close(alloc: Global, book: &mut BookHandle) -> i32
     ensures closed { book_open book.new ≡ None }
+    ensures gone { IsSome (book_open book.old) → book_content book.new ≡ None }
     ensures same { book_open book.old ≡ None → book_content book.new ≡ book_content book.old }
     ensures told { Answers (IsClosing (book_open book.old)) result }
 {

@@ -1,6 +1,6 @@
 //! Formatters of compact numbers: `legumeyet_compact_formatter_open` and `_close`.
 
-ghost use Rattle.std.specs.Prelude.{◌≡◌, ◌⊎◌, Ok, Err, None, IfOk, IfErr};
+ghost use Rattle.std.specs.Prelude.{◌≡◌, ◌⊎◌, Ok, Err, None, IfOk, IfErr, IsSome};
 ghost use Rattle.icu_decimal.specs.HeldCompact.{compact_tables_of};
 ghost use Rattle.legumeyet_c_values.specs.Choices.{grouping_of, width_of};
 ghost use Rattle.legumeyet_c_values.specs.Putting.{Answers};
@@ -104,6 +104,7 @@ pub extern "C" fn legumeyet_compact_formatter_close(
     formatter: &mut CompactHandle,
 ) -> i32
     ensures closed { compact_open formatter.new ≡ None }
+    ensures gone { IsSome (compact_open formatter.old) → compact_content formatter.new ≡ None }
     ensures same { compact_open formatter.old ≡ None → compact_content formatter.new ≡ compact_content formatter.old }
     ensures told { Answers (IsClosing (compact_open formatter.old)) result }
 {

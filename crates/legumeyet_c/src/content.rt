@@ -1,7 +1,7 @@
 //! What an open handle has.
 
-ghost use Rattle.std.specs.Prelude.{◌≡◌, IfSome, Some, None, option_map, refl};
-ghost use Rattle.legumeyet_c.specs.Kinds.{book_in, compact_in, decimal_in};
+ghost use Rattle.std.specs.Prelude.{◌≡◌, IfSome, Some, None, false, option_map, refl};
+ghost use Rattle.legumeyet_c.specs.Kinds.{book_in, compact_in, decimal_in, is_kept};
 
 use crate::compact_tables::HeldCompactTables;
 use crate::decimal_tables::DecimalTables;
@@ -36,7 +36,8 @@ pub(crate) trait Held: Drop {
 
     /// The content that has it.
     fn into_content(self) -> Content
-        ensures held { held_in (Some result) ≡ Some self };
+        ensures held { held_in (Some result) ≡ Some self }
+        ensures unkept { is_kept (Some result) ≡ false };
 
     // a closed one has nothing open
     ghost closed: { held_in None ≡ None };

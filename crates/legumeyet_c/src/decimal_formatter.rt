@@ -1,6 +1,6 @@
 //! Formatters of plain numbers: `legumeyet_decimal_formatter_open`, `_close`, `_format` and `_format_i64`.
 
-ghost use Rattle.std.specs.Prelude.{◌≡◌, None};
+ghost use Rattle.std.specs.Prelude.{◌≡◌, None, IsSome};
 ghost use Rattle.locale_numbers.specs.TagFormatters.{plain_for};
 ghost use Rattle.legumeyet_c_values.specs.Choices.{grouping_of};
 ghost use Rattle.legumeyet_c_values.specs.Putting.{Answers, IsPut};
@@ -109,6 +109,7 @@ pub extern "C" fn legumeyet_decimal_formatter_close(
     formatter: &mut DecimalHandle,
 ) -> i32
     ensures closed { decimal_open formatter.new ≡ None }
+    ensures gone { IsSome (decimal_open formatter.old) → decimal_content formatter.new ≡ None }
     ensures same { decimal_open formatter.old ≡ None → decimal_content formatter.new ≡ decimal_content formatter.old }
     ensures told { Answers (IsClosing (decimal_open formatter.old)) result }
 {

@@ -1,4 +1,4 @@
-//! What errors mean, and the version: `legumeyet_error_text`, `legumeyet_version`.
+//! What errors mean, and the versions: `legumeyet_error_text`, `legumeyet_version`, `legumeyet_minor`.
 
 ghost use Rattle.std.specs.Prelude.{◌≡◌};
 ghost use Rattle.legumeyet_c_values.specs.Information.{IsInformationFault, SaysError};
@@ -8,6 +8,9 @@ use legumeyet_c_values::{CallError, answer, error_of, put};
 
 /// The version of the header: another one would break programs, while calls and numbers that are added leave it.
 pub const VERSION: u32 = 1;
+
+/// The minor version of the header, which rises when a call or a number is added.
+pub const MINOR: u32 = 1;
 
 /// Writes what a number of a call means, in English: of 5 `no locale tag`.
 ///
@@ -29,4 +32,12 @@ pub extern "C" fn legumeyet_version() -> u32
     ensures { result ≡ 1 }
 {
     VERSION
+}
+
+/// The minor version of the library: that of the header that it was built with.
+#[unsafe(no_mangle)]
+pub extern "C" fn legumeyet_minor() -> u32
+    ensures { result ≡ 1 }
+{
+    MINOR
 }

@@ -1,6 +1,6 @@
 //! Handles opened and closed.
 
-ghost use Rattle.std.specs.Prelude.{◌≡◌, ◌⊎◌, Err, None, IfOk, IfErr, IfSome};
+ghost use Rattle.std.specs.Prelude.{◌≡◌, ◌⊎◌, Err, None, IfOk, IfErr, IfSome, IsSome};
 ghost use Rattle.legumeyet_c.specs.Kinds.{book_in};
 ghost use Rattle.legumeyet_c.specs.Opening.{Finds, IsClosing, IsFindingFault, IsOpening, IsTagFault};
 
@@ -143,6 +143,7 @@ pub(crate) fn open<T: Found>(
 // Closes a handle. `Closed`: it was closed already, or has a content of another kind, which it keeps.
 pub(crate) fn close<T: Held>(alloc: Global, handle: &mut Handle) -> Result<(), CallError>
     ensures closed { T.held_in handle.new.pointer.value ≡ None }
+    ensures gone { IsSome (T.held_in handle.old.pointer.value) → handle.new.pointer.value ≡ None }
     ensures told { IsClosing (T.held_in handle.old.pointer.value) result }
     ensures same { T.held_in handle.old.pointer.value ≡ None → handle.new.pointer.value ≡ handle.old.pointer.value }
 {

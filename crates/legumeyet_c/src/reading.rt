@@ -1,7 +1,9 @@
-//! Texts read back: `legumeyet_decimal_formatter_read`.
+//! Texts read back, and what people type: `legumeyet_decimal_formatter_read` and `_read_lenient`.
 
-ghost use Rattle.std.specs.Prelude.{◌≡◌, IfOk, IfErr};
-ghost use Rattle.icu_decimal.specs.PlainReading.{decimal};
+ghost use Rattle.std.specs.Prelude.{◌≡◌, IfOk, IfErr, IsErrOf};
+ghost use Rattle.icu_decimal.specs.HeldTables.{tables_of};
+ghost use Rattle.icu_decimal.specs.LenientReading.{MayAllocate, lenient_reading};
+ghost use Rattle.icu_decimal.specs.PlainReading.{HasManyDigits, IsAnswered, decimal, plain_reading};
 ghost use Rattle.legumeyet_c_values.specs.Putting.{Answers, IsPut};
 ghost use Rattle.legumeyet_c.specs.Reading.{HasReading, IsReadFault, IsUnread, ReadsBack, SaysRead};
 ghost use Rattle.legumeyet_c.specs.Views.{decimal_content, decimal_open};
@@ -11,19 +13,79 @@ use crate::decimal_tables::DecimalTables;
 use crate::handles::DecimalHandle;
 use fixed_decimal::Decimal;
 use icu_decimal::error::ReadError;
-use icu_decimal::read_plain;
+use icu_decimal::{DecimalFormatter, read_lenient, read_plain};
 use legumeyet_c_values::{CallError, answer, put};
 use std::alloc::Global;
 
+// How a text is read. A type that holds nothing stands for it.
+trait Reader {
+    ghost use Rattle.std.specs.Prelude.{List, ℕ};
+    ghost use Rattle.icu_decimal.specs.PlainReading.{PlainReading};
+    ghost use Rattle.icu_decimal.specs.PlainText.{Tables};
+
+    // what it is read as
+    ghost reading: { Tables → List ℕ → PlainReading };
+
+    // memory may be wanted for it
+    ghost allocates: { Tables → List ℕ → Type 0 };
+
+    /// The number of the text.
+    fn read(
+        alloc: Global,
+        formatter: &DecimalFormatter<'_>,
+        text: &str,
+    ) -> Result<Decimal, ReadError>
+        ensures answered { IsAnswered result (reading (tables_of formatter.now) text.now) }
+        ensures memory { IsErrOf result ReadError.Memory → allocates (tables_of formatter.now) text.now };
+}
+
+// As the formatter writes numbers.
+struct Exact;
+
+impl Reader for Exact {
+    ghost reading = { plain_reading };
+
+    ghost allocates = { HasManyDigits };
+
+    fn read(
+        alloc: Global,
+        formatter: &DecimalFormatter<'_>,
+        text: &str,
+    ) -> Result<Decimal, ReadError> {
+        read_plain(alloc, formatter, text)
+    }
+}
+
+// As people type them.
+struct Lenient;
+
+impl Reader for Lenient {
+    ghost reading = { lenient_reading };
+
+    ghost allocates = { MayAllocate };
+
+    fn read(
+        alloc: Global,
+        formatter: &DecimalFormatter<'_>,
+        text: &str,
+    ) -> Result<Decimal, ReadError> {
+        read_lenient(alloc, formatter, text)
+    }
+}
+
 // The number that is written so with tables.
-fn read_with(alloc: Global, tables: &DecimalTables, text: &[u8]) -> Result<Decimal, CallError>
-    ensures value { IfOk result (λ value. HasReading tables.now text.now (decimal value)) }
-    ensures fault { IfErr result (λ error. IsUnread tables.now text.now error) }
+fn read_with<R: Reader>(
+    alloc: Global,
+    tables: &DecimalTables,
+    text: &[u8],
+) -> Result<Decimal, CallError>
+    ensures value { IfOk result (λ value. HasReading R.reading tables.now text.now (decimal value)) }
+    ensures fault { IfErr result (λ error. IsUnread R.reading R.allocates tables.now text.now error) }
 {
     let Ok(text) = str::from_utf8(text) else {
         return Err(CallError::NoUtf8);
     };
-    match read_plain(alloc, &tables.formatter(), text) {
+    match R::read(alloc, &tables.formatter(), text) {
         Ok(value) => Ok(value),
         Err(ReadError::Unreadable) => Err(CallError::Unreadable),
         Err(ReadError::NotWritten) => Err(CallError::NotWritten),
@@ -32,20 +94,21 @@ fn read_with(alloc: Global, tables: &DecimalTables, text: &[u8]) -> Result<Decim
 }
 
 // The number that the formatter behind a handle writes so; the handle stays as it is.
-fn read_behind(
+fn read_behind<R: Reader>(
     alloc: Global,
     formatter: &mut DecimalHandle,
     text: &[u8],
 ) -> Result<Decimal, CallError>
     ensures same { decimal_content formatter.new ≡ decimal_content formatter.old }
-    ensures value { IfOk result (λ value. ReadsBack (decimal_open formatter.old) text.now value) }
-    ensures fault { IfErr result (λ error. IsReadFault (decimal_open formatter.old) text.now error) }
+    ensures value { IfOk result (λ value. ReadsBack R.reading (decimal_open formatter.old) text.now value) }
+    ensures fault { IfErr result
+        (λ error. IsReadFault R.reading R.allocates (decimal_open formatter.old) text.now error) }
 {
     let Some(content) = formatter.handle.take(alloc) else {
         return Err(CallError::Closed);
     };
     let found = match DecimalTables::held_by(&content) {
-        Some(tables) => read_with(alloc, tables, text),
+        Some(tables) => read_with::<R>(alloc, tables, text),
         None => Err(CallError::Closed),
     };
     formatter.handle.put(alloc, content);
@@ -68,10 +131,36 @@ pub extern "C" fn legumeyet_decimal_formatter_read(
 ) -> i32
     ensures same { decimal_content formatter.new ≡ decimal_content formatter.old }
     ensures told { Answers
-        (IsPut (SaysRead (decimal_open formatter.old) text.now) (IsReadFault (decimal_open formatter.old) text.now)
-        out.old out.new length.old length.new) result }
+        (IsPut (SaysRead plain_reading (decimal_open formatter.old) text.now)
+        (IsReadFault plain_reading HasManyDigits (decimal_open formatter.old) text.now) out.old out.new length.old
+        length.new) result }
 {
-    match read_behind(alloc, formatter, text) {
+    match read_behind::<Exact>(alloc, formatter, text) {
+        Ok(value) => answer(put(&value, out, length)),
+        Err(error) => error.number(),
+    }
+}
+
+/// Reads a text that somebody typed: in English ` 1234.5 ` as `1234.5`, and `1,23` as none. What the formatter writes is
+/// read as `legumeyet_decimal_formatter_read` reads it, and another text is folded.
+///
+/// Returns as `legumeyet_decimal_formatter_read`; 11 also where the symbols are not readable once they are folded and
+/// the text is not the formatter's own; 1 also where it is not.
+#[unsafe(no_mangle)]
+pub extern "C" fn legumeyet_decimal_formatter_read_lenient(
+    alloc: Global,
+    formatter: &mut DecimalHandle,
+    text: &[u8],
+    out: &mut [u8],
+    length: &mut usize,
+) -> i32
+    ensures same { decimal_content formatter.new ≡ decimal_content formatter.old }
+    ensures told { Answers
+        (IsPut (SaysRead lenient_reading (decimal_open formatter.old) text.now)
+        (IsReadFault lenient_reading MayAllocate (decimal_open formatter.old) text.now) out.old out.new length.old
+        length.new) result }
+{
+    match read_behind::<Lenient>(alloc, formatter, text) {
         Ok(value) => answer(put(&value, out, length)),
         Err(error) => error.number(),
     }

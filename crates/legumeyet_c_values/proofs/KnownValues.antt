@@ -1,14 +1,17 @@
 -- Values from outside that a wrong definition of numbers does not survive: the enums of include/legumeyet.h.
-use Rattle.std.proofs.Common.{◌≡◌, Option, Some, None, Ok, Err, refl}
-use Rattle.std.specs.Prelude.{pos}
+use Rattle.std.proofs.Common.{◌≡◌, ◌*◌, ◌^◌, [], ◌∷◌, Some, None, Ok, Err, refl}
+use Rattle.std.specs.Prelude.{pos, negsuc}
+use Rattle.fixed_decimal.specs.declared.RoundingIncrement.TheVariants.{MultiplesOf1, MultiplesOf25}
 use Rattle.fixed_decimal.specs.declared.SignDisplay.TheVariants as display
 use Rattle.fixed_decimal.specs.declared.SignedRoundingMode.TheVariants.{Unsigned, HalfFloor}
 use Rattle.fixed_decimal.specs.declared.UnsignedRoundingMode.TheVariants.{Expand, HalfEven}
 use Rattle.icu_decimal_symbols.specs.declared.options.GroupingStrategy.TheVariants as grouping
 use Rattle.locale_numbers_tables.specs.declared.BookError.TheVariants as book
 use Rattle.legumeyet_c_values.specs.CallErrors.{answer_of}
-use Rattle.legumeyet_c_values.specs.Choices.{choice_of, grouping_of, mode_of, sign_of}
+use Rattle.legumeyet_c_values.specs.Choices.{PadsEndTo, PadsStartTo, choice_of, choices_of, count_of, grouping_of, increment_of, mode_of, sign_of, trimming_of}
 use Rattle.legumeyet_c_values.specs.declared.call_error.CallError.TheVariants as call
+use Rattle.legumeyet_c_values.specs.declared.choices.Options.{Options}
+use Rattle.legumeyet_c_values.specs.declared.choices.TrailingZeros.TheVariants.{Keep, Trim}
 use Rattle.legumeyet_c_values.specs.declared.choices.Width.TheVariants.{Long}
 
 -- ---- what a call returns
@@ -69,3 +72,64 @@ long_never_grouped = refl
 
 width_unknown : choice_of 2 0 ≡ None
 width_unknown = refl
+
+increment_zero_is_one : increment_of 0 ≡ Some MultiplesOf1
+increment_zero_is_one = refl
+
+increment_twenty_five : increment_of 25 ≡ Some MultiplesOf25
+increment_twenty_five = refl
+
+increment_unknown : increment_of 3 ≡ None
+increment_unknown = refl
+
+zeros_kept : trimming_of 0 ≡ Some Keep
+zeros_kept = refl
+
+zeros_trimmed : trimming_of 1 ≡ Some Trim
+zeros_trimmed = refl
+
+zeros_unknown : trimming_of 2 ≡ None
+zeros_unknown = refl
+
+most_digits : count_of 32767 ≡ Some (pos 32767)
+most_digits = refl
+
+too_many_digits : count_of 32768 ≡ None
+too_many_digits = refl
+
+-- ---- all of them
+
+abbrev zeroed : Options
+zeroed = record {
+  sign = 0;
+  rounding = 0;
+  position = pos 0;
+  trailing_zeros = 0;
+  increment = 0;
+  minimum_integer_digits = 0;
+  minimum_fraction_digits = 0;
+  reserved = 0 ∷ 0 ∷ [];
+}
+
+-- zeroed options change nothing
+zeroed_keeps : choices_of zeroed ≡ Some (record { sign = None; mode = None; position = pos 0; increment = MultiplesOf1; zeros = Keep; start = pos 0; end = pos 0 })
+zeroed_keeps = refl
+
+-- three integer digits and two fraction digits at least
+counted : choices_of (record zeroed { minimum_integer_digits = 3; minimum_fraction_digits = 2 })
+    ≡ Some (record { sign = None; mode = None; position = pos 0; increment = MultiplesOf1; zeros = Keep; start = pos 3; end = negsuc 1 })
+counted = refl
+
+reserved_is_refused : choices_of (record zeroed { reserved = 0 ∷ 1 ∷ [] }) ≡ None
+reserved_is_refused = refl
+
+-- 7.5 has its digits at the places 32767 and 32768: padded to three integer digits and two fraction digits it is 007.50
+padded_in_front : PadsStartTo (pos 3) (record { count = 75 * 10 ^ 32767; low = 32767; high = 32768 }) (record { count = 75 * 10 ^ 32767; low = 32767; high = 32770 })
+padded_in_front = record { count = refl; low = refl; high = refl }
+
+padded_at_the_end : PadsEndTo (negsuc 1) (record { count = 75 * 10 ^ 32767; low = 32767; high = 32770 }) (record { count = 75 * 10 ^ 32767; low = 32766; high = 32770 })
+padded_at_the_end = record { count = refl; low = refl; high = refl }
+
+-- a number that shows more digits keeps them
+longer_stays : PadsEndTo (negsuc 1) (record { count = 0; low = 32764; high = 32768 }) (record { count = 0; low = 32764; high = 32768 })
+longer_stays = record { count = refl; low = refl; high = refl }

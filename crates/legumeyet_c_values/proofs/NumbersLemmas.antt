@@ -1,29 +1,47 @@
 -- Numbers that are given: changed as options say, and faults that are not that a text is too long.
-use Rattle.std.proofs.Common.{◌≡◌, ◌≢◌, ℕ, ℤ, List, Option, Some, None, Result, Ok, Err, IfErr, sym, subst}
+use Rattle.std.proofs.Common.{◌≡◌, ◌≢◌, ℕ, ℤ, true, false, List, Option, Some, None, Result, Ok, Err, IfOk, IfErr, refl, sym, subst, inl, inr}
+use Rattle.std.specs.Float.Ieee.{Float}
 use Rattle.fixed_decimal.specs.Number.{Number}
-use Rattle.fixed_decimal.specs.SignedValue.{SignedValue}
-use Rattle.legumeyet_c_values.specs.Choices.{Changes}
-use Rattle.legumeyet_c_values.specs.Numbers.{Gives, IsChangeFault, IsCompactNumberFault, IsNumberFault, IsScaledFault}
+use Rattle.fixed_decimal.specs.SignedText.{ReadsSigned}
+use Rattle.fixed_decimal.specs.Shifts.{IsShifted, KeepsPlaces}
+use Rattle.fixed_decimal.specs.SignedValue.{SignedValue, OnAbsolute}
+use Rattle.fixed_decimal.specs.WholeNumbers.{IsSignedWhole}
+use Rattle.fixed_decimal.specs.declared.RoundingIncrement.{RoundingIncrement}
+use Rattle.fixed_decimal.specs.declared.RoundingIncrement.TheVariants.{MultiplesOf1, MultiplesOf2, MultiplesOf5, MultiplesOf25}
+use Rattle.legumeyet_c_values.specs.Choices.{Changes, IsChangeRefused}
+use Rattle.legumeyet_c_values.specs.Numbers.{Gives, IsChangeFault, IsCompactNumberFault, IsDoubleFault, IsNumberFault, IsOfDouble, IsScaled, IsScaledFault, IsSignificand}
 use Rattle.legumeyet_c_values.specs.declared.choices.Choices.{Choices}
 use Rattle.legumeyet_c_values.specs.declared.call_error.CallError.{CallError}
-use Rattle.legumeyet_c_values.specs.declared.call_error.CallError.TheVariants.{TooSmall}
+use Rattle.legumeyet_c_values.specs.declared.call_error.CallError.TheVariants.{Limit, TooSmall}
+
+-- of a fault that is not that a text is too long, none is in a change either
+change_fault_other : (choices : Option Choices) (is_given : SignedValue Number → Type 0) (fault : CallError → Type 0)
+    → ((error : CallError) → fault error → error ≢ TooSmall) → (error : CallError) → IsChangeFault choices is_given fault error → error ≢ TooSmall
+change_fault_other None is_given fault other error is = λ same. absurd (cc (is, same))
+change_fault_other (Some choices) is_given fault other error (inl caused) = other error caused
+change_fault_other (Some choices) is_given fault other error (inr refused) =
+    λ same. subst (λ (e : CallError). IsChangeRefused choices refused.given e) same refused.refused
 
 -- no fault of a text's number is that it is too long
-pub number_fault_other : (choices : Option Choices) (text : List ℕ) (error : CallError) → IsChangeFault choices (IsNumberFault text) error → error ≢ TooSmall
-number_fault_other None text error is = λ same. absurd (cc (is, same))
-number_fault_other (Some choices) text error caused = λ same. subst (λ (e : CallError). IsNumberFault text e) same caused
+pub number_fault_other : (choices : Option Choices) (text : List ℕ) (error : CallError)
+    → IsChangeFault choices (ReadsSigned text) (IsNumberFault text) error → error ≢ TooSmall
+number_fault_other choices text error caused =
+    change_fault_other choices (ReadsSigned text) (IsNumberFault text)
+    (λ error caused. λ same. subst (λ (e : CallError). IsNumberFault text e) same caused) error caused
 
 -- nor of an integer
-pub scaled_fault_other : (choices : Option Choices) (mantissa exponent : ℤ) (error : CallError) → IsChangeFault choices (IsScaledFault mantissa exponent) error
-    → error ≢ TooSmall
-scaled_fault_other None mantissa exponent error is = λ same. absurd (cc (is, same))
-scaled_fault_other (Some choices) mantissa exponent error caused =
-    λ same. subst (λ (e : CallError). IsScaledFault mantissa exponent e) same caused
+pub scaled_fault_other : (choices : Option Choices) (mantissa exponent : ℤ) (error : CallError)
+    → IsChangeFault choices (IsScaled mantissa exponent) (IsScaledFault mantissa exponent) error → error ≢ TooSmall
+scaled_fault_other choices mantissa exponent error caused =
+    change_fault_other choices (IsScaled mantissa exponent) (IsScaledFault mantissa exponent)
+    (λ error caused. λ same. subst (λ (e : CallError). IsScaledFault mantissa exponent e) same caused) error caused
 
 -- nor of a compact number
-pub compact_fault_other : (choices : Option Choices) (text : List ℕ) (error : CallError) → IsChangeFault choices (IsCompactNumberFault text) error → error ≢ TooSmall
-compact_fault_other None text error is = λ same. absurd (cc (is, same))
-compact_fault_other (Some choices) text error caused = λ same. subst (λ (e : CallError). IsCompactNumberFault text e) same caused
+pub compact_fault_other : (choices : Option Choices) (text : List ℕ) (error : CallError)
+    → IsChangeFault choices (IsSignificand text) (IsCompactNumberFault text) error → error ≢ TooSmall
+compact_fault_other choices text error caused =
+    change_fault_other choices (IsSignificand text) (IsCompactNumberFault text)
+    (λ error caused. λ same. subst (λ (e : CallError). IsCompactNumberFault text e) same caused) error caused
 
 -- the same of an outcome
 pub other_fault : {T : Type 0} {fault : CallError → Type 0} (outcome : Result T CallError) → IfErr outcome fault
@@ -32,7 +50,50 @@ other_fault (Ok x) caused other = tt
 other_fault (Err error) caused other = other error caused
 
 -- a number that is changed as known options say
-pub gives : (chosen : Option Choices) (choices : Choices) (is_given : SignedValue Number → Type 0) (old new : SignedValue Number)
-    → chosen ≡ Some choices → is_given old → Changes choices old new → Gives chosen is_given new
-gives chosen choices is_given old new is given changes =
+pub gives : (chosen : Option Choices) (choices : Choices) (is_given : SignedValue Number → Type 0) (old : SignedValue Number)
+    (outcome : Result (SignedValue Number) CallError)
+    → chosen ≡ Some choices → is_given old → IfOk outcome (λ new. Changes choices old new) → IfOk outcome (λ new. Gives chosen is_given new)
+gives chosen choices is_given old (Ok new) is given changes =
     subst (λ (c : Option Choices). Gives c is_given new) (sym is) (record { given = old; given_is = given; changes = changes })
+gives chosen choices is_given old (Err error) is given changes = tt
+
+-- and one that is not
+pub refuses : (chosen : Option Choices) (choices : Choices) (is_given : SignedValue Number → Type 0) (fault : CallError → Type 0) (old : SignedValue Number)
+    (outcome : Result (SignedValue Number) CallError)
+    → chosen ≡ Some choices → is_given old → IfErr outcome (λ error. IsChangeRefused choices old error)
+    → IfErr outcome (λ error. IsChangeFault chosen is_given fault error)
+refuses chosen choices is_given fault old (Ok new) is given refused = tt
+refuses chosen choices is_given fault old (Err error) is given refused =
+    subst (λ (c : Option Choices). IsChangeFault c is_given fault error) (sym is)
+    (inr (record { given = old; given_is = given; refused = refused }))
+
+-- an increment with which alone a rounding fails
+pub only_twenty_five : (increment : RoundingIncrement) → (increment ≢ MultiplesOf25 → false ≡ true) → increment ≡ MultiplesOf25
+only_twenty_five MultiplesOf1 succeeds = absurd (cc (succeeds (λ same. absurd (cc same))))
+only_twenty_five MultiplesOf2 succeeds = absurd (cc (succeeds (λ same. absurd (cc same))))
+only_twenty_five MultiplesOf5 succeeds = absurd (cc (succeeds (λ same. absurd (cc same))))
+only_twenty_five MultiplesOf25 succeeds = refl
+
+-- a whole number that is moved by a power of ten
+pub moved_scales : (mantissa exponent : ℤ) (whole : SignedValue Number) (outcome : Result (SignedValue Number) CallError)
+    → IsSignedWhole mantissa whole → IfOk outcome (λ value. OnAbsolute (IsShifted exponent) whole value)
+    → IfOk outcome (λ value. IsScaled mantissa exponent value)
+moved_scales mantissa exponent whole (Ok value) is shifted = record { whole = whole; is_whole = is; shifted = shifted }
+moved_scales mantissa exponent whole (Err error) is shifted = tt
+
+-- and one that cannot be moved so far
+pub moved_fails : (mantissa exponent : ℤ) (whole : SignedValue Number) (outcome : Result (SignedValue Number) CallError)
+    → IsSignedWhole mantissa whole → IfErr outcome (λ error. (error ≡ Limit) × (¬ (KeepsPlaces exponent whole.absolute)))
+    → IfErr outcome (λ error. IsScaledFault mantissa exponent error)
+moved_fails mantissa exponent whole (Ok value) is beyond = tt
+moved_fails mantissa exponent whole (Err error) is beyond =
+    subst (λ (e : CallError). IsScaledFault mantissa exponent e) (sym beyond.0) (record { whole = whole; is_whole = is; beyond = beyond.1 })
+
+-- no fault of a double is that a text is too long
+double_other : (number : Float) (error : CallError) → IsDoubleFault number error → error ≢ TooSmall
+double_other number error (inl is) = λ same. absurd (cc (is.0, same))
+double_other number error (inr caused) = λ same. subst (λ (e : CallError). IsNumberFault caused.text e) same caused.fault
+
+pub double_fault_other : (choices : Option Choices) (number : Float) (error : CallError)
+    → IsChangeFault choices (IsOfDouble number) (IsDoubleFault number) error → error ≢ TooSmall
+double_fault_other choices number error caused = change_fault_other choices (IsOfDouble number) (IsDoubleFault number) (double_other number) error caused

@@ -1,13 +1,16 @@
--- What the options of a call stand for: each number names the entry of its list at that place, from 0 on.
--- Defined in include/legumeyet.h, and docs/requests.md, "Rounding and sign".
+-- What the options of a call stand for, and what is made of a number by them. A number names the entry of its list at that place, from 0 on.
+-- Defined in include/legumeyet.h, docs/numbers.md, "Ranges", and docs/requests.md, "Rounding and sign".
 -- Cited by the exports that write numbers, and those that open formatters.
 -- The imports are many: each enum that a number stands for, and its cases.
-use Rattle.std.specs.Prelude.{◌≡◌, ℕ, ℤ, ◌==◌, List, [], ◌∷◌, Option, Some, None, slice_get}
+use Rattle.std.specs.Prelude.{◌≡◌, ℕ, ℤ, pos, neg_ℤ, ◌-◌, ◌==◌, ◌&&◌, nat_lt, min, max, List, [], ◌∷◌, Option, Some, None, slice_get, slice_index, if◌then◌else◌}
 use Rattle.fixed_decimal.specs.Number.{Number, place}
+use Rattle.fixed_decimal.specs.Range.{MayGrowAt}
+use Rattle.fixed_decimal.specs.Shifts.{TrimsEnd}
 use Rattle.fixed_decimal.specs.SignChoice.{chosen_sign}
 use Rattle.fixed_decimal.specs.SignedRounding.{RoundsSigned}
-use Rattle.fixed_decimal.specs.SignedValue.{SignedValue}
+use Rattle.fixed_decimal.specs.SignedValue.{SignedValue, OnAbsolute}
 use Rattle.fixed_decimal.specs.declared.RoundingIncrement.{RoundingIncrement}
+use Rattle.fixed_decimal.specs.declared.RoundingIncrement.TheVariants.{MultiplesOf1, MultiplesOf2, MultiplesOf5, MultiplesOf25}
 use Rattle.fixed_decimal.specs.declared.UnsignedRoundingMode.TheVariants.{Expand, Trunc, HalfExpand, HalfTrunc, HalfEven}
 use Rattle.fixed_decimal.specs.declared.SignedRoundingMode.{SignedRoundingMode}
 use Rattle.fixed_decimal.specs.declared.SignedRoundingMode.TheVariants.{Unsigned, Ceil, Floor, HalfCeil, HalfFloor}
@@ -15,8 +18,12 @@ use Rattle.fixed_decimal.specs.declared.SignDisplay.{SignDisplay}
 use Rattle.fixed_decimal.specs.declared.SignDisplay.TheVariants as display
 use Rattle.icu_decimal_symbols.specs.declared.options.GroupingStrategy.{GroupingStrategy}
 use Rattle.icu_decimal_symbols.specs.declared.options.GroupingStrategy.TheVariants as grouping
+use Rattle.legumeyet_c_values.specs.declared.call_error.CallError.{CallError}
+use Rattle.legumeyet_c_values.specs.declared.call_error.CallError.TheVariants.{Memory}
 use Rattle.legumeyet_c_values.specs.declared.choices.Choices.{Choices}
 use Rattle.legumeyet_c_values.specs.declared.choices.Options.{Options}
+use Rattle.legumeyet_c_values.specs.declared.choices.TrailingZeros.{TrailingZeros}
+use Rattle.legumeyet_c_values.specs.declared.choices.TrailingZeros.TheVariants.{Keep, Trim}
 use Rattle.legumeyet_c_values.specs.declared.choices.Width.{Width}
 use Rattle.legumeyet_c_values.specs.declared.choices.Width.TheVariants.{Short, Long}
 
@@ -56,27 +63,91 @@ both_of (Some width) (Some strategy) = Some (width, strategy)
 abbrev pub choice_of : ℕ → ℕ → Option (Width × GroupingStrategy)
 choice_of width grouping = both_of (width_of width) (grouping_of grouping)
 
--- both, where each is known
-abbrev pub both : Option (Option SignDisplay) → Option (Option SignedRoundingMode) → ℤ → Option Choices
-both None mode position = None
-both (Some sign) None position = None
-both (Some sign) (Some mode) position = Some (record { sign = sign; mode = mode; position = position })
+abbrev pub trimmings : List TrailingZeros
+trimmings = Keep ∷ Trim ∷ []
 
+abbrev pub trimming_of : ℕ → Option TrailingZeros
+trimming_of number = slice_get trimmings number
+
+-- an increment is its number, and 0 is that of 1
+abbrev pub increment_of : ℕ → Option RoundingIncrement
+increment_of number =
+    if number == 0 then Some MultiplesOf1
+    else if number == 1 then Some MultiplesOf1
+    else if number == 2 then Some MultiplesOf2
+    else if number == 5 then Some MultiplesOf5
+    else if number == 25 then Some MultiplesOf25
+    else None
+
+-- a least count of digits
+abbrev pub count_of : ℕ → Option ℤ
+count_of number = if nat_lt number 32768 then Some (pos number) else None
+
+-- what each number stands for, where each is known
+abbrev pub all_of : Option (Option SignDisplay) → Option (Option SignedRoundingMode) → ℤ → Option RoundingIncrement → Option TrailingZeros → Option ℤ → Option ℤ
+    → Option Choices
+all_of None mode position increment zeros whole fraction = None
+all_of (Some sign) None position increment zeros whole fraction = None
+all_of (Some sign) (Some mode) position None zeros whole fraction = None
+all_of (Some sign) (Some mode) position (Some increment) None whole fraction = None
+all_of (Some sign) (Some mode) position (Some increment) (Some zeros) None fraction = None
+all_of (Some sign) (Some mode) position (Some increment) (Some zeros) (Some whole) None = None
+all_of (Some sign) (Some mode) position (Some increment) (Some zeros) (Some whole) (Some fraction) =
+    Some (record { sign = sign; mode = mode; position = position; increment = increment; zeros = zeros; start = whole; end = neg_ℤ fraction })
+
+-- the reserved numbers are 0
 abbrev pub choices_of : Options → Option Choices
-choices_of options = both (sign_of options.sign) (mode_of options.rounding) options.position
+choices_of options =
+    if (slice_index options.reserved 0 == 0) && (slice_index options.reserved 1 == 0)
+    then all_of (sign_of options.sign) (mode_of options.rounding) options.position (increment_of options.increment) (trimming_of options.trailing_zeros)
+    (count_of options.minimum_integer_digits) (count_of options.minimum_fraction_digits)
+    else None
 
 -- a number after the rounding
-abbrev pub RoundsAs : Option SignedRoundingMode → ℤ → SignedValue Number → SignedValue Number → Type 0
-RoundsAs None position old new = new ≡ old
-RoundsAs (Some mode) position old new = RoundsSigned mode RoundingIncrement.MultiplesOf1 (place position) old new
+abbrev pub RoundsAs : Option SignedRoundingMode → RoundingIncrement → ℤ → SignedValue Number → SignedValue Number → Type 0
+RoundsAs None increment position old new = new ≡ old
+RoundsAs (Some mode) increment position old new = RoundsSigned mode increment (place position) old new
+
+-- a number after the choice of zeros
+abbrev pub TrimsAs : TrailingZeros → SignedValue Number → SignedValue Number → Type 0
+TrimsAs Keep old new = new ≡ old
+TrimsAs Trim old new = OnAbsolute TrimsEnd old new
+
+-- the digit before a position is shown, and all that were
+pub record PadsStartTo (position : ℤ) (old new : Number) : Type 0 where
+  pub count : new.count ≡ old.count
+  pub low : new.low ≡ old.low
+  pub high : new.high ≡ max old.high (place position - 1)
+
+-- the digit at a position is shown, and all that were
+pub record PadsEndTo (position : ℤ) (old new : Number) : Type 0 where
+  pub count : new.count ≡ old.count
+  pub low : new.low ≡ min old.low (place position)
+  pub high : new.high ≡ old.high
 
 -- a number with its sign chosen
 abbrev pub signed_as : Option SignDisplay → SignedValue Number → SignedValue Number
 signed_as None value = value
 signed_as (Some display) value = record { sign = chosen_sign display value.sign (value.absolute.count == 0); absolute = value.absolute }
 
--- a number rounded, and then with its sign chosen by what that left
+-- a number rounded, then trimmed, then padded in front and at the end, and then with its sign chosen by what that left
 pub record Changes (choices : Choices) (old new : SignedValue Number) : Type 0 where
   pub rounded : SignedValue Number
-  pub rounds : RoundsAs choices.mode choices.position old rounded
-  pub signs : new ≡ signed_as choices.sign rounded
+  pub rounds : RoundsAs choices.mode choices.increment choices.position old rounded
+  pub trimmed : SignedValue Number
+  pub trims : TrimsAs choices.zeros rounded trimmed
+  pub longer : SignedValue Number
+  pub pads_start : OnAbsolute (PadsStartTo choices.start) trimmed longer
+  pub padded : SignedValue Number
+  pub pads_end : OnAbsolute (PadsEndTo choices.end) longer padded
+  pub signs : new ≡ signed_as choices.sign padded
+
+-- a number of which a multiple of 25 may have one more digit than it has
+pub record MayGrow (choices : Choices) (old : SignedValue Number) : Type 0 where
+  pub increment : choices.increment ≡ MultiplesOf25
+  pub grows : MayGrowAt (place choices.position) old.absolute.count
+
+-- why it is not changed: memory is wanted only there
+abbrev pub IsChangeRefused : Choices → SignedValue Number → CallError → Type 0
+IsChangeRefused choices old Memory = MayGrow choices old
+IsChangeRefused choices old _ = ⊥

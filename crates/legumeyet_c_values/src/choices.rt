@@ -1,9 +1,13 @@
 //! The options of calls, by their numbers.
 
-ghost use Rattle.std.specs.Prelude.{◌≡◌};
-ghost use Rattle.legumeyet_c_values.specs.Choices.{Changes, RoundsAs, choice_of, choices_of, grouping_of, mode_of, sign_of, signed_as, width_of};
+ghost use Rattle.std.specs.Prelude.{◌≡◌, IfOk, IfErr};
+ghost use Rattle.fixed_decimal.specs.SignedValue.{OnAbsolute};
+ghost use Rattle.legumeyet_c_values.specs.Choices.{Changes, IsChangeRefused, PadsEndTo, PadsStartTo, RoundsAs, TrimsAs, choice_of, choices_of, count_of, grouping_of, increment_of, mode_of, sign_of, signed_as, trimming_of, width_of};
 
-use fixed_decimal::{Decimal, SignDisplay, SignedRoundingMode, UnsignedRoundingMode};
+use crate::call_error::CallError;
+use fixed_decimal::{
+    Decimal, RoundingIncrement, SignDisplay, SignedRoundingMode, UnsignedRoundingMode,
+};
 use icu_decimal_symbols::options::GroupingStrategy;
 
 /// What is made of a number before it is written, by numbers: `legumeyet_options`.
@@ -16,6 +20,16 @@ pub struct Options {
     pub rounding: u32,
     /// Where it is rounded: -2 the hundredths.
     pub position: i16,
+    /// What becomes of the zeros at the end of its fraction: 1 trims them.
+    pub trailing_zeros: u16,
+    /// What it is rounded to multiples of, at the position: 1, 2, 5 or 25; 0 is 1.
+    pub increment: u32,
+    /// How many integer digits are shown at least.
+    pub minimum_integer_digits: u16,
+    /// How many fraction digits are shown at least.
+    pub minimum_fraction_digits: u16,
+    /// 0.
+    pub reserved: [u32; 2],
 }
 
 /// The same, where each number is known.
@@ -27,6 +41,23 @@ pub struct Choices {
     pub mode: Option<SignedRoundingMode>,
     /// Where it is rounded.
     pub position: i16,
+    /// What it is rounded to multiples of.
+    pub increment: RoundingIncrement,
+    /// What becomes of the zeros at the end of its fraction.
+    pub zeros: TrailingZeros,
+    /// The position that its integer digits reach at least: 3 of three digits.
+    pub start: i16,
+    /// The position that its fraction digits reach at least: -2 of two digits.
+    pub end: i16,
+}
+
+/// What becomes of the zeros at the end of the fraction.
+#[derive(Clone, Copy, Drop)]
+pub enum TrailingZeros {
+    /// They stay: `1.50`.
+    Keep,
+    /// They are trimmed: `1.5`.
+    Trim,
 }
 
 /// Which patterns compact numbers are written in.
@@ -106,28 +137,112 @@ pub fn choice_by(width: u32, grouping: u32) -> Option<(Width, GroupingStrategy)>
     Some((width, strategy))
 }
 
+// The increment of a number.
+fn increment_by(number: u32) -> Option<RoundingIncrement>
+    ensures { result ≡ increment_of number }
+{
+    match number {
+        0 | 1 => Some(RoundingIncrement::MultiplesOf1),
+        2 => Some(RoundingIncrement::MultiplesOf2),
+        5 => Some(RoundingIncrement::MultiplesOf5),
+        25 => Some(RoundingIncrement::MultiplesOf25),
+        _ => None,
+    }
+}
+
+// The choice of zeros of a number.
+fn zeros_by(number: u16) -> Option<TrailingZeros>
+    ensures { result ≡ trimming_of number }
+{
+    match number {
+        0 => Some(TrailingZeros::Keep),
+        1 => Some(TrailingZeros::Trim),
+        _ => None,
+    }
+}
+
+// A least count of digits as a position, which is not negative.
+fn count_by(number: u16) -> Option<i16>
+    ensures { result ≡ count_of number }
+{
+    if number <= 32767 {
+        Some(number as i16)
+    } else {
+        None
+    }
+}
+
 impl Options {
     // What the numbers stand for, where each is known.
     pub(crate) fn choices(&self) -> Option<Choices>
         ensures { result ≡ choices_of self.now }
     {
+        if self.reserved[0] != 0 || self.reserved[1] != 0 {
+            return None;
+        }
         let sign = sign_by(self.sign)?;
         let mode = mode_by(self.rounding)?;
+        let increment = increment_by(self.increment)?;
+        let zeros = zeros_by(self.trailing_zeros)?;
+        let start = count_by(self.minimum_integer_digits)?;
+        let fraction = count_by(self.minimum_fraction_digits)?;
         Some(Choices {
             sign,
             mode,
             position: self.position,
+            increment,
+            zeros,
+            start,
+            end: -fraction,
         })
     }
 }
 
-// The number rounded, where that is asked for.
-fn rounded(value: Decimal, mode: Option<SignedRoundingMode>, position: i16) -> Decimal
-    ensures { RoundsAs mode position value result }
+// The number rounded, where that is asked for. `Memory`: out of memory, where it gets one more digit.
+fn rounded(mut value: Decimal, choices: Choices) -> Result<Decimal, CallError>
+    ensures value { IfOk result (λ rounded. RoundsAs choices.mode choices.increment choices.position value rounded) }
+    ensures fault { IfErr result (λ error. IsChangeRefused choices value error) }
 {
-    match mode {
-        Some(mode) => value.rounded_with_mode(position, mode),
-        None => value,
+    let Some(mode) = choices.mode else {
+        return Ok(value);
+    };
+    match value.round_with_mode_and_increment(choices.position, mode, choices.increment) {
+        Ok(()) => Ok(value),
+        Err(_) => Err(CallError::Memory),
+    }
+}
+
+// The number with or without the zeros at the end of its fraction.
+fn trimmed(value: Decimal, zeros: TrailingZeros) -> Decimal
+    ensures { TrimsAs zeros value result }
+{
+    match zeros {
+        TrailingZeros::Keep => value,
+        TrailingZeros::Trim => value.trimmed_end(),
+    }
+}
+
+// The number with integer digits up to a position at least.
+fn padded_start(value: Decimal, position: i16) -> Decimal
+    ensures { OnAbsolute (PadsStartTo position) value result }
+{
+    let range = value.absolute.magnitude_range();
+    if (*range.end() as i32) + 1 < position as i32 {
+        value.padded_start(position)
+    } else {
+        value
+    }
+}
+
+// The number with fraction digits down to a position at least.
+fn padded_end(value: Decimal, position: i16) -> Decimal
+    ensures { OnAbsolute (PadsEndTo position) value result }
+{
+    let range = value.absolute.magnitude_range();
+    if position < *range.start() {
+        value.padded_end(position)
+    } else {
+        value
     }
 }
 
@@ -142,11 +257,16 @@ fn signed(value: Decimal, sign: Option<SignDisplay>) -> Decimal
 }
 
 impl Choices {
-    // The number rounded, and then with the sign that is chosen by what that left: 9.75 at -1 to the even one, with
-    // `Always`, is `+9.8`. It does not allocate.
-    pub(crate) fn changed(self, value: Decimal) -> Decimal
-        ensures { Changes self value result }
+    // The number rounded, then trimmed, then padded, and then with the sign that is chosen by what that left: 9.75 at -1
+    // to the even one, with `Always`, is `+9.8`. `Memory`: out of memory, which only multiples of 25 take.
+    pub(crate) fn changed(self, value: Decimal) -> Result<Decimal, CallError>
+        ensures value { IfOk result (λ changed. Changes self value changed) }
+        ensures fault { IfErr result (λ error. IsChangeRefused self value error) }
     {
-        signed(rounded(value, self.mode, self.position), self.sign)
+        let value = rounded(value, self)?;
+        let value = trimmed(value, self.zeros);
+        let value = padded_start(value, self.start);
+        let value = padded_end(value, self.end);
+        Ok(signed(value, self.sign))
     }
 }

@@ -5,7 +5,7 @@
 //! ```rust
 //! use legumeyet_c_values::{Options, answer, number_of_text, put};
 //!
-//! let options = Options { sign: 3, rounding: 9, position: -1 };   // the sign always, to the nearest tenth
+//! let options = Options { sign: 3, rounding: 9, position: -1, ..as_given };   // the sign always, to the nearest tenth
 //! let value = number_of_text(alloc, b"9.75", &options)?;          // 9.8, with the sign +
 //! let number = answer(put(&value, out, &mut length));             // 0; `out` begins with `+9.8`, and `length` is 4
 //! ```
@@ -20,8 +20,8 @@ mod parts;
 mod putting;
 
 pub use call_error::{CallError, answer, error_of};
-pub use choices::{Choices, Options, Width, choice_by, grouping_by};
+pub use choices::{Choices, Options, TrailingZeros, Width, choice_by, grouping_by};
 pub use intervals::Interval;
-pub use numbers::{compact_of_text, number_of_i64, number_of_text};
+pub use numbers::{compact_of_text, number_of_f64, number_of_i64, number_of_text, number_of_u64};
 pub use parts::put_parts;
 pub use putting::{put, put_bytes};

@@ -1,16 +1,18 @@
 //! The numbers that calls are given.
 
-ghost use Rattle.std.specs.Prelude.{◌≡◌, ◌+◌, ◌<◌, ◌≤◌, Some, None, true, false, IfOk, IfErr};
+ghost use Rattle.std.specs.Prelude.{◌≡◌, ◌+◌, ◌<◌, ◌≤◌, pos, Some, None, true, false, IfOk, IfErr};
 ghost use Rattle.fixed_decimal.specs.CompactText.{ReadsCompact};
 ghost use Rattle.fixed_decimal.specs.Number.{place};
-ghost use Rattle.fixed_decimal.specs.Shifts.{KeepsPlaces, fall, rise};
+ghost use Rattle.fixed_decimal.specs.Shifts.{IsShifted, KeepsPlaces, fall, rise};
 ghost use Rattle.fixed_decimal.specs.SignedText.{ReadsSigned};
+ghost use Rattle.fixed_decimal.specs.SignedValue.{OnAbsolute};
 ghost use Rattle.legumeyet_c_values.specs.Choices.{choices_of};
-ghost use Rattle.legumeyet_c_values.specs.Numbers.{Gives, GivesCompact, IsChangeFault, IsCompactNumberFault, IsNumberFault, IsScaled, IsScaledFault};
+ghost use Rattle.legumeyet_c_values.specs.Numbers.{Gives, GivesCompact, IsChangeFault, IsCompactNumberFault, IsDoubleFault, IsNumberFault, IsOfDouble, IsScaled, IsScaledFault, IsSignificand};
 
 use crate::call_error::CallError;
 use crate::choices::{Choices, Options};
 use fixed_decimal::{CompactDecimal, Decimal, ParseError, UnsignedDecimal};
+use ryu::Buffer;
 use std::alloc::Global;
 
 // The number that a text spells.
@@ -77,6 +79,19 @@ fn keeps_places(number: &UnsignedDecimal, exponent: i16) -> bool
     above && below
 }
 
+// A whole number times a power of ten, its digits shown with it.
+fn moved(whole: Decimal, exponent: i16) -> Result<Decimal, CallError>
+    ensures value { IfOk result (λ value. OnAbsolute (IsShifted exponent) whole value) }
+    ensures fault { IfErr result
+        (λ error. (error ≡ CallError.Limit) × (¬ (KeepsPlaces exponent whole.absolute))) }
+{
+    if keeps_places(&whole.absolute, exponent) {
+        Ok(whole.multiplied_pow10(exponent))
+    } else {
+        Err(CallError::Limit)
+    }
+}
+
 // An integer times a power of ten.
 fn scaled(alloc: Global, mantissa: i64, exponent: i16) -> Result<Decimal, CallError>
     ensures value { IfOk result (λ value. IsScaled mantissa exponent value) }
@@ -85,24 +100,46 @@ fn scaled(alloc: Global, mantissa: i64, exponent: i16) -> Result<Decimal, CallEr
     let Ok(whole) = Decimal::from_i64(alloc, mantissa) else {
         return Err(CallError::Memory);
     };
-    if keeps_places(&whole.absolute, exponent) {
-        Ok(whole.multiplied_pow10(exponent))
-    } else {
-        Err(CallError::Limit)
+    moved(whole, exponent)
+}
+
+// An integer without a sign times a power of ten.
+fn scaled_unsigned(alloc: Global, mantissa: u64, exponent: i16) -> Result<Decimal, CallError>
+    ensures value { IfOk result (λ value. IsScaled (pos mantissa) exponent value) }
+    ensures fault { IfErr result (λ error. IsScaledFault (pos mantissa) exponent error) }
+{
+    let Ok(whole) = Decimal::from_u64(alloc, mantissa) else {
+        return Err(CallError::Memory);
+    };
+    moved(whole, exponent)
+}
+
+// The number of a double's digits, without the zero after the point of a whole one.
+fn read_double(alloc: Global, number: f64) -> Result<Decimal, CallError>
+    ensures value { IfOk result (λ value. IsOfDouble number value) }
+    ensures fault { IfErr result (λ error. IsDoubleFault number error) }
+{
+    if !number.is_finite() {
+        return Err(CallError::Number);
+    }
+    let mut digits = Buffer::new();
+    match read_number(alloc, digits.format_finite(number).as_bytes()) {
+        Ok(value) => Ok(value.trimmed_end()),
+        Err(error) => Err(error),
     }
 }
 
-/// The number that a text spells, rounded and with the sign that the options ask for.
+/// The number that a text spells, changed as the options ask for.
 pub fn number_of_text(alloc: Global, text: &[u8], options: &Options) -> Result<Decimal, CallError>
     ensures value { IfOk result (λ value. Gives (choices_of options.now) (ReadsSigned text.now) value) }
-    ensures fault { IfErr result (λ error. IsChangeFault (choices_of options.now) (IsNumberFault text.now) error) }
+    ensures fault { IfErr result (λ error. IsChangeFault (choices_of options.now) (ReadsSigned text.now) (IsNumberFault text.now) error) }
 {
     let choices = known(options)?;
     let value = read_number(alloc, text)?;
-    Ok(choices.changed(value))
+    choices.changed(value)
 }
 
-/// An integer times a power of ten, rounded and with the sign that the options ask for.
+/// An integer times a power of ten, changed as the options ask for.
 pub fn number_of_i64(
     alloc: Global,
     mantissa: i64,
@@ -111,14 +148,46 @@ pub fn number_of_i64(
 ) -> Result<Decimal, CallError>
     ensures value { IfOk result (λ value. Gives (choices_of options.now) (IsScaled mantissa exponent) value) }
     ensures fault { IfErr result
-        (λ error. IsChangeFault (choices_of options.now) (IsScaledFault mantissa exponent) error) }
+        (λ error. IsChangeFault (choices_of options.now) (IsScaled mantissa exponent) (IsScaledFault mantissa exponent)
+        error) }
 {
     let choices = known(options)?;
     let value = scaled(alloc, mantissa, exponent)?;
-    Ok(choices.changed(value))
+    choices.changed(value)
 }
 
-/// The compact number that a text spells, its significand rounded and with the sign that the options ask for.
+/// An integer without a sign times a power of ten, changed as the options ask for.
+pub fn number_of_u64(
+    alloc: Global,
+    mantissa: u64,
+    exponent: i16,
+    options: &Options,
+) -> Result<Decimal, CallError>
+    ensures value { IfOk result
+        (λ value. Gives (choices_of options.now) (IsScaled (pos mantissa) exponent) value) }
+    ensures fault { IfErr result
+        (λ error. IsChangeFault (choices_of options.now) (IsScaled (pos mantissa) exponent)
+        (IsScaledFault (pos mantissa) exponent) error) }
+{
+    let choices = known(options)?;
+    let value = scaled_unsigned(alloc, mantissa, exponent)?;
+    choices.changed(value)
+}
+
+/// The shortest number that gives a double back, changed as the options ask for: 0.1 of 0.1, 5 of 5.0, -0 of -0.0.
+///
+/// `Number`: it is not finite.
+pub fn number_of_f64(alloc: Global, number: f64, options: &Options) -> Result<Decimal, CallError>
+    ensures value { IfOk result (λ value. Gives (choices_of options.now) (IsOfDouble number) value) }
+    ensures fault { IfErr result
+        (λ error. IsChangeFault (choices_of options.now) (IsOfDouble number) (IsDoubleFault number) error) }
+{
+    let choices = known(options)?;
+    let value = read_double(alloc, number)?;
+    choices.changed(value)
+}
+
+/// The compact number that a text spells, its significand changed as the options ask for.
 pub fn compact_of_text(
     alloc: Global,
     text: &[u8],
@@ -126,11 +195,12 @@ pub fn compact_of_text(
 ) -> Result<CompactDecimal, CallError>
     ensures value { IfOk result (λ value. GivesCompact (choices_of options.now) text.now value) }
     ensures fault { IfErr result
-        (λ error. IsChangeFault (choices_of options.now) (IsCompactNumberFault text.now) error) }
+        (λ error. IsChangeFault (choices_of options.now) (IsSignificand text.now) (IsCompactNumberFault text.now)
+        error) }
 {
     let choices = known(options)?;
     let value = read_compact(alloc, text)?;
     let exponent = value.exponent();
-    let significand = choices.changed(value.into_significand());
+    let significand = choices.changed(value.into_significand())?;
     Ok(CompactDecimal::from_significand_and_exponent(significand, exponent))
 }

@@ -2,7 +2,7 @@ use Rattle.std.proofs.Common.{rules, w32, ◌∙◌}
 use Rattle.std.proofs.lemmas.Int.{to_z-of_z}
 use mir.Val.{SFits}
 use Rattle.legumeyet_c_values.specs.Choices.{choices_of}
-use Rattle.legumeyet_c_values.specs.Numbers.{GivesCompact, IsChangeFault, IsCompactNumberFault}
+use Rattle.legumeyet_c_values.specs.Numbers.{GivesCompact, IsChangeFault, IsCompactNumberFault, IsSignificand}
 use Rattle.legumeyet_c_values.proofs.NumbersLemmas.{compact_fault_other, other_fault}
 use Rattle.legumeyet_c_values.proofs.PuttingLemmas.{put_by}
 use Rattle.legumeyet_c.specs.CompactWriting.{IsExactFault, IsExactText}
@@ -29,6 +29,6 @@ returns-clause-told c =
       number = to_z-of_z w32 c.answer.result fits ∙ c.answer.ensures;
       held = put_by _ _ _ _ _
           (value_says IsExactText open_tables is_given number given)
-          (value_fault IsExactFault open_tables is_given (IsChangeFault choices (IsCompactNumberFault c.args.number.now)) number given caused)
+          (value_fault IsExactFault open_tables is_given (IsChangeFault choices (IsSignificand c.args.number.now) (IsCompactNumberFault c.args.number.now)) number given caused)
           c.write_behind.ensures.told;
     }

@@ -33,6 +33,6 @@ returns-clause-told c =
       number = to_z-of_z w32 c.answer.result fits ∙ c.answer.ensures;
       held = put_by _ _ _ _ _
           (value_says IsCompactText open_tables is_given number given)
-          (value_fault IsCompactFault open_tables is_given (IsChangeFault choices (IsScaledFault c.args.mantissa c.args.exponent)) number given caused)
+          (value_fault IsCompactFault open_tables is_given (IsChangeFault choices (IsScaled c.args.mantissa c.args.exponent) (IsScaledFault c.args.mantissa c.args.exponent)) number given caused)
           c.write_behind.ensures.told;
     }

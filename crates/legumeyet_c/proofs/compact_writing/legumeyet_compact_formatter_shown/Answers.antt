@@ -30,6 +30,6 @@ returns-clause-told c =
       number = to_z-of_z w32 c.answer.result fits ∙ c.answer.ensures;
       held = put_by _ _ _ _ _
           (value_says IsShownText open_tables is_given number given)
-          (value_fault IsShownFault open_tables is_given (IsChangeFault choices (IsNumberFault c.args.number.now)) number given caused)
+          (value_fault IsShownFault open_tables is_given (IsChangeFault choices (ReadsSigned c.args.number.now) (IsNumberFault c.args.number.now)) number given caused)
           c.write_behind.ensures.told;
     }

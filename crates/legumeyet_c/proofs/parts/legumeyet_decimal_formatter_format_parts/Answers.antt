@@ -28,6 +28,6 @@ returns-clause-told c =
       number = to_z-of_z w32 c.answer.result fits ∙ c.answer.ensures;
       held = parts_by _ _ _
           (value_says IsDecimalAnnotated open_tables is_given number.result number.ensures.value)
-          (value_fault WantsMemory open_tables is_given (IsChangeFault choices (IsNumberFault c.args.number.now)) number.result number.ensures.value number.ensures.fault)
+          (value_fault WantsMemory open_tables is_given (IsChangeFault choices (ReadsSigned c.args.number.now) (IsNumberFault c.args.number.now)) number.result number.ensures.value number.ensures.fault)
           c.write_parts.ensures.told;
     }

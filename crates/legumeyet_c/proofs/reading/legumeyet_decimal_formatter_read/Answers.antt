@@ -1,6 +1,7 @@
 use Rattle.std.proofs.Common.{rules, w32, Err, ◌∙◌}
 use Rattle.std.proofs.lemmas.Int.{to_z-of_z}
 use mir.Val.{SFits}
+use Rattle.icu_decimal.specs.PlainReading.{HasManyDigits, plain_reading}
 use Rattle.writeable.proofs.AnnotatedTextLemmas.{text_of_bytes}
 use Rattle.legumeyet_c_values.proofs.PuttingLemmas.{put_by, put_refused}
 use Rattle.legumeyet_c.specs.Views.{decimal_open}
@@ -25,6 +26,6 @@ returns-in-Err-clause-told c =
     record {
       outcome = Err c.in-Err.error;
       number = to_z-of_z w32 c.number.result fits ∙ c.number.ensures;
-      held = put_refused _ _ _ _ _ (read_fault_other (decimal_open c.args.formatter.now) c.args.text.now c.in-Err.error c.in-Err.ensures.fault)
+      held = put_refused _ _ _ _ _ (read_fault_other plain_reading HasManyDigits (decimal_open c.args.formatter.now) c.args.text.now c.in-Err.error c.in-Err.ensures.fault)
           c.in-Err.ensures.fault;
     }

@@ -1,8 +1,8 @@
 use Rattle.std.proofs.Common.{w16, w64}
 use Rattle.std.proofs.lemmas.Int.{to_z-of_z}
 use Rattle.legumeyet_c_values.specs.Choices.{choices_of}
-use Rattle.legumeyet_c_values.specs.Numbers.{IsScaled}
-use Rattle.legumeyet_c_values.proofs.NumbersLemmas.{gives}
+use Rattle.legumeyet_c_values.specs.Numbers.{IsScaled, IsScaledFault}
+use Rattle.legumeyet_c_values.proofs.NumbersLemmas.{gives, refuses}
 use Rattle.legumeyet_c_values.proofs.numbers.number_of_i64.Goals as goal
 
 pub returns-clause-value : goal.returns-clause-value
@@ -10,4 +10,12 @@ returns-clause-value c =
     let mantissa = to_z-of_z w64 c.args.mantissa c.ranges.mantissa in
     let exponent = to_z-of_z w16 c.args.exponent c.ranges.exponent in
     gives (choices_of c.args.options.now) c.in_ok-choices.choices (IsScaled c.args.mantissa c.args.exponent) c.in_ok-value.value c.changed.result
-    c.in_ok-choices.ensures.value (simp (mantissa, exponent) at c.in_ok-value.ensures.value) c.changed.ensures
+    c.in_ok-choices.ensures.value (simp (mantissa, exponent) at c.in_ok-value.ensures.value) c.changed.ensures.value
+
+pub returns-clause-fault : goal.returns-clause-fault
+returns-clause-fault c =
+    let mantissa = to_z-of_z w64 c.args.mantissa c.ranges.mantissa in
+    let exponent = to_z-of_z w16 c.args.exponent c.ranges.exponent in
+    refuses (choices_of c.args.options.now) c.in_ok-choices.choices (IsScaled c.args.mantissa c.args.exponent)
+    (IsScaledFault c.args.mantissa c.args.exponent) c.in_ok-value.value c.changed.result c.in_ok-choices.ensures.value
+    (simp (mantissa, exponent) at c.in_ok-value.ensures.value) c.changed.ensures.fault
