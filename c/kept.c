@@ -25,7 +25,7 @@ static const char BOOK[] = "[[[\"en\",\"\",\"latn\",\"-\",\"\",\"+\",\"\",\".\",
 static legumeyet_book book;
 static legumeyet_decimal_formatter own, plain;
 static legumeyet_compact_formatter own_short, short_english, long_english;
-static const legumeyet_options AS_GIVEN = {0, 0, 0};
+static const legumeyet_options AS_GIVEN = {0};
 static uint8_t out[64];
 static size_t length;
 static int refused, wrong;

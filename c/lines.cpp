@@ -74,7 +74,9 @@ static std::string by_formatter(Book &book, const std::string &line) {
     const auto fields = pieces(line, '\t'), rounding = pieces(fields[4], ',');
     const bool is_rounded = rounding.size() == 3;
     if (is_rounded && rounding[2] != "1") return "";
-    legumeyet_options options{number_of(fields[3], SIGNS), number_of(rounding[is_rounded], MODES), 0};
+    legumeyet_options options{};
+    options.sign = number_of(fields[3], SIGNS);
+    options.rounding = number_of(rounding[is_rounded], MODES);
     if (is_rounded) options.position = static_cast<int16_t>(std::stoi(rounding[0]));
     try {
         return "ok\t" + text_for(book, fields, options);

@@ -37,7 +37,8 @@ static void expect_text(const uint8_t *out, size_t length, const char *text) {
 static void call_all(const char *path) {
     static const char DIGITS[] = "-98765432109876543210.5";
     static const char LINE[] = "en-a-aa-b-bb-u-ca-gregory-nu-latn-x-y\tplain\tauto\tkeep\t-\t-98765432109876543210.5";
-    static const legumeyet_options ROUNDED = {LEGUMEYET_SIGN_AUTO, LEGUMEYET_ROUND_HALF_EVEN, 0};
+    static const legumeyet_options ROUNDED = {.sign = LEGUMEYET_SIGN_AUTO, .rounding = LEGUMEYET_ROUND_HALF_EVEN};
+    legumeyet_options quarters = {.rounding = LEGUMEYET_ROUND_HALF_EVEN, .position = -2, .increment = 25};
     legumeyet_book book = {0};
     legumeyet_decimal_formatter plain = {0};
     legumeyet_compact_formatter compact = {0};
@@ -53,16 +54,28 @@ static void call_all(const char *path) {
     expect_text(out, length, "-98,765,432,109,876,543,210");
     TWICE(legumeyet_decimal_formatter_format_i64(&plain, -123456789012345678, -3, &ROUNDED, out, sizeof out, &length));
     expect_text(out, length, "-123,456,789,012,346");
+    TWICE(legumeyet_decimal_formatter_format(&plain, TEXT("1234567.8"), &quarters, out, sizeof out, &length));
+    expect_text(out, length, "1,234,567.75");
+    TWICE(legumeyet_decimal_formatter_format_u64(&plain, 12345678901234567890U, -3, &ROUNDED, out, sizeof out, &length));
+    expect_text(out, length, "12,345,678,901,234,568");
+    TWICE(legumeyet_decimal_formatter_format_double(&plain, -123456789.25, &ROUNDED, out, sizeof out, &length));
+    expect_text(out, length, "-123,456,789");
     TWICE(legumeyet_decimal_formatter_format_parts(&plain, TEXT(DIGITS), &ROUNDED, out, sizeof out, &length, parts, 16, &count));
     expect_text(out, length, "-98,765,432,109,876,543,210");
     wrong = wrong || count != 8 || parts[7].start != 23;
     TWICE(legumeyet_decimal_formatter_read(&plain, TEXT("-123,456,789.50"), out, sizeof out, &length));
+    expect_text(out, length, "-123456789.50");
+    TWICE(legumeyet_decimal_formatter_read_lenient(&plain, TEXT(" -123456789.50"), out, sizeof out, &length));
     expect_text(out, length, "-123456789.50");
     TWICE(legumeyet_compact_formatter_open(&book, TEXT("en-a-aa-b-bb-u-ca-gregory-nu-latn-x-y"), LEGUMEYET_WIDTH_SHORT, 3, &compact));
     TWICE(legumeyet_compact_formatter_format(&compact, TEXT(DIGITS), &ROUNDED, out, sizeof out, &length));
     expect_text(out, length, "-98,765,432,109,876,543 ks");
     TWICE(legumeyet_compact_formatter_format_i64(&compact, -123456789012345678, -3, &ROUNDED, out, sizeof out, &length));
     expect_text(out, length, "-123,456,789,012 ks");
+    TWICE(legumeyet_compact_formatter_format_u64(&compact, 12345678901234567890U, -3, &ROUNDED, out, sizeof out, &length));
+    expect_text(out, length, "12,345,678,901,235 ks");
+    TWICE(legumeyet_compact_formatter_format_double(&compact, -123456789.25, &ROUNDED, out, sizeof out, &length));
+    expect_text(out, length, "-123,457 ks");
     TWICE(legumeyet_compact_formatter_format_parts(&compact, TEXT(DIGITS), &ROUNDED, out, sizeof out, &length, parts, 16, &count));
     expect_text(out, length, "-98,765,432,109,876,543 ks");
     wrong = wrong || count != 1 || parts[0].end != 1;

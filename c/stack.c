@@ -15,7 +15,7 @@
 enum { STACK = 1 << 20, PROMISED = 40 << 10, PROMISED_DEEP = 128 << 10, MARK = 0xa5, DEEP = 100000, LONG = 32767 };
 
 static const char *path;
-static const legumeyet_options ROUNDED = {LEGUMEYET_SIGN_ALWAYS, LEGUMEYET_ROUND_HALF_EVEN, -1};
+static const legumeyet_options ROUNDED = {.sign = LEGUMEYET_SIGN_ALWAYS, .rounding = LEGUMEYET_ROUND_HALF_EVEN, .position = -1};
 
 /* What a thread of its own does without a call. */
 static void *nothing(void *given) { return given; }
@@ -57,7 +57,10 @@ static void *formatters(void *given) {
         if (legumeyet_compact_formatter_open(&world, LEGUMEYET_TEXT(tag), LEGUMEYET_WIDTH_LONG, 3, &compact) != 0) return NULL;
         if (legumeyet_decimal_formatter_format_i64(&plain, -123456789, -2, &ROUNDED, out, sizeof out, &length) != 0) return NULL;
         if (legumeyet_decimal_formatter_format(&plain, digits, LONG, &ROUNDED, out, sizeof out, &length) != 0) return NULL;
+        if (legumeyet_decimal_formatter_format_u64(&plain, 12345678901234567890U, -2, &ROUNDED, out, sizeof out, &length) != 0) return NULL;
+        if (legumeyet_decimal_formatter_format_double(&plain, -123456789.25, &ROUNDED, out, sizeof out, &length) != 0) return NULL;
         if (legumeyet_decimal_formatter_read(&plain, LEGUMEYET_TEXT("x"), out, sizeof out, &length) == 0) return NULL;
+        if (legumeyet_decimal_formatter_read_lenient(&plain, digits, LONG, out, sizeof out, &length) == LEGUMEYET_MEMORY) return NULL;
         if (legumeyet_decimal_formatter_format_parts(&plain, digits, LONG, &ROUNDED, out, sizeof out, &length, parts, 1 << 15, &count) != 0)
             return NULL;
         if (legumeyet_compact_formatter_format(&compact, digits, LONG, &ROUNDED, out, sizeof out, &length) != 0) return NULL;

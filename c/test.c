@@ -44,7 +44,7 @@ static const char WITH_NUL[] =
 static legumeyet_book book, closed_book;
 static legumeyet_decimal_formatter english, unreadable, closed;
 static legumeyet_compact_formatter short_english, long_english, closed_compact;
-static const legumeyet_options AS_GIVEN = {0, 0, 0};
+static const legumeyet_options AS_GIVEN = {0};
 static uint8_t out[ROOM];
 static size_t length;
 static int wrong;
@@ -77,6 +77,18 @@ static int32_t format(const char *number, legumeyet_options options) {
     return legumeyet_decimal_formatter_format(&english, TEXT(number), &options, out, sizeof out, &length);
 }
 
+static int32_t format_u64(uint64_t mantissa, int16_t exponent) {
+    return legumeyet_decimal_formatter_format_u64(&english, mantissa, exponent, &AS_GIVEN, out, sizeof out, &length);
+}
+
+static int32_t format_double(double number, legumeyet_options options) {
+    return legumeyet_decimal_formatter_format_double(&english, number, &options, out, sizeof out, &length);
+}
+
+static int32_t read_lenient(legumeyet_decimal_formatter *formatter, const char *text) {
+    return legumeyet_decimal_formatter_read_lenient(formatter, TEXT(text), out, sizeof out, &length);
+}
+
 static int32_t read_back(legumeyet_decimal_formatter *formatter, const char *text) {
     return legumeyet_decimal_formatter_read(formatter, TEXT(text), out, sizeof out, &length);
 }
@@ -87,6 +99,14 @@ static int32_t format_short(const char *number, legumeyet_options options) {
 
 static int32_t format_short_i64(int64_t mantissa, int16_t exponent) {
     return legumeyet_compact_formatter_format_i64(&short_english, mantissa, exponent, &AS_GIVEN, out, sizeof out, &length);
+}
+
+static int32_t format_short_u64(uint64_t mantissa, int16_t exponent) {
+    return legumeyet_compact_formatter_format_u64(&short_english, mantissa, exponent, &AS_GIVEN, out, sizeof out, &length);
+}
+
+static int32_t format_short_double(double number, legumeyet_options options) {
+    return legumeyet_compact_formatter_format_double(&short_english, number, &options, out, sizeof out, &length);
 }
 
 static int32_t shown(const char *number, legumeyet_options options) {
@@ -104,7 +124,10 @@ static int32_t format_i64(int64_t mantissa, int16_t exponent) {
 }
 
 static legumeyet_options options_of(uint32_t sign, uint32_t rounding, int16_t position) {
-    legumeyet_options options = {sign, rounding, position};
+    legumeyet_options options = {0};
+    options.sign = sign;
+    options.rounding = rounding;
+    options.position = position;
     return options;
 }
 
@@ -183,6 +206,113 @@ static void formats(void) {
     expect("30,000 digits", (int64_t)needed, 39999);
 }
 
+/* The options beside sign, rounding and position. */
+static legumeyet_options increments_of(uint32_t increment) {
+    legumeyet_options options = options_of(0, LEGUMEYET_ROUND_HALF_EVEN, -2);
+    options.increment = increment;
+    return options;
+}
+
+static legumeyet_options digits_of(uint16_t integer, uint16_t fraction) {
+    legumeyet_options options = {0};
+    options.minimum_integer_digits = integer;
+    options.minimum_fraction_digits = fraction;
+    return options;
+}
+
+static void increments(void) {
+    legumeyet_options kept = {0}, third = increments_of(3);
+    kept.increment = 25;
+    expect_text("an increment of 0", format("1.235", increments_of(0)), "1.24");
+    expect_text("of 1", format("1.235", increments_of(1)), "1.24");
+    expect_text("of 2", format("1.23", increments_of(2)), "1.24");
+    expect_text("of 5", format("1.23", increments_of(5)), "1.25");
+    expect_text("of 25", format("-1.37", increments_of(25)), "-1.25");
+    expect_text("of 25", format("1234567.88", increments_of(25)), "1,234,568.00");
+    expect_text("a ninth digit", format("1234567.8", increments_of(25)), "1,234,567.75");
+    expect_text("not rounded", format("1.235", kept), "1.235");
+    expect_text("of a compact number", format_short("1370", increments_of(5)), "1.4K");
+    expect_error("of 3", format("1", third), LEGUMEYET_OPTION);
+    third.rounding = LEGUMEYET_ROUND_KEEP;
+    expect_error("of 3, not rounded", format("1", third), LEGUMEYET_OPTION);
+    expect_error("of 26", format_short("1", increments_of(26)), LEGUMEYET_OPTION);
+}
+
+static void zeros(void) {
+    legumeyet_options few = options_of(0, LEGUMEYET_ROUND_HALF_EVEN, -2), trimmed = {0};
+    few.trailing_zeros = trimmed.trailing_zeros = LEGUMEYET_TRAILING_ZEROS_TRIM;
+    expect_text("trimmed", format("1.5000", trimmed), "1.5");
+    expect_text("trimmed", format("-200.00", trimmed), "-200");
+    expect_text("at most two fraction digits", format("1.995", few), "2");
+    expect_text("at most two fraction digits", format("1.5", few), "1.5");
+    expect_text("at most two fraction digits", format("1.255", few), "1.26");
+    few.minimum_fraction_digits = 1;
+    expect_text("and one at least", format("1.995", few), "2.0");
+    trimmed.trailing_zeros = 2;
+    expect_error("zeros 2", format("1", trimmed), LEGUMEYET_OPTION);
+}
+
+static void least_digits(void) {
+    static uint8_t wide[2 * LONG];
+    legumeyet_options most = digits_of(32767, 32767), negative = digits_of(1, 2), reserved = {0};
+    size_t needed = 0;
+    negative.sign = LEGUMEYET_SIGN_NEGATIVE;
+    negative.rounding = LEGUMEYET_ROUND_TRUNC;
+    expect_text("padded", format("7.5", digits_of(3, 2)), "007.50");
+    expect_text("padded", format("-0", digits_of(3, 2)), "-000.00");
+    expect_text("long enough", format("-1234.5678", digits_of(3, 2)), "-1,234.5678");
+    expect_text("zeros that are there", format("0007.5000", digits_of(3, 2)), "0,007.5000");
+    expect_text("groups", format("7", digits_of(5, 0)), "00,007");
+    expect_text("rounded, padded, and then its sign", format("-0.9", negative), "0.00");
+    expect_text("of a compact number", format_short("1650", digits_of(0, 5)), "1.6K");
+    expect_text("of an exact form", format_exact("1.5c3", digits_of(0, 2)), "1.50K");
+    expect("most digits", legumeyet_decimal_formatter_format(&english, TEXT("1"), &most, wide, sizeof wide, &needed), LEGUMEYET_OK);
+    expect("most digits", (int64_t)needed, 2 * 32767 + 10922 + 1);
+    expect_error("32768 integer digits", format("1", digits_of(32768, 0)), LEGUMEYET_OPTION);
+    expect_error("32768 fraction digits", format("1", digits_of(0, 32768)), LEGUMEYET_OPTION);
+    reserved.reserved[0] = 1;
+    expect_error("a reserved number", format("1", reserved), LEGUMEYET_OPTION);
+    reserved.reserved[0] = 0;
+    reserved.reserved[1] = 1;
+    expect_error("a reserved number", format("1", reserved), LEGUMEYET_OPTION);
+}
+
+static void unsigned_integers(void) {
+    expect_text("the greatest", format_u64(UINT64_MAX, 0), "18,446,744,073,709,551,615");
+    expect_text("a fraction", format_u64(UINT64_MAX, -2), "184,467,440,737,095,516.15");
+    expect_text("zero of hundredths", format_u64(0, -2), "0.00");
+    expect_text("compact", format_short_u64(UINT64_MAX, -9), "18,447M");
+    expect_error("an exponent", format_u64(10, INT16_MAX), LEGUMEYET_LIMIT);
+    expect_error("compact", format_short_u64(10, INT16_MAX), LEGUMEYET_LIMIT);
+}
+
+static void doubles(void) {
+    static uint8_t wide[LONG];
+    const double infinite = strtod("inf", NULL), none = strtod("nan", NULL);
+    size_t needed = 0;
+    expect_text("a tenth", format_double(0.1, AS_GIVEN), "0.1");
+    expect_text("a sum", format_double(0.1 + 0.2, AS_GIVEN), "0.30000000000000004");
+    expect_text("groups", format_double(-1234.5, AS_GIVEN), "-1,234.5");
+    expect_text("whole", format_double(5.0, AS_GIVEN), "5");
+    expect_text("zero", format_double(0.0, AS_GIVEN), "0");
+    expect_text("minus zero", format_double(-0.0, AS_GIVEN), "-0");
+    expect_text("2 to the power 53", format_double(9007199254740992.0, AS_GIVEN), "9,007,199,254,740,992");
+    expect_text("great", format_double(1e21, AS_GIVEN), "1,000,000,000,000,000,000,000");
+    expect_text("small", format_double(-1.5e-7, AS_GIVEN), "-0.00000015");
+    expect_text("rounded", format_double(9.75, options_of(LEGUMEYET_SIGN_ALWAYS, LEGUMEYET_ROUND_HALF_EVEN, -1)), "+9.8");
+    expect_text("padded", format_double(5.0, digits_of(0, 2)), "5.00");
+    expect_text("compact", format_short_double(-1172700.0, AS_GIVEN), "-1.2M");
+    expect_error("no number", format_double(none, AS_GIVEN), LEGUMEYET_NUMBER);
+    expect_error("infinite", format_double(infinite, AS_GIVEN), LEGUMEYET_NUMBER);
+    expect_error("infinite", format_short_double(-infinite, AS_GIVEN), LEGUMEYET_NUMBER);
+    expect_error("sign 6", format_double(none, options_of(6, 0, 0)), LEGUMEYET_OPTION);
+    expect("the greatest", legumeyet_decimal_formatter_format_double(&english, 1.7976931348623157e308, &AS_GIVEN, wide, sizeof wide, &needed),
+           LEGUMEYET_OK);
+    expect("the greatest", (int64_t)needed, 309 + 102);
+    expect("the least", legumeyet_decimal_formatter_format_double(&english, 5e-324, &AS_GIVEN, wide, sizeof wide, &needed), LEGUMEYET_OK);
+    expect("the least", (int64_t)needed, 2 + 324);
+}
+
 static void compacts(void) {
     static char digits[LONG];
     static uint8_t wide[LONG];
@@ -245,6 +375,25 @@ static void reads(void) {
            LEGUMEYET_OK);
     expect("30,000 digits", legumeyet_decimal_formatter_read(&english, digits, needed, wide, sizeof wide, &needed), LEGUMEYET_OK);
     expect("30,000 digits", (int64_t)needed, 30000);
+}
+
+static void reads_leniently(void) {
+    expect_text("the formatter's own", read_lenient(&english, "-1,234.50"), "-1234.50");
+    expect_text("without groups", read_lenient(&english, "1234.5"), "1234.5");
+    expect_text("blanks", read_lenient(&english, " 1,234.5 "), "1234.5");
+    expect_text("no whole digit", read_lenient(&english, ".5"), "0.5");
+    expect_text("no fraction digit", read_lenient(&english, "5."), "5");
+    expect_text("another minus", read_lenient(&english, "\xe2\x88\x92" "5"), "-5");
+    expect_text("wide digits", read_lenient(&english, "\xef\xbc\x91\xef\xbc\x92"), "12");
+    expect_text("nine digits", read_lenient(&english, "987654321.0"), "987654321.0");
+    expect_error("a group of two", read_lenient(&english, "1,23"), LEGUMEYET_NOT_WRITTEN);
+    expect_error("a comma for a point", read_lenient(&english, "1,234,5"), LEGUMEYET_NOT_WRITTEN);
+    expect_error("a blank inside", read_lenient(&english, "1 234"), LEGUMEYET_NOT_WRITTEN);
+    expect_error("no text", read_lenient(&english, ""), LEGUMEYET_NOT_WRITTEN);
+    expect_error("bytes", read_lenient(&english, "\xff"), LEGUMEYET_UTF8);
+    expect("symbols alike", legumeyet_decimal_formatter_open(&book, TEXT("bad"), 0, &unreadable), LEGUMEYET_OK);
+    expect_error("symbols alike", read_lenient(&unreadable, "1"), LEGUMEYET_UNREADABLE);
+    expect("symbols alike", legumeyet_decimal_formatter_close(&unreadable), LEGUMEYET_OK);
 }
 
 static int32_t format_parts(const char *number, legumeyet_interval *intervals, size_t room, size_t *count) {
@@ -332,6 +481,8 @@ static void rooms(void) {
     for (room = 0; room <= 12; room++) {
         expect_front(legumeyet_decimal_formatter_format(&english, TEXT("-1234.5"), &AS_GIVEN, out, room, &length), "-1,234.5", room);
         expect_front(legumeyet_decimal_formatter_read(&english, TEXT("-1,234.5"), out, room, &length), "-1234.5", room);
+        expect_front(legumeyet_decimal_formatter_read_lenient(&english, TEXT("-1234.5"), out, room, &length), "-1234.5", room);
+        expect_front(legumeyet_decimal_formatter_format_double(&english, -1234.5, &AS_GIVEN, out, room, &length), "-1,234.5", room);
         expect_front(legumeyet_book_answer(&book, TEXT(LINE), out, room, &length), "ok\t-1,234.5", room);
         expect_front(legumeyet_compact_formatter_format(&short_english, TEXT("-12345678901"), &AS_GIVEN, out, room, &length), "-12,346M", room);
         expect_front(legumeyet_compact_formatter_shown(&short_english, TEXT("-1172700"), &AS_GIVEN, out, room, &length), "-1.2c6", room);
@@ -349,6 +500,7 @@ static void null_texts(void) {
     expect_error("a number", legumeyet_decimal_formatter_format(&english, NOTHING, &AS_GIVEN, out, ROOM, &length), LEGUMEYET_NUMBER);
     expect_error("parts", legumeyet_decimal_formatter_format_parts(&english, NOTHING, &AS_GIVEN, out, ROOM, &length, &none, 1, &count), LEGUMEYET_NUMBER);
     expect_error("a text", legumeyet_decimal_formatter_read(&english, NOTHING, out, ROOM, &length), LEGUMEYET_NOT_WRITTEN);
+    expect_error("a typed text", legumeyet_decimal_formatter_read_lenient(&english, NOTHING, out, ROOM, &length), LEGUMEYET_NOT_WRITTEN);
     expect_error("compact", legumeyet_compact_formatter_format(&short_english, NOTHING, &AS_GIVEN, out, ROOM, &length), LEGUMEYET_NUMBER);
     expect_error("compact parts", legumeyet_compact_formatter_format_parts(&short_english, NOTHING, &AS_GIVEN, out, ROOM, &length, &none, 1, &count),
                  LEGUMEYET_NUMBER);
@@ -374,6 +526,11 @@ static void null_rooms(void) {
     expect_needed("parts", legumeyet_decimal_formatter_format_parts(&english, TEXT("-1234.5"), &AS_GIVEN, NOTHING, &length, NOTHING, &count), 8);
     expect("parts", (int64_t)count, 5);
     expect_needed("a text", legumeyet_decimal_formatter_read(&english, TEXT("-1,234.5"), NOTHING, &length), 7);
+    expect_needed("a typed text", legumeyet_decimal_formatter_read_lenient(&english, TEXT("-1234.5 "), NOTHING, &length), 7);
+    expect_needed("an integer", legumeyet_decimal_formatter_format_u64(&english, 12345, -1, &AS_GIVEN, NOTHING, &length), 7);
+    expect_needed("a double", legumeyet_decimal_formatter_format_double(&english, -1234.5, &AS_GIVEN, NOTHING, &length), 8);
+    expect_needed("compact", legumeyet_compact_formatter_format_u64(&short_english, 165, 1, &AS_GIVEN, NOTHING, &length), 4);
+    expect_needed("compact", legumeyet_compact_formatter_format_double(&short_english, -1650.0, &AS_GIVEN, NOTHING, &length), 5);
     expect_needed("compact", legumeyet_compact_formatter_format(&short_english, TEXT("-1650"), &AS_GIVEN, NOTHING, &length), 5);
     expect_needed("compact", legumeyet_compact_formatter_format_i64(&short_english, -165, 1, &AS_GIVEN, NOTHING, &length), 5);
     expect_needed("compact parts",
@@ -408,6 +565,9 @@ static void no_decimal(legumeyet_decimal_formatter *other) {
     size_t count = 77;
     expect_error("a number", legumeyet_decimal_formatter_format(other, TEXT("1"), &AS_GIVEN, out, ROOM, &length), LEGUMEYET_CLOSED);
     expect_error("an integer", legumeyet_decimal_formatter_format_i64(other, 1, 0, &AS_GIVEN, out, ROOM, &length), LEGUMEYET_CLOSED);
+    expect_error("an integer", legumeyet_decimal_formatter_format_u64(other, 1, 0, &AS_GIVEN, out, ROOM, &length), LEGUMEYET_CLOSED);
+    expect_error("a double", legumeyet_decimal_formatter_format_double(other, 1.0, &AS_GIVEN, out, ROOM, &length), LEGUMEYET_CLOSED);
+    expect_error("a typed text", read_lenient(other, "1"), LEGUMEYET_CLOSED);
     expect_error("parts", legumeyet_decimal_formatter_format_parts(other, TEXT("1"), &AS_GIVEN, out, ROOM, &length, &none, 1, &count),
                  LEGUMEYET_CLOSED);
     expect("the count of a refused call", (int64_t)count, 77);
@@ -420,6 +580,8 @@ static void no_compact(legumeyet_compact_formatter *other) {
     size_t count = 77;
     expect_error("a number", legumeyet_compact_formatter_format(other, TEXT("1"), &AS_GIVEN, out, ROOM, &length), LEGUMEYET_CLOSED);
     expect_error("an integer", legumeyet_compact_formatter_format_i64(other, 1, 0, &AS_GIVEN, out, ROOM, &length), LEGUMEYET_CLOSED);
+    expect_error("an integer", legumeyet_compact_formatter_format_u64(other, 1, 0, &AS_GIVEN, out, ROOM, &length), LEGUMEYET_CLOSED);
+    expect_error("a double", legumeyet_compact_formatter_format_double(other, 1.0, &AS_GIVEN, out, ROOM, &length), LEGUMEYET_CLOSED);
     expect_error("parts", legumeyet_compact_formatter_format_parts(other, TEXT("1"), &AS_GIVEN, out, ROOM, &length, &none, 1, &count),
                  LEGUMEYET_CLOSED);
     expect("the count of a refused call", (int64_t)count, 77);
@@ -487,6 +649,7 @@ static void closes(void) {
 static void texts(void) {
     int32_t error;
     expect("version", legumeyet_version(), LEGUMEYET_VERSION);
+    expect("minor version", legumeyet_minor(), LEGUMEYET_MINOR);
     expect_text("a text", legumeyet_error_text(LEGUMEYET_TAG, out, ROOM, &length), "no locale tag");
     for (error = -1; error < 200; error++) {
         int is_known = (error >= LEGUMEYET_MEMORY && error <= LEGUMEYET_EXPONENT) || (error >= LEGUMEYET_BOOK_JSON && error <= LEGUMEYET_BOOK_CYCLE);
@@ -502,10 +665,16 @@ int main(void) {
     opens();
     opens_compact();
     formats();
+    increments();
+    zeros();
+    least_digits();
+    unsigned_integers();
+    doubles();
     compacts();
     parts();
     compact_parts();
     reads();
+    reads_leniently();
     answers();
     rooms();
     null_texts();

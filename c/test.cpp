@@ -6,6 +6,7 @@
 #include <legumeyet.hpp>
 
 #include <iostream>
+#include <limits>
 #include <sys/wait.h>
 #include <thread>
 
@@ -19,7 +20,9 @@ template <class... Arguments> constexpr bool formats_of = takes<void, Arguments.
 
 static_assert(formats_of<int> && formats_of<int, int> && formats_of<long long, short, legumeyet_options> && formats_of<unsigned long, int>);
 static_assert(formats_of<uint8_t> && formats_of<std::string> && formats_of<const char *> && formats_of<std::string_view, legumeyet_options>);
-static_assert(!formats_of<double> && !formats_of<double, int> && !formats_of<float, int, legumeyet_options> && !formats_of<int, double>);
+static_assert(formats_of<double> && formats_of<double, legumeyet_options>);
+static_assert(!formats_of<double, int> && !formats_of<double, int, legumeyet_options> && !formats_of<double, double> && !formats_of<int, double>);
+static_assert(!formats_of<float> && !formats_of<float, int, legumeyet_options> && !formats_of<long double> && !formats_of<long double, legumeyet_options>);
 static_assert(!formats_of<std::nullptr_t> && !formats_of<std::nullptr_t, int> && !formats_of<bool> && !formats_of<char> && !formats_of<char16_t>);
 
 static const std::string BOOK = R"([[["en","","latn","-","","+","",".",",",3,3,1],["bad","","latn","","","+","",".",",",3,3,1]],
@@ -46,6 +49,32 @@ template <class Call> static void expect_error(int32_t number, Call call) {
     wrong = 1;
 }
 
+static legumeyet_options options_of(uint32_t sign, uint32_t rounding, int16_t position) {
+    legumeyet_options options = {};
+    options.sign = sign;
+    options.rounding = rounding;
+    options.position = position;
+    return options;
+}
+
+static void doubles(DecimalFormatter &english) {
+    legumeyet_options options = options_of(0, LEGUMEYET_ROUND_HALF_EVEN, -2);
+    options.increment = 5;
+    options.minimum_integer_digits = 3;
+    expect(english.format(0.1), "0.1");
+    expect(english.format(-1234.5), "-1,234.5");
+    expect(english.format(5.0), "5");
+    expect(english.format(-0.0), "-0");
+    expect(english.format(1.23, options), "001.25");
+    options.trailing_zeros = LEGUMEYET_TRAILING_ZEROS_TRIM;
+    options.minimum_fraction_digits = 1;
+    expect(english.format(1.98, options), "002.0");
+    expect_error(LEGUMEYET_NUMBER, [&] { english.format(std::numeric_limits<double>::quiet_NaN()); });
+    expect_error(LEGUMEYET_NUMBER, [&] { english.format(-std::numeric_limits<double>::infinity()); });
+    options.reserved[1] = 1;
+    expect_error(LEGUMEYET_OPTION, [&] { english.format(1.5, options); });
+}
+
 static void formats(DecimalFormatter &english) {
     const std::string long_number(1000, '1');
     expect(english.format("-987654.321"), "-987,654.321");
@@ -58,8 +87,8 @@ static void formats(DecimalFormatter &english) {
     expect(english.format(INT64_MIN), "-9,223,372,036,854,775,808");
     expect(english.format(UINT64_MAX), "18,446,744,073,709,551,615");
     expect(english.format(UINT64_MAX, -2), "184,467,440,737,095,516.15");
-    expect(english.format(-9650, -3, {LEGUMEYET_SIGN_NEVER, LEGUMEYET_ROUND_HALF_EVEN, -1}), "9.6");
-    expect(english.format("9.65", {LEGUMEYET_SIGN_ALWAYS, LEGUMEYET_ROUND_HALF_EVEN, -1}), "+9.6");
+    expect(english.format(-9650, -3, options_of(LEGUMEYET_SIGN_NEVER, LEGUMEYET_ROUND_HALF_EVEN, -1)), "9.6");
+    expect(english.format("9.65", options_of(LEGUMEYET_SIGN_ALWAYS, LEGUMEYET_ROUND_HALF_EVEN, -1)), "+9.6");
     expect_error(LEGUMEYET_LIMIT, [&] { english.format(5, 40000); });
     expect_error(LEGUMEYET_LIMIT, [&] { english.format(5, UINT64_MAX); });
     expect(std::to_string(english.format(long_number).size()), "1333");
@@ -67,7 +96,7 @@ static void formats(DecimalFormatter &english) {
     expect_error(LEGUMEYET_NUMBER, [&] { english.format(std::string_view()); });
     expect_error(LEGUMEYET_LIMIT, [&] { english.format(std::string(40000, '9')); });
     expect_error(LEGUMEYET_LIMIT, [&] { english.format(10, INT16_MAX); });
-    expect_error(LEGUMEYET_OPTION, [&] { english.format("1", {6, 0, 0}); });
+    expect_error(LEGUMEYET_OPTION, [&] { english.format("1", options_of(6, 0, 0)); });
 }
 
 static void parts(DecimalFormatter &english) {
@@ -85,7 +114,9 @@ static void compacts(Book &book, CompactDecimalFormatter &english) {
     CompactDecimalFormatter long_english(book, "en", LEGUMEYET_WIDTH_LONG), never(book, "en", LEGUMEYET_WIDTH_SHORT, LEGUMEYET_GROUPING_NEVER);
     expect(english.format("-1172700"), "-1.2M");
     expect(english.format(16, 2), "1.6K");
-    expect(english.format("1250000", {LEGUMEYET_SIGN_ALWAYS, LEGUMEYET_ROUND_TRUNC, 6}), "+1M");
+    expect(english.format(UINT64_MAX, -9), "18,447M");
+    expect(english.format(-1172700.0), "-1.2M");
+    expect(english.format("1250000", options_of(LEGUMEYET_SIGN_ALWAYS, LEGUMEYET_ROUND_TRUNC, 6)), "+1M");
     expect(english.format("12345678901"), "12,346M");
     expect(never.format("12345678901"), "12346M");
     expect(long_english.format("1650"), "1.6 thousand");
@@ -95,7 +126,7 @@ static void compacts(Book &book, CompactDecimalFormatter &english) {
     expect(english.shown("-1172700"), "-1.2c6");
     expect(english.shown("950"), "950");
     expect(english.format_exact("-1.20c6"), "-1.20M");
-    expect(english.format_exact(english.shown("1650"), {LEGUMEYET_SIGN_ALWAYS, LEGUMEYET_ROUND_KEEP, 0}), "+1.6K");
+    expect(english.format_exact(english.shown("1650"), options_of(LEGUMEYET_SIGN_ALWAYS, LEGUMEYET_ROUND_KEEP, 0)), "+1.6K");
     expect_error(LEGUMEYET_NUMBER, [&] { english.format("5."); });
     expect_error(LEGUMEYET_RANGE, [&] { english.format(std::string(32768, '9')); });
     expect_error(LEGUMEYET_EXPONENT, [&] { english.format_exact("1.2c5"); });
@@ -109,6 +140,8 @@ static void reads(Book &book, DecimalFormatter &english) {
     const std::string long_number(1000, '1');
     expect(english.read("-1,234.50"), "-1234.50");
     expect(english.read(english.format(long_number)), long_number);
+    expect(english.read_lenient(" 1234.5 "), "1234.5");
+    expect_error(LEGUMEYET_NOT_WRITTEN, [&] { english.read_lenient("1,23"); });
     expect_error(LEGUMEYET_NOT_WRITTEN, [&] { english.read("98,7654"); });
     expect_error(LEGUMEYET_NOT_WRITTEN, [&] { english.read(std::string_view()); });
     expect_error(LEGUMEYET_UTF8, [&] { english.read("\xff"); });
@@ -216,6 +249,7 @@ int main(int count, char **words) {
     first = Book(BOOK);
     book = Book("[[],[],[],[],[]]");
     formats(moved);
+    doubles(moved);
     parts(moved);
     keeps();
     moves(first);

@@ -17,7 +17,7 @@ enum { ROOM = 256, MOST = 2000 };
 static legumeyet_book world;
 static legumeyet_decimal_formatter plain[MOST];
 static legumeyet_compact_formatter compact[2][MOST];
-static const legumeyet_options AS_GIVEN = {0, 0, 0};
+static const legumeyet_options AS_GIVEN = {0};
 static uint8_t out[ROOM];
 static size_t length;
 static int wrong;

@@ -26,7 +26,7 @@ typedef struct {
 
 /* Whether the formatter writes the number so. */
 static int is_written(legumeyet_decimal_formatter *formatter, const char *wanted) {
-    static const legumeyet_options AS_GIVEN = {0, 0, 0};
+    static const legumeyet_options AS_GIVEN = {0};
     uint8_t out[64];
     size_t length;
     return legumeyet_decimal_formatter_format(formatter, TEXT("-987654321.25"), &AS_GIVEN, out, sizeof out, &length) == 0 &&
@@ -35,7 +35,7 @@ static int is_written(legumeyet_decimal_formatter *formatter, const char *wanted
 
 /* Uses a formatter of compact numbers, and closes it. */
 static void *do_compact_work(void *given) {
-    static const legumeyet_options AS_GIVEN = {0, 0, 0};
+    static const legumeyet_options AS_GIVEN = {0};
     legumeyet_compact_formatter *formatter = given;
     uint8_t out[64];
     size_t length = 0;

@@ -237,15 +237,24 @@ template <class Handle, class Calls> class Formatter : Owned<Handle, Calls::clos
     template <class T, class E, std::enable_if_t<is_number<T> && is_number<E>, int> = 0>
     std::string format(T mantissa, E exponent, const legumeyet_options &options = {}) {
         if (!fits<int16_t>(exponent)) throw Error(LEGUMEYET_LIMIT);
-        if (!fits<int64_t>(mantissa)) return format(std::to_string(mantissa) + 'e' + std::to_string(exponent), options);
         const auto power = static_cast<int16_t>(exponent);
         return written([&](auto... out) {
-            return Calls::format_i64(&handle, static_cast<int64_t>(mantissa), power, &options, out...);
+            if (fits<int64_t>(mantissa)) return Calls::format_i64(&handle, static_cast<int64_t>(mantissa), power, &options, out...);
+            return Calls::format_u64(&handle, static_cast<uint64_t>(mantissa), power, &options, out...);
         });
     }
 
-    // The digits of a double are written first, by std::to_chars or as the program likes: then it is a text.
-    template <class T, class... Rest, std::enable_if_t<std::is_floating_point_v<T>, int> = 0> std::string format(T, Rest &&...) = delete;
+    // The text of a double, by the shortest number that gives it back: `1,234.5` of 1234.5 in English, `5` of 5.0.
+    template <class T, std::enable_if_t<std::is_same_v<T, double>, int> = 0>
+    std::string format(T number, const legumeyet_options &options = {}) {
+        return written([&](auto... out) { return Calls::format_double(&handle, number, &options, out...); });
+    }
+
+    // A float or a long double has other shortest digits than a double, and a double has no exponent beside it.
+    template <class T, std::enable_if_t<std::is_floating_point_v<T> && !std::is_same_v<T, double>, int> = 0>
+    std::string format(T, const legumeyet_options & = {}) = delete;
+    template <class T, class E, class... Rest, std::enable_if_t<std::is_floating_point_v<T> && std::is_arithmetic_v<E>, int> = 0>
+    std::string format(T, E, Rest &&...) = delete;
     template <class... Rest> std::string format(std::nullptr_t, Rest &&...) = delete;
 
     // The text of `format` with its parts, in order of their beginning; of a compact number those of its sign.
@@ -258,6 +267,8 @@ struct DecimalCalls {
     static constexpr auto close = legumeyet_decimal_formatter_close;
     static constexpr auto format = legumeyet_decimal_formatter_format;
     static constexpr auto format_i64 = legumeyet_decimal_formatter_format_i64;
+    static constexpr auto format_u64 = legumeyet_decimal_formatter_format_u64;
+    static constexpr auto format_double = legumeyet_decimal_formatter_format_double;
     static constexpr auto format_parts = legumeyet_decimal_formatter_format_parts;
 };
 
@@ -265,6 +276,8 @@ struct CompactCalls {
     static constexpr auto close = legumeyet_compact_formatter_close;
     static constexpr auto format = legumeyet_compact_formatter_format;
     static constexpr auto format_i64 = legumeyet_compact_formatter_format_i64;
+    static constexpr auto format_u64 = legumeyet_compact_formatter_format_u64;
+    static constexpr auto format_double = legumeyet_compact_formatter_format_double;
     static constexpr auto format_parts = legumeyet_compact_formatter_format_parts;
 };
 
@@ -284,6 +297,12 @@ class DecimalFormatter : public inner::Formatter<legumeyet_decimal_formatter, in
     std::string read(std::string_view text) {
         return inner::written(
             [&](auto... out) { return legumeyet_decimal_formatter_read(&handle, inner::bytes(text), text.size(), out...); });
+    }
+
+    // The number that somebody typed, as digits: `1234.5` of ` 1234.5 ` in English; legumeyet_decimal_formatter_read_lenient has the rule.
+    std::string read_lenient(std::string_view text) {
+        return inner::written(
+            [&](auto... out) { return legumeyet_decimal_formatter_read_lenient(&handle, inner::bytes(text), text.size(), out...); });
     }
 
   private:
