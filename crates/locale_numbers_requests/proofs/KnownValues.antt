@@ -3,10 +3,10 @@ use Rattle.std.proofs.Common.{◌≡◌, [], ◌∷◌, ◌++◌, codes, pos, ne
 use Rattle.fixed_decimal.specs.declared.SignedRoundingMode.TheVariants.{Unsigned}
 use Rattle.fixed_decimal.specs.declared.UnsignedRoundingMode.TheVariants.{HalfTrunc}
 use Rattle.fixed_decimal.specs.declared.RoundingIncrement.TheVariants.{MultiplesOf25}
-use Rattle.icu_decimal_symbols.specs.declared.options.GroupingStrategy.TheVariants.{Min2}
+use Rattle.icu_decimal_symbols.specs.declared.options.GroupingStrategy.TheVariants.{Auto, Min2}
 use Rattle.locale_numbers_requests.specs.Request.{tab, fields, request_in, grouping_named, sign_named}
 use Rattle.locale_numbers_requests.specs.RoundingField.{position_named, rounding_named}
-use Rattle.locale_numbers_requests.specs.declared.request.Form.TheVariants.{Plain, Read}
+use Rattle.locale_numbers_requests.specs.declared.request.Form.TheVariants.{Plain, Read, ReadLenient}
 use Rattle.locale_numbers_requests.specs.declared.sign_field.SignAsked.TheVariants.{Keep}
 use Rattle.locale_numbers_requests.specs.declared.rounding_field.RoundingAsked.TheVariants.{Unrounded, At}
 
@@ -24,6 +24,14 @@ plain_line = refl
 read_line : request_in (codes "en" ∷ codes "read" ∷ codes "min2" ∷ codes "keep" ∷ codes "-" ∷ codes "1,000" ∷ [])
     ≡ Some (record { tag = codes "en"; form = Read; grouping = Min2; sign = Keep; rounding = Unrounded; text = codes "1,000" })
 read_line = refl
+
+-- and so has what is read leniently
+lenient_line : request_in (codes "en" ∷ codes "read-lenient" ∷ codes "auto" ∷ codes "keep" ∷ codes "-" ∷ codes ".5" ∷ [])
+    ≡ Some (record { tag = codes "en"; form = ReadLenient; grouping = Auto; sign = Keep; rounding = Unrounded; text = codes ".5" })
+lenient_line = refl
+
+lenient_with_a_sign : request_in (codes "en" ∷ codes "read-lenient" ∷ codes "auto" ∷ codes "always" ∷ codes "-" ∷ codes "5" ∷ []) ≡ None
+lenient_with_a_sign = refl
 
 read_with_a_sign : request_in (codes "en" ∷ codes "read" ∷ codes "auto" ∷ codes "auto" ∷ codes "-" ∷ codes "5" ∷ []) ≡ None
 read_with_a_sign = refl

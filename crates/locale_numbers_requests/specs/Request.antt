@@ -14,7 +14,7 @@ use Rattle.locale_numbers_requests.specs.declared.sign_field.SignAsked.TheVarian
 use Rattle.locale_numbers_requests.specs.declared.rounding_field.RoundingAsked.{RoundingAsked}
 use Rattle.locale_numbers_requests.specs.declared.rounding_field.RoundingAsked.TheVariants.{Unrounded, At}
 use Rattle.locale_numbers_requests.specs.declared.request.Form.{Form}
-use Rattle.locale_numbers_requests.specs.declared.request.Form.TheVariants.{Plain, Compact, Exact, Read}
+use Rattle.locale_numbers_requests.specs.declared.request.Form.TheVariants.{Plain, Compact, Exact, Read, ReadLenient}
 use Rattle.locale_numbers_requests.specs.declared.request.PatternLength.TheVariants.{Short, Long}
 
 -- the code of a tab
@@ -34,6 +34,7 @@ form_named word =
     else if bytes_eq word (codes "exact-short") then Some (Exact Short)
     else if bytes_eq word (codes "exact-long") then Some (Exact Long)
     else if bytes_eq word (codes "read") then Some Read
+    else if bytes_eq word (codes "read-lenient") then Some ReadLenient
     else None
 
 -- the grouping that a word names
@@ -67,12 +68,13 @@ keeps_digits Unrounded = true
 keeps_digits (At position mode increment) = false
 
 -- whether a form takes a sign and a rounding: an exact form shows the digits that are given, so nothing is rounded there; what
--- is read back is the number that was written, so neither is chosen there
+-- is read back is the number that was written or typed, so neither is chosen there
 abbrev pub takes : Form → SignAsked → RoundingAsked → Bool
 takes Plain sign rounding = true
 takes (Compact length) sign rounding = true
 takes (Exact length) sign rounding = keeps_digits rounding
 takes Read sign rounding = keeps_sign sign && keeps_digits rounding
+takes ReadLenient sign rounding = keeps_sign sign && keeps_digits rounding
 
 -- a request as it is asked: a tag, a form, a grouping, a sign, a rounding and the text of a number
 pub record Asked : Type 0 where

@@ -32,6 +32,8 @@ pub enum Form {
     Exact(PatternLength),
     /// The number itself, read back from such a text.
     Read,
+    /// The number itself, read from what people type.
+    ReadLenient,
 }
 
 /// What a request line asks of whatever text it has.
@@ -50,13 +52,14 @@ pub struct Request<'a> {
 }
 
 // The words of forms.
-const FORMS: [(&[u8], Form); 6] = [
+const FORMS: [(&[u8], Form); 7] = [
     (b"plain", Form::Plain),
     (b"short", Form::Compact(PatternLength::Short)),
     (b"long", Form::Compact(PatternLength::Long)),
     (b"exact-short", Form::Exact(PatternLength::Short)),
     (b"exact-long", Form::Exact(PatternLength::Long)),
     (b"read", Form::Read),
+    (b"read-lenient", Form::ReadLenient),
 ];
 
 // The form that a field names.
@@ -102,7 +105,7 @@ fn takes(form: Form, sign: SignAsked, rounding: RoundingAsked) -> bool
     match form {
         Form::Plain | Form::Compact(_) => true,
         Form::Exact(_) => keeps_digits(rounding),
-        Form::Read => keeps_sign(sign) && keeps_digits(rounding),
+        Form::Read | Form::ReadLenient => keeps_sign(sign) && keeps_digits(rounding),
     }
 }
 
