@@ -1,7 +1,10 @@
 -- Known values of the definitions: roundings, texts of numbers, texts read back.
-use Rattle.std.proofs.Common.{◌≡◌, [], ◌∷◌, ◌++◌, codes, ◌*◌, ◌^◌, pos, true, false, Some, Err, refl}
+use Rattle.std.proofs.Common.{◌≡◌, [], ◌∷◌, ◌++◌, codes, ◌*◌, ◌^◌, pos, true, false, Some, None, Ok, Err, refl}
 use Rattle.icu_decimal.specs.declared.error.DataError.{DataError}
+use Rattle.icu_decimal.specs.declared.options.GroupingStrategy.TheVariants.{Auto}
 use Rattle.icu_decimal.specs.PlainReading.{decimal, not_written, unreadable}
+use Rattle.icu_decimal.specs.PlainText.{Tables}
+use Rattle.icu_decimal.specs.Symbols.{Symbols}
 use Rattle.locale_numbers_requests.specs.declared.SignAsked.TheVariants.{Keep, Show}
 use Rattle.locale_numbers_requests.specs.declared.RoundingAsked.TheVariants.{At}
 use Rattle.fixed_decimal.specs.Rounding.{count_limit}
@@ -12,6 +15,7 @@ use Rattle.fixed_decimal.specs.declared.UnsignedRoundingMode.TheVariants.{Expand
 use Rattle.fixed_decimal.specs.declared.RoundingIncrement.TheVariants.{MultiplesOf1, MultiplesOf2}
 use Rattle.locale_numbers_answers.specs.Changing.{changed}
 use Rattle.locale_numbers_answers.specs.Rounded.{multiple_of, highest_of}
+use Rattle.locale_numbers_answers.specs.LenientAnswer.{lenient_with, second_of}
 use Rattle.locale_numbers_answers.specs.ReadAnswer.{read_answer, read_with}
 use Rattle.locale_numbers_answers.specs.NumberReading.{reading_of, parts_of, nothing, beyond}
 use Rattle.locale_numbers_requests.specs.Request.{tab}
@@ -88,3 +92,20 @@ not_readable = refl
 
 no_table_read : read_with (Err DataError.IdentifierNotFound) (codes "5") ≡ codes "err" ++ tab ∷ codes "table"
 no_table_read = refl
+
+-- ---- typed texts
+
+-- a form with the digits of ASCII has no second tables
+ascii_alone : (symbols : Symbols) (latin : Tables) → second_of (record { symbols = symbols; digits = codes "0123456789"; strategy = Auto }) (Ok latin) ≡ None
+ascii_alone symbols latin = refl
+
+-- one with others has those of the system `latn`, where they are found
+arabic_and_latin : (symbols : Symbols) (latin : Tables)
+    → second_of (record { symbols = symbols; digits = 1632 ∷ 1633 ∷ 1634 ∷ 1635 ∷ 1636 ∷ 1637 ∷ 1638 ∷ 1639 ∷ 1640 ∷ 1641 ∷ []; strategy = Auto }) (Ok latin) ≡ Some latin
+arabic_and_latin symbols latin = refl
+
+no_latin : (symbols : Symbols) → second_of (record { symbols = symbols; digits = codes "०१२३४५६७८९"; strategy = Auto }) (Err DataError.IdentifierNotFound) ≡ None
+no_latin symbols = refl
+
+no_table_typed : (latin : Tables) → lenient_with (Err DataError.IdentifierNotFound) (Ok latin) (codes "5") ≡ codes "err" ++ tab ∷ codes "table"
+no_table_typed latin = refl

@@ -5,6 +5,7 @@ pub mod ExponentLemmas
 pub mod KnownCompactAnswers
 mod KnownValues
 pub mod LawsLemmas
+pub mod LenientLemmas
 mod MagnitudeLemmas
 pub mod NumberBounds
 pub mod NumberReadingLemmas

@@ -4,6 +4,7 @@ pub mod AnswerLine
 pub mod NumberAnswer
 pub mod CompactAnswer
 pub mod ReadAnswer
+pub mod LenientAnswer
 -- What the answers go by, which a law makes needless to believe.
 pub mod NumberReading
 pub mod CompactReading

@@ -18,7 +18,7 @@ use locale_numbers_requests::Refusal;
 use std::alloc::{AllocError, Global};
 
 // Writes the answer that is a number, as it is printed, behind what `out` holds.
-fn write_number_read(value: &Decimal, out: &mut String) -> Result<(), AllocError>
+pub(crate) fn write_number_read(value: &Decimal, out: &mut String) -> Result<(), AllocError>
     ensures text { OnOk result (string_bytes out.new ≡ string_bytes out.old ++ written (signed_text_of value.now)) }
     ensures err { OnErr result (Grows (string_bytes out.old) (string_bytes out.new)) }
     ensures room { HasRoom out.old (written (signed_text_of value.now)) → IsOk result }

@@ -1,0 +1,55 @@
+-- The answer of the form `read-lenient`: the decimal that was typed, as it is printed, or why there is none. A form with digits of its own is also read in those of ASCII.
+-- Defined in docs/requests.md, "Answer line", and docs/reading.md, "Lenient reading".
+-- Cited by `answer` and `run`, through Answer.antt, and by `LenientReader` and `write_lenient_answer`.
+use Rattle.std.specs.Prelude.{◌⊎◌, ℕ, if◌then◌else◌, List, Option, Some, None, Result, Ok, Err}
+use Rattle.std.specs.Str.{bytes_eq}
+use Rattle.icu_decimal.specs.declared.error.DataError.{DataError}
+use Rattle.icu_decimal.specs.Folding.{plain_digits}
+use Rattle.icu_decimal.specs.LenientReading.{MayAllocate, lenient_reading, reading_by_both}
+use Rattle.icu_decimal.specs.PlainReading.{PlainReading}
+use Rattle.icu_decimal.specs.PlainText.{Tables}
+use Rattle.locale_numbers_answers.specs.AnswerLine.{refused}
+use Rattle.locale_numbers_answers.specs.ReadAnswer.{read_answer}
+use Rattle.locale_numbers_requests.specs.declared.Refusal.TheVariants as refusal
+
+-- tables that a text is read with, and others, where there are any, for what the first ones do not read
+pub record TablesInTurn : Type 0 where
+  pub first : Tables
+  pub second : Option Tables
+
+-- the tables, where they are found
+abbrev pub where_found : Result Tables DataError → Option Tables
+where_found (Ok tables) = Some tables
+where_found (Err error) = None
+
+-- second are those of the numbering system `latn`, where the first ones have other digits than those of ASCII
+abbrev pub second_of : Tables → Result Tables DataError → Option Tables
+second_of tables latin = if bytes_eq tables.digits plain_digits then None else where_found latin
+
+abbrev pub in_turn : Tables → Result Tables DataError → TablesInTurn
+in_turn tables latin = record { first = tables; second = second_of tables latin }
+
+-- what a text is by the first tables, or else by the second ones
+abbrev pub reading_by : Tables → Option Tables → List ℕ → PlainReading
+reading_by first None text = lenient_reading first text
+reading_by first (Some second) text = reading_by_both first second text
+
+abbrev pub reading_in_turn : TablesInTurn → List ℕ → PlainReading
+reading_in_turn tables text = reading_by tables.first tables.second text
+
+-- the answer to a text, under the tables that are found, and under those found for the system `latn`
+abbrev pub lenient_with : Result Tables DataError → Result Tables DataError → List ℕ → List ℕ
+lenient_with (Err error) latin text = refused refusal.Table
+lenient_with (Ok tables) latin text = read_answer (reading_in_turn (in_turn tables latin) text)
+
+-- some of these tables may allocate for the text
+abbrev pub MayAllocateBy : Tables → Option Tables → List ℕ → Type 0
+MayAllocateBy first None text = MayAllocate first text
+MayAllocateBy first (Some second) text = MayAllocate first text ⊎ MayAllocate second text
+
+abbrev pub MayAllocateInTurn : TablesInTurn → List ℕ → Type 0
+MayAllocateInTurn tables text = MayAllocateBy tables.first tables.second text
+
+abbrev pub MayAllocateWith : Result Tables DataError → Result Tables DataError → List ℕ → Type 0
+MayAllocateWith (Err error) latin text = ⊥
+MayAllocateWith (Ok tables) latin text = MayAllocateInTurn (in_turn tables latin) text

@@ -1,0 +1,164 @@
+//! What people type, read by a formatter, and where its digits are its own, also by one of the digits of ASCII.
+
+ghost use Rattle.std.specs.Prelude.{◌≡◌, Option, None, Some, IsErrOf, IfSome, option_map};
+ghost use Rattle.std.specs.Str.{bytes_eq};
+ghost use Rattle.icu_decimal.specs.Folding.{plain_digits};
+ghost use Rattle.icu_decimal.specs.HeldTables.{tables_of};
+ghost use Rattle.icu_decimal.specs.LenientReading.{MayAllocate, lenient_reading};
+ghost use Rattle.icu_decimal.specs.PlainReading.{IsAnswered};
+ghost use Rattle.locale_numbers_answers.specs.LenientAnswer.{MayAllocateInTurn, reading_in_turn};
+
+use fixed_decimal::Decimal;
+use icu_decimal::error::ReadError;
+use icu_decimal::{DecimalFormatter, LenientTables, read_lenient};
+use std::alloc::Global;
+use std::marker::Model;
+
+const ASCII_DIGITS: [char; 10] = ['0', '1', '2', '3', '4', '5', '6', '7', '8', '9'];
+
+/// Whether the digits of a formatter are those of ASCII: of `en` they are, of `ar-EG` they are not.
+///
+/// It does not allocate.
+pub fn has_ascii_digits(formatter: &DecimalFormatter<'_>) -> bool
+    ensures { result ≡ bytes_eq (tables_of formatter.now).digits plain_digits }
+{
+    *formatter.digits() == ASCII_DIGITS
+}
+
+// A formatter, and its symbols folded, where they are kept.
+#[derive(Drop)]
+struct LenientFormatter<'a> {
+    formatter: DecimalFormatter<'a>,
+    kept: Option<LenientTables<'a>>,
+}
+
+impl<'a> Model for LenientFormatter<'a> {
+    ghost use Rattle.std.specs.Prelude.{◌≡◌, IfSome};
+    ghost use Rattle.icu_decimal.specs.HeldTables.{tables_of};
+    ghost use Rattle.icu_decimal.specs.PlainText.{Tables};
+
+    ghost Value = { Tables };
+
+    ghost view = { λ s. tables_of s.formatter };
+
+    ghost invariant = { λ s. IfSome s.kept (λ kept. kept ≡ tables_of s.formatter) };
+}
+
+impl<'a> LenientFormatter<'a> {
+    // Its symbols are folded for each text.
+    fn new(formatter: DecimalFormatter<'a>) -> Self
+        ensures { result ≡ tables_of formatter.entry }
+    {
+        LenientFormatter {
+            formatter,
+            kept: None,
+        }
+    }
+
+    // Its symbols are folded now, where they are leniently readable. Where memory is refused they are folded for each
+    // text.
+    fn keeping(alloc: Global, formatter: DecimalFormatter<'a>) -> Self
+        ensures { result ≡ tables_of formatter.entry }
+    {
+        let kept = match LenientTables::new(alloc, formatter.tables()) {
+            Ok(kept) => Some(kept),
+            Err(_) => None,
+        };
+        LenientFormatter { formatter, kept }
+    }
+
+    // The decimal that was typed.
+    fn read(&self, alloc: Global, text: &str) -> Result<Decimal, ReadError>
+        ensures memory { IsErrOf result ReadError.Memory → MayAllocate self.now text.now }
+        ensures reading { IsAnswered result (lenient_reading self.now text.now) }
+    {
+        match &self.kept {
+            Some(kept) => kept.read(alloc, text),
+            None => read_lenient(alloc, &self.formatter, text),
+        }
+    }
+}
+
+/// What reads the texts of a form that people type into: by a formatter, and what this does not read by a second one,
+/// where there is one, as that of `ar-EG-u-nu-latn` beside that of `ar-EG`.
+///
+/// A clause sees the tables of both.
+#[derive(Drop)]
+pub struct LenientReader<'a> {
+    first: LenientFormatter<'a>,
+    second: Option<LenientFormatter<'a>>,
+}
+
+impl<'a> Model for LenientReader<'a> {
+    ghost use Rattle.locale_numbers_answers.specs.LenientAnswer.{TablesInTurn};
+
+    ghost Value = { TablesInTurn };
+
+    ghost view = { λ s. record { first = s.first; second = s.second } };
+}
+
+impl<'a> LenientReader<'a> {
+    /// A reader by a formatter and a second one, whose symbols are folded for each text: for one text.
+    ///
+    /// It does not allocate.
+    pub fn new(formatter: DecimalFormatter<'a>, second: Option<DecimalFormatter<'a>>) -> Self
+        ensures first { result.first ≡ tables_of formatter.entry }
+        ensures second { result.second ≡ option_map tables_of second.entry }
+    {
+        LenientReader {
+            first: LenientFormatter::new(formatter),
+            second: match second {
+                Some(second) => Some(LenientFormatter::new(second)),
+                None => None,
+            },
+        }
+    }
+
+    /// A reader by a formatter and a second one, whose symbols are folded once: for a form whose texts are read at each
+    /// key.
+    ///
+    /// Allocates the folded texts of the symbols. Where memory is refused they are folded for each text.
+    pub fn keeping(
+        alloc: Global,
+        formatter: DecimalFormatter<'a>,
+        second: Option<DecimalFormatter<'a>>,
+    ) -> Self
+        ensures first { result.first ≡ tables_of formatter.entry }
+        ensures second { result.second ≡ option_map tables_of second.entry }
+    {
+        LenientReader {
+            first: LenientFormatter::keeping(alloc, formatter),
+            second: match second {
+                Some(second) => Some(LenientFormatter::keeping(alloc, second)),
+                None => None,
+            },
+        }
+    }
+
+    /// The formatter that reads first.
+    pub fn formatter(&self) -> &DecimalFormatter<'a>
+        ensures tables { tables_of result.now ≡ self.now.first }
+    {
+        &self.first.formatter
+    }
+
+    /// The decimal that was typed: by the formatter of `en` 1234.5 of `1234.5`, and 0.5 of `.5`.
+    ///
+    /// `Unreadable`, `NotWritten`: as `read_lenient` of `icu_decimal` by the first formatter, or, where by this the text
+    /// is no number, by the second one. `Memory`: out of memory. Allocates as `read_lenient`.
+    #[tactic(auto, using(crate::proofs::LenientLemmas::read_first, crate::proofs::LenientLemmas::unread_first, crate::proofs::LenientLemmas::read_second))]
+    pub fn read(&self, alloc: Global, text: &str) -> Result<Decimal, ReadError>
+        ensures memory { IsErrOf result ReadError.Memory → MayAllocateInTurn self.now text.now }
+        ensures reading { IsAnswered result (reading_in_turn self.now text.now) }
+    {
+        match self.first.read(alloc, text) {
+            Ok(number) => Ok(number),
+            Err(ReadError::NotWritten) => match &self.second {
+                Some(second) => second.read(alloc, text),
+                None => Err(ReadError::NotWritten),
+            },
+            Err(ReadError::Unreadable) => Err(ReadError::Unreadable),
+            Err(ReadError::Memory) => Err(ReadError::Memory),
+        }
+    }
+}
