@@ -20,6 +20,7 @@ use Rattle.icu_locale_core.proofs.NormalTags.{read_again}
 use Rattle.icu_decimal.specs.declared.options.GroupingStrategy.{GroupingStrategy}
 use Rattle.locale_numbers_book.specs.Book.{BookTables}
 use Rattle.locale_numbers_book.specs.Tables.{chain_in, symbols_under, digits_under, rules_under}
+use Rattle.locale_numbers_answers.specs.LenientAnswer.{lenient_with}
 use Rattle.locale_numbers_answers.specs.NumberReading.{reading_of}
 use Rattle.locale_numbers_answers.specs.ReadAnswer.{read_with}
 use Rattle.locale_numbers_requests.specs.Request.{Asked, tab, fields, form_named, grouping_named, sign_named, takes, request_by, request_in, request_of}
@@ -28,12 +29,12 @@ use Rattle.locale_numbers_requests.specs.RoundingField.{rounding_named}
 use Rattle.locale_numbers_requests.specs.declared.SignAsked.{SignAsked}
 use Rattle.locale_numbers_requests.specs.declared.RoundingAsked.{RoundingAsked}
 use Rattle.locale_numbers_requests.specs.declared.Form.{Form}
-use Rattle.locale_numbers_requests.specs.declared.Form.TheVariants.{Plain, Compact, Exact, Read}
+use Rattle.locale_numbers_requests.specs.declared.Form.TheVariants.{Plain, Compact, Exact, Read, ReadLenient}
 use Rattle.locale_numbers_requests.specs.declared.PatternLength.{PatternLength}
 use Rattle.locale_numbers.specs.CompactAnswer.{compact_with, found_compact, patterns_under}
 use Rattle.locale_numbers_answers.specs.CompactReading.{compact_reading_of}
 use Rattle.locale_numbers_book.specs.Wanted.{wanted_of}
-use Rattle.locale_numbers.specs.Answer.{found_in, answer_with, answer_to, exact_to, answer_tagged, answer_asked}
+use Rattle.locale_numbers.specs.Answer.{found_in, in_latin, answer_with, answer_to, exact_to, answer_tagged, answer_asked}
 use Rattle.locale_numbers.proofs.FoundCompactLemmas.{compact_alike}
 use Rattle.locale_numbers.proofs.FoundLemmas.{found_alike}
 use Rattle.locale_numbers_book.proofs.WantedLemmas.{asks_of}
@@ -157,6 +158,11 @@ found_same : (book : BookTables) (m n : TagMeaning) → AreAlike m n → (groupi
 found_same book m n a grouping =
     found_alike (chain_in book) (symbols_under book) (digits_under book) grouping (preferences_of m) (preferences_of n) (locales_same m n a) a.numbering_system
 
+latin_same : (book : BookTables) (m n : TagMeaning) → AreAlike m n → (grouping : GroupingStrategy)
+    → found_in book (in_latin (preferences_of m)) grouping ≡ found_in book (in_latin (preferences_of n)) grouping
+latin_same book m n a grouping =
+    found_alike (chain_in book) (symbols_under book) (digits_under book) grouping (in_latin (preferences_of m)) (in_latin (preferences_of n)) (locales_same m n a) refl
+
 compact_same : (book : BookTables) (m n : TagMeaning) → AreAlike m n → (length : PatternLength) (grouping : GroupingStrategy)
     → found_compact length book (preferences_of m) grouping ≡ found_compact length book (preferences_of n) grouping
 compact_same book m n a length grouping =
@@ -171,6 +177,9 @@ asks_alike book text other m n a (Compact length) grouping sign rounding digits 
 asks_alike book text other m n a (Exact length) grouping sign rounding digits =
     ap (λ found. exact_to found sign (compact_reading_of digits)) (compact_same book m n a length grouping)
 asks_alike book text other m n a Read grouping sign rounding digits = ap (λ found. read_with found digits) (found_same book m n a grouping)
+asks_alike book text other m n a ReadLenient grouping sign rounding digits =
+    ap (λ found. lenient_with found (found_in book (in_latin (preferences_of m)) grouping) digits) (found_same book m n a grouping)
+    ∙ ap (λ latin. lenient_with (found_in book (preferences_of n) grouping) latin digits) (latin_same book m n a grouping)
 
 pub alike_tags : AlikeTagsAreAnsweredAlike
 alike_tags book text other rest m n first second a =

@@ -21,7 +21,7 @@ use Rattle.locale_numbers.specs.CompactAnswer.{compact_with, found_compact}
 use Rattle.locale_numbers.specs.FormatterKeys.{finds_kind}
 use Rattle.locale_numbers.specs.KeptFormatters.{answer_of_kind}
 use Rattle.locale_numbers.specs.declared.formatter_key.Kind.{Kind}
-use Rattle.locale_numbers.specs.declared.formatter_key.Kind.TheVariants.{Plain, Compact}
+use Rattle.locale_numbers.specs.declared.formatter_key.Kind.TheVariants.{Plain, Compact, Lenient}
 use Rattle.locale_numbers_requests.specs.declared.Refusal.TheVariants as refusal
 
 -- tables that answer as a book does are found as in the book
@@ -55,6 +55,7 @@ pub none_of_kind : (kind : Kind) (book : BookTables) (p : Preferences) (grouping
     → finds_kind kind book p grouping ≡ false → answer_of_kind kind book p grouping value ≡ refused refusal.Table
 none_of_kind Plain book p grouping value none = none_plain (found_in book p grouping) value none
 none_of_kind (Compact length) book p grouping value none = none_compact (found_compact length book p grouping) value none
+none_of_kind Lenient book p grouping value none = none_plain (found_in book p grouping) value none
 
 -- the key of the first entry is the first key
 pub first_key : {K F : Type 0} (cache : Cached K F) (key : K) (kept : F) → slice_get cache.entries 0 ≡ Some (key, kept) → IsFirst key cache

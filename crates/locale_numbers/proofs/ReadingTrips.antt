@@ -1,5 +1,7 @@
 -- What is read back is written again, and what was written reads back: `specs/Laws.antt`.
-use Rattle.std.proofs.Common.{◌≡◌, ℕ, List, drop, get_or, Option, Some, None, Result, Ok, Err, refl, sym, ap, ◌∙◌, subst, arith}
+use Rattle.std.proofs.Common.{◌≡◌, ℕ, Bool, true, false, List, drop, get_or, Option, Some, None, Result, Ok, Err, refl, sym, ap, ◌∙◌, subst, arith}
+use Rattle.std.specs.Prelude.{if◌then◌else◌}
+use Rattle.std.specs.Str.{bytes_eq}
 use Rattle.fixed_decimal.specs.CompactText.{CompactValue}
 use Rattle.fixed_decimal.specs.Number.{Number}
 use Rattle.fixed_decimal.specs.SignedText.{ReadsSigned, signed_text_of}
@@ -14,6 +16,8 @@ use Rattle.icu_decimal.specs.FoundCompactTables.{patterns_identifiers, rules_ide
 use Rattle.icu_decimal.specs.FoundTables.{with_digits, with_symbols}
 use Rattle.icu_decimal.specs.Identifiers.{digits_identifiers, symbols_identifiers}
 use Rattle.icu_decimal.specs.KeptEntries.{CompactTable}
+use Rattle.icu_decimal.specs.Folding.{plain_digits}
+use Rattle.icu_decimal.specs.LenientReading.{folded_reading, or_else}
 use Rattle.icu_decimal.specs.PlainReading.{IsPlainText, PlainReading, decimal, not_written, plain_reading, unreadable}
 use Rattle.icu_decimal.specs.PlainText.{Tables, decimal_text}
 use Rattle.icu_decimal.specs.ReadingLaws.{HasOneReading as HasOnePlainReading, ReadIsWrittenAgain as TextIsWrittenAgain, TextsHaveOneDecimal, WrittenReadsBack as TextReadsBack}
@@ -22,11 +26,12 @@ use Rattle.icu_decimal.specs.Symbols.{Symbols}
 use Rattle.icu_locale_core.specs.TagPreferences.{Preferences}
 use Rattle.locale_numbers_book.specs.Book.{BookTables}
 use Rattle.locale_numbers_book.specs.Tables.{chain_in, digits_under, rules_under, symbols_under}
-use Rattle.locale_numbers.specs.Answer.{answer_asked, answer_in, answer_tagged, answer_to, answer_with, exact_to, found_in, refused, written}
+use Rattle.locale_numbers.specs.Answer.{answer_asked, answer_in, answer_tagged, answer_to, answer_with, exact_to, found_in, in_latin, refused, written}
 use Rattle.locale_numbers_answers.specs.Changing.{changed, signed_as}
 use Rattle.locale_numbers.specs.CompactAnswer.{compact_with, exact_with, found_compact, patterns_under}
 use Rattle.locale_numbers_answers.specs.CompactReading.{CompactReading, compact_beyond, compact_nothing, compact_number, compact_reading_of}
-use Rattle.locale_numbers.specs.Laws.{AutoIsAnsweredAsAlways, FindsTables, ReadIsWrittenAgain, RoundedIsWrittenAgain, WrittenReadsBack, grouped_by, plain_request, reading_request}
+use Rattle.locale_numbers.specs.Laws.{AutoIsAnsweredAsAlways, FindsTables, ReadIsReadLeniently, ReadIsWrittenAgain, RoundedIsWrittenAgain, WrittenReadsBack, grouped_by, lenient_request, plain_request, reading_request}
+use Rattle.locale_numbers_answers.specs.LenientAnswer.{lenient_with, reading_by, second_of, where_found}
 use Rattle.locale_numbers_answers.specs.NumberReading.{Reading, beyond, nothing, number, reading_of}
 use Rattle.locale_numbers_answers.specs.ReadAnswer.{read_answer, read_with}
 use Rattle.locale_numbers_requests.specs.Request.{Asked}
@@ -34,12 +39,13 @@ use Rattle.locale_numbers_book.specs.Wanted.{wanted_of}
 use Rattle.locale_numbers_requests.specs.declared.Refusal.{Refusal}
 use Rattle.locale_numbers_requests.specs.declared.Refusal.TheVariants as refusal
 use Rattle.locale_numbers_requests.specs.declared.Form.{Form}
-use Rattle.locale_numbers_requests.specs.declared.Form.TheVariants.{Plain, Compact, Exact, Read}
+use Rattle.locale_numbers_requests.specs.declared.Form.TheVariants.{Plain, Compact, Exact, Read, ReadLenient}
 use Rattle.locale_numbers_requests.specs.declared.PatternLength.{PatternLength}
 use Rattle.locale_numbers_requests.specs.declared.RoundingAsked.{RoundingAsked}
 use Rattle.locale_numbers_requests.specs.declared.RoundingAsked.TheVariants.{Unrounded}
 use Rattle.locale_numbers_requests.specs.declared.SignAsked.{SignAsked}
 use Rattle.locale_numbers_requests.specs.declared.SignAsked.TheVariants.{Keep}
+use Rattle.locale_numbers_answers.proofs.LenientLemmas.{read_first}
 use Rattle.locale_numbers_answers.proofs.NumberBounds.{changed_again, changed_is_decimal, reading_is_decimal}
 use Rattle.locale_numbers_answers.proofs.NumberReadingLemmas.{signed_number}
 
@@ -80,6 +86,19 @@ twins_write one two (failed error) value = refl
 twins_read : (one two : Result Tables DataError) → AreTwins one two → (text : List ℕ) → read_with one text ≡ read_with two text
 twins_read one two (found symbols digits) text = refl
 twins_read one two (failed error) text = refl
+
+twins_in_turn : (latin latin_two : Result Tables DataError) → AreTwins latin latin_two → (symbols : Symbols) (digits text : List ℕ) (ascii : Bool)
+    → reading_by (record { symbols = symbols; digits = digits; strategy = Auto }) (if ascii then None else where_found latin) text
+    ≡ reading_by (record { symbols = symbols; digits = digits; strategy = Always }) (if ascii then None else where_found latin_two) text
+twins_in_turn latin latin_two twins symbols digits text true = refl
+twins_in_turn latin latin_two (found s d) symbols digits text false = refl
+twins_in_turn latin latin_two (failed error) symbols digits text false = refl
+
+twins_lenient : (one two latin latin_two : Result Tables DataError) → AreTwins one two → AreTwins latin latin_two → (text : List ℕ)
+    → lenient_with one latin text ≡ lenient_with two latin_two text
+twins_lenient one two latin latin_two (found symbols digits) twins text =
+    ap read_answer (twins_in_turn latin latin_two twins symbols digits text (bytes_eq digits plain_digits))
+twins_lenient one two latin latin_two (failed error) twins text = refl
 
 -- the same of compact tables
 data AreCompactTwins : Result CompactTables DataError → Result CompactTables DataError → Type 0 where
@@ -132,6 +151,9 @@ auto_in book p asked (Compact length) =
 auto_in book p asked (Exact length) =
     twins_exactly (found_compact length book p Auto) (found_compact length book p Always) (compact_twins_of length book p) asked.sign (compact_reading_of asked.text)
 auto_in book p asked Read = twins_read (found_in book p Auto) (found_in book p Always) (twins_of book p) asked.text
+auto_in book p asked ReadLenient =
+    twins_lenient (found_in book p Auto) (found_in book p Always) (found_in book (in_latin p) Auto) (found_in book (in_latin p) Always)
+    (twins_of book p) (twins_of book (in_latin p)) asked.text
 
 auto_tagged : (book : BookTables) (asked : Asked) (p : Option Preferences)
     → answer_tagged book p (grouped_by Auto asked) ≡ answer_tagged book p (grouped_by Always asked)
@@ -153,6 +175,23 @@ read_by : (tables : Tables) (text digits : List ℕ) (reading : PlainReading) �
 read_by tables text digits unreadable is same = absurd (refused_no refusal.Unreadable digits same)
 read_by tables text digits not_written is same = absurd (refused_no refusal.NotWritten digits same)
 read_by tables text digits (decimal value) is same = record { value = value; is = is; printed = one_text (signed_text_of value) digits same }
+
+-- so it is read leniently
+read_leniently : (found latin : Result Tables DataError) (text digits : List ℕ) → read_with found text ≡ written digits → lenient_with found latin text ≡ written digits
+read_leniently (Err error) latin text digits same = absurd (refused_no refusal.Table digits same)
+read_leniently (Ok tables) latin text digits same =
+    let read = read_by tables text digits (plain_reading tables text) refl same in
+    ap read_answer (read_first tables (second_of tables latin) text read.value (ap (λ reading. or_else reading (folded_reading tables text)) read.is))
+    ∙ ap written read.printed
+
+read_tagged : (book : BookTables) (asked : Asked) (wanted : Option Preferences) (text digits : List ℕ)
+    → answer_tagged book wanted (reading_request asked text) ≡ written digits → answer_tagged book wanted (lenient_request asked text) ≡ written digits
+read_tagged book asked None text digits same = absurd (refused_no refusal.Tag digits same)
+read_tagged book asked (Some p) text digits same =
+    read_leniently (found_in book p asked.grouping) (found_in book (in_latin p) asked.grouping) text digits same
+
+pub read_is_lenient : ReadIsReadLeniently
+read_is_lenient book asked text digits same = read_tagged book asked (wanted_of asked.tag) text digits same
 
 -- the number of a plain request that has an answer
 record IsWritten (tables : Tables) (asked : Asked) (text : List ℕ) : Type 0 where

@@ -10,7 +10,7 @@ use Rattle.locale_numbers.specs.FormatterKeys.{same_grouping, same_keys, same_ki
 use Rattle.locale_numbers.specs.Laws.{TellsKeys}
 use Rattle.locale_numbers.specs.declared.formatter_key.FormatterKey.{FormatterKey}
 use Rattle.locale_numbers.specs.declared.formatter_key.Kind.{Kind}
-use Rattle.locale_numbers.specs.declared.formatter_key.Kind.TheVariants.{Plain, Compact}
+use Rattle.locale_numbers.specs.declared.formatter_key.Kind.TheVariants.{Plain, Compact, Lenient}
 use Rattle.locale_numbers_requests.specs.declared.PatternLength.{PatternLength}
 use Rattle.locale_numbers_requests.specs.declared.PatternLength.TheVariants.{Short, Long}
 
@@ -23,7 +23,12 @@ lengths_decide Long Long = (λ e. refl, λ e. refl)
 kinds_decide : (a b : Kind) → Decides (same_kind a b) (a ≡ b)
 kinds_decide Plain Plain = (λ e. refl, λ e. refl)
 kinds_decide Plain (Compact m) = (λ e. cc, λ e. cc)
+kinds_decide Plain Lenient = (λ e. cc, λ e. cc)
 kinds_decide (Compact l) Plain = (λ e. cc, λ e. cc)
+kinds_decide (Compact l) Lenient = (λ e. cc, λ e. cc)
+kinds_decide Lenient Plain = (λ e. cc, λ e. cc)
+kinds_decide Lenient (Compact m) = (λ e. cc, λ e. cc)
+kinds_decide Lenient Lenient = (λ e. refl, λ e. refl)
 kinds_decide (Compact l) (Compact m) = (λ e. ap Compact ((lengths_decide l m).0 e), λ e. (lengths_decide l m).1 (cc))
 
 groupings_decide : (a b : GroupingStrategy) → Decides (same_grouping a b) (a ≡ b)

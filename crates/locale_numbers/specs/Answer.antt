@@ -2,7 +2,7 @@
 -- Defined in docs/requests.md, "Answer line".
 -- Cited by `answer` and by `run`.
 -- An answer goes through every part of a request, and the definition of each part is in a file of its own to import.
-use Rattle.std.specs.Prelude.{ℕ, List, Option, Some, None, Result}
+use Rattle.std.specs.Prelude.{ℕ, List, Option, Some, None, Result, codes}
 use Rattle.icu_decimal.specs.declared.error.DataError.{DataError}
 use Rattle.icu_decimal.specs.declared.options.GroupingStrategy.{GroupingStrategy}
 use Rattle.icu_decimal.specs.PlainText.{Tables}
@@ -14,17 +14,22 @@ pub use Rattle.locale_numbers_answers.specs.AnswerLine.{refused, written}
 pub use Rattle.locale_numbers_answers.specs.CompactAnswer.{exact_to}
 use Rattle.locale_numbers_answers.specs.CompactReading.{compact_reading_of}
 pub use Rattle.locale_numbers_answers.specs.NumberAnswer.{answer_to, answer_with}
+use Rattle.locale_numbers_answers.specs.LenientAnswer.{lenient_with}
 use Rattle.locale_numbers_answers.specs.NumberReading.{reading_of}
 use Rattle.locale_numbers_answers.specs.ReadAnswer.{read_with}
 use Rattle.locale_numbers_requests.specs.Request.{Asked, request_of}
 use Rattle.locale_numbers_book.specs.Wanted.{wanted_of}
 use Rattle.locale_numbers_requests.specs.declared.Form.{Form}
-use Rattle.locale_numbers_requests.specs.declared.Form.TheVariants.{Plain, Compact, Exact, Read}
+use Rattle.locale_numbers_requests.specs.declared.Form.TheVariants.{Plain, Compact, Exact, Read, ReadLenient}
 use Rattle.locale_numbers_requests.specs.declared.Refusal.TheVariants as refusal
 
 -- the tables of a book that preferences find, with a grouping
 abbrev pub found_in : BookTables → Preferences → GroupingStrategy → Result Tables DataError
 found_in book preferences grouping = found_plain book preferences (Some grouping)
+
+-- the same preferences, with the numbering system `latn`
+abbrev pub in_latin : Preferences → Preferences
+in_latin preferences = record { locale = preferences.locale; numbering_system = Some (codes "latn") }
 
 -- the answer to what a tag and a request ask for, by the form
 abbrev pub answer_in : Form → BookTables → Preferences → Asked → List ℕ
@@ -35,6 +40,8 @@ answer_in (Compact length) book preferences asked =
 answer_in (Exact length) book preferences asked =
     exact_to (found_compact length book preferences asked.grouping) asked.sign (compact_reading_of asked.text)
 answer_in Read book preferences asked = read_with (found_in book preferences asked.grouping) asked.text
+answer_in ReadLenient book preferences asked =
+    lenient_with (found_in book preferences asked.grouping) (found_in book (in_latin preferences) asked.grouping) asked.text
 
 -- the answer by what the tag prefers, where it is a tag
 abbrev pub answer_tagged : BookTables → Option Preferences → Asked → List ℕ

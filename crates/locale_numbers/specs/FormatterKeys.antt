@@ -24,12 +24,13 @@ use Rattle.locale_numbers.specs.declared.formatter_key.FormatterKey.{FormatterKe
 use Rattle.locale_numbers.specs.declared.formatter_key.Kind.{Kind}
 use Rattle.locale_numbers.specs.declared.formatter_key.Kind.TheVariants as kind
 
--- the kind of tables that a form is written with; what is read back is read with those of plain text
+-- the kind of tables that a form is written with; what is read back is read with those of plain text, and what was typed with folded ones
 abbrev pub kind_of : Form → Kind
 kind_of form.Plain = kind.Plain
 kind_of (form.Compact length) = kind.Compact length
 kind_of (form.Exact length) = kind.Compact length
 kind_of form.Read = kind.Plain
+kind_of form.ReadLenient = kind.Lenient
 
 -- the key of what a tag prefers, a form and a grouping
 abbrev pub key_with : Form → GroupingStrategy → Preferences → FormatterKey
@@ -53,6 +54,7 @@ key_in form.Plain key text = key_text key (reading_of text)
 key_in (form.Compact length) key text = key_text key (reading_of text)
 key_in (form.Exact length) key text = key_exact key (compact_reading_of text)
 key_in form.Read key text = Some key
+key_in form.ReadLenient key text = Some key
 
 -- the key of a request by what its tag prefers, where it is a tag
 abbrev pub key_tagged : Asked → Option Preferences → Option FormatterKey
@@ -72,6 +74,7 @@ key_of line = key_asked (request_of line)
 abbrev pub finds_kind : Kind → BookTables → Preferences → GroupingStrategy → Bool
 finds_kind kind.Plain book preferences grouping = is_ok (found_in book preferences grouping)
 finds_kind (kind.Compact length) book preferences grouping = is_ok (found_compact length book preferences grouping)
+finds_kind kind.Lenient book preferences grouping = is_ok (found_in book preferences grouping)
 
 -- whether it has those of a key
 abbrev pub finds : BookTables → FormatterKey → Bool
@@ -87,6 +90,7 @@ same_length _ _ = false
 abbrev pub same_kind : Kind → Kind → Bool
 same_kind kind.Plain kind.Plain = true
 same_kind (kind.Compact one) (kind.Compact other) = same_length one other
+same_kind kind.Lenient kind.Lenient = true
 same_kind _ _ = false
 
 -- two groupings are one; `auto` and `always` are two

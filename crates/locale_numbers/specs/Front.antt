@@ -8,11 +8,12 @@ use Rattle.fixed_decimal.specs.CompactText.{ReadsLongCompact}
 use Rattle.fixed_decimal.specs.Number.{Number}
 use Rattle.fixed_decimal.specs.SignedValue.{SignedValue}
 use Rattle.locale_numbers_book.specs.Book.{BookTables}
-use Rattle.locale_numbers.specs.Answer.{answer_in, found_in, refused}
+use Rattle.locale_numbers.specs.Answer.{answer_in, found_in, in_latin, refused}
 pub use Rattle.locale_numbers_answers.specs.AnswerLine.{if_text}
 use Rattle.locale_numbers_answers.specs.Changing.{MayGrowRead, ReadsMore}
 use Rattle.locale_numbers.specs.FormatterKeys.{key_in, key_with, kind_of}
 use Rattle.locale_numbers_answers.specs.NumberReading.{reading_of}
+use Rattle.locale_numbers_answers.specs.LenientAnswer.{MayAllocateWith}
 use Rattle.locale_numbers_answers.specs.ReadAnswer.{HasManyDigitsWith}
 use Rattle.locale_numbers_requests.specs.Request.{Asked, request_of, with_text}
 use Rattle.locale_numbers_book.specs.Wanted.{wanted_of}
@@ -83,12 +84,15 @@ key_behind front text = key_if_text text (key_front front text)
 
 -- a text that may want memory, beside its answer and its formatter. To write a number: one that says a number of more than eight digits, and
 -- of more than the one that is there, or one whose number a rounding to multiples of 25 may lengthen. In an exact form: one that says a
--- number of more than eight digits. To be read back: one with more than eight digits of the tables.
+-- number of more than eight digits. To be read back: one with more than eight digits of the tables. To be read leniently: this too, and one
+-- that is folded.
 abbrev pub MayTakeIn : Form → BookTables → FormatterKey → RoundingAsked → List ℕ → SignedValue Number → Type 0
 MayTakeIn form.Plain book key rounding text value = ReadsMore text value ⊎ MayGrowRead rounding (reading_of text)
 MayTakeIn (form.Compact length) book key rounding text value = ReadsMore text value ⊎ MayGrowRead rounding (reading_of text)
 MayTakeIn (form.Exact length) book key rounding text value = ReadsLongCompact text
 MayTakeIn form.Read book key rounding text value = (is_utf8 text ≡ true) × HasManyDigitsWith (found_in book key.preferences key.grouping) text
+MayTakeIn form.ReadLenient book key rounding text value =
+    (is_utf8 text ≡ true) × MayAllocateWith (found_in book key.preferences key.grouping) (found_in book (in_latin key.preferences) key.grouping) text
 
 -- the same behind a front, by its key: where its tag is none, no text wants memory
 abbrev pub MayTakeKeyed : BookTables → Front → Option FormatterKey → List ℕ → SignedValue Number → Type 0

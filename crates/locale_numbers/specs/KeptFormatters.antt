@@ -1,7 +1,7 @@
 -- Which formatter is the one of a key, and what it answers to a number.
 -- Defined in docs/requests.md, "What a cache keeps" and "Answer line".
 -- Cited by the private steps of `answer` and `run`.
--- A formatter is of one of two kinds, and for each its tables and its answers are imported.
+-- A formatter is of one of three kinds, and for each its tables and its answers are imported.
 use Rattle.std.specs.Prelude.{◌≡◌, ℕ, List, IfSome, IsSome, Result, Ok}
 use Rattle.fixed_decimal.specs.Number.{Number}
 use Rattle.fixed_decimal.specs.SignedValue.{SignedValue}
@@ -13,14 +13,15 @@ use Rattle.icu_decimal.specs.Readable.{is_readable_by}
 use Rattle.icu_decimal.specs.declared.error.DataError.{DataError}
 use Rattle.icu_locale_core.specs.TagPreferences.{Preferences}
 use Rattle.locale_numbers_book.specs.Book.{BookTables}
-use Rattle.locale_numbers.specs.Answer.{answer_with, found_in, written}
+use Rattle.locale_numbers_answers.specs.LenientAnswer.{TablesInTurn, second_of}
+use Rattle.locale_numbers.specs.Answer.{answer_with, found_in, in_latin, written}
 use Rattle.locale_numbers.specs.CompactAnswer.{compact_answer, compact_with, found_compact}
 use Rattle.locale_numbers.specs.declared.formatter_key.FormatterKey.{FormatterKey}
 use Rattle.locale_numbers.specs.declared.formatter_key.Kind.{Kind}
 use Rattle.locale_numbers.specs.declared.formatter_key.Kind.TheVariants as kind
 use Rattle.locale_numbers.specs.declared.kept_formatter.KeptFormatter.{KeptFormatter}
 use Rattle.locale_numbers.specs.declared.kept_formatter.PlainFormatter.{PlainFormatter}
-use Rattle.locale_numbers.specs.declared.kept_formatter.KeptFormatter.TheVariants.{Plain, Compact}
+use Rattle.locale_numbers.specs.declared.kept_formatter.KeptFormatter.TheVariants.{Plain, Compact, Lenient}
 
 -- what a plain formatter knows of its symbols is so: that they are readable, or that they are not
 abbrev pub KnowsReadable : PlainFormatter → Type 0
@@ -31,12 +32,23 @@ pub record HasTables (found : Result Tables DataError) (plain : PlainFormatter) 
   pub tables : found ≡ Ok (tables_of plain.formatter)
   pub readable : KnowsReadable plain
 
+-- what reads leniently has the tables that are found, and reads as they do with those of the system `latn`
+pub record ReadsInTurn (found latin : Result Tables DataError) (reader : TablesInTurn) : Type 0 where
+  pub tables : found ≡ Ok reader.first
+  pub second : reader.second ≡ second_of reader.first latin
+
 -- the formatter is of the kind, and has the tables that are found
 abbrev pub HasKind : Kind → BookTables → Preferences → GroupingStrategy → KeptFormatter → Type 0
 HasKind kind.Plain book preferences grouping (Plain plain) = HasTables (found_in book preferences grouping) plain
 HasKind kind.Plain book preferences grouping (Compact formatter) = ⊥
+HasKind kind.Plain book preferences grouping (Lenient reader) = ⊥
 HasKind (kind.Compact length) book preferences grouping (Plain plain) = ⊥
 HasKind (kind.Compact length) book preferences grouping (Compact formatter) = found_compact length book preferences grouping ≡ Ok (compact_tables_of formatter)
+HasKind (kind.Compact length) book preferences grouping (Lenient reader) = ⊥
+HasKind kind.Lenient book preferences grouping (Plain plain) = ⊥
+HasKind kind.Lenient book preferences grouping (Compact formatter) = ⊥
+HasKind kind.Lenient book preferences grouping (Lenient reader) =
+    ReadsInTurn (found_in book preferences grouping) (found_in book (in_latin preferences) grouping) reader
 
 -- the formatter is the one of the key
 abbrev pub IsMadeFor : BookTables → FormatterKey → KeptFormatter → Type 0
@@ -46,6 +58,7 @@ IsMadeFor book key formatter = HasKind key.kind book key.preferences key.groupin
 abbrev pub KnowsAll : KeptFormatter → Type 0
 KnowsAll (Plain plain) = IsSome plain.is_readable
 KnowsAll (Compact formatter) = Unit {0}
+KnowsAll (Lenient reader) = Unit {0}
 
 -- the formatter is the one that is kept for the key: its symbols are asked once, when it is made
 pub record IsKeptFor (book : BookTables) (key : FormatterKey) (formatter : KeptFormatter) : Type 0 where
@@ -56,8 +69,10 @@ pub record IsKeptFor (book : BookTables) (key : FormatterKey) (formatter : KeptF
 abbrev pub answer_by : KeptFormatter → SignedValue Number → List ℕ
 answer_by (Plain plain) value = written (decimal_text (tables_of plain.formatter) value)
 answer_by (Compact formatter) value = compact_answer (compact_tables_of formatter) value
+answer_by (Lenient reader) value = written (decimal_text reader.first value)
 
 -- the answer to a number with the tables of a kind, where they are found
 abbrev pub answer_of_kind : Kind → BookTables → Preferences → GroupingStrategy → SignedValue Number → List ℕ
 answer_of_kind kind.Plain book preferences grouping = answer_with (found_in book preferences grouping)
 answer_of_kind (kind.Compact length) book preferences grouping = compact_with (found_compact length book preferences grouping)
+answer_of_kind kind.Lenient book preferences grouping = answer_with (found_in book preferences grouping)

@@ -26,7 +26,7 @@ use Rattle.locale_numbers_requests.specs.Request.{tab, Asked, request_in}
 use Rattle.locale_numbers_book.specs.Wanted.{wanted_of}
 use Rattle.locale_numbers.specs.Answer.{written, found_in, answer_asked, answer_of}
 use Rattle.locale_numbers.specs.declared.formatter_key.FormatterKey.{FormatterKey}
-use Rattle.locale_numbers_requests.specs.declared.Form.TheVariants.{Plain, Read}
+use Rattle.locale_numbers_requests.specs.declared.Form.TheVariants.{Plain, Read, ReadLenient}
 use Rattle.locale_numbers_requests.specs.declared.SignAsked.TheVariants.{Keep}
 use Rattle.locale_numbers_requests.specs.declared.RoundingAsked.{RoundingAsked}
 use Rattle.locale_numbers_requests.specs.declared.RoundingAsked.TheVariants.{Unrounded}
@@ -92,6 +92,11 @@ abbrev pub reading_request : Asked → List ℕ → Asked
 reading_request asked text =
     record { tag = asked.tag; form = Read; grouping = asked.grouping; sign = Keep; rounding = Unrounded; text = text }
 
+-- the one that reads it leniently
+abbrev pub lenient_request : Asked → List ℕ → Asked
+lenient_request asked text =
+    record { tag = asked.tag; form = ReadLenient; grouping = asked.grouping; sign = Keep; rounding = Unrounded; text = text }
+
 -- the request that rounds and writes a number with its own sign
 abbrev pub plain_request : Asked → RoundingAsked → List ℕ → Asked
 plain_request asked rounding digits =
@@ -119,6 +124,12 @@ ReadIsWrittenAgain = (book : BookTables) (asked : Asked) (tables : Tables) (text
     → FindsTables book asked tables
     → answer_asked book (Some (reading_request asked text)) ≡ written digits
     → answer_asked book (Some (plain_request asked Unrounded digits)) ≡ written text
+
+-- a text that is read is read leniently, with the same answer
+abbrev pub ReadIsReadLeniently : Type 0
+ReadIsReadLeniently = (book : BookTables) (asked : Asked) (text digits : List ℕ)
+    → answer_asked book (Some (reading_request asked text)) ≡ written digits
+    → answer_asked book (Some (lenient_request asked text)) ≡ written digits
 
 -- under readable symbols the text of each decimal reads back as the decimal
 abbrev pub WrittenReadsBack : Type 0

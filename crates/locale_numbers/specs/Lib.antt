@@ -49,6 +49,7 @@ pub use Rattle.locale_numbers_answers.specs.AnswerSinkLaws
 pub use Rattle.locale_numbers_answers.specs.Changing
 pub use Rattle.locale_numbers_answers.specs.CompactReading
 pub use Rattle.locale_numbers_answers.specs.Laws as AnswerLaws
+pub use Rattle.locale_numbers_answers.specs.LenientAnswer
 pub use Rattle.locale_numbers_answers.specs.NumberReading
 pub use Rattle.locale_numbers_answers.specs.ReadAnswer
 pub use Rattle.locale_numbers_answers.specs.Rounded

@@ -11,6 +11,7 @@ use crate::exact_answer::answer_exact;
 use crate::formatters::Formatters;
 use crate::front::{Front, cut_text, read_front};
 use crate::kept_formatter::MadeFormatter;
+use crate::lenient_answer::answer_lenient;
 use crate::number_answer::answer_number;
 use crate::read_answer::answer_read;
 use fixed_decimal::Decimal;
@@ -83,6 +84,12 @@ pub(crate) fn answer_behind_front<'a, F: Formatters<'a>>(
             };
             answer_read(alloc, formatters, key, is_held, text, out)
         }
+        Form::ReadLenient => {
+            let Some(text) = as_text(text) else {
+                return write_refusal(out, Refusal::Shape);
+            };
+            answer_lenient(alloc, formatters, key, is_held, text, out)
+        }
     }
 }
 
@@ -119,7 +126,8 @@ fn answer_whole_line<'a, F: Formatters<'a>>(
 /// book `en`, `plain`, `auto`, `keep`, `-`, `-987654.321` with tabs between is answered by `ok`, a
 /// tab and `-987,654.321`. With the form `short` and the text `1650` it is answered by `ok`, `1.6K` and
 /// `1.6c3`, the value shown, with tabs between; with `exact-short` and `-1.20c6` by `ok`, a tab and
-/// `-1.20M`; with `read` and `-987,654.321` by `ok`, a tab and `-987654.321`. A line that is refused is
+/// `-1.20M`; with `read` and `-987,654.321` by `ok`, a tab and `-987654.321`; with `read-lenient` and
+/// `.5` by `ok`, a tab and `0.5`. A line that is refused is
 /// answered by `err`, a tab and the first word that applies: `shape`, `tag`, `number`, `limit`,
 /// `table`, `range`, `exponent`, `unreadable`, `not-written`; an empty line by `shape`. A line feed in it
 /// is an ordinary byte. Allocates. `AllocError`: out of memory. Tags are the whole locale tags of
@@ -129,6 +137,7 @@ pub fn answer(alloc: Global, book: &Book, line: &[u8]) -> Result<Vec<u8>, AllocE
 {
     let mut out = String::new(alloc);
     let mut formatters = MadeFormatter {
+        alloc,
         tables: book,
         made: None,
     };

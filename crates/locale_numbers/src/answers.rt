@@ -47,7 +47,7 @@ impl<'a, T: Tables> Answers<'a, T> {
     {
         let formatters = FormatterCache::new(alloc, capacity)?;
         let kept = Kept {
-            maker: FormatterMaker { tables },
+            maker: FormatterMaker { alloc, tables },
             formatters,
         };
         Ok(Answers {

@@ -54,7 +54,7 @@ fn write_exact_answer_of_key<'a, F: Formatters<'a>>(
     }
     match formatters.found(key) {
         KeptFormatter::Compact(compact) => write_exact_answer(compact, significand, exponent, out),
-        KeptFormatter::Plain(_) => unreachable!(),
+        KeptFormatter::Plain(_) | KeptFormatter::Lenient(_) => unreachable!(),
     }
 }
 

@@ -15,6 +15,8 @@ pub(crate) enum Kind {
     Plain,
     /// These, plural rules and the patterns of a length.
     Compact(PatternLength),
+    /// Symbols and digits, and the symbols folded.
+    Lenient,
 }
 
 // What a formatter is kept under: what a tag prefers, a kind and a grouping. Tags that prefer the same have one key.
@@ -45,5 +47,6 @@ pub(crate) fn kind_of_form(form: Form) -> Kind
         Form::Plain | Form::Read => Kind::Plain,
         Form::Compact(length) => Kind::Compact(length),
         Form::Exact(length) => Kind::Compact(length),
+        Form::ReadLenient => Kind::Lenient,
     }
 }

@@ -11,13 +11,15 @@ ghost use Rattle.locale_numbers.specs.KeptFormatters.{IsMadeFor, KnowsAll, Knows
 
 use crate::formatter_key::{FormatterKey, Kind};
 use crate::formatters::Formatters;
+use crate::lenient_reader::lenient_reader;
 use crate::tables::Tables;
 use icu_decimal::options::{CompactDecimalFormatterOptions, DecimalFormatterOptions};
 use icu_decimal::provider::DataError;
 use icu_decimal::{CompactDecimalFormatter, DecimalFormatter, is_readable};
+use locale_numbers_answers::LenientReader;
 use locale_numbers_cache::{Hashed, Maker};
 use locale_numbers_requests::PatternLength;
-use std::alloc::AllocError;
+use std::alloc::{AllocError, Global};
 
 // A formatter of plain numbers, and what is known of its symbols.
 #[derive(Clone, Copy)]
@@ -29,17 +31,21 @@ pub(crate) struct PlainFormatter<'a> {
 }
 
 // A formatter that is kept. It borrows its tables.
-#[derive(Clone, Copy)]
+#[derive(Drop)]
 pub(crate) enum KeptFormatter<'a> {
     /// One of plain numbers.
     Plain(PlainFormatter<'a>),
     /// One of compact numbers.
     Compact(CompactDecimalFormatter<'a>),
+    /// One that reads what people type.
+    Lenient(LenientReader<'a>),
 }
 
 // One that makes the formatters of keys, with these tables.
 #[derive(Drop)]
 pub(crate) struct FormatterMaker<'a, T: Tables> {
+    /// Where symbols are folded.
+    pub alloc: Global,
     /// The tables.
     pub tables: &'a T,
 }
@@ -97,7 +103,10 @@ pub(crate) fn compact_formatter<'a, T: Tables>(
 }
 
 // The formatter of a key; `None` where the book lacks one of its tables.
+//
+// One that is to be kept asks whether its symbols are readable, and folds those that are read leniently.
 fn formatter_by<'a, T: Tables>(
+    alloc: Global,
     tables: &'a T,
     key: FormatterKey,
     asks: bool,
@@ -115,10 +124,14 @@ fn formatter_by<'a, T: Tables>(
             Ok(formatter) => Some(KeptFormatter::Compact(formatter)),
             Err(_) => None,
         },
+        Kind::Lenient => match lenient_reader(alloc, tables, &key, asks) {
+            Some(reader) => Some(KeptFormatter::Lenient(reader)),
+            None => None,
+        },
     }
 }
 
-/// One that is kept is asked once whether its symbols are readable.
+/// One that is kept is asked once whether its symbols are readable, and folds once those that it reads leniently with.
 impl<'a, T: Tables> Maker<Hashed<FormatterKey>, KeptFormatter<'a>> for FormatterMaker<'a, T> {
     ghost use Rattle.locale_numbers.specs.FormatterKeys.{finds};
     ghost use Rattle.locale_numbers.specs.KeptFormatters.{IsKeptFor};
@@ -128,13 +141,15 @@ impl<'a, T: Tables> Maker<Hashed<FormatterKey>, KeptFormatter<'a>> for Formatter
     ghost is_made = { λ s key kept. IsKeptFor (T.book s.tables.now) key kept };
 
     fn make(&self, key: Hashed<FormatterKey>) -> Option<KeptFormatter<'a>> {
-        formatter_by(self.tables, key.value(), true)
+        formatter_by(self.alloc, self.tables, key.value(), true)
     }
 }
 
 // One that keeps the formatter that was found last, and no other.
 #[derive(Drop)]
 pub(crate) struct MadeFormatter<'a, T: Tables> {
+    /// Where it may allocate.
+    pub alloc: Global,
     /// The tables.
     pub tables: &'a T,
     /// That formatter, where there is one.
@@ -157,7 +172,7 @@ impl<'a, T: Tables> Formatters<'a> for MadeFormatter<'a, T> {
     ghost holds = { λ s key. MatchOption s.made ⊥ (λ made. IsMadeFor (T.book s.tables.now) key made) };
 
     fn find(&mut self, key: &Hashed<FormatterKey>) -> Result<bool, AllocError> {
-        self.made = formatter_by(self.tables, key.value(), false);
+        self.made = formatter_by(self.alloc, self.tables, key.value(), false);
         Ok(self.made.is_some())
     }
 

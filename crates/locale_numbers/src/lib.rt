@@ -24,6 +24,8 @@ mod held;
 mod kept;
 mod kept_formatter;
 pub mod laws;
+mod lenient_answer;
+mod lenient_reader;
 mod line_answerer;
 mod number_answer;
 pub mod prelude;

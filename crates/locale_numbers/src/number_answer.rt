@@ -24,7 +24,7 @@ use locale_numbers_cache::Hashed;
 use locale_numbers_requests::{Refusal, RoundingAsked, SignAsked};
 use std::alloc::AllocError;
 
-// Writes the answer to a number, by a formatter of either kind, behind what `out` holds.
+// Writes the answer to a number, by a formatter of any kind, behind what `out` holds.
 fn write_answer_of_formatter(
     formatter: &KeptFormatter<'_>,
     value: &mut Decimal,
@@ -37,6 +37,7 @@ fn write_answer_of_formatter(
     match formatter {
         KeptFormatter::Plain(plain) => write_plain_answer(&plain.formatter, value, out),
         KeptFormatter::Compact(compact) => write_compact_answer(compact, value, out),
+        KeptFormatter::Lenient(reader) => write_plain_answer(reader.formatter(), value, out),
     }
 }
 

@@ -23,7 +23,8 @@ use std::alloc::Global;
 /// output is line by line one definition's answer for the book and that line alone, refusals
 /// included; tags alike in language, script, region, first variant and the values of `nu` and `sd` are
 /// answered alike; and under readable symbols `read` accepts exactly the plain texts, giving back the
-/// sign and digits written. The definition is that of [`answer`](crate::answer).
+/// sign and digits written, and `read-lenient` gives the same answer to these. The definition is that
+/// of [`answer`](crate::answer).
 ///
 /// A line ends at a line feed; what stands after the last one is a line too, where it is not empty.
 /// Under the sample book the bytes `xx`, line feed give `err`, a tab, `shape`, line feed, and a report
@@ -85,7 +86,7 @@ pub fn run<T: Tables, R: ByteReader, W: ByteWriter>(
     equal_keys_are_one::<FormatterKey>();
     let formatters = FormatterCache::new(alloc, capacity)?;
     let kept = Kept {
-        maker: FormatterMaker { tables },
+        maker: FormatterMaker { alloc, tables },
         formatters,
     };
     let mut answerer = LineAnswerer {
