@@ -14,6 +14,9 @@ from conditions import is_condition
 
 BELOW_CONTRIBUTED = ("unconfirmed", "provisional")
 PARTS = ("defaultNumberingSystem", "otherNumberingSystems", "minimumGroupingDigits", "symbols", "decimalFormats")
+UNIT_FORMATS = ("percentFormats", "currencyFormats")
+UNIT_PARTS = (*UNIT_FORMATS, "currencies")
+BESIDE_LETTER = "alphaNextToNumber"
 CATEGORIES = ("zero", "one", "two", "few", "many", "other")
 INHERITED = "↑↑↑"
 NO_OLD_NAMES = ("overlong", "bibliographic")
@@ -47,7 +50,7 @@ def parse(path):
 
 def step(element):
     """The step of an element: its name with the attributes that tell it from its sisters."""
-    told = [element.get(name) for name in ("numberSystem", "type", "count") if element.get(name) is not None]
+    told = [element.get(name) for name in ("numberSystem", "type", "count", "alt") if element.get(name) is not None]
     return f"{element.tag}[{','.join(told)}]" if told else element.tag
 
 
@@ -65,6 +68,11 @@ def target(path, alias):
         told = re.findall(r"='([^']*)'", word)
         path.append(word.partition("[")[0] + (f"[{','.join(told)}]" if told else ""))
     return tuple(path)
+
+
+def is_of_currencies(path):
+    """Whether a path is in the formats of currencies."""
+    return path[:1] != () and path[0].startswith("currencyFormats")
 
 
 def value_of(element):
@@ -123,11 +131,28 @@ def rules_of(path):
     return found
 
 
-class Cldr:
-    """A folder `common` of CLDR. Files of locales are read when they are first asked for."""
+def digits_of_currencies(path):
+    """The digits, the increment, the cash digits and the cash increment of each currency that the file names, and of
+    `DEFAULT`."""
+    found = {}
+    for it in parse(path).iterfind("currencyData/fractions/info"):
+        code, digits, rounding = it.get("iso4217", ""), it.get("digits", ""), it.get("rounding", "")
+        numbers = digits, rounding, it.get("cashDigits", digits), it.get("cashRounding", rounding)
+        if not all(re.fullmatch("[0-9]{1,3}", number) for number in numbers):
+            raise Fault(f"{path}: the digits of {code} are {' '.join(numbers)!r}")
+        digits, increment, cash_digits, cash_increment = map(int, numbers)
+        found[code] = [digits, increment or 1, cash_digits, cash_increment or 1]
+    if "DEFAULT" not in found:
+        raise Fault(f"{path} has no digits of currencies")
+    return found
 
-    def __init__(self, folder):
-        self.folder = folder
+
+class Cldr:
+    """A folder `common` of CLDR. Files of locales are read when they are first asked for, with `units` what they say of
+    percents and currencies too."""
+
+    def __init__(self, folder, units=False):
+        self.folder, self.parts = folder, (*PARTS, *UNIT_PARTS) if units else PARTS
         self.left_out = collections.Counter()
         try:
             names = [it[:-4] for it in os.listdir(f"{folder}/main") if it.endswith(".xml")]
@@ -210,17 +235,21 @@ class Cldr:
                 path = f"{self.folder}/main/{name}.xml"
                 try:
                     for part in parse(path).iterfind("numbers/*"):
-                        if part.tag in PARTS:
+                        if part.tag in self.parts:
                             self._walk(part, (), None, tables, aliases)
                 except Fault as fault:
                     raise Fault(str(fault) if str(fault).startswith(path) else f"{path}: {fault}") from None
             if name == "root":
                 # A system that root doesn't know either has the symbols and the patterns of latn.
                 known = {path[0] for path in [*tables, *aliases] if path}
-                for part in ("symbols", "decimalFormats"):
+                for part in ("symbols", "decimalFormats", *UNIT_FORMATS):
                     for system in self.digits:
                         if f"{part}[{system}]" not in known:
                             aliases[(f"{part}[{system}]",)] = (f"{part}[latn]",)
+            for path, values in tables.items():
+                # A locale that gives the pattern alone has no pattern beside a letter, whatever its parents have.
+                if "pattern" in values and is_of_currencies(path):
+                    values.setdefault(f"pattern[{BESIDE_LETTER}]", "")
             self._read[name] = tables, aliases
         return self._read[name]
 
@@ -229,7 +258,8 @@ class Cldr:
         draft = element.get("draft", draft)
         if len(path) > DEEPEST:
             raise Fault("its elements are nested too deep")
-        if element.get("alt") is not None:
+        alt = element.get("alt")
+        if alt is not None and not (alt == BESIDE_LETTER and is_of_currencies(path)):
             self.left_out["alt"] += 1
         elif element.tag == "alias":
             aliases[path] = target(path, element)
@@ -269,6 +299,23 @@ class Cldr:
         if found is None:
             raise Fault(f"{self.folder}/main/{name}.xml: an alias leads to itself, by {'/'.join(path[:4])}")
         return found
+
+    def currencies(self, chain):
+        """What a locale says of each currency, by its code: the symbol, and the pattern and separators of its own."""
+        key = chain[0], ("currencies",)
+        if key not in self._tables:
+            found = dict(self.currencies(chain[1:])) if len(chain) > 1 else {}
+            for path, values in self._of(chain[0])[0].items():
+                if path[:1] == ("currencies",) and len(path) == 2:
+                    code = path[1].removeprefix("currency[").removesuffix("]")
+                    found[code] = {**found.get(code, {}), **values}
+            self._tables[key] = found
+        return self._tables[key]
+
+    @functools.cached_property
+    def currency_digits(self):
+        """The digits of each currency that has other ones than usual, and of `DEFAULT`."""
+        return digits_of_currencies(f"{self.folder}/supplemental/supplementalData.xml")
 
     def own_systems(self, chain):
         """The systems that a chain names for itself, without what root has for all."""

@@ -65,6 +65,7 @@ class Entries:
         self.cldr, self.systems = cldr, systems
         self.left_out = collections.defaultdict(collections.Counter)
         self.arrays = [[], [], [], [], []]
+        self.symbols_of = {}
         self.arrays[1] = [[name, digits] for name, digits in sorted(cldr.digits.items())]
 
     def without(self, reason, tag, count=1):
@@ -97,6 +98,8 @@ class Entries:
                 if which not in made:
                     made[which] = self.compact(tag, *tables, rules) if kind else self.symbols(tag, *tables)
                 entry = made[which]
+                if kind is None:
+                    self.symbols_of[tag, system] = entry
                 if system == default:
                     usual, named = entry, ""
                 elif entry == usual or entry is None:

@@ -1,7 +1,8 @@
-// Answers request lines by ICU4C's number formatter: forms plain, short and long, rounding `-`, each as
-// `ok`, a tab and the text. The form read takes a text and answers the decimal number that ICU4C's strict
+// Answers request lines by ICU4C's number formatter: forms plain, short, long and percent, and of a currency
+// currency-EUR, code-EUR and accounting-EUR; rounding `-`, and of a currency `cash` too; each as `ok`, a tab
+// and the text. The form read takes a text and answers the decimal number that ICU4C's strict
 // parser finds in the whole of it. Any other line is `err`, a tab and a word. A formatter is kept for each
-// locale, form, grouping and sign, and a parser for each locale.
+// locale, form, grouping, sign and rounding, up to a thousand, and a parser for each locale.
 #include <unicode/fmtable.h>
 #include <unicode/numberformatter.h>
 #include <unicode/numfmt.h>
@@ -27,7 +28,38 @@ static std::vector<std::string_view> fields(std::string_view line) {
     }
 }
 
-// A formatter for the first four fields; false where one of them is not known.
+// A sign as it is shown in accounting.
+static UNumberSignDisplay in_accounting(UNumberSignDisplay sign) {
+    switch (sign) {
+    case UNUM_SIGN_AUTO: return UNUM_SIGN_ACCOUNTING;
+    case UNUM_SIGN_ALWAYS: return UNUM_SIGN_ACCOUNTING_ALWAYS;
+    case UNUM_SIGN_EXCEPT_ZERO: return UNUM_SIGN_ACCOUNTING_EXCEPT_ZERO;
+    case UNUM_SIGN_NEGATIVE: return UNUM_SIGN_ACCOUNTING_NEGATIVE;
+    default: return sign;
+    }
+}
+
+// A formatter for percents or for a currency; false where form and rounding are none of theirs.
+static bool make_of_unit(const std::vector<std::string_view>& field, UNumberSignDisplay sign, LocalizedNumberFormatter& made) {
+    const bool cash = field[4] == "cash";
+    if (!cash && field[4] != "-") return false;
+    if (field[1] == "percent") {
+        made = made.unit(icu::NoUnit::percent()).precision(icu::number::Precision::unlimited());
+        return !cash;
+    }
+    const size_t dash = field[1].find('-');
+    const std::string_view style = field[1].substr(0, dash);
+    if (dash == std::string_view::npos || (style != "currency" && style != "code" && style != "accounting")) return false;
+    const std::string_view name = field[1].substr(dash + 1);
+    UErrorCode code = U_ZERO_ERROR;
+    const icu::CurrencyUnit unit(icu::StringPiece(name.data(), int32_t(name.size())), code);
+    made = made.unit(unit).precision(icu::number::Precision::currency(cash ? UCURR_USAGE_CASH : UCURR_USAGE_STANDARD));
+    if (style == "code") made = made.unitWidth(UNUM_UNIT_WIDTH_ISO_CODE);
+    if (style == "accounting") made = made.sign(in_accounting(sign));
+    return U_SUCCESS(code);
+}
+
+// A formatter for the first five fields; false where one of them is not known.
 static bool make(const std::vector<std::string_view>& field, LocalizedNumberFormatter& made) {
     static const std::unordered_map<std::string_view, UNumberGroupingStrategy> groupings = {
         {"auto", UNUM_GROUPING_AUTO},
@@ -47,6 +79,11 @@ static bool make(const std::vector<std::string_view>& field, LocalizedNumberForm
     UErrorCode code = U_ZERO_ERROR;
     const icu::Locale locale = icu::Locale::forLanguageTag({field[0].data(), int32_t(field[0].size())}, code);
     const auto base = icu::number::NumberFormatter::withLocale(locale).grouping(grouping->second).sign(sign->second);
+    if (field[1] == "percent" || field[1].find('-') != std::string_view::npos) {
+        made = base;
+        return U_SUCCESS(code) && make_of_unit(field, sign->second, made);
+    }
+    if (field[4] != "-") return false;
     if (field[1] == "plain") made = base.precision(icu::number::Precision::unlimited());
     else if (field[1] == "short") made = base.notation(icu::number::Notation::compactShort());
     else if (field[1] == "long") made = base.notation(icu::number::Notation::compactLong());
@@ -88,11 +125,13 @@ int main() {
         const auto field = fields(line);
         const LocalizedNumberFormatter* formatter = nullptr;
         const bool is_read = field.size() == 6 && field[1] == "read";
-        if (field.size() == 6 && field[4] == "-" && !is_read) {
-            const std::string key = line.substr(0, field[4].data() - line.data());
+        if (field.size() == 6 && !is_read) {
+            const std::string key = line.substr(0, field[5].data() - line.data());
             auto found = kept.find(key);
-            if (LocalizedNumberFormatter made; found == kept.end() && make(field, made))
+            if (LocalizedNumberFormatter made; found == kept.end() && make(field, made)) {
+                if (kept.size() > 1000) kept.clear();
                 found = kept.emplace(key, std::move(made)).first;
+            }
             if (found != kept.end()) formatter = &found->second;
         }
         if (is_read) {

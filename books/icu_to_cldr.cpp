@@ -1,7 +1,8 @@
-// Writes what ICU's own bundles know of numbers into a folder in the form of CLDR's `common`: main/*.xml and five
-// files of supplemental/. ICU leaves its aliases unseen: a table of root that is equal to the one of `latn` is
+// Writes what ICU's own bundles know of numbers, percents and currencies into a folder in the form of CLDR's `common`:
+// main/*.xml and five files of supplemental/. ICU leaves its aliases unseen: a table of root that is equal to the one of `latn` is
 // written as the alias that it is in CLDR.
 #include <unicode/localpointer.h>
+#include <unicode/udata.h>
 #include <unicode/ulocdata.h>
 #include <unicode/unistr.h>
 #include <unicode/ures.h>
@@ -16,10 +17,13 @@
 
 using Table = icu::LocalUResourceBundlePointer;
 
-// A bundle by its name, without its parents.
-static Table open(const char* name) {
+static const char CURRENCIES[] = U_ICUDATA_NAME "-curr";  // the tree of ICU's bundles that has the currencies
+
+// A bundle by its name, without its parents. Not every locale has one in the tree of the currencies: it is null then.
+static Table open(const char* name, const char* tree = nullptr) {
     UErrorCode code = U_ZERO_ERROR;
-    Table bundle(ures_openDirect(nullptr, name, &code));
+    Table bundle(ures_openDirect(tree, name, &code));
+    if (tree != nullptr && code == U_MISSING_RESOURCE_ERROR) return Table();
     if (U_FAILURE(code)) {
         std::cerr << "icu-to-cldr: ICU has no bundle " << name << ": " << u_errorName(code) << "\n";
         std::exit(2);
@@ -66,7 +70,8 @@ static std::string element(const char* name, const std::string& inner) {
 static std::string symbols(const Table& system) {
     Table table = below(system, "symbols");
     std::string found;
-    for (const char* name : {"decimal", "group", "plusSign", "minusSign"})
+    for (const char* name :
+         {"decimal", "group", "plusSign", "minusSign", "percentSign", "currencyDecimal", "currencyGroup"})
         found += element(name, text(below(table, name)));
     return found;
 }
@@ -90,7 +95,68 @@ static std::string compact(const Table& system, const char* length, const char* 
            "</decimalFormat></decimalFormatLength>\n";
 }
 
+// The formats of percents of a system, without the element around them.
+static std::string percents(const Table& system) {
+    std::string pattern = element("pattern", text(below(below(system, "patterns"), "percentFormat")));
+    return pattern.empty()
+               ? ""
+               : "<percentFormatLength><percentFormat>\n" + pattern + "</percentFormat></percentFormatLength>\n";
+}
+
+// The pattern of a style of currencies, and the one beside a letter.
+static std::string amounts(const Table& system, const std::string& key) {
+    Table patterns = below(system, "patterns");
+    std::string beside = text(below(patterns, (key + "%alphaNextToNumber").c_str()));
+    std::string found = element("pattern", text(below(patterns, key.c_str())));
+    return beside.empty() ? found : found + "<pattern alt=\"alphaNextToNumber\">" + beside + "</pattern>\n";
+}
+
+static std::string in_style(const char* style, const std::string& inner) {
+    return inner.empty() ? "" : std::string("<currencyFormat type=\"") + style + "\">\n" + inner + "</currencyFormat>\n";
+}
+
+// The element of these formats of a system.
+static std::string formats(const char* kind, const std::string& system, const std::string& inner) {
+    return inner.empty() ? "" : std::string("<") + kind + " numberSystem=\"" + system + "\">\n" + inner + "</" + kind + ">\n";
+}
+
 static std::string alias(const std::string& path) { return "<alias source=\"locale\" path=\"" + path + "\"/>\n"; }
+
+// The formats of percents and of currencies of a system. ICU leaves the aliases of root unseen: where the pattern of
+// currencies is that of latn, both formats are those of latn, and accounting is the standard one in each system.
+static std::string units(const Table& system, const Table& latn, const std::string& name, bool root) {
+    std::string whole = percents(system), standard = in_style("standard", amounts(system, "currencyFormat")),
+                accounting = in_style("accounting", amounts(system, "accountingFormat"));
+    const auto pattern = [](const Table& its) { return text(below(below(its, "patterns"), "currencyFormat")); };
+    if (root && name != "latn" && (standard.empty() || pattern(system) == pattern(latn))) {
+        return formats("percentFormats", name, alias("../percentFormats[@numberSystem='latn']")) +
+               formats("currencyFormats", name, alias("../currencyFormats[@numberSystem='latn']"));
+    }
+    if (root) accounting = in_style("accounting", alias("../currencyFormat[@type='standard']"));
+    std::string both = standard + accounting;
+    if (!both.empty()) both = "<currencyFormatLength>\n" + both + "</currencyFormatLength>\n";
+    return formats("percentFormats", name, whole) + formats("currencyFormats", name, both);
+}
+
+// The currencies of a locale: their symbols, and patterns and separators of their own.
+static std::string currencies(const std::string& locale) {
+    std::string found;
+    for (const Table& currency : items(below(open(locale.c_str(), CURRENCIES), "Currencies"))) {
+        UErrorCode code = U_ZERO_ERROR;
+        const auto at = [&](const Table& table, int32_t place) {
+            return Table(ures_getByIndex(table.getAlias(), place, nullptr, &code));
+        };
+        const std::string its = key(currency);
+        std::string inner = element("symbol", text(at(currency, 0)));
+        if (ures_getSize(currency.getAlias()) > 2) {
+            Table own = at(currency, 2);
+            inner += element("pattern", text(at(own, 0))) + element("decimal", text(at(own, 1))) +
+                     element("group", text(at(own, 2)));
+        }
+        if (!inner.empty()) found += "<currency type=\"" + its + "\">\n" + inner + "</currency>\n";
+    }
+    return element("currencies", found);
+}
 
 // The element `numbers` of a locale.
 static std::string numbers(const std::string& locale) {
@@ -115,8 +181,9 @@ static std::string numbers(const std::string& locale) {
         }
         if (!own.empty()) first += "<symbols" + named + own + "</symbols>\n";
         if (!formats.empty()) second += "<decimalFormats" + named + formats + "</decimalFormats>\n";
+        second += units(system, latn, name, root);
     }
-    return head + element("otherNumberingSystems", other) + least + first + second;
+    return head + element("otherNumberingSystems", other) + least + first + second + currencies(locale);
 }
 
 static void write(const std::filesystem::path& path, const std::string& root, const std::string& inner) {
@@ -153,6 +220,23 @@ static std::string parents() {
     }
     if (!lists_root) found = "<parentLocale parent=\"root\" localeRules=\"nonlikelyScript\"/>\n" + found;
     return element("parentLocales", found);
+}
+
+// The digits of currencies: of each the digits and the increment, those of cash, and of DEFAULT those of all others.
+static std::string digits_of_currencies() {
+    std::string found;
+    for (const Table& currency : items(below(open("supplementalData", CURRENCIES), "CurrencyMeta"))) {
+        UErrorCode code = U_ZERO_ERROR;
+        int32_t length = 0;
+        const int32_t* numbers = ures_getIntVector(currency.getAlias(), &length, &code);
+        if (U_FAILURE(code) || length < 4) continue;
+        found += "<info iso4217=\"" + key(currency) + "\"";
+        const char* names[] = {"digits", "rounding", "cashDigits", "cashRounding"};
+        for (int place = 0; place < 4; place++)
+            found += std::string(" ") + names[place] + "=\"" + std::to_string(numbers[place]) + "\"";
+        found += "/>\n";
+    }
+    return element("currencyData", element("fractions", found));
 }
 
 // The old codes of languages or regions, as elements of this name.
@@ -204,7 +288,7 @@ int main(int count, char** words) {
     for (const std::string& locale : locales)
         write(folder / "main" / (locale + ".xml"), "ldml", element("numbers", numbers(locale)));
     write(folder / "supplemental" / "numberingSystems.xml", "supplementalData", systems());
-    write(folder / "supplemental" / "supplementalData.xml", "supplementalData", parents());
+    write(folder / "supplemental" / "supplementalData.xml", "supplementalData", parents() + digits_of_currencies());
     write(folder / "supplemental" / "plurals.xml", "supplementalData", plurals());
     write(folder / "supplemental" / "supplementalMetadata.xml", "supplementalData",
           aliases("language", "languageAlias") + aliases("territory", "territoryAlias"));

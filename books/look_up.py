@@ -1,6 +1,7 @@
 """A book's tables and how a line finds them: the rule of docs/books.md, written down once more.
 
-The scripts of this folder go by this model alone; nothing in it is taken from the program.
+The scripts of this folder go by this model alone; nothing in it is taken from the program. A book with units is a pair
+of a book and of five arrays of units: percents, currencies, accounts, symbols and digits of currencies.
 """
 import json
 import re
@@ -9,8 +10,15 @@ import typing
 from cldr import Fault
 
 ARRAYS = ("symbols", "digits", "plural rules", "short", "long", "parents")
+UNIT_ARRAYS = ("percents", "currencies", "accounts", "currency symbols", "currency digits")
 LOOKED_UP = ("symbols", "plural rules", "short", "long")
 FORMS = ("plain", "short", "long")
+PLACE = "¤"  # where the unit stands in a text of a pattern
+INCREMENTS = (1, 2, 5, 10, 20, 25, 50)
+USUAL_DIGITS = [2, 1, 2, 1]
+LETTERS = 3  # both ends of a unit are letters, as those of a code
+CODE = re.compile("[A-Z]{3}")
+SYSTEM = re.compile("[a-z0-9]{3,8}")
 REGION = "[a-z]{2}|[0-9]{3}"
 DATA_LOCALE = re.compile(
     f"([a-z]{{2,3}})(?:-([a-z]{{4}}))?(?:-({REGION}))?(?:-([a-z0-9]{{5,8}}|[0-9][a-z0-9]{{3}}))?"
@@ -100,10 +108,87 @@ def parents_fault(entries):
     return None
 
 
-class Book:
-    """The tables of five or six arrays that are a book, by their keys."""
+def is_code(text):
+    """Whether a text is the code of a currency: three capitals."""
+    return CODE.fullmatch(text) is not None
+
+
+class Units:
+    """The tables of five arrays that are a book's units, by their keys.
+
+    A chain is that of the book, and `und` at its end where the book has parents ("Book.unit_chain")."""
 
     def __init__(self, arrays):
+        *patterns, symbols, digits = arrays
+        self.entries = {
+            kind: {(locale_of(tag), attribute): rest for tag, attribute, *rest in array}
+            for kind, array in zip(UNIT_ARRAYS, (*patterns, symbols))
+        }
+        self.digits = {code: numbers for code, *numbers in digits}
+
+    def find(self, along, *questions):
+        """The entry that a chain finds: of these arrays and attributes, in their order, that of the first that has one."""
+        for kind, attribute in questions:
+            table = self.entries[kind]
+            for locale in along:
+                if (locale, attribute) in table:
+                    return table[locale, attribute]
+        return None
+
+    def percent(self, along, system):
+        """The sign, the symbols of its own or None, and the pattern of percents under a system or none; or None."""
+        return self.find(along, *under("percents", system))
+
+    def standard(self, along, system, code):
+        """The symbols of its own or None, the pattern, and the one beside a letter or None, of a currency; or None."""
+        return self.find(along, *of_code(code), *under("currencies", system))
+
+    def accounting(self, along, system, code):
+        """The same in accounting: of the currency itself, else of accounts, else as in standard."""
+        usual = (*under("accounts", system), *under("currencies", system))
+        return self.find(along, *of_code(code), *usual)
+
+    def symbol(self, along, code):
+        """The text that a currency is written by, and which ends of it are letters: its code where it has no symbol."""
+        return self.find(along, ("currency symbols", code)) or [code, LETTERS]
+
+    def digits_of(self, code):
+        """The digits, the increment, the cash digits and the cash increment of a currency."""
+        return self.digits.get(code, USUAL_DIGITS)
+
+    def systems(self):
+        """The numbering systems that an entry of patterns is for, in order."""
+        kinds = UNIT_ARRAYS[:3]
+        return sorted({it for kind in kinds for _, it in self.entries[kind] if SYSTEM.fullmatch(it)})
+
+    def own_codes(self):
+        """The currencies that have a pattern of their own somewhere, in order."""
+        return sorted({it for _, it in self.entries["currencies"] if is_code(it)})
+
+    def codes(self):
+        """The currencies that have a symbol, digits or a pattern of their own, in order."""
+        return sorted({*self.own_codes(), *(it for _, it in self.entries["currency symbols"]), *self.digits})
+
+    def locales(self):
+        """The locales that have an entry of their own, in the order of their tags."""
+        return sorted({locale for table in self.entries.values() for locale, _ in table}, key=text_of)
+
+
+def under(kind, system):
+    """What is asked of an array of patterns: the entry of the system, where there is one, and the usual one."""
+    return ((kind, system), (kind, "")) if system else ((kind, ""),)
+
+
+def of_code(code):
+    """What is asked of the array of currencies for a currency, and for none."""
+    return (("currencies", code),) if code else ()
+
+
+class Book:
+    """The tables of five or six arrays that are a book, by their keys, with units where it has them."""
+
+    def __init__(self, arrays, units=None):
+        self.units = None if units is None else Units(units)
         symbols, digits, rules, short, long, *sixth = arrays
         self.digits = dict(digits)
         self.entries = {
@@ -117,6 +202,11 @@ class Book:
     def chain(self, locale):
         """The locale and those that are asked for after it: none where the book has no sixth array."""
         return chain(self.parents, locale)
+
+    def unit_chain(self, locale):
+        """The chain of a locale for units: `und` is at its end where the book has parents."""
+        found = self.chain(locale)
+        return found if self.parents is None or UND in found else [*found, UND]
 
     def find(self, kind, along, system):
         """The table of a kind that a chain of locales finds for a system, or for none, or None."""
@@ -142,24 +232,31 @@ class Book:
         return sorted({locale for table in self.entries.values() for locale, _ in table}, key=text_of)
 
     def standing(self):
-        """The locales that have an entry or are the parent of another one, in the order of their tags."""
-        return sorted({*self.locales(), *(self.parents or {}).values()}, key=text_of)
+        """The locales that have an entry, of units too, or are the parent of another one, in the order of their tags."""
+        of_units = self.units.locales() if self.units else []
+        return sorted({*self.locales(), *of_units, *(self.parents or {}).values()}, key=text_of)
 
     def systems(self):
         """The systems that the book has digits or an entry for, in order."""
         return sorted({*self.digits, *(system for table in self.entries.values() for _, system in table if system)})
 
 
+def halves_of(value):
+    """The book and the units of a JSON value that is a pair of them; the value and None else."""
+    return value if isinstance(value, list) and len(value) == 2 else (value, None)
+
+
 def book_of(value):
     """The book that a JSON value is, or None where it has not the form that this model needs."""
+    arrays, units = halves_of(value)
     try:
-        return Book(value) if parents_fault(value[5] if len(value) > 5 else []) is None else None
+        return Book(arrays, units) if parents_fault(arrays[5] if len(arrays) > 5 else []) is None else None
     except (TypeError, ValueError, LookupError):
         return None
 
 
-def read_book(path):
-    """The book that a file holds."""
+def read_book(path, with_units=False):
+    """The book that a file holds, which has units where these are asked for."""
     try:
         with open(path, encoding="utf-8") as given:
             value = json.load(given)
@@ -169,7 +266,9 @@ def read_book(path):
         raise Fault(f"{path} is no JSON: {fault}") from None
     book = book_of(value)
     if book is None:
-        raise Fault(f"{path} is no book of five or six arrays")
+        raise Fault(f"{path} is no book of five or six arrays, with units or without")
+    if with_units and book.units is None:
+        raise Fault(f"{path} has no units")
     return book
 
 
@@ -184,6 +283,28 @@ def differences(full, book):
                 yield form, locale, system, [kind for kind in wanted if wanted[kind] != found[kind]]
 
 
+def unit_differences(full, book):
+    """What each locale of the full book that has symbols finds otherwise of the units in the other book: (array, locale,
+    system or code, differs). A code stands for all where no locale has a pattern of its own for it."""
+    its, other = full.units, book.units
+    systems, own = ["", *sorted({*its.systems(), *other.systems()})], ["", *sorted({*its.own_codes(), *other.own_codes()})]
+    codes = sorted({*its.codes(), *other.codes()})
+    for locale in full.locales():
+        there, here = full.unit_chain(locale), book.unit_chain(locale)
+        if full.find("symbols", there, "") is None:
+            continue
+        for system in systems:
+            yield "percents", locale, system, its.percent(there, system) != other.percent(here, system)
+            for code in own:
+                what = " ".join(filter(None, (system, code)))
+                yield "currencies", locale, what, its.standard(there, system, code) != other.standard(here, system, code)
+                yield "accounts", locale, what, its.accounting(there, system, code) != other.accounting(here, system, code)
+        for code in codes:
+            yield "currency symbols", locale, code, its.symbol(there, code) != other.symbol(here, code)
+    for code in codes:
+        yield "currency digits", UND, code, its.digits_of(code) != other.digits_of(code)
+
+
 def say_differences(full, book, shown):
     """Prints how many triples find the same tables, and the first that do not; answers whether all do."""
     counts, alike, first = dict.fromkeys(FORMS, 0), dict.fromkeys(FORMS, 0), []
@@ -194,5 +315,22 @@ def say_differences(full, book, shown):
             first.append(f"{form} of {text_of(locale)} with {system or 'no system'}: other {', '.join(kinds)}")
     for form in FORMS:
         print(f"{form:<6} {counts[form]:>8} triples of locale, system and form, {alike[form]} find the same tables")
+    if full.units and book.units:
+        first += say_unit_differences(full, book)
+    elif full.units or book.units:
+        first.append("one of the books has units, and the other has none")
     print(*first[:shown], sep="\n", end="\n" if first[:shown] else "")
     return not first
+
+
+def say_unit_differences(full, book):
+    """Prints how often the same units are found; answers a line for each that is not."""
+    counts, alike, first = dict.fromkeys(UNIT_ARRAYS, 0), dict.fromkeys(UNIT_ARRAYS, 0), []
+    for kind, locale, what, differs in unit_differences(full, book):
+        counts[kind] += 1
+        alike[kind] += not differs
+        if differs:
+            first.append(f"{kind} of {text_of(locale)} with {what or 'nothing'}: another entry")
+    for kind in UNIT_ARRAYS:
+        print(f"{kind:<16} {counts[kind]:>8} questions, {alike[kind]} find the same entry")
+    return first

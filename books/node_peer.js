@@ -1,5 +1,7 @@
 // Answers request lines by Intl.NumberFormat of Node: forms plain, short and long with the sign keep and the rounding
-// `-`, each as `ok`, a tab and the text. The form `locale` is answered with the locale that Node takes for the tag,
+// `-`, each as `ok`, a tab and the text. So too, with the sign keep or always, the form percent, and of a currency
+// currency-EUR, code-EUR and accounting-EUR; for cash, which Node does not know, the rounding names digits and increment,
+// as in `cash 2 5`. The form `locale` is answered with the locale that Node takes for the tag,
 // `script` with the tag that has its usual script put in, and `whole` with its usual script and region. Any other line is
 // `err`, a tab and a word. The word `version` alone prints the versions of Node and of its data.
 "use strict";
@@ -9,10 +11,39 @@ const FORMS = { plain: { maximumFractionDigits: 20 }, short: compact("short"), l
 const GROUPINGS = { auto: "auto", never: false, always: "always", min2: "min2" };
 const kept = new Map();
 
-function formatter(tag, form, grouping) {
-  const key = `${tag} ${form} ${grouping}`;
-  if (!kept.has(key)) kept.set(key, new Intl.NumberFormat(tag, { ...FORMS[form], useGrouping: GROUPINGS[grouping] }));
+function formatter(tag, grouping, options) {
+  const key = `${tag} ${grouping} ${JSON.stringify(options)}`;
+  if (kept.size > 1000) kept.clear();
+  if (!kept.has(key)) kept.set(key, new Intl.NumberFormat(tag, { ...options, useGrouping: GROUPINGS[grouping] }));
   return kept.get(key);
+}
+
+const SIGNS = { keep: "auto", always: "always" };
+const WIDTHS = { currency: {}, code: { currencyDisplay: "code" }, accounting: { currencySign: "accounting" } };
+
+// The digits and the increment of cash, and nothing without cash; null where the rounding is neither.
+function digitsOf(rounding) {
+  if (rounding === "-") return {};
+  const [word, digits, increment] = rounding.split(" ");
+  if (word !== "cash" || increment === undefined) return null;
+  return { minimumFractionDigits: +digits, maximumFractionDigits: +digits, roundingIncrement: +increment };
+}
+
+// The options of percents and of currencies; null where form, sign and rounding are none of theirs.
+function unitOptions(form, sign, rounding) {
+  const signDisplay = SIGNS[sign];
+  if (form === "percent" && rounding === "-") return { style: "percent", maximumFractionDigits: 20, signDisplay };
+  const [width, currency] = form.split("-");
+  const digits = digitsOf(rounding);
+  if (!(width in WIDTHS) || currency === undefined || digits === null) return null;
+  return { style: "currency", currency, roundingMode: "halfEven", signDisplay, ...WIDTHS[width], ...digits };
+}
+
+// The number over 100, as a text: Node writes a ratio in percents.
+function ratio(number) {
+  const [, sign, whole, fraction] = /^([-+]?)(\d+)(?:\.(\d+))?$/.exec(number);
+  const digits = whole.padStart(3, "0");
+  return `${sign}${digits.slice(0, -2)}.${digits.slice(-2)}${fraction ?? ""}`;
 }
 
 function withScript(tag) {
@@ -24,8 +55,12 @@ function answered(line) {
   if (form === "locale") return new Intl.NumberFormat(tag).resolvedOptions().locale;
   if (form === "script") return withScript(tag);
   if (form === "whole") return new Intl.Locale(tag).maximize().toString();
-  if (!(form in FORMS) || !(grouping in GROUPINGS) || sign !== "keep" || rounding !== "-") return null;
-  return formatter(tag, form, grouping).format(number);
+  if (!(grouping in GROUPINGS)) return null;
+  if (form in FORMS) {
+    return sign === "keep" && rounding === "-" ? formatter(tag, grouping, FORMS[form]).format(number) : null;
+  }
+  const options = sign in SIGNS ? unitOptions(form, sign, rounding) : null;
+  return options && formatter(tag, grouping, options).format(form === "percent" ? ratio(number) : number);
 }
 
 function answer(line) {

@@ -13,6 +13,11 @@ def size(*entry):
     return len(json.dumps(entry, ensure_ascii=False, separators=(",", ":")).encode()) + 2
 
 
+def by_parts(locale):
+    """What puts each locale after those with fewer parts."""
+    return sum(map(bool, locale)), locale
+
+
 class Smaller:
     """The book that finds what the full one finds for each of its locales, with fewer entries."""
 
@@ -27,9 +32,9 @@ class Smaller:
             self.settle(locale)
         self.bearing = set(self.book.locales())
         self.passed = {it for locale in self.full.locales() for it in self.book.chain(locale)}
-        names = other_names(cldr, parents)
-        for name in sorted(names, key=lambda it: (sum(map(bool, it)), it)):
-            self.add_name(name, names[name])
+        self.names = other_names(cldr, parents)
+        for name in sorted(self.names, key=by_parts):
+            self.add_name(name, self.names[name])
         self.drop_steps()
 
     def ordered(self):

@@ -1,0 +1,126 @@
+"""What the comparisons of percents and of amounts of money with other formatters have in common: the lines, and causes why
+a formatter writes another text than the definition of unit_text.py."""
+import collections
+import itertools
+import random
+
+from comparison import number, say_unknown, text
+from look_up import LETTERS, PLACE, locale_of
+from unit_text import (
+    FORM, Format, Symbols, affixes_of, answer, chosen_pattern, number_of, plain_tables, rounded, text_of, with_sign,
+)
+
+APART = "\u00a0"
+STYLES = ("percent", "currency", "code", "accounting", "cash")
+CODES = ("EUR", "USD", "CHF", "JPY", "INR", "TRY", "CVE", "DKK", "KWD", "QQQ")  # the last is no currency's
+FIXED = (("keep", "0"), ("keep", "-5"), ("always", "5"), ("keep", "-0.001"), ("keep", "1234567.885"), ("keep", "-1234.125"))
+OWN_CURRENCY = "the pattern of the region's own currency: for this alone here, there for all others too"
+OF_LATN = "a separator of currencies that a locale has in its usual system: there in the other systems too"
+NO_LETTERS = "CLDR's pattern beside a letter: taken here, and there the usual one with a space"
+CASH_ZERO = "an increment of cash that ends in 0: its digits are shown here, and there without that 0"
+
+
+def style_of(line):
+    """The style of a line."""
+    fields = line.split("\t")
+    return "cash" if fields[4] == "cash" else fields[1].partition("-")[0]
+
+
+def unit_lines(tags, count, seed):
+    """The lines that ask for the fixed and for so many seeded numbers under each tag, in each style."""
+    forms = [("percent", "-"), *((f"{style}-{code}", "-") for style in STYLES[1:4] for code in CODES)]
+    forms += [(f"currency-{code}", "cash") for code in CODES]
+    for tag in tags:
+        for form, rounding in forms:
+            rng = random.Random(f"{seed} {tag} {form} {rounding}")
+            for sign, it in (*FIXED, *(("keep", number(rng)) for _ in range(count))):
+                yield f"{tag}\t{form}\tauto\t{sign}\t{rounding}\t{it}"
+
+
+def answers_here(book, lines):
+    """The answers of the definition to these lines."""
+    return [answer(book, line) for line in lines]
+
+
+def spaced(pattern):
+    """A pattern with a space between each number and the unit's place next to it."""
+    before = lambda text: text + APART if text.endswith(PLACE) else text
+    after = lambda text: APART + text if text.startswith(PLACE) else text
+    return [(before, after)[place % 2](it) for place, it in enumerate(pattern)]
+
+
+def patterns_there(units, along, system, style, code):
+    """The entries that another formatter may take for a currency, each with its causes: that which is taken here, and
+    those of the currencies that have a pattern of their own; each as it is, and without its pattern beside a letter."""
+    asked = units.accounting if style == "accounting" else units.standard
+    usual = asked(along, system, code)
+    its_own = [(asked(along, system, it), [OWN_CURRENCY]) for it in units.own_codes() if it != code]
+    for entry, causes in ((usual, []), *its_own):
+        own, pattern, beside_letter = entry
+        yield own, pattern, beside_letter, causes
+        yield own, pattern, spaced(pattern), [*causes, NO_LETTERS]
+
+
+def with_usual_separators(book, locale, symbols, entry):
+    """These symbols with the separators that the locale's usual entry has for currencies alone, or None where it has none."""
+    plain, own = plain_tables(book, locale, "")[0], Symbols(*entry[0]) if entry[0] else None
+    changed = {it: getattr(own, it) for it in ("decimal", "grouping") if own and getattr(own, it) != getattr(plain, it)}
+    return symbols._replace(**changed) if changed else None
+
+
+def formats_there(book, line):
+    """What another formatter may write a currency's line by, each with its causes."""
+    fields = line.split("\t")
+    _, style, code = FORM.fullmatch(fields[1]).groups()
+    name, _, system = fields[0].partition("-u-nu-")
+    locale, units = locale_of(name), book.units
+    along, (symbols, digits) = book.unit_chain(locale), plain_tables(book, locale, system)
+    unit, ends = (code, LETTERS) if style == "code" else units.symbol(along, code)
+    rounding = units.digits_of(code)[2:] if fields[4] == "cash" else units.digits_of(code)[:2]
+    found = []
+    for own, pattern, beside, causes in patterns_there(units, along, system, style, code):
+        its = Symbols(*own) if own else symbols
+        affixes = affixes_of(chosen_pattern(pattern, beside, ends), unit, its)
+        found.append((Format(its, digits, affixes, rounding), causes))
+        usual = system and with_usual_separators(book, locale, its, units.standard(along, "", code))
+        if usual:
+            found.append((Format(usual, digits, affixes, rounding), [*causes, OF_LATN]))
+    return found
+
+
+def texts_there(book, line):
+    """What another formatter may write for a currency's line, each with its causes."""
+    _, _, grouping, display, rounding, given = line.split("\t")
+    for form, causes in formats_there(book, line):
+        its = with_sign(rounded(number_of(given), *form.rounding), display)
+        yield text_of(form, its, grouping), causes
+        if rounding == "cash" and form.rounding[1] % 10 == 0 and its.fraction.endswith("0"):
+            yield text_of(form, its._replace(fraction=its.fraction[:-1]), grouping), [*causes, CASH_ZERO]
+
+
+def cause_of(book, line, there):
+    """Why another formatter writes this text for a line, or None: the fewest causes under which it would be written here."""
+    if style_of(line) == "percent" or not there.startswith("ok\t"):
+        return None
+    causes = [causes for its, causes in texts_there(book, line) if its == text(there)[1] and causes]
+    return "; and ".join(min(causes, key=len)) if causes else None
+
+
+def say_styles(found):
+    """Prints for each style how many of these lines agree."""
+    for style, its in itertools.groupby(sorted(found, key=lambda it: STYLES.index(style_of(it[0]))), lambda it: style_of(it[0])):
+        its = list(its)
+        agree = sum(text(a) == text(b) for _, a, b in its)
+        print(f"{style:<10} {len(its):>8} lines, {agree:>8} agree, {100 * agree / len(its):.3f} %")
+
+
+def say_found(found, causes, shown):
+    """Prints the shares, the causes of the lines that differ, and the first whose cause is not known; answers whether
+    every cause is known."""
+    other = [it for it in found if text(it[1]) != text(it[2])]
+    say_styles(found)
+    for name, count in collections.Counter(causes.get(it[0]) or "not known" for it in other).most_common():
+        print(f"{count:>8} differ: {name}")
+    unknown = [it for it in other if causes.get(it[0]) is None]
+    say_unknown(unknown, shown)
+    return not unknown
