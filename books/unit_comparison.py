@@ -100,7 +100,8 @@ def texts_there(book, line):
 
 def cause_of(book, line, there):
     """Why another formatter writes this text for a line, or None: the fewest causes under which it would be written here."""
-    if style_of(line) == "percent" or not there.startswith("ok\t"):
+    is_answered = there.startswith("ok\t") and answer(book, line).startswith("ok\t")
+    if style_of(line) == "percent" or not is_answered:
         return None
     causes = [causes for its, causes in texts_there(book, line) if its == text(there)[1] and causes]
     return "; and ".join(min(causes, key=len)) if causes else None
