@@ -244,7 +244,9 @@ class Cldr:
                 known = {path[0] for path in [*tables, *aliases] if path}
                 for part in ("symbols", "decimalFormats", *UNIT_FORMATS):
                     for system in self.digits:
-                        if f"{part}[{system}]" not in known:
+                        # Data without percents and currencies has none of latn either.
+                        is_missing = part in UNIT_FORMATS and system == "latn"
+                        if f"{part}[{system}]" not in known and not is_missing:
                             aliases[(f"{part}[{system}]",)] = (f"{part}[latn]",)
             for path, values in tables.items():
                 # A locale that gives the pattern alone has no pattern beside a letter, whatever its parents have.

@@ -119,10 +119,10 @@ class Units:
     A chain is that of the book, and `und` at its end where the book has parents ("Book.unit_chain")."""
 
     def __init__(self, arrays):
-        *patterns, symbols, digits = arrays
+        percents, currencies, accounts, symbols, digits = arrays
         self.entries = {
             kind: {(locale_of(tag), attribute): rest for tag, attribute, *rest in array}
-            for kind, array in zip(UNIT_ARRAYS, (*patterns, symbols))
+            for kind, array in zip(UNIT_ARRAYS, (percents, currencies, accounts, symbols))
         }
         self.digits = {code: numbers for code, *numbers in digits}
 
@@ -242,8 +242,10 @@ class Book:
 
 
 def halves_of(value):
-    """The book and the units of a JSON value that is a pair of them; the value and None else."""
-    return value if isinstance(value, list) and len(value) == 2 else (value, None)
+    """The book and the units of a JSON value that is a pair of them, where null is no arrays; the value and None else."""
+    if not isinstance(value, list) or len(value) != 2:
+        return value, None
+    return value[0], [] if value[1] is None else value[1]
 
 
 def book_of(value):

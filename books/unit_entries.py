@@ -75,8 +75,8 @@ class UnitEntries:
     def __init__(self, cldr, entries):
         self.cldr, self.entries = cldr, entries
         self.left_out = collections.defaultdict(collections.Counter)
-        self.arrays = [[], [], [], [], self.digits()]
         self.check_root()
+        self.arrays = [[], [], [], [], self.digits()]
 
     def without(self, reason, tag):
         """Counts what is left out of a locale for a reason; answers None, as there is no entry."""

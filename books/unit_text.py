@@ -10,6 +10,7 @@ from look_up import LETTERS, PLACE, locale_of
 
 FORM = re.compile("(read-)?(?:percent|(currency|code|accounting)-([A-Z]{3}))", re.A)
 GROUPINGS = ("auto", "never", "always", "min2")
+SIGNS = ("keep", "auto", "never", "always", "except-zero", "negative")
 ROUNDINGS = ("-", "cash")
 NUMBER = re.compile(r"([-+]?)(?=[0-9]|\.[0-9])([0-9]*)(?:\.([0-9]+))?", re.A)
 
@@ -210,9 +211,11 @@ def answer(book, line):
     with `read-` before it: `ok` and a text, or `err` and a word."""
     fields = line.split("\t")
     asked = FORM.fullmatch(fields[1]) if len(fields) == 6 else None
-    if asked is None or fields[2] not in GROUPINGS or fields[4] not in ROUNDINGS[: 1 if asked[3] is None else 2]:
+    if asked is None:
         return "err\tshape"
     tag, _, grouping, display, rounding, text = fields
+    if grouping not in GROUPINGS or display not in SIGNS or rounding not in ROUNDINGS[: 2 if asked[3] else 1]:
+        return "err\tshape"
     name, _, system = tag.partition("-u-nu-")
     locale = locale_of(name)
     if locale is None:
