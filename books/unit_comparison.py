@@ -1,7 +1,6 @@
 """What the comparisons of percents and of amounts of money with other formatters have in common: the lines, and causes why
 a formatter writes another text than the definition of unit_text.py."""
 import collections
-import itertools
 import random
 
 from comparison import number, say_unknown, text
@@ -109,8 +108,8 @@ def cause_of(book, line, there):
 
 def say_styles(found):
     """Prints for each style how many of these lines agree."""
-    for style, its in itertools.groupby(sorted(found, key=lambda it: STYLES.index(style_of(it[0]))), lambda it: style_of(it[0])):
-        its = list(its)
+    for style in STYLES:
+        its = [it for it in found if style_of(it[0]) == style]
         agree = sum(text(a) == text(b) for _, a, b in its)
         print(f"{style:<10} {len(its):>8} lines, {agree:>8} agree, {100 * agree / len(its):.3f} %")
 
