@@ -302,15 +302,28 @@ class Cldr:
             raise Fault(f"{self.folder}/main/{name}.xml: an alias leads to itself, by {'/'.join(path[:4])}")
         return found
 
+    def default_system(self, chain):
+        """The system that a locale writes numbers in where none is asked for."""
+        found = self.table(chain, ()).get("defaultNumberingSystem", "latn")
+        return found if found in self.digits else "latn"
+
+    def separators_of_currencies(self, chain):
+        """The separators that a locale has for currencies in its usual system, as the elements `decimal` and `group`."""
+        symbols = self.table(chain, (f"symbols[{self.default_system(chain)}]",))
+        found = {it: symbols.get(f"currency{it.title()}", symbols.get(it)) for it in ("decimal", "group")}
+        return {it: text for it, text in found.items() if text is not None}
+
     def currencies(self, chain):
-        """What a locale says of each currency, by its code: the symbol, and the pattern and separators of its own."""
+        """What a locale says of each currency, by its code: the symbol, and the pattern and separators of its own. A
+        pattern goes with the separators of the locale that gives it, as in ICU4C."""
         key = chain[0], ("currencies",)
         if key not in self._tables:
             found = dict(self.currencies(chain[1:])) if len(chain) > 1 else {}
             for path, values in self._of(chain[0])[0].items():
                 if path[:1] == ("currencies",) and len(path) == 2:
                     code = path[1].removeprefix("currency[").removesuffix("]")
-                    found[code] = {**found.get(code, {}), **values}
+                    usual = self.separators_of_currencies(chain) if "pattern" in values else {}
+                    found[code] = {**found.get(code, {}), **usual, **values}
             self._tables[key] = found
         return self._tables[key]
 

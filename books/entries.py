@@ -74,8 +74,7 @@ class Entries:
 
     def default_system(self, chain):
         """The system that a locale writes numbers in where none is asked for."""
-        found = self.cldr.table(chain, ()).get("defaultNumberingSystem", "latn")
-        return found if found in self.cldr.digits else "latn"
+        return self.cldr.default_system(chain)
 
     def named_systems(self, chain):
         """The systems with ten digits that a locale's data names."""
