@@ -1,8 +1,9 @@
 //! Links the library in the folder that LEGUMEYET_LIBRARY names, statically; without it that of the crate, where it has one for the target,
-//! and else the shared one of the machine.
+//! else the shared one that pkg-config finds, and else that of the machine.
 
 use std::env;
 use std::path::{Path, PathBuf};
+use std::process::Command;
 
 /// The folder of a path: LEGUMEYET_LIBRARY may name the library's file, as it may for Python.
 fn folder_of(path: &Path) -> PathBuf {
@@ -35,6 +36,17 @@ fn own_folder() -> Option<PathBuf> {
     Some(Path::new(&crate_folder).join("lib").join(target)).filter(|it| it.join("liblegumeyet.a").is_file())
 }
 
+/// The words that pkg-config says for the linker, where it knows the library: PKG_CONFIG names another command, and PKG_CONFIG_PATH folders.
+fn said_by_pkg_config() -> Option<String> {
+    ["PKG_CONFIG", "PKG_CONFIG_PATH", "PKG_CONFIG_LIBDIR"].iter().for_each(|name| println!("cargo:rerun-if-env-changed={name}"));
+    if env::var_os("HOST") != env::var_os("TARGET") {
+        return None;
+    }
+    let command = env::var_os("PKG_CONFIG").unwrap_or_else(|| "pkg-config".into());
+    let said = Command::new(command).args(["--libs", "legumeyet"]).output().ok().filter(|it| it.status.success())?;
+    String::from_utf8(said.stdout).ok()
+}
+
 fn main() {
     match named_folder().or_else(own_folder) {
         Some(folder) => {
@@ -42,6 +54,10 @@ fn main() {
             println!("cargo:rustc-link-search=native={}", folder.display());
             println!("cargo:rustc-link-lib=static=legumeyet");
         }
-        None => println!("cargo:rustc-link-lib=legumeyet"),
+        None => {
+            let said = said_by_pkg_config().unwrap_or_default();
+            said.split_whitespace().filter_map(|it| it.strip_prefix("-L")).for_each(|it| println!("cargo:rustc-link-search=native={it}"));
+            println!("cargo:rustc-link-lib=legumeyet");
+        }
     }
 }

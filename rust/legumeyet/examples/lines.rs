@@ -3,65 +3,19 @@
 //!
 //! usage: lines BOOK < LINES > ANSWERS
 
-use legumeyet::{Book, CompactDecimalFormatter, DecimalFormatter, Error, Grouping, Options, Rounding, Sign, Width};
+use legumeyet::{Book, CompactDecimalFormatter, DecimalFormatter, Error, Options};
 use std::error;
 use std::io::{self, BufRead, Write};
 
-fn grouping_of(word: &str) -> Option<Grouping> {
-    Some(match word {
-        "auto" => Grouping::Auto,
-        "never" => Grouping::Never,
-        "always" => Grouping::Always,
-        "min2" => Grouping::Min2,
-        _ => return None,
-    })
-}
-
-fn sign_of(word: &str) -> Option<Sign> {
-    Some(match word {
-        "keep" => Sign::Keep,
-        "auto" => Sign::Auto,
-        "never" => Sign::Never,
-        "always" => Sign::Always,
-        "except-zero" => Sign::ExceptZero,
-        "negative" => Sign::Negative,
-        _ => return None,
-    })
-}
-
-fn mode_of(word: &str) -> Option<Rounding> {
-    Some(match word {
-        "expand" => Rounding::Expand,
-        "trunc" => Rounding::Trunc,
-        "ceil" => Rounding::Ceil,
-        "floor" => Rounding::Floor,
-        "half-expand" => Rounding::HalfExpand,
-        "half-trunc" => Rounding::HalfTrunc,
-        "half-ceil" => Rounding::HalfCeil,
-        "half-floor" => Rounding::HalfFloor,
-        "half-even" => Rounding::HalfEven,
-        _ => return None,
-    })
-}
-
 /// The options of two fields, where a formatter has them.
 fn options_of(sign: &str, rounding: &str) -> Option<Options> {
-    let sign = sign_of(sign)?;
+    let sign = sign.parse().ok()?;
     if rounding == "-" {
         return Some(Options::default().sign(sign));
     }
     let words: Vec<&str> = rounding.split(',').collect();
     match words[..] {
-        [position, mode, "1"] => Some(Options::default().sign(sign).rounded(mode_of(mode)?, position.parse().ok()?)),
-        _ => None,
-    }
-}
-
-/// The width of a compact form, `exact-` or not.
-fn width_of(form: &str) -> Option<Width> {
-    match form.strip_prefix("exact-").unwrap_or(form) {
-        "short" => Some(Width::Short),
-        "long" => Some(Width::Long),
+        [position, mode, "1"] => Some(Options::default().sign(sign).rounded(mode.parse().ok()?, position.parse().ok()?)),
         _ => None,
     }
 }
@@ -77,13 +31,14 @@ fn compact_text(compact: &CompactDecimalFormatter, form: &str, number: &str, opt
 /// The text for a request by the call of a formatter, where one does what is asked.
 fn text_for(book: &Book, fields: &[&str]) -> Option<Result<String, Error>> {
     let [tag, form, grouping, sign, rounding, number] = <[&str; 6]>::try_from(fields).ok()?;
-    let (grouping, options) = (grouping_of(grouping)?, options_of(sign, rounding)?);
+    let (grouping, options) = (grouping.parse().ok()?, options_of(sign, rounding)?);
     let plain = || DecimalFormatter::from_book(book, tag, grouping);
     match form {
         "plain" => Some(plain().and_then(|it| it.format(number, &options))),
         "read" => Some(plain().and_then(|it| it.read(number))),
         _ => {
-            let compact = CompactDecimalFormatter::from_book(book, tag, width_of(form)?, grouping);
+            let width = form.strip_prefix("exact-").unwrap_or(form).parse().ok()?;
+            let compact = CompactDecimalFormatter::from_book(book, tag, width, grouping);
             Some(compact.and_then(|it| compact_text(&it, form, number, &options)))
         }
     }

@@ -85,6 +85,58 @@ impl fmt::Debug for Error {
 
 impl std::error::Error for Error {}
 
+/// Why nothing was written.
+#[derive(Clone, Copy, Debug, PartialEq, Eq)]
+#[non_exhaustive]
+pub enum WriteError {
+    /// The number is refused.
+    Number(Error),
+    /// What takes the text failed.
+    Write(fmt::Error),
+}
+
+impl fmt::Display for WriteError {
+    fn fmt(&self, out: &mut fmt::Formatter<'_>) -> fmt::Result {
+        match self {
+            WriteError::Number(error) => error.fmt(out),
+            WriteError::Write(error) => error.fmt(out),
+        }
+    }
+}
+
+impl std::error::Error for WriteError {}
+
+impl From<Error> for WriteError {
+    fn from(error: Error) -> WriteError {
+        WriteError::Number(error)
+    }
+}
+
+impl From<fmt::Error> for WriteError {
+    fn from(error: fmt::Error) -> WriteError {
+        WriteError::Write(error)
+    }
+}
+
+/// So that `?` ends a `Display`, which cannot say why.
+impl From<WriteError> for fmt::Error {
+    fn from(_: WriteError) -> fmt::Error {
+        fmt::Error
+    }
+}
+
+/// A text is the word of no option.
+#[derive(Clone, Copy, Debug, PartialEq, Eq)]
+pub struct UnknownWord;
+
+impl fmt::Display for UnknownWord {
+    fn fmt(&self, out: &mut fmt::Formatter<'_>) -> fmt::Result {
+        out.write_str("the word of no option")
+    }
+}
+
+impl std::error::Error for UnknownWord {}
+
 /// Why no book was opened of a file.
 #[derive(Debug)]
 #[non_exhaustive]

@@ -12,6 +12,25 @@
 //! # Ok::<(), legumeyet::Error>(())
 //! ```
 //!
+//! A number is a text, an integer or a float: [`Number`]. `write_to` writes into what has `fmt::Write`, as a `fmt::Formatter`:
+//!
+//! ```
+//! use legumeyet::{DecimalFormatter, Error, Options, Rounding};
+//! use std::fmt;
+//!
+//! struct Price<'a>(&'a DecimalFormatter, f64);
+//!
+//! impl fmt::Display for Price<'_> {
+//!     fn fmt(&self, out: &mut fmt::Formatter<'_>) -> fmt::Result {
+//!         Ok(self.0.write_to(out, self.1, &Options::default().rounded(Rounding::HalfEven, -2))?)
+//!     }
+//! }
+//!
+//! let german: DecimalFormatter = "de".parse()?;
+//! assert_eq!(format!("{} €", Price(&german, 1234.5)), "1.234,50 €");
+//! # Ok::<(), Error>(())
+//! ```
+//!
 //! Books and formatters may move to another thread, and are used by one thread at a time:
 //!
 //! ```compile_fail
@@ -20,21 +39,29 @@
 //! ```
 
 mod error;
+mod number;
 mod options;
 mod owned;
 mod sys;
 mod world;
 
-pub use error::{Error, OpenError};
+pub use error::{Error, OpenError, UnknownWord, WriteError};
+pub use number::Number;
 pub use options::{Grouping, Kind, Options, Rounding, Sign, Width};
 pub use world::{tag_of_locale_name, world_locales};
 
+use std::fmt;
 use std::fs;
 use std::ops::Range;
 use std::path::Path;
+use std::str::FromStr;
 
-use owned::{annotated, written, Owned};
+use number::Of;
+use owned::{annotated, written, written_to, Owned};
 use world::with_world;
+
+/// The parts of a text, by bytes, in order of their beginning.
+pub type Parts = Vec<(Kind, Range<usize>)>;
 
 /// A book of tables.
 #[derive(Debug)]
@@ -72,9 +99,27 @@ impl Book {
     }
 }
 
+/// The book that a JSON text is, as of `from_json`.
+impl FromStr for Book {
+    type Err = Error;
+
+    fn from_str(json: &str) -> Result<Book, Error> {
+        Book::from_json(json.as_bytes())
+    }
+}
+
 /// The formatter of plain numbers for a locale tag. It may outlive the book.
 #[derive(Debug)]
 pub struct DecimalFormatter(Owned);
+
+/// The formatter of a tag, as of `new`.
+impl FromStr for DecimalFormatter {
+    type Err = Error;
+
+    fn from_str(tag: &str) -> Result<DecimalFormatter, Error> {
+        DecimalFormatter::new(tag)
+    }
+}
 
 impl DecimalFormatter {
     /// The formatter of a tag, of the world's book, which the process opens once and keeps. Refused by `TAG`, `TABLE`, `MEMORY`.
@@ -95,13 +140,27 @@ impl DecimalFormatter {
         Owned::open(sys::legumeyet_decimal_formatter_close, open).map(DecimalFormatter)
     }
 
-    /// The text of a number that is given as text. Refused by `NUMBER`, `LIMIT`, `MEMORY`.
-    pub fn format(&self, number: &str, options: &Options) -> Result<String, Error> {
-        let options = options.numbers();
-        // SAFETY: as for `Book::answer`.
-        written(|out, room, length| unsafe {
-            sys::legumeyet_decimal_formatter_format(self.0.at(), number.as_ptr(), number.len(), &options, out, room, length)
-        })
+    /// The text of a number. Refused by `NUMBER`, `LIMIT`, `MEMORY`.
+    pub fn format<'a>(&self, number: impl Into<Number<'a>>, options: &Options) -> Result<String, Error> {
+        let (number, options) = (number.into(), options.numbers());
+        written(|out, room, length| self.call(&number, &options, out, room, length))
+    }
+
+    /// Writes the text of `format` into what takes texts, without a text of its own where it has up to 128 bytes. Refused as `format`, and
+    /// where what takes it fails.
+    pub fn write_to<'a>(&self, into: &mut impl fmt::Write, number: impl Into<Number<'a>>, options: &Options) -> Result<(), WriteError> {
+        let (number, options) = (number.into(), options.numbers());
+        written_to(into, |out, room, length| self.call(&number, &options, out, room, length))
+    }
+
+    fn call(&self, number: &Number<'_>, options: &sys::Options, out: *mut u8, room: usize, length: *mut usize) -> i32 {
+        // SAFETY: a text is memory of its length, `out` is memory of `room`, and no other call has the handle.
+        unsafe {
+            match &number.0 {
+                Of::Integer(it) => sys::legumeyet_decimal_formatter_format_i64(self.0.at(), *it, 0, options, out, room, length),
+                Of::Digits(it) => sys::legumeyet_decimal_formatter_format(self.0.at(), it.as_ptr(), it.len(), options, out, room, length),
+            }
+        }
     }
 
     /// The text of the number `mantissa` times ten to the power `exponent`: 500 and -2 are `5.00`. Refused by `LIMIT`, `MEMORY`.
@@ -114,8 +173,10 @@ impl DecimalFormatter {
     }
 
     /// The text of `format` with its parts, by bytes, in order of their beginning. Refused as `format`.
-    pub fn format_parts(&self, number: &str, options: &Options) -> Result<(String, Vec<(Kind, Range<usize>)>), Error> {
-        let (options, at, len) = (options.numbers(), number.as_ptr(), number.len());
+    pub fn format_parts<'a>(&self, number: impl Into<Number<'a>>, options: &Options) -> Result<(String, Parts), Error> {
+        let number = number.into();
+        let digits = number.digits();
+        let (options, at, len) = (options.numbers(), digits.as_ptr(), digits.len());
         // SAFETY: as for `Book::answer`; the memory for parts has the room that is passed.
         annotated(|out, room, length, parts, places, count| unsafe {
             sys::legumeyet_decimal_formatter_format_parts(self.0.at(), at, len, &options, out, room, length, parts, places, count)
@@ -167,14 +228,27 @@ impl CompactDecimalFormatter {
         Owned::open(sys::legumeyet_compact_formatter_close, open).map(CompactDecimalFormatter)
     }
 
-    /// The text of a number that is given as text: `-1172700` is `-1.2M` in short English. Refused by `NUMBER`, `LIMIT`, `RANGE`,
-    /// `MEMORY`.
-    pub fn format(&self, number: &str, options: &Options) -> Result<String, Error> {
-        let options = options.numbers();
-        // SAFETY: as for `Book::answer`.
-        written(|out, room, length| unsafe {
-            sys::legumeyet_compact_formatter_format(self.0.at(), number.as_ptr(), number.len(), &options, out, room, length)
-        })
+    /// The text of a number: -1172700 is `-1.2M` in short English. Refused by `NUMBER`, `LIMIT`, `RANGE`, `MEMORY`.
+    pub fn format<'a>(&self, number: impl Into<Number<'a>>, options: &Options) -> Result<String, Error> {
+        let (number, options) = (number.into(), options.numbers());
+        written(|out, room, length| self.call(&number, &options, out, room, length))
+    }
+
+    /// Writes the text of `format` into what takes texts, without a text of its own where it has up to 128 bytes. Refused as `format`, and
+    /// where what takes it fails.
+    pub fn write_to<'a>(&self, into: &mut impl fmt::Write, number: impl Into<Number<'a>>, options: &Options) -> Result<(), WriteError> {
+        let (number, options) = (number.into(), options.numbers());
+        written_to(into, |out, room, length| self.call(&number, &options, out, room, length))
+    }
+
+    fn call(&self, number: &Number<'_>, options: &sys::Options, out: *mut u8, room: usize, length: *mut usize) -> i32 {
+        // SAFETY: a text is memory of its length, `out` is memory of `room`, and no other call has the handle.
+        unsafe {
+            match &number.0 {
+                Of::Integer(it) => sys::legumeyet_compact_formatter_format_i64(self.0.at(), *it, 0, options, out, room, length),
+                Of::Digits(it) => sys::legumeyet_compact_formatter_format(self.0.at(), it.as_ptr(), it.len(), options, out, room, length),
+            }
+        }
     }
 
     /// The text of the number `mantissa` times ten to the power `exponent`. Refused by `LIMIT`, `RANGE`, `MEMORY`.
@@ -187,8 +261,10 @@ impl CompactDecimalFormatter {
     }
 
     /// The text of `format` with its parts, those of its sign, by bytes. Refused as `format`.
-    pub fn format_parts(&self, number: &str, options: &Options) -> Result<(String, Vec<(Kind, Range<usize>)>), Error> {
-        let (options, at, len) = (options.numbers(), number.as_ptr(), number.len());
+    pub fn format_parts<'a>(&self, number: impl Into<Number<'a>>, options: &Options) -> Result<(String, Parts), Error> {
+        let number = number.into();
+        let digits = number.digits();
+        let (options, at, len) = (options.numbers(), digits.as_ptr(), digits.len());
         // SAFETY: as for `DecimalFormatter::format_parts`.
         annotated(|out, room, length, parts, places, count| unsafe {
             sys::legumeyet_compact_formatter_format_parts(self.0.at(), at, len, &options, out, room, length, parts, places, count)
@@ -197,11 +273,12 @@ impl CompactDecimalFormatter {
 
     /// The value that the text of `format` shows, a significand and, after `c`, an exponent where it is not 0: `-1.2c6`. Refused as
     /// `format`.
-    pub fn shown(&self, number: &str, options: &Options) -> Result<String, Error> {
-        let options = options.numbers();
+    pub fn shown<'a>(&self, number: impl Into<Number<'a>>, options: &Options) -> Result<String, Error> {
+        let (number, options) = (number.into(), options.numbers());
+        let digits = number.digits();
         // SAFETY: as for `Book::answer`.
         written(|out, room, length| unsafe {
-            sys::legumeyet_compact_formatter_shown(self.0.at(), number.as_ptr(), number.len(), &options, out, room, length)
+            sys::legumeyet_compact_formatter_shown(self.0.at(), digits.as_ptr(), digits.len(), &options, out, room, length)
         })
     }
 

@@ -1,4 +1,36 @@
-use crate::sys;
+use crate::{sys, UnknownWord};
+use std::fmt;
+use std::str::FromStr;
+
+/// The words of options, as a request line has them: `Display` writes one, and `FromStr` reads it.
+macro_rules! words {
+    ($type:ident: $($word:literal $case:ident),*) => {
+        impl fmt::Display for $type {
+            fn fmt(&self, out: &mut fmt::Formatter<'_>) -> fmt::Result {
+                out.pad(match self {
+                    $($type::$case => $word,)*
+                })
+            }
+        }
+
+        impl FromStr for $type {
+            type Err = UnknownWord;
+
+            fn from_str(word: &str) -> Result<$type, UnknownWord> {
+                match word {
+                    $($word => Ok($type::$case),)*
+                    _ => Err(UnknownWord),
+                }
+            }
+        }
+    };
+}
+
+words!(Grouping: "auto" Auto, "never" Never, "always" Always, "min2" Min2);
+words!(Width: "short" Short, "long" Long);
+words!(Sign: "keep" Keep, "auto" Auto, "never" Never, "always" Always, "except-zero" ExceptZero, "negative" Negative);
+words!(Rounding: "keep" Keep, "expand" Expand, "trunc" Trunc, "ceil" Ceil, "floor" Floor, "half-expand" HalfExpand,
+    "half-trunc" HalfTrunc, "half-ceil" HalfCeil, "half-floor" HalfFloor, "half-even" HalfEven);
 
 /// When grouping separators are written.
 #[derive(Clone, Copy, Debug, Default, PartialEq, Eq)]
@@ -78,6 +110,13 @@ impl Kind {
 }
 
 /// Which neighbour a number is rounded to.
+///
+/// ```
+/// use legumeyet::Rounding;
+///
+/// assert_eq!("half-even".parse(), Ok(Rounding::HalfEven));
+/// assert_eq!(Rounding::HalfEven.to_string(), "half-even");
+/// ```
 #[derive(Clone, Copy, Debug, Default, PartialEq, Eq)]
 #[non_exhaustive]
 pub enum Rounding {

@@ -1,7 +1,6 @@
-use crate::{sys, Error, Kind};
+use crate::{sys, Error, Kind, Parts, WriteError};
 use std::cell::UnsafeCell;
 use std::fmt;
-use std::ops::Range;
 
 /// A handle that is closed when it is dropped. It is not `Sync`: one call at a time has it.
 pub(crate) struct Owned {
@@ -60,10 +59,21 @@ pub(crate) fn written(call: impl FnMut(*mut u8, usize, *mut usize) -> i32) -> Re
     Ok(String::from_utf8(written_bytes(call)?).expect("the library writes UTF-8"))
 }
 
+/// Writes the text that a call writes into what takes texts: of memory on the stack, where it has room.
+pub(crate) fn written_to(into: &mut impl fmt::Write, mut call: impl FnMut(*mut u8, usize, *mut usize) -> i32) -> Result<(), WriteError> {
+    let (mut small, mut length) = ([0; 128], 0);
+    let number = call(small.as_mut_ptr(), small.len(), &mut length);
+    if number == sys::TOO_SMALL {
+        return Ok(into.write_str(&written(call)?)?);
+    }
+    Error::check(number)?;
+    Ok(into.write_str(std::str::from_utf8(&small[..length]).expect("the library writes UTF-8"))?)
+}
+
 /// The same with parts: the call is also passed memory for them, their room, and where their count goes.
 pub(crate) fn annotated(
     mut call: impl FnMut(*mut u8, usize, *mut usize, *mut sys::Interval, usize, *mut usize) -> i32,
-) -> Result<(String, Vec<(Kind, Range<usize>)>), Error> {
+) -> Result<(String, Parts), Error> {
     let (mut found, mut count) = (vec![sys::Interval::default(); 16], 0);
     let text = written(|out, room, length| {
         found.resize(found.len().max(count), sys::Interval::default());

@@ -1,7 +1,10 @@
 //! Each call well and badly.
 
-use legumeyet::{Book, CompactDecimalFormatter, DecimalFormatter, Error, Grouping, Kind, OpenError, Options, Rounding, Sign, Width};
-use std::{env, fs, io, process, thread};
+use legumeyet::{
+    Book, CompactDecimalFormatter, DecimalFormatter, Error, Grouping, Kind, OpenError, Options, Rounding, Sign, UnknownWord, Width,
+    WriteError,
+};
+use std::{env, fmt, fs, io, process, thread};
 
 const JSON: &str = r#"[[["en","","latn","-","","+","",".",",",3,3,1],["bad","","latn","","","+","",".",",",3,3,1]],
 [["latn","0123456789"]],[["en",[]]],[["en","",[[3,3,[["other",["","K"]]]],[6,6,[["other",["","M"]]]]],null]],
@@ -37,6 +40,87 @@ fn numbers() {
     }
     assert_eq!(english.format(&"9".repeat(40000), &Options::default()), Err(Error::LIMIT));
     assert_eq!(english.format_i64(10, i16::MAX, &Options::default()), Err(Error::LIMIT));
+}
+
+#[test]
+fn numbers_of_all_types() {
+    let (english, short, as_given) = (english(), compact(Width::Short), Options::default());
+    assert_eq!(english.format(i128::MIN, &as_given).unwrap().len(), 52);
+    for text in [english.format(-1i8, &as_given), english.format(-1isize, &as_given), english.format(-1.0f32, &as_given)] {
+        assert_eq!(text.unwrap(), "-1");
+    }
+    assert_eq!(english.format(u64::MAX, &as_given).unwrap(), "18,446,744,073,709,551,615");
+    assert_eq!(english.format(1234usize, &as_given).unwrap(), "1,234");
+    assert_eq!(english.format(&String::from("1.50"), &as_given).unwrap(), "1.50");
+    for (number, text) in [
+        (0.1, "0.1"),
+        (5.0, "5"),
+        (-0.0, "-0"),
+        (1e21, "1,000,000,000,000,000,000,000"),
+        (1e-7, "0.0000001"),
+        (0.1 + 0.2, "0.30000000000000004"),
+    ] {
+        assert_eq!(english.format(number, &as_given).unwrap(), text);
+    }
+    assert_eq!(english.format(0.1f32, &as_given).unwrap(), "0.1");
+    assert_eq!(english.format(f64::MAX, &as_given).unwrap().len(), 411);
+    for number in [f64::NAN, f64::INFINITY, f64::NEG_INFINITY] {
+        assert_eq!(english.format(number, &as_given), Err(Error::NUMBER));
+        assert_eq!(short.shown(number, &as_given), Err(Error::NUMBER));
+    }
+    assert_eq!(short.format(-1172700, &as_given).unwrap(), "-1.2M");
+    assert_eq!(short.format(1250.5, &as_given).unwrap(), "1.3K");
+    assert_eq!(short.shown(u64::MAX, &as_given).unwrap(), "18446744073710c6");
+    assert_eq!(english.format_parts(-5, &as_given).unwrap().1, [(Kind::MinusSign, 0..1), (Kind::Integer, 1..2)]);
+    assert_eq!(english.format_parts(u64::MAX, &as_given).unwrap().0, "18,446,744,073,709,551,615");
+}
+
+/// Takes texts up to a length.
+struct Short(String, usize);
+
+impl fmt::Write for Short {
+    fn write_str(&mut self, text: &str) -> fmt::Result {
+        if self.0.len() + text.len() > self.1 {
+            return Err(fmt::Error);
+        }
+        self.0.push_str(text);
+        Ok(())
+    }
+}
+
+#[test]
+fn writes() {
+    let (english, short, as_given) = (english(), compact(Width::Short), Options::default());
+    let mut text = String::from("it is ");
+    english.write_to(&mut text, 1234, &as_given).unwrap();
+    short.write_to(&mut text, "-1172700", &as_given).unwrap();
+    assert_eq!(text, "it is 1,234-1.2M");
+    english.write_to(&mut text, &"1".repeat(1000), &as_given).unwrap();
+    assert_eq!(text.len(), 16 + 1333);
+    let mut short = Short(String::new(), 4);
+    assert_eq!(english.write_to(&mut short, "5.", &as_given), Err(WriteError::Number(Error::NUMBER)));
+    assert_eq!(english.write_to(&mut short, 1234, &as_given), Err(WriteError::Write(fmt::Error)));
+    assert_eq!(english.write_to(&mut short, 123, &as_given), Ok(()));
+    assert_eq!(short.0, "123");
+    assert_eq!(WriteError::Number(Error::NUMBER).to_string(), Error::NUMBER.to_string());
+}
+
+#[test]
+fn words() {
+    for word in ["keep", "auto", "never", "always", "except-zero", "negative"] {
+        assert_eq!(word.parse::<Sign>().unwrap().to_string(), word);
+    }
+    let modes = "keep expand trunc ceil floor half-expand half-trunc half-ceil half-floor half-even";
+    for word in modes.split(' ') {
+        assert_eq!(word.parse::<Rounding>().unwrap().to_string(), word);
+    }
+    assert_eq!("min2".parse(), Ok(Grouping::Min2));
+    assert_eq!(format!("{:>6}", Width::Long), "  long");
+    assert_eq!("Auto".parse::<Grouping>(), Err(UnknownWord));
+    assert_eq!("5".parse::<Width>(), Err(UnknownWord));
+    assert_eq!(JSON.parse::<Book>().unwrap().answer(b"en\tplain\tauto\tkeep\t-\t1234").unwrap(), "ok\t1,234");
+    assert_eq!("[]".parse::<Book>().err(), Some(Error::BOOK_SHAPE));
+    assert_eq!("e".parse::<DecimalFormatter>().err(), Some(Error::TAG));
 }
 
 #[test]
