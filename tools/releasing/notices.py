@@ -1,0 +1,116 @@
+"""What of the kit is inside the library and the command, and the notices that go with their copies."""
+import functools
+import os
+import pathlib
+import re
+import subprocess
+
+from launching import sources
+from launching.common import RT, Fault
+
+from .common import TOP
+
+FOLDER, LIST = "LICENSES", "INSIDE.md"
+INSIDE = {"legumeyet_c": "library", "legumeyet": "command"}
+PAGE = """\
+# What is inside
+
+The library and the command of Legumeyet are compiled of its own crates, under `LICENSE`, of the tables of CLDR, under `LICENSE-Unicode`, and of the
+crates of the Rattle kit that are listed here. Many of those are ports of Rust crates. Where the kit has a port under two licences, it is here
+under the MIT licence. The files that are named are the kit's own, and are in folders beside this page.
+
+| Crate of the kit | Inside | What it says of itself | Files |
+|---|---|---|---|
+{rows}
+"""
+
+
+@functools.lru_cache
+def kit():
+    """The folder of the kit, or None where it is not installed."""
+    try:
+        asked = subprocess.run([RT, "doc"], stdin=subprocess.DEVNULL, stdout=subprocess.PIPE, check=True)
+    except (OSError, subprocess.CalledProcessError):
+        return None
+    return pathlib.Path(os.fsdecode(asked.stdout.strip())).parent
+
+
+def below(name):
+    """The crates that one uses, of the repository or of the kit."""
+    if name in sources.listed():
+        return ["std", *sources.listed()[name]]
+    text = (kit() / f"rlibs/{name}.rlib/format").read_text(encoding="utf-8")
+    return re.findall(r"^dep (\S+)$", text, re.M)
+
+
+def inside(top):
+    """The crates of the kit below a crate."""
+    found, left = set(), [top]
+    while left:
+        name = left.pop()
+        if name not in found:
+            found.add(name)
+            left += below(name)
+    return found - set(sources.listed())
+
+
+def texts_of(name):
+    """The licences of a crate of the kit, by their files: of a choice of two that of MIT."""
+    files = sorted((kit() / "rattle" / name).glob("LICENSE*"))
+    if any(it.name == "LICENSE-MIT" for it in files):
+        files = [it for it in files if it.name != "LICENSE-APACHE"]
+    return {it.name: it.read_bytes() for it in files}
+
+
+def words_of(name):
+    """What the README of a crate of the kit says of where it is from."""
+    path = kit() / "rattle" / name / "README.md"
+    text = " ".join(path.read_text(encoding="utf-8").split()) if path.is_file() else ""
+    found = re.search(r"Rust crate `(\w+)` ([\d.]*\d)(?: \(([^),;`]*)[^)]*\))?", text)
+    if found:
+        return f"after the Rust crate {found[1]} {found[2]}{f', {found[3].strip()}' if found[3] else ''}"
+    return "after a Rust crate" if texts_of(name) else "of the kit's own"
+
+
+def made():
+    """The files of LICENSES as the kit has them, by name."""
+    parts = {name: inside(top) for top, name in INSIDE.items()}
+    files, rows = {}, []
+    for name in sorted(set().union(*parts.values())):
+        texts = texts_of(name)
+        files.update({f"{name}/{file}": text for file, text in texts.items()})
+        where = " and ".join(it for it in INSIDE.values() if name in parts[it])
+        named = ", ".join(f"`{name}/{file}`" for file in texts) or "the kit has none"
+        rows.append(f"| `{name}` | {where} | {words_of(name)} | {named} |")
+    files[LIST] = PAGE.format(rows="\n".join(rows)).encode()
+    return files
+
+
+def there():
+    """The files of LICENSES as the repository has them."""
+    folder = TOP / FOLDER
+    return {str(it.relative_to(folder)): it.read_bytes() for it in sorted(folder.rglob("*")) if it.is_file()}
+
+
+def check():
+    """Raises a Fault where a file is not as the kit has it. Without the kit nothing is looked at."""
+    if kit() is None:
+        return
+    ours, its = there(), made()
+    wrong = sorted(name for name in {*ours, *its} if ours.get(name) != its.get(name))
+    if wrong:
+        raise Fault(f"{FOLDER}/{wrong[0]} is not as the kit has it: tools/notices --write makes it")
+
+
+def write():
+    """Writes them anew. Raises a Fault without the kit."""
+    if kit() is None:
+        raise Fault(f"the command {RT} of the Rattle kit is not on the PATH")
+    its = made()
+    for name in there():
+        if name not in its:
+            (TOP / FOLDER / name).unlink()
+    for name, text in its.items():
+        path = TOP / FOLDER / name
+        path.parent.mkdir(parents=True, exist_ok=True)
+        path.write_bytes(text)
