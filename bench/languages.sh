@@ -1,7 +1,8 @@
 #!/bin/sh
-# Times a call that writes a number in German: from C beside `Intl.NumberFormat` of Node, from Python beside Babel. Prints, for 1, 7 and
-# 18 digits, nanoseconds and the one over the other: below 1 this library is faster. It needs a C compiler, node and python3, and of
-# Debian's packages python3-babel.
+# Times a call that writes a number in German from C beside `Intl.NumberFormat` of Node, for 1, 7 and 18 digits; and from Python beside Babel a call
+# that writes one, one that reads it back, and one that writes many of a list and of a row in memory, by the number. Prints nanoseconds and the one
+# over the other: below 1 this library is faster. It needs a C compiler, the headers of Python, node and python3, and of Debian's packages
+# python3-babel.
 # usage: bench/languages.sh [LIBRARY [TURNS]]
 # Without LIBRARY, a folder as tools/build_c leaves it, it is made of the proved crate.
 set -eu
@@ -14,13 +15,14 @@ mkdir -p "$made"
 "${CC:-cc}" -O2 -D_GNU_SOURCE "-I$library" -o "$made/languages" "$here/main.c" "$library/liblegumeyet.a"
 "$made/languages" "$turns" $digits >"$made/c.txt"
 node "$here/intl.js" "$turns" $digits >"$made/intl.txt"
-LEGUMEYET_LIBRARY=$library PYTHONPATH=$top/python "$python" "$here/peers.py" legumeyet "$turns" $digits >"$made/python.txt"
-"$python" "$here/peers.py" babel "$turns" $digits >"$made/babel.txt"
-echo "digits       C    Intl  ratio   Python   Babel  ratio"
+echo "digits       C    Intl  ratio"
 for count in $digits; do
     echo "$count"
-done | paste -d ' ' - "$made/c.txt" "$made/intl.txt" "$made/python.txt" "$made/babel.txt" | while read -r count c ct intl it python pt babel bt; do
-    [ "$ct" = "$it" ] && [ "$ct" = "$pt" ] && [ "$ct" = "$bt" ] || echo "bench: the texts differ: $ct $it $pt $bt" >&2
-    awk -v n="$count" -v c="$c" -v i="$intl" -v p="$python" -v b="$babel" \
-        'BEGIN { printf "%6d %7.0f %7.0f  %5.2f  %7.0f %7.0f  %5.2f\n", n, c, i, c / i, p, b, p / b }'
+done | paste -d ' ' - "$made/c.txt" "$made/intl.txt" | while read -r count c ct intl it; do
+    [ "$ct" = "$it" ] || echo "bench: the texts differ: $ct $it" >&2
+    awk -v n="$count" -v c="$c" -v i="$intl" 'BEGIN { printf "%6d %7.0f %7.0f  %5.2f\n", n, c, i, c / i }'
 done
+wheel=$("$top/tools/build_wheel" --library "$library" "$made/wheels")
+rm -rf "$made/python"
+"$python" -m zipfile -e "$wheel" "$made/python"
+PYTHONPATH=$made/python:${PYTHONPATH:-} "$python" "$here/peers.py" "$turns" $digits

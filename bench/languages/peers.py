@@ -1,34 +1,52 @@
-"""Prints the nanoseconds of a call of this package, or of Babel, that writes a number in German; one line a number of digits.
+"""Prints the nanoseconds of calls of this package and of Babel, in turns, and the one over the other: that write a number in German, that read it
+back, and of a number among many that are written. Each has a line for each count of digits.
 
-usage: peers.py legumeyet|babel TURNS DIGITS..
+usage: peers.py TURNS DIGITS..
 """
+import array
 import sys
 import time
 from decimal import Decimal
+from functools import partial
 
-CALLS = 2000
+from babel.numbers import format_decimal, parse_decimal
+from legumeyet import DecimalFormatter
 
-
-def writer(name):
-    """What writes a Decimal in German."""
-    if name == "babel":
-        from babel.numbers import format_decimal
-        return lambda number: format_decimal(number, locale="de")
-    from legumeyet import DecimalFormatter
-    return DecimalFormatter("de").format
+COUNT = 1000
 
 
-def main(name, turns, *digits):
+def calls(digits):
+    """The calls: a name, how many numbers each is of, how often it is made a turn, both calls, and the argument of both."""
+    german = DecimalFormatter("de")
+    written, read = partial(format_decimal, locale="de"), partial(parse_decimal, locale="de", strict=True)
+    number = Decimal("987654321987654321"[:digits])
+    all_written = lambda numbers: [written(it) for it in numbers]
+    yield "format", 1, COUNT, german.format, written, number
+    yield "read", 1, COUNT, german.read, read, written(number)
+    yield "all", COUNT, 1, german.format_all, all_written, [number] * COUNT
+    yield "row", COUNT, 1, german.format_all, all_written, array.array("q", [int(number)] * COUNT)
+
+
+def timed(call, argument, count):
+    """The nanoseconds of a call."""
+    start = time.perf_counter_ns()
+    for _ in range(count):
+        call(argument)
+    return (time.perf_counter_ns() - start) / count
+
+
+def main(turns, *digits):
     """Times them."""
-    write = writer(name)
+    print("call    digits   Python   Babel  ratio")
     for count in digits:
-        number, least, text = Decimal("987654321987654321"[:int(count)]), float("inf"), ""
-        for _ in range(int(turns)):
-            start = time.perf_counter_ns()
-            for _ in range(CALLS):
-                text = write(number)
-            least = min(least, (time.perf_counter_ns() - start) / CALLS)
-        print(f"{least:.1f} {text}")
+        for name, numbers, times, ours, theirs, argument in calls(int(count)):
+            if ours(argument) != theirs(argument):
+                print(f"bench: {name} of {count} digits differs: {ours(argument)} {theirs(argument)}", file=sys.stderr)
+            least = [float("inf")] * 2
+            for _ in range(int(turns)):
+                for at, call in enumerate((ours, theirs)):
+                    least[at] = min(least[at], timed(call, argument, times) / numbers)
+            print(f"{name:<7} {count:>6}  {least[0]:>7.0f} {least[1]:>7.0f}  {least[0] / least[1]:>5.3f}")
 
 
 main(*sys.argv[1:])

@@ -11,14 +11,19 @@ A formatter is made of a locale tag, and writes numbers:
 >>> CompactDecimalFormatter("de", width=Width.LONG).format(1234567)
 '1,2 Millionen'
 
-Books and formatters close themselves when they are no longer used; `with` and `close` close them sooner. One of them is used by
-one thread at a time: a call waits for another thread's.
+Books and formatters close themselves when they are no longer used; `with` and `close` close them sooner. Threads, signal handlers and forked
+children may use them: a call waits where another thread is inside `format_all`.
 """
 from decimal import Decimal
 
+try:
+    from . import _core
+except ImportError as error:
+    raise ImportError(f"{error}: the wheel of tools/build_wheel has this module, and `pip install ./python` compiles it") from None
+from ._errors import ClosedError, Error, InputError, OutOfMemoryError
 from ._formatters import Book, CompactDecimalFormatter, DecimalFormatter, Part
-from ._options import Grouping, Kind, Rounding, Sign, Width
-from ._library import ClosedError, Error, InputError, OutOfMemoryError, tag_of_locale_name, version, world_locales
+from ._locales import minor, tag_of_locale_name, version, world_locales
+from ._options import Grouping, Kind, Rounding, Sign, TrailingZeros, Width
 
 __all__ = [
     "Book",
@@ -34,7 +39,9 @@ __all__ = [
     "Part",
     "Rounding",
     "Sign",
+    "TrailingZeros",
     "Width",
+    "minor",
     "tag_of_locale_name",
     "version",
     "world_locales",

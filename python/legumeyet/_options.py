@@ -71,6 +71,15 @@ class Rounding(IntEnum):
     HALF_EVEN = 9
 
 
+class TrailingZeros(IntEnum):
+    """What becomes of the zeros at the end of the fraction digits. KEEP: they stay, `1.50`. TRIM: they are trimmed, and the decimal separator
+    where no digit is left, `1.5`, and `2` of `2.00`.
+    """
+
+    KEEP = 0
+    TRIM = 1
+
+
 def number_of(kind: Type[IntEnum], option: IntEnum) -> int:
     """The number of an option of a kind. Raises a TypeError for one of another kind, and for a number."""
     if not isinstance(option, kind):

@@ -2,6 +2,7 @@
 
 usage: python3 -m unittest discover -s python/tests
 """
+import array
 import concurrent.futures
 import contextlib
 import copy
@@ -9,6 +10,7 @@ import decimal
 import doctest
 import gc
 import io
+import itertools
 import multiprocessing
 import os
 import pathlib
@@ -18,14 +20,16 @@ import subprocess
 import sys
 import tempfile
 import threading
+import time
 import unittest
+import weakref
 from decimal import Decimal
-from unittest import mock
+from fractions import Fraction
 
 import legumeyet
 from legumeyet import (
-    Book, ClosedError, CompactDecimalFormatter, DecimalFormatter, Error, Grouping, InputError, Kind, OutOfMemoryError, Rounding, Sign, Width,
-    _formatters, _library, _options,
+    Book, ClosedError, CompactDecimalFormatter, DecimalFormatter, Error, Grouping, InputError, Kind, OutOfMemoryError, Rounding, Sign,
+    TrailingZeros, Width, _core, _errors, _formatters, _locales, _options,
 )
 from legumeyet.__main__ import main
 
@@ -37,7 +41,7 @@ JSON = """[[["en","","latn","-","","+","",".",",",3,3,1],["ar","","arab","-","",
 
 def load_tests(_loader, tests, _pattern):
     """The tests of this file, and the examples."""
-    for module in (legumeyet, _formatters, _library):
+    for module in (legumeyet, _core, _errors, _formatters, _locales):
         tests.addTests(doctest.DocTestSuite(module, extraglobs={**vars(legumeyet), "Decimal": Decimal}))
     return tests
 
@@ -75,8 +79,12 @@ class Calls(unittest.TestCase):
             self.refused(7, self.english.format, number)
         for number in (10**32768, Decimal("1E+999999"), Decimal("1E-99999"), "1e40000", Decimal("0." + "1" * 40000), Decimal("0E-40000")):
             self.refused(8, self.english.format, number)
-        for number in (1.5, None, b"1", [1]):
+        for number in (float("nan"), float("inf"), -float("inf")):
+            self.refused(7, self.english.format, number)
+        for number in (None, b"1", [1], 1j, self.english):
             self.assertRaises(TypeError, self.english.format, number)
+        with self.assertRaisesRegex(TypeError, r"give Decimal\(it.numerator\) / it.denominator"):
+            self.english.format(Fraction(1, 3))
         with decimal.localcontext() as context:
             context.capitals = 0
             self.refused(8, self.english.format, Decimal("1E+40000"))
@@ -107,7 +115,8 @@ class Calls(unittest.TestCase):
         ]:
             self.refused(number, call, *words)
         self.assertRaises(TypeError, self.short.format_exact, 1)
-        self.assertRaises(TypeError, self.short.shown, 1.5)
+        self.assertRaises(TypeError, self.short.format_exact, 1.5)
+        self.assertEqual((self.short.shown(1250.5), self.short.format(-1172700.0)), ("1.3c3", "-1.2M"))
         for number, tag in ((5, "e"), (5, "\udcff"), (6, "xx"), (6, "ar")):
             self.refused(number, CompactDecimalFormatter, self.book, tag)
 
@@ -200,20 +209,49 @@ class Calls(unittest.TestCase):
         self.assertEqual(self.english.format(1234), "1,234")
 
     def test_signal_inside_a_call(self):
-        texts, written = [], _formatters.written
+        english, texts = self.english, []
 
-        def with_signal(*arguments):
-            with mock.patch.object(_formatters, "written", written):
+        class Rings(Decimal):
+            """Raises a signal while a call takes its digits."""
+
+            def __str__(self):
                 signal.raise_signal(signal.SIGUSR1)
-            return written(*arguments)
+                return super().__str__()
 
-        before = signal.signal(signal.SIGUSR1, lambda *_: texts.append(self.english.format("1234.5")))
+        before = signal.signal(signal.SIGUSR1, lambda *_: texts.append(english.format("1234.5")))
         try:
-            with mock.patch.object(_formatters, "written", with_signal):
-                texts.append(self.english.format("5.0"))
+            texts.append(english.format(Rings("5.0")))
+            texts.append(english.format_all([Rings("6.0")]))
         finally:
             signal.signal(signal.SIGUSR1, before)
-        self.assertEqual(texts, ["1,234.5", "5.0"])
+        self.assertEqual(texts, ["1,234.5", "5.0", "1,234.5", ["6.0"]])
+
+    def test_a_number_that_meddles(self):
+        """What a caller's own object does while a call takes it is as if it came before the call."""
+        formatter, book = DecimalFormatter(self.book, "en"), self.book
+
+        class Closes(Decimal):
+            def __str__(self):
+                formatter.close()
+                return "1"
+
+        class Opens(Decimal):
+            def __str__(self):
+                formatter.__init__(book, "ar")
+                return "1"
+
+        class Fails(Decimal):
+            def __str__(self):
+                raise KeyError(1)
+
+        self.assertEqual(formatter.format_all(map(Decimal, "12")), ["1", "2"])
+        self.assertEqual(formatter.format(Opens(1)), "١")
+        self.refused(2, formatter.format, Closes(1))
+        formatter.__init__(self.book, "en")
+        self.refused(2, formatter.format_all, [1, Closes(1)])
+        for call in (self.english.format, self.english.format_parts, self.short.shown):
+            self.assertRaises(KeyError, call, Fails(1))
+        self.assertRaises(KeyError, self.english.format_all, [1, Fails(1)])
 
     def test_world(self):
         for tag, text in (("de", "1.234.567,891"), ("hi", "12,34,567.891"), ("ar-EG", "١٬٢٣٤٬٥٦٧٫٨٩١"), (b"de-AT", "1\xa0234\xa0567,891")):
@@ -231,15 +269,12 @@ class Calls(unittest.TestCase):
         self.assertEqual((locales, len(set(locales))), (sorted(locales), len(locales)))
         self.assertTrue({"de", "de-AT", "hi", "ar-EG", "zu-ZA"} <= set(locales))
 
-    def test_world_is_opened_once(self):
+    def test_children(self):
         words = """if True:
             import os, threading
-            from legumeyet import Book, DecimalFormatter, _formatters
-            opened, world = [], Book.world
-            Book.world = classmethod(lambda cls: opened.append(1) or world())
+            from legumeyet import Book, DecimalFormatter
             def work():
                 assert DecimalFormatter("de").format(1234) == "1.234"
-            assert _formatters.WORLD._book is None
             threads = [threading.Thread(target=work) for _ in range(8)]
             [it.start() for it in threads]
             # a child of a process with threads, which may be opening or calling
@@ -252,9 +287,31 @@ class Calls(unittest.TestCase):
                 children.append(child)
             [it.join() for it in threads]
             assert [os.waitpid(child, 0)[1] for child in children] == [0] * 20
-            assert opened == [1], opened
         """
         subprocess.run([sys.executable, "-W", "ignore::DeprecationWarning", "-c", words], check=True, timeout=60)
+
+    def test_child_of_a_thread_inside_a_call(self):
+        words = """if True:
+            import array, os, threading, time
+            from legumeyet import DecimalFormatter
+            german, numbers = DecimalFormatter("de"), array.array("q", range(3000000))
+            thread = threading.Thread(target=lambda: german.format_all(numbers))
+            thread.start()
+            for _ in range(50):
+                child = os.fork()
+                if child == 0:
+                    try:
+                        assert german.format(1234) == "1.234"
+                    except RuntimeError as error:
+                        assert "forked" in str(error), error
+                    assert DecimalFormatter("de").format(1234) == "1.234"
+                    os._exit(0)
+                assert os.waitpid(child, 0)[1] == 0
+                time.sleep(0.002)
+            thread.join()
+            assert german.format(1234) == "1.234"
+        """
+        subprocess.run([sys.executable, "-W", "ignore::DeprecationWarning", "-c", words], check=True, timeout=120)
 
     def test_files(self):
         with tempfile.TemporaryDirectory() as folder:
@@ -318,16 +375,6 @@ class Calls(unittest.TestCase):
                     self.assertEqual((main(words), out.getvalue()), (status, text))
                 self.assertEqual(bool(error.getvalue()), status == 1)
 
-    def test_no_library(self):
-        how = {**os.environ, "LEGUMEYET_LIBRARY": "/none.so"}
-        ran = subprocess.run([sys.executable, "-c", "import legumeyet"], env=how, stderr=subprocess.PIPE, check=False)
-        self.assertIn(b"ImportError: /none.so", ran.stderr)
-
-    def test_library_of_a_folder(self):
-        path = _library.path_of_library()
-        with mock.patch.dict(os.environ, {"LEGUMEYET_LIBRARY": os.path.dirname(path) or "/"}):
-            self.assertEqual(_library.path_of_library(), os.path.join(os.path.dirname(path) or "/", _library.NAME))
-
     def test_kept(self):
         book = Book(JSON)
         book.keep()
@@ -352,6 +399,256 @@ class Calls(unittest.TestCase):
         for it in threads:
             it.join()
         self.assertEqual(right, [True] * 4)
+
+    def test_threads_inside_a_column(self):
+        """Other calls of a formatter wait for one that is without the interpreter's lock, and calls of others go on."""
+        numbers, others, right = array.array("q", range(400000)), DecimalFormatter(self.book, "ar"), []
+
+        def column():
+            right.append(self.english.format_all(numbers)[-1] == "399,999")
+
+        def single():
+            texts = [(self.english.format(it), others.format(5)) for it in range(2000)]
+            right.append(texts[1234] == ("1,234", "٥") and self.english.read("1,234") == 1234)
+
+        threads = [threading.Thread(target=it) for it in (column, single, column, single)]
+        for it in threads:
+            it.start()
+        for it in threads:
+            it.join()
+        self.assertEqual(right, [True] * 4)
+
+    def test_closed_inside_a_column(self):
+        numbers, said = array.array("q", range(2000000)), []
+
+        def column():
+            try:
+                self.english.format_all(numbers)
+                said.append("all")
+            except ClosedError:
+                said.append("closed")
+
+        thread = threading.Thread(target=column)
+        thread.start()
+        time.sleep(0.01)
+        self.english.close()
+        thread.join()
+        self.assertIn(said, (["all"], ["closed"]))
+
+    def test_interrupted_column(self):
+        """A signal's handler runs between two parts of a column, and what it raises ends the call."""
+
+        def stop(*_):
+            raise KeyError
+
+        before = signal.signal(signal.SIGALRM, stop)
+        try:
+            for numbers in (array.array("q", [1234]) * 20_000_000, itertools.repeat(1234)):
+                signal.setitimer(signal.ITIMER_REAL, 0.02)
+                self.assertRaises(KeyError, self.english.format_all, numbers)
+        finally:
+            signal.signal(signal.SIGALRM, before)
+        self.assertEqual(self.english.format(1234), "1,234")
+
+    def test_floats(self):
+        for number, text in [
+            (0.1, "0.1"), (1234.5, "1,234.5"), (5.0, "5"), (-0.0, "-0"), (1e21, "1,000,000,000,000,000,000,000"), (1e-7, "0.0000001"),
+            (2**53 + 0.0, "9,007,199,254,740,992"), (-1e22, "-10,000,000,000,000,000,000,000"), (0.1 + 0.2, "0.30000000000000004"),
+        ]:
+            self.assertEqual(self.english.format(number), text)
+            self.assertEqual(self.english.format_parts(number)[0], text)
+            self.assertEqual(self.english.format_all(array.array("d", [number])), [text])
+        self.assertEqual(len(self.english.format(1.7976931348623157e308)), 411)
+        self.assertEqual(len(self.english.format(5e-324)), 326)
+        self.assertEqual(self.english.format(2.675, position=-2), "2.68")
+        self.refused(7, self.english.format_parts, float("nan"))
+
+    def test_exponents_of_decimals(self):
+        for number, text in [
+            ("1E-7", "0.0000001"), ("-1.50E-9", "-0.00000000150"), ("0E-8", "0.00000000"), ("1.5E+3", "1,500"), ("-0E+3", "-0"),
+            ("1.234567890E+5", "123,456.7890"), ("12E-1", "1.2"),
+        ]:
+            self.assertEqual(self.english.format(Decimal(number)), text)
+        self.assertEqual(len(self.english.format(Decimal("1E+32767"))), 43690)
+        self.assertEqual(len(self.english.format(Decimal("1E-32768"))), 32770)
+
+    def test_all(self):
+        english = self.english
+        self.assertEqual(english.format_all([1234, Decimal("-0.50"), "1e3", 2.5, True]), ["1,234", "-0.50", "1,000", "2.5", "1"])
+        self.assertEqual(english.format_all([]), [])
+        self.assertEqual(english.format_all(iter((1, 2))), ["1", "2"])
+        self.assertEqual(english.format_all(range(1000, 1003), sign=Sign.ALWAYS), ["+1,000", "+1,001", "+1,002"])
+        self.assertEqual(english.format_all([1.255, "7"], position=-1), ["1.3", "7.0"])
+        self.assertEqual(self.short.format_all(array.array("q", [-1172700, 950])), ["-1.2M", "950"])
+        for numbers in ("12", b"12", bytearray(b"12")):
+            self.assertRaises(TypeError, english.format_all, numbers)
+        for numbers in (5, None, self.english, [1, None], [[1]]):
+            self.assertRaises(TypeError, english.format_all, numbers)
+        for numbers in ([1, "5."], iter([1, "5."]), array.array("d", [1, float("nan")])):
+            with self.assertRaisesRegex(InputError, "7: .*: the number at 1$"):
+                english.format_all(numbers)
+        self.assertRaises(TypeError, english.format_all)
+        self.assertRaises(TypeError, english.format_all, [1], [2])
+
+        def stops():
+            yield 1
+            raise KeyError(1)
+
+        self.assertRaises(KeyError, english.format_all, stops())
+
+    def test_rows_in_memory(self):
+        for code in "bBhHiIlLqQ":
+            bits = 8 * array.array(code).itemsize
+            ends = [0, 1, 2**bits - 1] if code.isupper() else [-(2 ** (bits - 1)), -1, 2 ** (bits - 1) - 1]
+            row = array.array(code, ends * 2000)
+            self.assertEqual(self.english.format_all(row), [f"{it:,}" for it in ends] * 2000)
+            self.assertEqual(self.english.format_all(memoryview(row)[1::3]), [f"{ends[1]:,}"] * 2000)
+            self.assertEqual(self.english.format_all(memoryview(row)[::-3]), [f"{ends[2]:,}"] * 2000)
+        self.assertEqual(self.english.format_all(array.array("d")), [])
+        self.assertEqual(self.english.format_all(array.array("f", [0.5])), ["0.5"])
+        self.assertRaises(TypeError, self.english.format_all, memoryview(bytes(4)).cast("B", (2, 2)))
+        self.assertRaises(TypeError, self.english.format_all, memoryview(b"12").cast("c"))
+        wide = array.array("q", [2**62] * 5000)
+        self.assertEqual(self.english.format_all(wide, position=-400), [f"{2**62:,}.{'0' * 400}"] * 5000)
+
+    def test_numpy_and_pandas(self):
+        try:
+            import numpy
+        except ImportError:
+            self.skipTest("NumPy is not installed")
+        row = numpy.arange(-6, 6) * 1000
+        want = [f"{it:,}" for it in row.tolist()]
+        for kind in ("int64", "int32", "int16", "float64", ">i8", "object"):
+            self.assertEqual(self.english.format_all(row.astype(kind)), want)
+        self.assertEqual(self.english.format_all(row.reshape(6, 2)[:, 1]), want[1::2])
+        self.assertEqual(self.english.format(numpy.int64(1234)), "1,234")
+        self.assertEqual(self.english.format(numpy.float64(0.5)), "0.5")
+        for refused in (row.reshape(6, 2), row.astype("float32"), numpy.array([None]), row.astype("datetime64[s]"), row.astype(complex)):
+            self.assertRaises(TypeError, self.english.format_all, refused)
+        self.assertRaisesRegex(TypeError, r"give it as float\(it\)", self.english.format, numpy.float32(0.1))
+        try:
+            import pandas
+        except ImportError:
+            self.skipTest("pandas is not installed")
+        table = pandas.DataFrame({"a": row, "b": row + 0.5, "c": [Decimal(it) for it in row.tolist()]})
+        self.assertEqual(self.english.format_all(table["a"]), want)
+        self.assertEqual(self.english.format_all(table["b"]), [f"{it:,}" for it in (row + 0.5).tolist()])
+        self.assertEqual(self.english.format_all(table["c"]), want)
+        self.assertEqual(self.english.format_all(table["a"].astype("Int64")), want)
+        self.assertRaises(TypeError, self.english.format_all, table[["a", "b"]])
+
+    def test_options_of_a_formatter(self):
+        money = DecimalFormatter(self.book, "en", position=-2, sign=Sign.ALWAYS)
+        self.assertEqual(money.format(1234.505), "+1,234.50")
+        self.assertEqual(money.format_all([1, 2]), ["+1.00", "+2.00"])
+        self.assertEqual(money.format(1, sign=Sign.AUTO), "1.00")
+        self.assertEqual(money.format("1.567", position=-1), "+1.6")
+        self.assertEqual(money.format("1.567", rounding=Rounding.FLOOR), "+1.56")
+        self.assertEqual(money.format("1.567", rounding=Rounding.KEEP), "+1.567")
+        short = CompactDecimalFormatter(self.book, "en", sign=Sign.ALWAYS)
+        self.assertEqual((short.format(1650), short.shown(1650)), ("+1.6K", "+1.6c3"))
+        for options in ({"sign": 1}, {"position": "1"}, {"places": 2}, {"rounding": Sign.AUTO}):
+            self.assertRaises(TypeError, DecimalFormatter, self.book, "en", **options)
+
+    @unittest.skipIf(legumeyet.minor() < 1, "the library has no such call")
+    def test_newer_options(self):
+        english = self.english
+        self.assertEqual(english.format(1.995, position=-2, trailing_zeros=TrailingZeros.TRIM), "2")
+        self.assertEqual(english.format("1.5", position=-2, trailing_zeros=TrailingZeros.TRIM, minimum_fraction_digits=2), "1.50")
+        self.assertEqual(english.format("1.23", position=-2, increment=5), "1.25")
+        self.assertEqual(english.format(7, minimum_integer_digits=3), "007")
+        for options in ({"increment": 3}, {"increment": 0}, {"minimum_integer_digits": -1}, {"minimum_fraction_digits": 32768}):
+            self.assertRaises(ValueError, english.format, 1, **options)
+        for options in ({"trailing_zeros": 1}, {"trailing_zeros": Sign.AUTO}, {"increment": "5"}, {"minimum_integer_digits": 1.0}):
+            self.assertRaises(TypeError, english.format, 1, **options)
+
+    @unittest.skipIf(legumeyet.minor() < 1, "the library has no such call")
+    def test_reads_leniently(self):
+        for text, number in ((" 1234.5 ", "1234.5"), ("1,234.5", "1234.5"), (".5", "0.5"), ("5.", "5"), ("−5", "-5")):
+            self.assertEqual(str(self.english.read(text, lenient=True)), number)
+        for text in ("1,23", "1,234,5", "1 234", ""):
+            self.refused(12, self.english.read, text)
+            self.assertRaises(InputError, self.english.read, text, lenient=True)
+        self.assertEqual(DecimalFormatter("ar-EG").read("1234", lenient=True), 1234)
+
+    def test_what_was_never_opened(self):
+        for kind in (Book, DecimalFormatter, CompactDecimalFormatter):
+            it = kind.__new__(kind)
+            it.close()
+            self.assertRegex(repr(it), "closed>$")
+            for call in ("format", "format_all", "format_parts", "read", "shown", "format_exact", "answer"):
+                if hasattr(it, call):
+                    self.assertRaises(RuntimeError, getattr(it, call), "1")
+        self.assertRaises(RuntimeError, DecimalFormatter, Book.__new__(Book), "en")
+        self.assertRaises(TypeError, _core.DecimalFormatter.format, self.short, 1)
+        self.assertRaises(TypeError, _core.open_formatter, self.short, None, b"en", 0, -1, {})
+        self.assertRaises(TypeError, _core.open_book, self.english, None)
+        self.assertRaises(TypeError, _core.tag_of_locale_name, 5)
+
+    def test_subclasses(self):
+        class Money(DecimalFormatter):
+            def __init__(self, tag):
+                super().__init__(tag, position=-2)
+                self.note = [self]  # a cycle
+
+        money = Money("de")
+        self.assertEqual((money.format(5), type(money.note[0])), ("5,00", Money))
+        gone = weakref.ref(money)
+        del money
+        gc.collect()
+        self.assertIsNone(gone())
+        self.english.__init__("de")
+        self.assertEqual(self.english.format(1234), "1.234")
+
+    def test_other_interpreters(self):
+        inside = """if True:
+            import sys
+            sys.path[:] = PATH
+            from decimal import Decimal
+            from legumeyet import DecimalFormatter, InputError
+            assert DecimalFormatter("hi").format(Decimal("1234567.5")) == "12,34,567.5"
+            try:
+                DecimalFormatter("hi").format("5.")
+            except ValueError as error:
+                assert type(error) is InputError
+            else:
+                raise AssertionError
+        """
+        words = """if True:
+            import sys
+            try:
+                import _interpreters as interpreters
+            except ImportError:
+                import _xxsubinterpreters as interpreters
+            from legumeyet import DecimalFormatter
+            german = DecimalFormatter("de")
+            for _ in range(3):
+                other = interpreters.create()
+                said = interpreters.run_string(other, sys.argv[1].replace("PATH", repr(sys.path)))
+                assert said is None, said
+                interpreters.destroy(other)
+                assert german.format(1234) == "1.234"
+        """
+        ran = subprocess.run([sys.executable, "-c", words, inside], stderr=subprocess.PIPE, timeout=60, check=False)
+        self.assertEqual((ran.returncode, ran.stderr), (0, b""))
+
+    def test_end_of_the_interpreter(self):
+        words = """if True:
+            import sys
+            from legumeyet import DecimalFormatter
+            class Late:
+                def __init__(self):
+                    self.german = DecimalFormatter("de")
+                def __del__(self):
+                    for number in (1234, "5.", 0.5):
+                        try:
+                            self.german.format(number)
+                        except Exception:
+                            pass
+            sys.late = late = Late()
+            late.cycle = late
+        """
+        subprocess.run([sys.executable, "-c", words], check=True, timeout=60)
 
     def test_lets_go(self):
         for _ in range(200):

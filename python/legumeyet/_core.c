@@ -1,0 +1,1154 @@
+/*
+ * The module legumeyet._core: books and formatters of the library for C, which is linked into it. It uses what every CPython since 3.8 has.
+ *
+ * A call holds the lock of the interpreter, the GIL, and runs nothing of Python while the library has a handle. So one call at a time has a handle,
+ * whatever threads and signal handlers do. Two calls let go of the GIL: that which reads a book, whose handle nobody else has yet, and format_all over
+ * memory, whose formatter is marked as busy until then. Nothing is shared by two interpreters.
+ */
+#define PY_SSIZE_T_CLEAN
+#define Py_LIMITED_API 0x03080000
+#include <Python.h>
+#include <legumeyet.h>
+
+/*
+ * The buffer protocol as CPython has it since 3.3. The limited API names it from 3.11 on, with these fields and numbers.
+ */
+typedef struct {
+    void *buf;
+    PyObject *obj;
+    Py_ssize_t len, itemsize;
+    int readonly, ndim;
+    char *format;
+    Py_ssize_t *shape, *strides, *suboffsets;
+    void *internal;
+} buffer;
+
+enum { STRIDES_AND_FORMAT = 0x1c };
+extern int PyObject_GetBuffer(PyObject *, buffer *, int);
+extern void PyBuffer_Release(buffer *);
+
+/* Whether the library writes doubles, and numbers of 64 bits without a sign. */
+enum { HAS_DOUBLES = LEGUMEYET_MINOR >= 1 };
+
+enum { ROOM = 512, PLACES = 32, CHUNK = 4096, HIGHEST = 32767, LOWEST = -32768 };
+
+/* An exponent that no digits bring back to the magnitudes of the library. */
+static const long long FAR = 1000000000000000;
+
+/* What the objects of an interpreter share. It is freed with the last of them, which may come after the module. */
+struct shared {
+    Py_ssize_t count;
+    uint32_t forks;            /* how often this process is a child of a fork since the module was imported */
+    legumeyet_book world;      /* the world's book, kept, once a formatter was opened of a tag alone */
+    PyObject *decimal;         /* decimal.Decimal */
+    PyObject *types[3];        /* Book, DecimalFormatter and CompactDecimalFormatter of this module */
+    PyObject *error, *part;    /* legumeyet.Error and legumeyet.Part */
+    PyObject *sign, *rounding; /* legumeyet.Sign and legumeyet.Rounding */
+    PyObject *trailing_zeros;  /* legumeyet.TrailingZeros */
+    PyObject *kind_of;         /* the kind of a part, of its number */
+    PyObject *wrong_number;    /* the TypeError of what is no number */
+};
+
+enum kind { BOOK, DECIMAL, COMPACT };
+
+/* A book or a formatter. */
+struct open {
+    PyObject_HEAD
+    struct shared *shared; /* NULL before it is opened for the first time */
+    enum kind kind;
+    union {
+        legumeyet_book book;
+        legumeyet_decimal_formatter decimal;
+        legumeyet_compact_formatter compact;
+    } handle;
+    legumeyet_options options; /* those of each call, where it has no others */
+    PyThread_type_lock lock;   /* held while format_all is without the GIL */
+    bool is_busy;              /* whether it is; written under the GIL */
+    uint32_t forks;            /* `forks` of `shared` when it was last so */
+};
+
+/* What is asked of the library. */
+struct request {
+    enum { TEXT, INTEGER, NATURAL, REAL, SHOWN, EXACT, READ, LENIENT, LINE } what;
+    const uint8_t *at; /* the text of a number, a text that is read, or a line */
+    size_t length;
+    int64_t integer; /* of NATURAL the uint64_t of the same bits */
+    double real;
+    legumeyet_options options;
+    PyObject *owner; /* of the text, or NULL */
+    char *made;      /* memory of it, or NULL */
+};
+
+static void let_go(struct request *asked) {
+    Py_XDECREF(asked->owner);
+    PyMem_Free(asked->made);
+    asked->owner = NULL;
+    asked->made = NULL;
+}
+
+/* Raises the error of a number of the library; `at` is the place of a number among many, and -1 of one alone. */
+static PyObject *refused(struct shared *shared, int32_t number, Py_ssize_t at) {
+    PyObject *hint, *error;
+    hint = at < 0 ? PyUnicode_FromString("") : PyUnicode_FromFormat(": the number at %zd", at);
+    error = hint == NULL ? NULL : PyObject_CallFunction(shared->error, "iO", (int)number, hint);
+    Py_XDECREF(hint);
+    if (error != NULL) PyErr_SetObject((PyObject *)Py_TYPE(error), error);
+    Py_XDECREF(error);
+    return NULL;
+}
+
+/* Whether a handle may be called: it was opened once, and no other thread is inside a call. Waits for one that is. */
+static bool is_ready(struct open *it) {
+    if (it->shared == NULL || it->shared->error == NULL) {
+        PyErr_SetString(PyExc_RuntimeError, it->shared == NULL ? "it was never opened" : "the interpreter ends");
+        return false;
+    }
+    while (it->is_busy) {
+        if (it->forks != it->shared->forks) {
+            PyErr_SetString(PyExc_RuntimeError, "another thread was using it when the process forked: open another one");
+            return false;
+        }
+        Py_BEGIN_ALLOW_THREADS
+        PyThread_acquire_lock(it->lock, WAIT_LOCK);
+        PyThread_release_lock(it->lock);
+        Py_END_ALLOW_THREADS
+    }
+    return true;
+}
+
+/* The text of a str, in UTF-8, or of bytes. What is not UTF-8 stays so. */
+static bool take_text(struct request *asked, PyObject *text) {
+    char *at;
+    Py_ssize_t length;
+    if (PyBytes_Check(text)) {
+        Py_INCREF(text);
+        asked->owner = text;
+    } else if (PyUnicode_Check(text)) {
+        asked->owner = PyUnicode_AsUTF8String(text);
+        if (asked->owner == NULL && PyErr_ExceptionMatches(PyExc_UnicodeEncodeError)) {
+            PyErr_Clear();
+            asked->owner = PyUnicode_AsEncodedString(text, "utf-8", "surrogatepass");
+        }
+    } else {
+        PyErr_Format(PyExc_TypeError, "a text is a str or bytes, and not %R", Py_TYPE(text));
+    }
+    if (asked->owner == NULL || PyBytes_AsStringAndSize(asked->owner, &at, &length) < 0) return false;
+    asked->at = (const uint8_t *)at;
+    asked->length = (size_t)length;
+    return true;
+}
+
+/* Writes the digits of a number, without a point, and with zeros before and after them down to the power `low`. Returns the end. */
+static char *put_digits(char *out, const char *digits, Py_ssize_t count, long long low) {
+    long long before = count + low; /* how many digits are before the point */
+    if (before <= 0) {
+        *out++ = '0';
+        *out++ = '.';
+        for (; before < 0; before++) *out++ = '0';
+    }
+    for (Py_ssize_t at = 0; at < count; at++) {
+        *out++ = digits[at];
+        if (at + 1 == before && low < 0) *out++ = '.';
+    }
+    for (; low > 0; low--) *out++ = '0';
+    return out;
+}
+
+/*
+ * The text of a number that `str` and `repr` write with an exponent, as `1.5E+3`, without one: `1500`. A number beyond the magnitudes of
+ * the library keeps its exponent, for which no zero has to be written: the library refuses it. Returns a number of the library, or -1 with an error
+ * of Python.
+ */
+static int32_t spread(struct request *asked, const char *text, Py_ssize_t length, Py_ssize_t mark) {
+    bool is_minus = text[0] == '-', is_zero = true;
+    long long exponent = PyOS_strtol((char *)text + mark + 1, NULL, 10), low;
+    Py_ssize_t count = 0;
+    char *out, *digits = PyMem_Malloc((size_t)length + 1);
+    if (digits == NULL) return PyErr_NoMemory(), -1;
+    low = exponent = exponent < -FAR ? -FAR : exponent > FAR ? FAR : exponent;
+    for (Py_ssize_t at = is_minus; at < mark; at++) {
+        if (text[at] == '.') {
+            low = exponent - (mark - at - 1);
+        } else {
+            digits[count++] = text[at];
+            is_zero = is_zero && text[at] == '0';
+        }
+    }
+    if (is_zero && low > 0) low = 0;
+    if (is_zero && low < LOWEST) return PyMem_Free(digits), LEGUMEYET_LIMIT;
+    bool is_near = LOWEST <= low && low <= HIGHEST;
+    out = asked->made = PyMem_Malloc((size_t)(is_near ? (low < 0 ? -low : low) + count + 4 : length + 1));
+    if (out == NULL) return PyMem_Free(digits), PyErr_NoMemory(), -1;
+    if (is_minus) *out++ = '-';
+    if (is_near) {
+        out = put_digits(out, digits, count, low);
+    } else {
+        for (Py_ssize_t at = is_minus; at < length; at++)
+            if (text[at] != '+') *out++ = at == mark ? 'e' : text[at];
+    }
+    PyMem_Free(digits);
+    asked->at = (const uint8_t *)asked->made;
+    asked->length = (size_t)(out - asked->made);
+    return LEGUMEYET_OK;
+}
+
+/* The text of a number that has an exponent or not. */
+static int32_t take_digits(struct request *asked, PyObject *text) {
+    const char *at;
+    if (!take_text(asked, text)) return -1;
+    at = (const char *)asked->at;
+    for (size_t mark = 1; mark < asked->length; mark++)
+        if (at[mark] == 'E' || (at[mark] == 'e' && at[mark - 1] <= '9')) return spread(asked, at, (Py_ssize_t)asked->length, (Py_ssize_t)mark);
+    return LEGUMEYET_OK;
+}
+
+/* An integer that fits in 64 bits, or the digits of another. */
+static int32_t take_integer(struct shared *shared, struct request *asked, PyObject *number) {
+    int overflow = 0, found;
+    PyObject *exact, *text;
+    asked->integer = PyLong_AsLongLongAndOverflow(number, &overflow);
+    if (overflow == 0) {
+        if (asked->what == TEXT) asked->what = INTEGER;
+        if (asked->integer == -1 && PyErr_Occurred()) return -1;
+        if (asked->what == INTEGER) return LEGUMEYET_OK;
+    }
+    exact = PyObject_CallFunctionObjArgs(shared->decimal, number, NULL); /* `str` of an int refuses one of very many digits */
+    text = exact == NULL ? NULL : PyObject_Str(exact);
+    Py_XDECREF(exact);
+    found = text == NULL ? -1 : take_digits(asked, text);
+    Py_XDECREF(text);
+    return found;
+}
+
+/* The shortest digits that give a float back, which the library writes itself where it only formats. */
+static int32_t take_real(struct request *asked, PyObject *number) {
+    char *digits;
+    PyObject *text;
+    int32_t found;
+    asked->real = PyFloat_AsDouble(number);
+    if (asked->real == -1 && PyErr_Occurred()) return -1;
+    if (asked->what == TEXT && HAS_DOUBLES) return asked->what = REAL, LEGUMEYET_OK;
+    digits = PyOS_double_to_string(asked->real, 'r', 0, 0, NULL);
+    text = digits == NULL ? NULL : PyUnicode_FromString(digits);
+    PyMem_Free(digits);
+    if (text == NULL) return -1;
+    found = take_digits(asked, text);
+    Py_DECREF(text);
+    return found;
+}
+
+/* Raises the error of what is no number. */
+static int32_t raise_wrong(struct shared *shared, PyObject *number) {
+    PyObject *error = PyObject_CallFunctionObjArgs(shared->wrong_number, number, NULL);
+    if (error != NULL) PyErr_SetObject((PyObject *)Py_TYPE(error), error);
+    Py_XDECREF(error);
+    return -1;
+}
+
+/* A number of a caller: a Decimal, an int, a float or a str, or what has an index. */
+static int32_t take_number(struct shared *shared, struct request *asked, PyObject *number) {
+    int is_decimal;
+    if (PyUnicode_Check(number)) return take_text(asked, number) ? LEGUMEYET_OK : -1;
+    if (PyLong_Check(number)) return take_integer(shared, asked, number);
+    if (PyFloat_Check(number)) return take_real(asked, number);
+    is_decimal = (PyObject *)Py_TYPE(number) == shared->decimal ? 1 : PyObject_IsInstance(number, shared->decimal);
+    if (is_decimal < 0) return -1;
+    if (is_decimal || PyIndex_Check(number)) {
+        PyObject *other = is_decimal ? PyObject_Str(number) : PyNumber_Index(number);
+        int32_t found = other == NULL ? -1 : is_decimal ? take_digits(asked, other) : take_integer(shared, asked, other);
+        Py_XDECREF(other);
+        return found;
+    }
+    return raise_wrong(shared, number);
+}
+
+/* Asks a formatter of plain numbers. */
+static int32_t ask_decimal(legumeyet_decimal_formatter *it, const struct request *asked, uint8_t *out, size_t room, size_t *length) {
+    const legumeyet_options *options = &asked->options;
+    if (asked->what == INTEGER) return legumeyet_decimal_formatter_format_i64(it, asked->integer, 0, options, out, room, length);
+    if (asked->what == READ) return legumeyet_decimal_formatter_read(it, asked->at, asked->length, out, room, length);
+#if LEGUMEYET_MINOR >= 1
+    if (asked->what == NATURAL) return legumeyet_decimal_formatter_format_u64(it, (uint64_t)asked->integer, 0, options, out, room, length);
+    if (asked->what == REAL) return legumeyet_decimal_formatter_format_double(it, asked->real, options, out, room, length);
+    if (asked->what == LENIENT) return legumeyet_decimal_formatter_read_lenient(it, asked->at, asked->length, out, room, length);
+#endif
+    return legumeyet_decimal_formatter_format(it, asked->at, asked->length, options, out, room, length);
+}
+
+/* Asks a formatter of compact numbers. */
+static int32_t ask_compact(legumeyet_compact_formatter *it, const struct request *asked, uint8_t *out, size_t room, size_t *length) {
+    const legumeyet_options *options = &asked->options;
+    if (asked->what == INTEGER) return legumeyet_compact_formatter_format_i64(it, asked->integer, 0, options, out, room, length);
+    if (asked->what == SHOWN) return legumeyet_compact_formatter_shown(it, asked->at, asked->length, options, out, room, length);
+    if (asked->what == EXACT) return legumeyet_compact_formatter_format_exact(it, asked->at, asked->length, options, out, room, length);
+#if LEGUMEYET_MINOR >= 1
+    if (asked->what == NATURAL) return legumeyet_compact_formatter_format_u64(it, (uint64_t)asked->integer, 0, options, out, room, length);
+    if (asked->what == REAL) return legumeyet_compact_formatter_format_double(it, asked->real, options, out, room, length);
+#endif
+    return legumeyet_compact_formatter_format(it, asked->at, asked->length, options, out, room, length);
+}
+
+static int32_t ask(struct open *it, const struct request *asked, uint8_t *out, size_t room, size_t *length) {
+    if (it->kind == DECIMAL) return ask_decimal(&it->handle.decimal, asked, out, room, length);
+    if (it->kind == COMPACT) return ask_compact(&it->handle.compact, asked, out, room, length);
+    return legumeyet_book_answer(&it->handle.book, asked->at, asked->length, out, room, length);
+}
+
+/* The text that a request has, as a str; `at` is as in `refused`. */
+static PyObject *written(struct open *it, const struct request *asked, Py_ssize_t at) {
+    uint8_t small[ROOM], *large = NULL;
+    size_t length = 0;
+    PyObject *text = NULL;
+    int32_t number;
+    if (!is_ready(it)) return NULL;
+    number = ask(it, asked, small, sizeof small, &length);
+    if (number == LEGUMEYET_TOO_SMALL) {
+        large = PyMem_Malloc(length);
+        if (large == NULL) return PyErr_NoMemory();
+        number = ask(it, asked, large, length, &length);
+    }
+    if (number == LEGUMEYET_OK)
+        text = PyUnicode_DecodeUTF8((const char *)(large == NULL ? small : large), (Py_ssize_t)length, NULL);
+    else
+        refused(it->shared, number, at);
+    PyMem_Free(large);
+    return text;
+}
+
+/* The number of an option that is of an enum, 0 to 99. Returns -1 with an error for what is not. */
+static int number_of(PyObject *kind, PyObject *option) {
+    int is_one = PyObject_IsInstance(option, kind);
+    if (is_one == 0) {
+        PyObject *name = PyObject_GetAttrString(kind, "__name__");
+        if (name != NULL) PyErr_Format(PyExc_TypeError, "an option is a %U, and not %R", name, option);
+        Py_XDECREF(name);
+    }
+    return is_one == 1 ? (int)PyLong_AsLong(option) : -1;
+}
+
+/* An option that is a whole number. */
+static bool take_whole(PyObject *option, const char *name, long least, long most, long *into) {
+    if (!PyLong_Check(option)) {
+        PyErr_Format(PyExc_TypeError, "%s is an int, and not %R", name, option);
+        return false;
+    }
+    *into = PyLong_AsLong(option);
+    if (*into == -1 && PyErr_Occurred()) {
+        if (!PyErr_ExceptionMatches(PyExc_OverflowError)) return false;
+        PyErr_Clear();
+        *into = most + 1;
+    }
+    if (least <= *into && *into <= most) return true;
+    PyErr_Format(PyExc_ValueError, "%s is from %ld to %ld", name, least, most);
+    return false;
+}
+
+/* The rounding and the position of a call: a position alone is that of HALF_EVEN. */
+static bool take_rounding(struct shared *shared, PyObject *rounding, PyObject *position, legumeyet_options *options) {
+    long place = 0;
+    if (rounding != NULL && rounding != Py_None) {
+        int number = number_of(shared->rounding, rounding);
+        if (number < 0) return false;
+        options->rounding = (uint32_t)number;
+        if (number == LEGUMEYET_ROUND_KEEP && position != NULL && position != Py_None) {
+            PyErr_SetString(PyExc_ValueError, "a number is not rounded by Rounding.KEEP, so there is no position");
+            return false;
+        }
+    }
+    if (position == NULL || position == Py_None) return true;
+    if (!take_whole(position, "position", LOWEST, HIGHEST, &place)) return false;
+    if (options->rounding == LEGUMEYET_ROUND_KEEP) options->rounding = LEGUMEYET_ROUND_HALF_EVEN;
+    options->position = (int16_t)place;
+    return true;
+}
+
+#if LEGUMEYET_MINOR >= 1
+/* Takes an option that came with the minor version 1. */
+static bool take_newer(struct shared *shared, PyObject *name, PyObject *option, legumeyet_options *options) {
+    long whole = 0;
+    if (PyUnicode_CompareWithASCIIString(name, "trailing_zeros") == 0) {
+        int number = number_of(shared->trailing_zeros, option);
+        options->trailing_zeros = (uint16_t)number;
+        return number >= 0;
+    }
+    if (PyUnicode_CompareWithASCIIString(name, "increment") == 0) {
+        if (!take_whole(option, "increment", 1, 25, &whole)) return false;
+        options->increment = (uint32_t)whole;
+        if (whole == 1 || whole == 2 || whole == 5 || whole == 25) return true;
+        PyErr_SetString(PyExc_ValueError, "increment is 1, 2, 5 or 25");
+        return false;
+    }
+    if (PyUnicode_CompareWithASCIIString(name, "minimum_integer_digits") == 0) {
+        if (!take_whole(option, "minimum_integer_digits", 0, HIGHEST, &whole)) return false;
+        options->minimum_integer_digits = (uint16_t)whole;
+        return true;
+    }
+    if (PyUnicode_CompareWithASCIIString(name, "minimum_fraction_digits") == 0) {
+        if (!take_whole(option, "minimum_fraction_digits", 0, HIGHEST, &whole)) return false;
+        options->minimum_fraction_digits = (uint16_t)whole;
+        return true;
+    }
+    PyErr_Format(PyExc_TypeError, "there is no option %R", name);
+    return false;
+}
+#else
+static bool take_newer(struct shared *shared, PyObject *name, PyObject *option, legumeyet_options *options) {
+    (void)shared, (void)option, (void)options;
+    PyErr_Format(PyExc_TypeError, "there is no option %R", name);
+    return false;
+}
+#endif
+
+/* Takes the options that a call is given by their names. One that is None is as it was. */
+static bool take_options(struct shared *shared, PyObject *given, legumeyet_options *options) {
+    PyObject *name, *option, *rounding = NULL, *position = NULL;
+    Py_ssize_t at = 0;
+    while (given != NULL && PyDict_Next(given, &at, &name, &option)) {
+        if (PyUnicode_CompareWithASCIIString(name, "position") == 0) {
+            position = option;
+        } else if (PyUnicode_CompareWithASCIIString(name, "rounding") == 0) {
+            rounding = option;
+        } else if (PyUnicode_CompareWithASCIIString(name, "sign") == 0) {
+            int number = number_of(shared->sign, option);
+            if (number < 0) return false;
+            options->sign = (uint32_t)number;
+        } else if (!take_newer(shared, name, option, options)) {
+            return false;
+        }
+    }
+    return take_rounding(shared, rounding, position, options);
+}
+
+/* The one argument of a call. */
+static PyObject *argument(PyObject *arguments, const char *name) {
+    if (PyTuple_Size(arguments) == 1) return PyTuple_GetItem(arguments, 0);
+    PyErr_Format(PyExc_TypeError, "%s is given, and options by their names: there are %zd arguments", name, PyTuple_Size(arguments));
+    return NULL;
+}
+
+/* Takes the number and the options of a call of a formatter. Returns a number of the library, or -1 with an error of Python. */
+static int32_t take_call(struct open *it, PyObject *arguments, PyObject *given, struct request *asked) {
+    PyObject *number = argument(arguments, "a number");
+    if (number == NULL || !is_ready(it)) return -1;
+    asked->options = it->options;
+    if (!take_options(it->shared, given, &asked->options)) return -1;
+    return take_number(it->shared, asked, number);
+}
+
+/* What a call of a formatter writes. */
+static PyObject *called(struct open *it, PyObject *arguments, PyObject *given, struct request *asked) {
+    int32_t number = take_call(it, arguments, given, asked);
+    PyObject *text = number == LEGUMEYET_OK ? written(it, asked, -1) : number < 0 ? NULL : refused(it->shared, number, -1);
+    let_go(asked);
+    return text;
+}
+
+static PyObject *format(PyObject *it, PyObject *arguments, PyObject *given) {
+    struct request asked = {.what = TEXT};
+    return called((struct open *)it, arguments, given, &asked);
+}
+
+static PyObject *shown(PyObject *it, PyObject *arguments, PyObject *given) {
+    struct request asked = {.what = SHOWN};
+    return called((struct open *)it, arguments, given, &asked);
+}
+
+static PyObject *format_exact(PyObject *it, PyObject *arguments, PyObject *given) {
+    struct request asked = {.what = EXACT};
+    PyObject *number = argument(arguments, "a number");
+    if (number == NULL) return NULL;
+    if (!PyUnicode_Check(number)) {
+        PyErr_Format(PyExc_TypeError, "an exact form is a str, and not %R", Py_TYPE(number));
+        return NULL;
+    }
+    return called((struct open *)it, arguments, given, &asked);
+}
+
+static PyObject *read_back(PyObject *self, PyObject *arguments, PyObject *given) {
+    struct open *it = (struct open *)self;
+    struct request asked = {.what = READ};
+    PyObject *text, *digits = NULL, *number = NULL, *lenient = NULL;
+    static char *names[] = {"", "lenient", NULL};
+    if (!PyArg_ParseTupleAndKeywords(arguments, given, "O|$O:read", names, &text, &lenient) || !is_ready(it)) return NULL;
+    if (lenient != NULL) {
+        int is_lenient = PyObject_IsTrue(lenient);
+        if (is_lenient < 0) return NULL;
+        if (is_lenient && !HAS_DOUBLES) return PyErr_SetString(PyExc_NotImplementedError, "the library reads nothing leniently: its minor version is 0"), NULL;
+        if (is_lenient) asked.what = LENIENT;
+    }
+    if (take_text(&asked, text)) digits = written(it, &asked, -1);
+    if (digits != NULL) number = PyObject_CallFunctionObjArgs(it->shared->decimal, digits, NULL);
+    Py_XDECREF(digits);
+    let_go(&asked);
+    return number;
+}
+
+/* Asks a formatter for a text and its parts. */
+static int32_t ask_parts(struct open *it, const struct request *asked, uint8_t *out, size_t room, size_t *length, legumeyet_interval *parts,
+                         size_t places, size_t *count) {
+    const legumeyet_options *options = &asked->options;
+    if (it->kind == DECIMAL)
+        return legumeyet_decimal_formatter_format_parts(&it->handle.decimal, asked->at, asked->length, options, out, room, length, parts, places, count);
+    return legumeyet_compact_formatter_format_parts(&it->handle.compact, asked->at, asked->length, options, out, room, length, parts, places, count);
+}
+
+/* The text and the parts of a call, in memory that is as large as they need. */
+struct annotated {
+    uint8_t *out;
+    size_t length, count;
+    legumeyet_interval *parts;
+};
+
+/* Fills it. Returns false with an error. */
+static bool annotate(struct open *it, const struct request *asked, struct annotated *into) {
+    size_t room = ROOM, places = PLACES;
+    int32_t number = LEGUMEYET_TOO_SMALL;
+    while (number == LEGUMEYET_TOO_SMALL) {
+        PyMem_Free(into->out);
+        PyMem_Free(into->parts);
+        into->out = PyMem_Malloc(room);
+        into->parts = PyMem_Malloc(places * sizeof *into->parts);
+        if (into->out == NULL || into->parts == NULL) return PyErr_NoMemory(), false;
+        number = ask_parts(it, asked, into->out, room, &into->length, into->parts, places, &into->count);
+        room = into->length > room ? into->length : room;
+        places = into->count > places ? into->count : places;
+    }
+    if (number != LEGUMEYET_OK) refused(it->shared, number, -1);
+    return number == LEGUMEYET_OK;
+}
+
+/* A list of the parts, by characters: `places` has how many characters are before each byte. */
+static PyObject *listed(struct shared *shared, const struct annotated *from, const size_t *places) {
+    PyObject *list = PyList_New((Py_ssize_t)from->count);
+    for (size_t at = 0; list != NULL && at < from->count; at++) {
+        const legumeyet_interval *it = &from->parts[at];
+        PyObject *part = NULL, *kind = PyObject_CallFunction(shared->kind_of, "I", (unsigned)it->kind);
+        if (kind != NULL) part = PyObject_CallFunction(shared->part, "Nnn", kind, (Py_ssize_t)places[it->start], (Py_ssize_t)places[it->end]);
+        if (part == NULL || PyList_SetItem(list, (Py_ssize_t)at, part) < 0) Py_CLEAR(list);
+    }
+    return list;
+}
+
+/* A pair of the text and its parts. */
+static PyObject *pair_of(struct shared *shared, const struct annotated *from) {
+    PyObject *pair = NULL;
+    size_t count = 0, *places = PyMem_Malloc((from->length + 1) * sizeof *places);
+    if (places == NULL) return PyErr_NoMemory();
+    for (size_t at = 0; at < from->length; at++) {
+        places[at] = count;
+        if (at + 1 == from->length || (from->out[at + 1] & 0xc0) != 0x80) count++;
+    }
+    places[from->length] = count;
+    PyObject *text = PyUnicode_DecodeUTF8((const char *)from->out, (Py_ssize_t)from->length, NULL);
+    PyObject *list = text == NULL ? NULL : listed(shared, from, places);
+    if (list != NULL) pair = PyTuple_Pack(2, text, list);
+    Py_XDECREF(text);
+    Py_XDECREF(list);
+    PyMem_Free(places);
+    return pair;
+}
+
+static PyObject *format_parts(PyObject *self, PyObject *arguments, PyObject *given) {
+    struct open *it = (struct open *)self;
+    struct request asked = {.what = SHOWN}; /* the number is taken as text */
+    struct annotated found = {NULL, 0, 0, NULL};
+    PyObject *pair = NULL;
+    int32_t number = take_call(it, arguments, given, &asked);
+    if (number > 0) refused(it->shared, number, -1);
+    if (number == LEGUMEYET_OK && is_ready(it) && annotate(it, &asked, &found)) pair = pair_of(it->shared, &found);
+    PyMem_Free(found.out);
+    PyMem_Free(found.parts);
+    let_go(&asked);
+    return pair;
+}
+
+/* A row of numbers in memory of another object, as the machine has them. */
+struct column {
+    const char *at;
+    Py_ssize_t count, stride, width;
+    enum { SIGNED, UNSIGNED, REALS } type;
+};
+
+/* Whether memory of one dimension is such a row. */
+static bool take_column(const buffer *from, struct column *into) {
+    const char *format = from->format == NULL ? "B" : from->format;
+    const uint16_t one = 1;
+    bool is_small_first = *(const uint8_t *)&one == 1;
+    if (*format == '@' || *format == '=' || *format == (is_small_first ? '<' : '>')) format++;
+    if (*format == '\0' || format[1] != '\0' || from->suboffsets != NULL) return false;
+    into->at = from->buf;
+    into->width = from->itemsize;
+    into->count = from->shape[0];
+    into->stride = from->strides == NULL ? from->itemsize : from->strides[0];
+    into->type = strchr("bhilqn", *format) ? SIGNED : strchr("BHILQN?", *format) ? UNSIGNED : REALS;
+    if (into->type == REALS) return HAS_DOUBLES && *format == 'd' && into->width == sizeof(double);
+    return into->width == 1 || into->width == 2 || into->width == 4 || (into->width == 8 && (HAS_DOUBLES || into->type == SIGNED));
+}
+
+/* A number of the row. */
+static void take_item(const struct column *from, Py_ssize_t place, struct request *asked) {
+    const char *at = from->at + place * from->stride;
+    union {
+        int8_t b;
+        int16_t h;
+        int32_t i;
+        int64_t q;
+        double d;
+    } it;
+    memcpy(&it, at, (size_t)from->width);
+    asked->what = from->type == REALS ? REAL : from->type == UNSIGNED && from->width == 8 ? NATURAL : INTEGER;
+    asked->real = from->type == REALS ? it.d : 0;
+    if (from->type == SIGNED)
+        asked->integer = from->width == 1 ? it.b : from->width == 2 ? it.h : from->width == 4 ? it.i : it.q;
+    else if (from->type == UNSIGNED)
+        asked->integer = from->width == 1 ? (uint8_t)it.b : from->width == 2 ? (uint16_t)it.h : from->width == 4 ? (uint32_t)it.i : it.q;
+}
+
+/* The texts of some numbers, one after the other. */
+struct texts {
+    uint8_t *out;
+    size_t room, ends[CHUNK];
+    Py_ssize_t count;
+    int32_t number; /* of the library, of the number after them */
+};
+
+/* Writes the numbers of a row from a place on, CHUNK of them at most. It needs no GIL. */
+static void write_some(struct open *it, struct request *asked, const struct column *from, Py_ssize_t first, struct texts *into) {
+    size_t end = 0, length = 0;
+    into->count = 0;
+    into->number = LEGUMEYET_OK;
+    while (into->count < CHUNK && first + into->count < from->count) {
+        take_item(from, first + into->count, asked);
+        into->number = ask(it, asked, into->out + end, into->room - end, &length);
+        if (into->number == LEGUMEYET_TOO_SMALL) {
+            size_t room = 2 * into->room + length;
+            uint8_t *out = realloc(into->out, room);
+            into->number = LEGUMEYET_MEMORY;
+            if (out == NULL) return;
+            into->out = out;
+            into->room = room;
+            continue;
+        }
+        if (into->number != LEGUMEYET_OK) return;
+        end += length;
+        into->ends[into->count++] = end;
+    }
+}
+
+/* Writes them without the GIL. No other call has the formatter meanwhile. */
+static bool write_aside(struct open *it, struct request *asked, const struct column *from, Py_ssize_t first, struct texts *into) {
+    if (it->lock == NULL || it->forks != it->shared->forks) it->lock = PyThread_allocate_lock(); /* one of before a fork may be held by nobody */
+    if (it->lock == NULL) return PyErr_NoMemory(), false;
+    PyThread_acquire_lock(it->lock, WAIT_LOCK);
+    it->is_busy = true;
+    it->forks = it->shared->forks;
+    Py_BEGIN_ALLOW_THREADS
+    write_some(it, asked, from, first, into);
+    PyThread_release_lock(it->lock);
+    Py_END_ALLOW_THREADS
+    it->is_busy = false;
+    return true;
+}
+
+/* Adds a text to a list, which takes it over. */
+static bool add(PyObject *list, PyObject *text) {
+    bool is_well = text != NULL && PyList_Append(list, text) == 0;
+    Py_XDECREF(text);
+    return is_well;
+}
+
+/* Adds the texts of a row to a list. */
+static bool add_column(struct open *it, struct request *asked, const struct column *from, PyObject *list) {
+    struct texts *some = calloc(1, sizeof *some);
+    bool is_well = some != NULL && (some->out = malloc(ROOM)) != NULL;
+    if (is_well)
+        some->room = ROOM;
+    else
+        PyErr_NoMemory();
+    for (Py_ssize_t first = 0; is_well && first < from->count; first += some->count) {
+        is_well = is_ready(it) && write_aside(it, asked, from, first, some);
+        for (Py_ssize_t at = 0; is_well && at < some->count; at++) {
+            size_t start = at == 0 ? 0 : some->ends[at - 1];
+            is_well = add(list, PyUnicode_DecodeUTF8((const char *)some->out + start, (Py_ssize_t)(some->ends[at] - start), NULL));
+        }
+        if (is_well && some->number != LEGUMEYET_OK) is_well = refused(it->shared, some->number, first + some->count) != NULL;
+        is_well = is_well && PyErr_CheckSignals() == 0;
+    }
+    if (some != NULL) free(some->out);
+    free(some);
+    return is_well;
+}
+
+/* Adds the text of one number to a list. */
+static bool add_number(struct open *it, const struct request *like, PyObject *number, Py_ssize_t at, PyObject *list) {
+    struct request asked = *like;
+    int32_t found = is_ready(it) ? take_number(it->shared, &asked, number) : -1;
+    PyObject *text = found == LEGUMEYET_OK ? written(it, &asked, at) : found < 0 ? NULL : refused(it->shared, found, at);
+    let_go(&asked);
+    return add(list, text) && (at % CHUNK != CHUNK - 1 || PyErr_CheckSignals() == 0);
+}
+
+/* Adds the texts of the numbers that an object iterates over. */
+static bool add_each(struct open *it, const struct request *asked, PyObject *numbers, PyObject *list) {
+    PyObject *iterator = PyObject_GetIter(numbers), *number = NULL;
+    bool is_well = iterator != NULL;
+    for (Py_ssize_t at = 0; is_well && (number = PyIter_Next(iterator)) != NULL; at++) {
+        is_well = add_number(it, asked, number, at, list);
+        Py_DECREF(number);
+    }
+    Py_XDECREF(iterator);
+    return is_well && !PyErr_Occurred();
+}
+
+/* The memory of an object, or of the NumPy array of a column that has `to_numpy`. Returns whether there is some; there is no error. */
+static bool take_memory(PyObject *numbers, buffer *into) {
+    PyObject *array;
+    bool is_there = PyObject_GetBuffer(numbers, into, STRIDES_AND_FORMAT) == 0;
+    if (is_there) return true;
+    PyErr_Clear();
+    array = PyObject_CallMethod(numbers, "to_numpy", NULL);
+    is_there = array != NULL && PyObject_GetBuffer(array, into, STRIDES_AND_FORMAT) == 0;
+    PyErr_Clear();
+    Py_XDECREF(array);
+    return is_there;
+}
+
+/* Adds the texts of all numbers. */
+static bool add_all(struct open *it, struct request *asked, PyObject *numbers, PyObject *list) {
+    buffer memory;
+    struct column column;
+    bool is_well;
+    if (PyList_Check(numbers) || PyTuple_Check(numbers) || !take_memory(numbers, &memory)) return add_each(it, asked, numbers, list);
+    if (memory.ndim != 1) {
+        PyErr_Format(PyExc_TypeError, "numbers are in a row, and not in %d dimensions", memory.ndim);
+        is_well = false;
+    } else {
+        is_well = take_column(&memory, &column) ? add_column(it, asked, &column, list) : add_each(it, asked, numbers, list);
+    }
+    PyBuffer_Release(&memory);
+    return is_well;
+}
+
+static PyObject *format_all(PyObject *self, PyObject *arguments, PyObject *given) {
+    struct open *it = (struct open *)self;
+    struct request asked = {.what = TEXT};
+    PyObject *list, *numbers = argument(arguments, "what has the numbers");
+    if (numbers == NULL || !is_ready(it)) return NULL;
+    if (PyUnicode_Check(numbers) || PyBytes_Check(numbers) || PyByteArray_Check(numbers)) {
+        PyErr_Format(PyExc_TypeError, "numbers are given one by one, and not as a %R", Py_TYPE(numbers));
+        return NULL;
+    }
+    asked.options = it->options;
+    if (!take_options(it->shared, given, &asked.options)) return NULL;
+    list = PyList_New(0);
+    if (list != NULL && !add_all(it, &asked, numbers, list)) Py_CLEAR(list);
+    return list;
+}
+
+static PyObject *answer(PyObject *self, PyObject *line) {
+    struct open *it = (struct open *)self;
+    struct request asked = {.what = LINE};
+    PyObject *text = take_text(&asked, line) ? written(it, &asked, -1) : NULL;
+    let_go(&asked);
+    return text;
+}
+
+static PyObject *nothing_or(struct open *it, int32_t number) {
+    return number == LEGUMEYET_OK ? (Py_INCREF(Py_None), Py_None) : refused(it->shared, number, -1);
+}
+
+static PyObject *keep(PyObject *self, PyObject *none) {
+    struct open *it = (struct open *)self;
+    (void)none;
+    return is_ready(it) ? nothing_or(it, legumeyet_book_keep(&it->handle.book)) : NULL;
+}
+
+/* Closes a handle, also one that is closed. */
+static void close_handle(struct open *it) {
+    if (it->kind == DECIMAL)
+        legumeyet_decimal_formatter_close(&it->handle.decimal);
+    else if (it->kind == COMPACT)
+        legumeyet_compact_formatter_close(&it->handle.compact);
+    else
+        legumeyet_book_close(&it->handle.book);
+}
+
+static PyObject *close_it(PyObject *self, PyObject *none) {
+    struct open *it = (struct open *)self;
+    (void)none;
+    if (it->shared != NULL) {
+        if (!is_ready(it)) return NULL;
+        close_handle(it);
+    }
+    Py_INCREF(Py_None);
+    return Py_None;
+}
+
+static PyObject *is_open(PyObject *self, void *none) {
+    struct open *it = (struct open *)self;
+    (void)none;
+    bool is_one = it->kind == DECIMAL ? it->handle.decimal.is_open : it->kind == COMPACT ? it->handle.compact.is_open : it->handle.book.is_open;
+    return PyBool_FromLong(is_one);
+}
+
+/* Lets go of what objects share. */
+static void leave(struct shared *shared) {
+    if (shared == NULL || --shared->count > 0) return;
+    legumeyet_book_close(&shared->world);
+    PyMem_Free(shared);
+}
+
+static void dealloc(PyObject *self) {
+    struct open *it = (struct open *)self;
+    PyTypeObject *type = Py_TYPE(self);
+    freefunc free_it = (freefunc)PyType_GetSlot(type, Py_tp_free);
+    close_handle(it);
+    leave(it->shared);
+    if (it->lock != NULL) PyThread_free_lock(it->lock);
+    free_it(self);
+    Py_DECREF(type);
+}
+
+#define CALL(name) (PyCFunction)(void (*)(void))name, METH_VARARGS | METH_KEYWORDS
+
+static PyGetSetDef properties[] = {{"is_open", is_open, NULL, "Whether it is open.", NULL}, {NULL, NULL, NULL, NULL, NULL}};
+
+#define CLOSE \
+    {"close", close_it, METH_NOARGS, "close($self, /)\n--\n\nCloses it. What is closed already stays so."}
+#define FORMAT \
+    {"format", CALL(format), \
+     "format($self, number, /, **options)\n--\n\n" \
+     "The text of a number: a Decimal, an int, a float, or a str as '-1234.5'. A float is written by the shortest digits that give it back.\n" \
+     "The options are those of the formatter, but for those that are given here. With a rounding the number is rounded at the position\n" \
+     "first: 0, as without a position, is the ones, -2 the hundredths. A position without a rounding is that of Rounding.HALF_EVEN.\n\n" \
+     "Raises Error 7 where the text is no number, or a float is not finite, 8 where a digit is beyond the magnitudes -32768 to 32767, 9 where\n" \
+     "what is shown in compact form does, 2 where the formatter is closed, 1 where memory was refused.\n\n" \
+     ">>> german = DecimalFormatter('de')\n" \
+     ">>> german.format(Decimal('1234.50')), german.format(1234), german.format(0.1)\n" \
+     "('1.234,50', '1.234', '0,1')\n" \
+     ">>> german.format('9.65', position=-1), german.format('9.65', sign=Sign.ALWAYS, rounding=Rounding.CEIL, position=-1)\n" \
+     "('9,6', '+9,7')"}
+#define FORMAT_ALL \
+    {"format_all", CALL(format_all), \
+     "format_all($self, numbers, /, **options)\n--\n\n" \
+     "A list of the texts of many numbers, as format writes each. The numbers are what can be iterated over, or a row in memory: an array of\n" \
+     "array or NumPy, a column of pandas. A row of integers, or of doubles, is read where it is, and other threads run meanwhile.\n\n" \
+     "Raises as format; an Error says which number it is of, from 0 on.\n\n" \
+     ">>> DecimalFormatter('de').format_all([1234, Decimal('0.50'), '1e6'])\n" \
+     "['1.234', '0,50', '1.000.000']"}
+#define FORMAT_PARTS \
+    {"format_parts", CALL(format_parts), \
+     "format_parts($self, number, /, **options)\n--\n\n" \
+     "The text of format, and its parts in order of their beginning. Raises as format.\n\n" \
+     ">>> text, parts = DecimalFormatter('de').format_parts('-1234.5')\n" \
+     ">>> [(it.kind.name, text[it.start : it.end]) for it in parts]\n" \
+     "[('MINUS_SIGN', '-'), ('INTEGER', '1.234'), ('GROUP', '.'), ('DECIMAL', ','), ('FRACTION', '5')]"}
+
+static PyMethodDef book_methods[] = {
+    CLOSE,
+    {"keep", keep, METH_NOARGS,
+     "keep($self, /)\n--\n\n"
+     "Keeps the book for the rest of the program: its memory is never given back, not even where the book is closed.\n\n"
+     "Formatters that are opened from it afterwards borrow its tables, and have no copy of their own: they hold less memory and write\n"
+     "faster. Raises Error 2 where the book is closed, 1 where memory was refused.\n\n"
+     ">>> kept = Book.world()\n"
+     ">>> kept.keep()\n"
+     ">>> DecimalFormatter(kept, 'de').format(1234)\n"
+     "'1.234'"},
+    {"answer", answer, METH_O,
+     "answer($self, line, /)\n--\n\n"
+     "The answer to a request line, without its line feed: 'ok', a tab and a text, or 'err', a tab and a word.\n\n"
+     "Raises Error 2 where the book is closed, 1 where memory was refused.\n\n"
+     ">>> Book.world().answer('de\\tplain\\tauto\\tkeep\\t-\\t-987654.321')\n"
+     "'ok\\t-987.654,321'"},
+    {NULL, NULL, 0, NULL}};
+
+static PyMethodDef decimal_methods[] = {
+    CLOSE,
+    FORMAT,
+    FORMAT_ALL,
+    FORMAT_PARTS,
+    {"read", CALL(read_back),
+     "read($self, text, /, *, lenient=False)\n--\n\n"
+     "The number that is written so, with all digits that are shown. With lenient also the number of a text that somebody typed: without\n"
+     "separators, with blanks round it, in ASCII digits. A separator is never dropped: digits are grouped wholly, or not at all.\n\n"
+     "Raises Error 10 where the text is not UTF-8, 11 where two numbers may have one text under the symbols, 12 where no number is written\n"
+     "so, 2 where the formatter is closed, 1 where memory was refused.\n\n"
+     ">>> german = DecimalFormatter('de')\n"
+     ">>> german.read('-1.234,50')\n"
+     "Decimal('-1234.50')\n"
+     ">>> german.read('98.7654')\n"
+     "Traceback (most recent call last):\n"
+     "legumeyet.InputError: 12: no number is written so"
+#if LEGUMEYET_MINOR >= 1
+     "\n>>> german.read(' 1234,5 ', lenient=True)\n"
+     "Decimal('1234.5')"
+#endif
+    },
+    {NULL, NULL, 0, NULL}};
+
+static PyMethodDef compact_methods[] = {
+    CLOSE,
+    FORMAT,
+    FORMAT_ALL,
+    FORMAT_PARTS,
+    {"shown", CALL(shown),
+     "shown($self, number, /, **options)\n--\n\n"
+     "The value that the text of format shows: a significand and, after 'c', an exponent where it is not 0. Raises as format.\n\n"
+     ">>> short = CompactDecimalFormatter('en')\n"
+     ">>> short.shown(-1172700), short.shown(950)\n"
+     "('-1.2c6', '950')"},
+    {"format_exact", CALL(format_exact),
+     "format_exact($self, number, /, **options)\n--\n\n"
+     "The text of a significand with an exponent, its digits as they are; it is the significand that is rounded.\n\n"
+     "Raises Error 7 where the text is no such number, 8 where a digit of the significand is beyond the magnitudes -32768 to 32767, or the\n"
+     "exponent is above 255, 9 where the magnitude of both together is above 32767, 13 where numbers of this magnitude have another exponent,\n"
+     "2 where the formatter is closed, 1 where memory was refused.\n\n"
+     ">>> short = CompactDecimalFormatter('en')\n"
+     ">>> short.format_exact('-1.20c6')\n"
+     "'-1.20M'\n"
+     ">>> short.format_exact('1.2c5')\n"
+     "Traceback (most recent call last):\n"
+     "legumeyet.InputError: 13: an exponent that numbers of this magnitude have not"},
+    {NULL, NULL, 0, NULL}};
+
+static PyType_Slot book_slots[] = {{Py_tp_dealloc, dealloc}, {Py_tp_methods, book_methods}, {Py_tp_getset, properties}, {0, NULL}};
+static PyType_Slot decimal_slots[] = {{Py_tp_dealloc, dealloc}, {Py_tp_methods, decimal_methods}, {Py_tp_getset, properties}, {0, NULL}};
+static PyType_Slot compact_slots[] = {{Py_tp_dealloc, dealloc}, {Py_tp_methods, compact_methods}, {Py_tp_getset, properties}, {0, NULL}};
+
+#define OF(slots) sizeof(struct open), 0, Py_TPFLAGS_DEFAULT | Py_TPFLAGS_BASETYPE, slots
+static PyType_Spec specs[] = {
+    {"legumeyet._core.Book", OF(book_slots)},
+    {"legumeyet._core.DecimalFormatter", OF(decimal_slots)},
+    {"legumeyet._core.CompactDecimalFormatter", OF(compact_slots)},
+};
+
+static struct shared *shared_of(PyObject *module) {
+    return *(struct shared **)PyModule_GetState(module);
+}
+
+/* Takes an object of one of the types of this module, which is to be opened. */
+static struct open *take_object(struct shared *shared, PyObject *object, enum kind kind) {
+    struct open *it = (struct open *)object;
+    if (!PyObject_TypeCheck(object, (PyTypeObject *)shared->types[kind])) {
+        PyErr_Format(PyExc_TypeError, "%R is not one of %R", object, shared->types[kind]);
+        return NULL;
+    }
+    if (it->shared == NULL) {
+        it->shared = shared;
+        it->kind = kind;
+        shared->count++;
+    }
+    return is_ready(it) ? it : NULL;
+}
+
+/* open_book(book, json): a book that is closed yet is opened of a JSON, without the GIL, and of None the world's is opened. */
+static PyObject *open_book(PyObject *module, PyObject *arguments) {
+    PyObject *object, *json;
+    struct open *it;
+    struct request asked = {.what = LINE};
+    legumeyet_book made = {0};
+    int32_t number;
+    if (!PyArg_ParseTuple(arguments, "OO", &object, &json)) return NULL;
+    if ((it = take_object(shared_of(module), object, BOOK)) == NULL) return NULL;
+    if (json != Py_None && !take_text(&asked, json)) return NULL;
+    Py_BEGIN_ALLOW_THREADS
+    number = json == Py_None ? legumeyet_book_open_world(&made) : legumeyet_book_open(asked.at, asked.length, &made);
+    Py_END_ALLOW_THREADS
+    let_go(&asked);
+    if (number != LEGUMEYET_OK) return refused(it->shared, number, -1);
+    legumeyet_book_close(&it->handle.book);
+    it->handle.book = made; /* `made` is not used again: a handle is in one place */
+    return nothing_or(it, LEGUMEYET_OK);
+}
+
+/* The book of a formatter: another one's, or the world's, which is opened and kept once. Returns NULL with an error. */
+static legumeyet_book *book_of(struct shared *shared, PyObject *object) {
+    struct open *it = (struct open *)object;
+    int32_t number = LEGUMEYET_OK;
+    if (object != Py_None) {
+        if (PyObject_TypeCheck(object, (PyTypeObject *)shared->types[BOOK])) return is_ready(it) ? &it->handle.book : NULL;
+        PyErr_Format(PyExc_TypeError, "a book is a Book, and not %R", Py_TYPE(object));
+        return NULL;
+    }
+    if (!shared->world.is_open) number = legumeyet_book_open_world(&shared->world);
+    if (number == LEGUMEYET_OK) number = legumeyet_book_keep(&shared->world);
+    if (number == LEGUMEYET_OK) return &shared->world;
+    refused(shared, number, -1);
+    return NULL;
+}
+
+/* open_formatter(formatter, book or None, tag, grouping, width or -1, options): returns the number of the library. */
+static PyObject *open_formatter(PyObject *module, PyObject *arguments) {
+    PyObject *object, *book, *tag, *given;
+    struct shared *shared = shared_of(module);
+    struct open *it;
+    struct request asked = {.what = LINE};
+    legumeyet_book *from;
+    int grouping, width;
+    if (!PyArg_ParseTuple(arguments, "OOO!iiO!", &object, &book, &PyBytes_Type, &tag, &grouping, &width, &PyDict_Type, &given)) return NULL;
+    if ((it = take_object(shared, object, width < 0 ? DECIMAL : COMPACT)) == NULL || (from = book_of(shared, book)) == NULL) return NULL;
+    if (!take_options(shared, given, &asked.options) || !take_text(&asked, tag)) return NULL;
+    if (!is_ready(it)) return let_go(&asked), NULL;
+    int32_t number = width < 0
+        ? legumeyet_decimal_formatter_open(from, asked.at, asked.length, (uint32_t)grouping, &it->handle.decimal)
+        : legumeyet_compact_formatter_open(from, asked.at, asked.length, (uint32_t)width, (uint32_t)grouping, &it->handle.compact);
+    if (number == LEGUMEYET_OK) it->options = asked.options;
+    let_go(&asked);
+    return PyLong_FromLong(number);
+}
+
+/* What a number of the library means. */
+static PyObject *error_text(PyObject *module, PyObject *number) {
+    uint8_t out[ROOM];
+    size_t length = 0;
+    long error = PyLong_AsLong(number);
+    (void)module;
+    if (error == -1 && PyErr_Occurred()) return NULL;
+    if (error != (int32_t)error || legumeyet_error_text((int32_t)error, out, sizeof out, &length) != LEGUMEYET_OK)
+        return PyUnicode_FromString("an error of another version");
+    return PyUnicode_DecodeUTF8((const char *)out, (Py_ssize_t)length, NULL);
+}
+
+/* The tag of a locale's name, both as bytes; None is a name too. */
+static PyObject *tag_of_locale_name(PyObject *module, PyObject *name) {
+    const char *given = name == Py_None ? NULL : PyBytes_AsString(name);
+    PyObject *tag;
+    size_t length = 0;
+    (void)module;
+    if (given == NULL && name != Py_None) return NULL;
+    legumeyet_tag_of_locale_name(given, NULL, 0, &length);
+    tag = PyBytes_FromStringAndSize(NULL, (Py_ssize_t)length);
+    if (tag != NULL) legumeyet_tag_of_locale_name(given, (uint8_t *)PyBytes_AsString(tag), length, &length);
+    return tag;
+}
+
+static PyObject *world_locales(PyObject *module, PyObject *none) {
+    PyObject *list = PyList_New(0);
+    const char *tag;
+    (void)module, (void)none;
+    for (size_t at = 0; list != NULL && (tag = legumeyet_world_locale(at)) != NULL; at++)
+        if (!add(list, PyUnicode_FromString(tag))) Py_CLEAR(list);
+    return list;
+}
+
+static PyObject *version(PyObject *module, PyObject *none) {
+    (void)module, (void)none;
+    return PyLong_FromUnsignedLong(legumeyet_version());
+}
+
+static PyObject *minor(PyObject *module, PyObject *none) {
+    (void)module, (void)none;
+#if LEGUMEYET_MINOR >= 1
+    return PyLong_FromUnsignedLong(legumeyet_minor());
+#else
+    return PyLong_FromLong(0);
+#endif
+}
+
+/* forked(): this process is a child of a fork now, and has no other thread. */
+static PyObject *forked(PyObject *module, PyObject *none) {
+    (void)none;
+    shared_of(module)->forks++;
+    Py_INCREF(Py_None);
+    return Py_None;
+}
+
+/* use(Error, Part, Sign, Rounding, TrailingZeros, kind_of, wrong_number): what the modules in Python have. */
+static PyObject *use(PyObject *module, PyObject *arguments) {
+    struct shared *shared = shared_of(module);
+    PyObject **places[] = {&shared->error, &shared->part, &shared->sign, &shared->rounding, &shared->trailing_zeros, &shared->kind_of,
+                           &shared->wrong_number};
+    PyObject *given[7];
+    if (!PyArg_ParseTuple(arguments, "OOOOOOO", &given[0], &given[1], &given[2], &given[3], &given[4], &given[5], &given[6])) return NULL;
+    for (int at = 0; at < 7; at++) {
+        Py_INCREF(given[at]);
+        Py_XDECREF(*places[at]);
+        *places[at] = given[at];
+    }
+    Py_INCREF(Py_None);
+    return Py_None;
+}
+
+static PyMethodDef functions[] = {
+    {"open_book", open_book, METH_VARARGS, NULL},
+    {"open_formatter", open_formatter, METH_VARARGS, NULL},
+    {"error_text", error_text, METH_O, NULL},
+    {"tag_of_locale_name", tag_of_locale_name, METH_O, NULL},
+    {"world_locales", world_locales, METH_NOARGS, NULL},
+    {"version", version, METH_NOARGS, NULL},
+    {"minor", minor, METH_NOARGS, NULL},
+    {"forked", forked, METH_NOARGS, NULL},
+    {"use", use, METH_VARARGS, NULL},
+    {NULL, NULL, 0, NULL}};
+
+/* Makes the types, and imports Decimal. */
+static int fill(PyObject *module) {
+    static const char *const names[] = {"Book", "DecimalFormatter", "CompactDecimalFormatter"};
+    struct shared *shared = PyMem_Malloc(sizeof *shared);
+    PyObject *decimal;
+    if (shared == NULL) return PyErr_NoMemory(), -1;
+    memset(shared, 0, sizeof *shared);
+    shared->count = 1;
+    *(struct shared **)PyModule_GetState(module) = shared;
+    for (int kind = BOOK; kind <= COMPACT; kind++) {
+        PyObject *type = shared->types[kind] = PyType_FromSpec(&specs[kind]);
+        if (type == NULL) return -1;
+        Py_INCREF(type); /* what follows takes one over */
+        if (PyModule_AddObject(module, names[kind], type) < 0) return Py_DECREF(type), -1;
+    }
+    decimal = PyImport_ImportModule("decimal");
+    if (decimal != NULL) shared->decimal = PyObject_GetAttrString(decimal, "Decimal");
+    Py_XDECREF(decimal);
+    return shared->decimal == NULL ? -1 : 0;
+}
+
+/* The objects of Python that are shared. */
+enum { SHARED = 11 };
+static void list_shared(struct shared *shared, PyObject **places[SHARED]) {
+    PyObject **all[SHARED] = {&shared->decimal, &shared->types[0], &shared->types[1], &shared->types[2], &shared->error, &shared->part,
+                              &shared->sign, &shared->rounding, &shared->trailing_zeros, &shared->kind_of, &shared->wrong_number};
+    memcpy(places, all, sizeof all);
+}
+
+static int traverse(PyObject *module, visitproc visit, void *arg) {
+    struct shared *shared = shared_of(module);
+    PyObject **places[SHARED];
+    if (shared == NULL) return 0;
+    list_shared(shared, places);
+    for (int at = 0; at < SHARED; at++) Py_VISIT(*places[at]);
+    return 0;
+}
+
+static int clear(PyObject *module) {
+    struct shared *shared = shared_of(module);
+    PyObject **places[SHARED];
+    if (shared == NULL) return 0;
+    list_shared(shared, places);
+    for (int at = 0; at < SHARED; at++) Py_CLEAR(*places[at]);
+    return 0;
+}
+
+static void free_module(void *module) {
+    struct shared **state = PyModule_GetState(module);
+    if (*state == NULL) return;
+    clear(module);
+    leave(*state);
+    *state = NULL;
+}
+
+/* The second slot is named from CPython 3.12 on: interpreters with a GIL of their own may import the module. */
+enum { MULTIPLE_INTERPRETERS = 3, GIL_OF_ITS_OWN = 2 };
+static PyModuleDef_Slot steps[] = {{Py_mod_exec, fill}, {0, NULL}, {0, NULL}};
+static struct PyModuleDef definition = {
+    PyModuleDef_HEAD_INIT, "_core", "Books and formatters.", sizeof(struct shared *), functions, steps, traverse, clear, free_module};
+
+PyMODINIT_FUNC PyInit__core(void) {
+    int major = 0, minor = 0;
+    sscanf(Py_GetVersion(), "%d.%d", &major, &minor);
+    if (major > 3 || minor >= 12) {
+        steps[1].value = (void *)GIL_OF_ITS_OWN;
+        steps[1].slot = MULTIPLE_INTERPRETERS;
+    }
+    return PyModuleDef_Init(&definition);
+}

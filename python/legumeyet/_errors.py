@@ -1,0 +1,65 @@
+"""The errors of the library."""
+from fractions import Fraction
+from typing import Any, Dict, Tuple, Type
+
+from . import _core
+
+MEMORY, CLOSED, TAG = 1, 2, 5
+
+
+class Error(Exception):
+    """A call was refused. `number` says why, as legumeyet.h has it, and `word` says it in English.
+
+    An `Error` is made as one of its kinds, by its number: `InputError`, which is a `ValueError`, where what was given is refused;
+    `ClosedError`, which is a `RuntimeError`; `OutOfMemoryError`, which is a `MemoryError`.
+
+    >>> DecimalFormatter("de").read("1,234.5")
+    Traceback (most recent call last):
+    legumeyet.InputError: 12: no number is written so
+    """
+
+    __module__ = "legumeyet"
+
+    def __new__(cls, number: int, hint: str = "") -> "Error":
+        return super().__new__(kind_of(number) if cls is Error else cls)
+
+    def __init__(self, number: int, hint: str = ""):
+        self.number, self.hint = number, hint
+        self.word = _core.error_text(number)
+        super().__init__(f"{number}: {self.word}{hint}")
+
+    def __reduce__(self) -> Tuple[Any, ...]:
+        return Error, (self.number, self.hint)
+
+
+class InputError(Error, ValueError):
+    """What was given is refused: a tag, a number, a text to read back, or a book."""
+
+    __module__ = "legumeyet"
+
+
+class ClosedError(Error, RuntimeError):
+    """The book or the formatter is closed."""
+
+    __module__ = "legumeyet"
+
+
+class OutOfMemoryError(Error, MemoryError):
+    """Memory was refused."""
+
+    __module__ = "legumeyet"
+
+
+def kind_of(number: int) -> Type[Error]:
+    """The kind of an error."""
+    kinds: Dict[int, Type[Error]] = {MEMORY: OutOfMemoryError, CLOSED: ClosedError}
+    return kinds.get(number, InputError)
+
+
+def wrong_number(number: object) -> TypeError:
+    """The error of what is no number that a formatter takes, with the way out where there is one."""
+    if isinstance(number, Fraction):
+        way = "a Fraction may have no end of digits: give Decimal(it.numerator) / it.denominator, which has those of the context"
+        return TypeError(way)
+    way = ": give it as float(it), or as Decimal(str(it))" if hasattr(number, "__float__") else ""
+    return TypeError(f"a number is a Decimal, an int, a float or a str, and not {type(number).__name__}{way}")
