@@ -26,7 +26,7 @@ def text_for(book, fields):
         position, mode, increment = rounding.split(",")
         options.update(rounding=option(Rounding, mode), position=int(position))
         if increment != "1":
-            raise KeyError(increment)
+            options.update(increment=int(increment))
     if form == "plain":
         return DecimalFormatter(book, tag, grouping=grouping).format(number, **options)
     if form == "read":

@@ -15,7 +15,10 @@ fn options_of(sign: &str, rounding: &str) -> Option<Options> {
     }
     let words: Vec<&str> = rounding.split(',').collect();
     match words[..] {
-        [position, mode, "1"] => Some(Options::default().sign(sign).rounded(mode.parse().ok()?, position.parse().ok()?)),
+        [position, mode, increment] => {
+            let rounded = Options::default().sign(sign).rounded(mode.parse().ok()?, position.parse().ok()?);
+            Some(rounded.increment(increment.parse().ok()?))
+        }
         _ => None,
     }
 }

@@ -14,6 +14,8 @@ pub struct Error(i32);
 impl Error {
     /// Memory was refused.
     pub const MEMORY: Error = Error(1);
+    /// A least count of digits is above 32767.
+    pub const OPTION: Error = Error(4);
     /// The text is no locale tag, as `e`, or as `de_DE`, which is written `de-DE`: `tag_of_locale_name`.
     pub const TAG: Error = Error(5);
     /// The book lacks a table for the tag.

@@ -47,7 +47,7 @@ mod world;
 
 pub use error::{Error, OpenError, UnknownWord, WriteError};
 pub use number::Number;
-pub use options::{Grouping, Kind, Options, Rounding, Sign, Width};
+pub use options::{Grouping, Increment, Kind, Options, Rounding, Sign, TrailingZeros, Width};
 pub use world::{tag_of_locale_name, world_locales};
 
 use std::fmt;
@@ -190,6 +190,24 @@ impl DecimalFormatter {
             sys::legumeyet_decimal_formatter_read(self.0.at(), text.as_ptr(), text.len(), out, room, length)
         })
     }
+
+    /// The number of a text that somebody typed, as digits: what `read` reads, and other texts by folding, without separators, with blanks
+    /// round it, in ASCII digits. A separator is never dropped: digits are grouped wholly, or not at all. Refused as `read`.
+    ///
+    /// ```
+    /// use legumeyet::{DecimalFormatter, Error};
+    ///
+    /// let german = DecimalFormatter::new("de")?;
+    /// assert_eq!(german.read_lenient(" 1234,50 ")?, "1234.50");
+    /// assert_eq!(german.read_lenient("1.23"), Err(Error::NOT_WRITTEN));
+    /// # Ok::<(), Error>(())
+    /// ```
+    pub fn read_lenient(&self, text: &str) -> Result<String, Error> {
+        // SAFETY: as for `Book::answer`.
+        written(|out, room, length| unsafe {
+            sys::legumeyet_decimal_formatter_read_lenient(self.0.at(), text.as_ptr(), text.len(), out, room, length)
+        })
+    }
 }
 
 /// The formatter of compact numbers for a locale tag, short or long. It may outlive the book.
@@ -297,4 +315,10 @@ impl CompactDecimalFormatter {
 pub fn version() -> u32 {
     // SAFETY: it reads nothing.
     unsafe { sys::legumeyet_version() }
+}
+
+/// The minor version of the library, which rises when something is added.
+pub fn minor() -> u32 {
+    // SAFETY: it reads nothing.
+    unsafe { sys::legumeyet_minor() }
 }

@@ -29,6 +29,8 @@ macro_rules! words {
 words!(Grouping: "auto" Auto, "never" Never, "always" Always, "min2" Min2);
 words!(Width: "short" Short, "long" Long);
 words!(Sign: "keep" Keep, "auto" Auto, "never" Never, "always" Always, "except-zero" ExceptZero, "negative" Negative);
+words!(Increment: "1" One, "2" Two, "5" Five, "25" TwentyFive);
+words!(TrailingZeros: "keep" Keep, "trim" Trim);
 words!(Rounding: "keep" Keep, "expand" Expand, "trunc" Trunc, "ceil" Ceil, "floor" Floor, "half-expand" HalfExpand,
     "half-trunc" HalfTrunc, "half-ceil" HalfCeil, "half-floor" HalfFloor, "half-even" HalfEven);
 
@@ -143,13 +145,44 @@ pub enum Rounding {
     HalfEven = 9,
 }
 
-/// What is made of a number before it is written: it is rounded, and then its sign is chosen. By default it stays as it is.
+/// Of what a number is rounded to a multiple, at the position.
+#[derive(Clone, Copy, Debug, Default, PartialEq, Eq)]
+#[non_exhaustive]
+pub enum Increment {
+    /// Of one: each digit.
+    #[default]
+    One = 1,
+    Two = 2,
+    Five = 5,
+    /// Of 25, of which the position is that of the 5.
+    TwentyFive = 25,
+}
+
+/// What becomes of the zeros at the end of the fraction digits.
+#[derive(Clone, Copy, Debug, Default, PartialEq, Eq)]
+#[non_exhaustive]
+pub enum TrailingZeros {
+    /// They stay: `1.50`.
+    #[default]
+    Keep = 0,
+    /// They are trimmed, and the decimal separator where no digit is left: `1.5`, and `2` of `2.00`.
+    Trim = 1,
+}
+
+/// What is made of a number before it is written: it is rounded, then trimmed, then padded, and then its sign is chosen. By default it stays
+/// as it is.
 ///
 /// ```
-/// use legumeyet::{DecimalFormatter, Options, Rounding, Sign};
+/// use legumeyet::{DecimalFormatter, Increment, Options, Rounding, Sign, TrailingZeros};
 ///
-/// let options = Options::default().sign(Sign::Always).rounded(Rounding::HalfEven, -1);
-/// assert_eq!(DecimalFormatter::new("de")?.format("9.65", &options)?, "+9,6");
+/// let german = DecimalFormatter::new("de")?;
+/// let tenths = Options::default().rounded(Rounding::HalfEven, -1);
+/// assert_eq!(german.format("9.65", &tenths.sign(Sign::Always))?, "+9,6");
+/// let at_most_two = Options::default().rounded(Rounding::HalfEven, -2).trailing_zeros(TrailingZeros::Trim);
+/// assert_eq!(german.format(1.995, &at_most_two)?, "2");
+/// assert_eq!(german.format(1.995, &at_most_two.minimum_fraction_digits(1))?, "2,0");
+/// let twentieths = Options::default().rounded(Rounding::HalfEven, -2).increment(Increment::Five);
+/// assert_eq!(german.format("1.23", &twentieths)?, "1,25");
 /// # Ok::<(), legumeyet::Error>(())
 /// ```
 #[derive(Clone, Copy, Debug, Default, PartialEq, Eq)]
@@ -161,6 +194,14 @@ pub struct Options {
     pub rounding: Rounding,
     /// The magnitude that is rounded at: 0 the ones, -2 the hundredths. Of `Rounding::Keep` it counts for nothing.
     pub position: i16,
+    /// Of what it is rounded to a multiple. Of `Rounding::Keep` it counts for nothing.
+    pub increment: Increment,
+    /// What becomes of zeros at the end of the fraction digits.
+    pub trailing_zeros: TrailingZeros,
+    /// As many integer digits are shown at least, by zeros in front: with 3 7 is `007`. Up to 32767.
+    pub minimum_integer_digits: u16,
+    /// As many fraction digits are shown at least, by zeros at the end: with 2 7.5 is `7.50`. Up to 32767.
+    pub minimum_fraction_digits: u16,
 }
 
 impl Options {
@@ -176,8 +217,41 @@ impl Options {
         Options { rounding, position, ..self }
     }
 
+    /// The same, rounded to a multiple of this.
+    #[must_use]
+    pub const fn increment(self, increment: Increment) -> Options {
+        Options { increment, ..self }
+    }
+
+    /// The same with this choice of zeros.
+    #[must_use]
+    pub const fn trailing_zeros(self, trailing_zeros: TrailingZeros) -> Options {
+        Options { trailing_zeros, ..self }
+    }
+
+    /// The same with at least so many integer digits.
+    #[must_use]
+    pub const fn minimum_integer_digits(self, minimum_integer_digits: u16) -> Options {
+        Options { minimum_integer_digits, ..self }
+    }
+
+    /// The same with at least so many fraction digits.
+    #[must_use]
+    pub const fn minimum_fraction_digits(self, minimum_fraction_digits: u16) -> Options {
+        Options { minimum_fraction_digits, ..self }
+    }
+
     pub(crate) fn numbers(&self) -> sys::Options {
-        sys::Options { sign: self.sign as u32, rounding: self.rounding as u32, position: self.position }
+        sys::Options {
+            sign: self.sign as u32,
+            rounding: self.rounding as u32,
+            position: self.position,
+            trailing_zeros: self.trailing_zeros as u16,
+            increment: self.increment as u32,
+            minimum_integer_digits: self.minimum_integer_digits,
+            minimum_fraction_digits: self.minimum_fraction_digits,
+            reserved: [0; 2],
+        }
     }
 }
 

@@ -22,6 +22,11 @@ pub struct Options {
     pub sign: u32,
     pub rounding: u32,
     pub position: i16,
+    pub trailing_zeros: u16,
+    pub increment: u32,
+    pub minimum_integer_digits: u16,
+    pub minimum_fraction_digits: u16,
+    pub reserved: [u32; 2],
 }
 
 #[repr(C)]
@@ -46,6 +51,7 @@ extern "C" {
     pub fn legumeyet_decimal_formatter_format_i64(formatter: *mut Handle, mantissa: i64, exponent: i16, options: *const Options, out: *mut u8, room: usize, length: *mut usize) -> i32;
     pub fn legumeyet_decimal_formatter_format_parts(formatter: *mut Handle, number: *const u8, number_length: usize, options: *const Options, out: *mut u8, room: usize, length: *mut usize, intervals: *mut Interval, intervals_room: usize, count: *mut usize) -> i32;
     pub fn legumeyet_decimal_formatter_read(formatter: *mut Handle, text: *const u8, text_length: usize, out: *mut u8, room: usize, length: *mut usize) -> i32;
+    pub fn legumeyet_decimal_formatter_read_lenient(formatter: *mut Handle, text: *const u8, text_length: usize, out: *mut u8, room: usize, length: *mut usize) -> i32;
     pub fn legumeyet_compact_formatter_open(book: *mut Handle, tag: *const u8, tag_length: usize, width: u32, grouping: u32, formatter: *mut Handle) -> i32;
     pub fn legumeyet_compact_formatter_close(formatter: *mut Handle) -> i32;
     pub fn legumeyet_compact_formatter_format(formatter: *mut Handle, number: *const u8, number_length: usize, options: *const Options, out: *mut u8, room: usize, length: *mut usize) -> i32;
@@ -56,4 +62,5 @@ extern "C" {
     pub fn legumeyet_tag_of_locale_name(name: *const c_char, out: *mut u8, room: usize, length: *mut usize) -> i32;
     pub fn legumeyet_error_text(error: i32, out: *mut u8, room: usize, length: *mut usize) -> i32;
     pub fn legumeyet_version() -> u32;
+    pub fn legumeyet_minor() -> u32;
 }

@@ -1,8 +1,8 @@
 //! Each call well and badly.
 
 use legumeyet::{
-    Book, CompactDecimalFormatter, DecimalFormatter, Error, Grouping, Kind, OpenError, Options, Rounding, Sign, UnknownWord, Width,
-    WriteError,
+    Book, CompactDecimalFormatter, DecimalFormatter, Error, Grouping, Increment, Kind, OpenError, Options, Rounding, Sign, TrailingZeros,
+    UnknownWord, Width, WriteError,
 };
 use std::{env, fmt, fs, io, process, thread};
 
@@ -135,6 +135,37 @@ fn reads() {
     }
     let bad = DecimalFormatter::from_book(&book(), "bad", Grouping::Auto).unwrap();
     assert_eq!(bad.read("1"), Err(Error::UNREADABLE));
+}
+
+#[test]
+fn reads_leniently() {
+    let english = english();
+    for (text, number) in [(" 1234.5 ", "1234.5"), ("1,234.5", "1234.5"), (".5", "0.5"), ("5.", "5"), ("\u{2212}5", "-5")] {
+        assert_eq!(english.read_lenient(text).as_deref(), Ok(number), "{text}");
+    }
+    for text in ["1,23", "1,234,5", "1 234", ""] {
+        assert_eq!(english.read_lenient(text), Err(Error::NOT_WRITTEN), "{text}");
+    }
+    assert_eq!(DecimalFormatter::new("ar-EG").unwrap().read_lenient("1234").as_deref(), Ok("1234"));
+}
+
+#[test]
+fn newer_options() {
+    let english = english();
+    let trimmed = Options::default().rounded(Rounding::HalfEven, -2).trailing_zeros(TrailingZeros::Trim);
+    for (number, options, text) in [
+        (1.995, trimmed, "2"),
+        (1.5, trimmed, "1.5"),
+        (1.995, trimmed.minimum_fraction_digits(1), "2.0"),
+        (1.23, Options::default().rounded(Rounding::HalfEven, -2).increment(Increment::Five), "1.25"),
+        (7.0, Options::default().minimum_integer_digits(3), "007"),
+    ] {
+        assert_eq!(english.format(number, &options).unwrap(), text);
+    }
+    assert_eq!(english.format(1, &Options::default().minimum_integer_digits(32768)), Err(Error::OPTION));
+    assert_eq!("25".parse(), Ok(Increment::TwentyFive));
+    assert_eq!(TrailingZeros::Trim.to_string(), "trim");
+    assert!(legumeyet::minor() >= 1);
 }
 
 #[test]
