@@ -3,6 +3,7 @@
 usage: python3 -m unittest discover -s python/tests
 """
 import array
+import ast
 import concurrent.futures
 import contextlib
 import copy
@@ -649,6 +650,22 @@ class Calls(unittest.TestCase):
             late.cycle = late
         """
         subprocess.run([sys.executable, "-c", words], check=True, timeout=60)
+
+    def test_hints(self):
+        """The hints of the module in C name what it has, and nothing else."""
+        hints = ast.parse((pathlib.Path(_core.__file__).parent / "_core.pyi").read_text())
+        classes = {it.name: it for it in hints.body if isinstance(it, ast.ClassDef)}
+
+        def calls(name):
+            if name not in classes:
+                return set()
+            own = {it.name for it in classes[name].body if isinstance(it, ast.FunctionDef)}
+            return own.union(*(calls(base.id) for base in classes[name].bases))
+
+        for kind in (_core.Book, _core.DecimalFormatter, _core.CompactDecimalFormatter):
+            self.assertEqual({it for it in vars(kind) if not it.startswith("__")}, calls(kind.__name__))
+        functions = {it.name for it in hints.body if isinstance(it, ast.FunctionDef)}
+        self.assertEqual({it for it, value in vars(_core).items() if callable(value) and not isinstance(value, type) and it[0] != "_"}, functions)
 
     def test_lets_go(self):
         for _ in range(200):
