@@ -16,8 +16,8 @@ PAGE = """\
 # What is inside
 
 The library and the command of Legumeyet are compiled of its own crates, under `LICENSE`, of the tables of CLDR, under `LICENSE-Unicode`, and of the
-crates of the Rattle kit that are listed here. Many of those are ports of Rust crates. Where the kit has a port under two licences, it is here
-under the MIT licence. The files that are named are the kit's own, and are in folders beside this page.
+crates of the Rattle kit, here {kit}, that are listed below. Many of those are ports of Rust crates. Where the kit has a port under two
+licences, it is here under the MIT licence. The files that are named are the kit's own, and are in folders beside this page.
 
 | Crate of the kit | Inside | What it says of itself | Files |
 |---|---|---|---|
@@ -33,6 +33,12 @@ def kit():
     except (OSError, subprocess.CalledProcessError):
         return None
     return pathlib.Path(os.fsdecode(asked.stdout.strip())).parent
+
+
+def name_of_kit():
+    """The name of the kit that is installed, as `rattle-kit-13f`."""
+    said = subprocess.run([RT, "version"], stdin=subprocess.DEVNULL, stdout=subprocess.PIPE, check=True).stdout.decode()
+    return said.split()[0].rstrip(",:")
 
 
 def below(name):
@@ -82,7 +88,7 @@ def made():
         where = " and ".join(it for it in INSIDE.values() if name in parts[it])
         named = ", ".join(f"`{name}/{file}`" for file in texts) or "the kit has none"
         rows.append(f"| `{name}` | {where} | {words_of(name)} | {named} |")
-    files[LIST] = PAGE.format(rows="\n".join(rows)).encode()
+    files[LIST] = PAGE.format(rows="\n".join(rows), kit=name_of_kit()).encode()
     return files
 
 
@@ -93,10 +99,11 @@ def there():
 
 
 def check():
-    """Raises a Fault where a file is not as the kit has it. Without the kit nothing is looked at."""
-    if kit() is None:
+    """Raises a Fault where a file is not as the kit has it. Without the kit that they are of nothing is looked at."""
+    ours = there()
+    if kit() is None or f"here {name_of_kit()}, ".encode() not in ours.get(LIST, b""):
         return
-    ours, its = there(), made()
+    its = made()
     wrong = sorted(name for name in {*ours, *its} if ours.get(name) != its.get(name))
     if wrong:
         raise Fault(f"{FOLDER}/{wrong[0]} is not as the kit has it: tools/notices --write makes it")
