@@ -27,9 +27,6 @@ enum { STRIDES_AND_FORMAT = 0x1c };
 extern int PyObject_GetBuffer(PyObject *, buffer *, int);
 extern void PyBuffer_Release(buffer *);
 
-/* Whether the library writes doubles, and numbers of 64 bits without a sign. */
-enum { HAS_DOUBLES = LEGUMEYET_MINOR >= 1 };
-
 enum { ROOM = 512, PLACES = 32, CHUNK = 4096, HIGHEST = 32767, LOWEST = -32768 };
 
 /* An exponent that no digits bring back to the magnitudes of the library. */
@@ -220,14 +217,14 @@ static int32_t take_integer(struct shared *shared, struct request *asked, PyObje
     return found;
 }
 
-/* The shortest digits that give a float back, which the library writes itself where it only formats. */
+/* A float, of which the library takes the shortest digits that give it back, or these digits where it takes a text alone. */
 static int32_t take_real(struct request *asked, PyObject *number) {
     char *digits;
     PyObject *text;
     int32_t found;
     asked->real = PyFloat_AsDouble(number);
     if (asked->real == -1 && PyErr_Occurred()) return -1;
-    if (asked->what == TEXT && HAS_DOUBLES) return asked->what = REAL, LEGUMEYET_OK;
+    if (asked->what == TEXT) return asked->what = REAL, LEGUMEYET_OK;
     digits = PyOS_double_to_string(asked->real, 'r', 0, 0, NULL);
     text = digits == NULL ? NULL : PyUnicode_FromString(digits);
     PyMem_Free(digits);
@@ -267,11 +264,9 @@ static int32_t ask_decimal(legumeyet_decimal_formatter *it, const struct request
     const legumeyet_options *options = &asked->options;
     if (asked->what == INTEGER) return legumeyet_decimal_formatter_format_i64(it, asked->integer, 0, options, out, room, length);
     if (asked->what == READ) return legumeyet_decimal_formatter_read(it, asked->at, asked->length, out, room, length);
-#if LEGUMEYET_MINOR >= 1
     if (asked->what == NATURAL) return legumeyet_decimal_formatter_format_u64(it, (uint64_t)asked->integer, 0, options, out, room, length);
     if (asked->what == REAL) return legumeyet_decimal_formatter_format_double(it, asked->real, options, out, room, length);
     if (asked->what == LENIENT) return legumeyet_decimal_formatter_read_lenient(it, asked->at, asked->length, out, room, length);
-#endif
     return legumeyet_decimal_formatter_format(it, asked->at, asked->length, options, out, room, length);
 }
 
@@ -281,10 +276,8 @@ static int32_t ask_compact(legumeyet_compact_formatter *it, const struct request
     if (asked->what == INTEGER) return legumeyet_compact_formatter_format_i64(it, asked->integer, 0, options, out, room, length);
     if (asked->what == SHOWN) return legumeyet_compact_formatter_shown(it, asked->at, asked->length, options, out, room, length);
     if (asked->what == EXACT) return legumeyet_compact_formatter_format_exact(it, asked->at, asked->length, options, out, room, length);
-#if LEGUMEYET_MINOR >= 1
     if (asked->what == NATURAL) return legumeyet_compact_formatter_format_u64(it, (uint64_t)asked->integer, 0, options, out, room, length);
     if (asked->what == REAL) return legumeyet_compact_formatter_format_double(it, asked->real, options, out, room, length);
-#endif
     return legumeyet_compact_formatter_format(it, asked->at, asked->length, options, out, room, length);
 }
 
@@ -362,9 +355,8 @@ static bool take_rounding(struct shared *shared, PyObject *rounding, PyObject *p
     return true;
 }
 
-#if LEGUMEYET_MINOR >= 1
-/* Takes an option that came with the minor version 1. */
-static bool take_newer(struct shared *shared, PyObject *name, PyObject *option, legumeyet_options *options) {
+/* Takes an option of the zeros of a number, or of its increment. */
+static bool take_digits_option(struct shared *shared, PyObject *name, PyObject *option, legumeyet_options *options) {
     long whole = 0;
     if (PyUnicode_CompareWithASCIIString(name, "trailing_zeros") == 0) {
         int number = number_of(shared->trailing_zeros, option);
@@ -391,15 +383,8 @@ static bool take_newer(struct shared *shared, PyObject *name, PyObject *option, 
     PyErr_Format(PyExc_TypeError, "there is no option %R", name);
     return false;
 }
-#else
-static bool take_newer(struct shared *shared, PyObject *name, PyObject *option, legumeyet_options *options) {
-    (void)shared, (void)option, (void)options;
-    PyErr_Format(PyExc_TypeError, "there is no option %R", name);
-    return false;
-}
-#endif
 
-/* Takes the options that a call is given by their names. One that is None is as it was. */
+/* Takes the options that a call is given by their names. A rounding or a position that is None is as it was. */
 static bool take_options(struct shared *shared, PyObject *given, legumeyet_options *options) {
     PyObject *name, *option, *rounding = NULL, *position = NULL;
     Py_ssize_t at = 0;
@@ -412,7 +397,7 @@ static bool take_options(struct shared *shared, PyObject *given, legumeyet_optio
             int number = number_of(shared->sign, option);
             if (number < 0) return false;
             options->sign = (uint32_t)number;
-        } else if (!take_newer(shared, name, option, options)) {
+        } else if (!take_digits_option(shared, name, option, options)) {
             return false;
         }
     }
@@ -472,8 +457,7 @@ static PyObject *read_back(PyObject *self, PyObject *arguments, PyObject *given)
     if (!PyArg_ParseTupleAndKeywords(arguments, given, "O|$O:read", names, &text, &lenient) || !is_ready(it)) return NULL;
     if (lenient != NULL) {
         int is_lenient = PyObject_IsTrue(lenient);
-        if (is_lenient < 0) return NULL;
-        if (is_lenient && !HAS_DOUBLES) return PyErr_SetString(PyExc_NotImplementedError, "the library reads nothing leniently: its minor version is 0"), NULL;
+        if (is_lenient < 0 || !is_ready(it)) return NULL;
         if (is_lenient) asked.what = LENIENT;
     }
     if (take_text(&asked, text)) digits = written(it, &asked, -1);
@@ -581,8 +565,8 @@ static bool take_column(const buffer *from, struct column *into) {
     into->count = from->shape[0];
     into->stride = from->strides == NULL ? from->itemsize : from->strides[0];
     into->type = strchr("bhilqn", *format) ? SIGNED : strchr("BHILQN?", *format) ? UNSIGNED : REALS;
-    if (into->type == REALS) return HAS_DOUBLES && *format == 'd' && into->width == sizeof(double);
-    return into->width == 1 || into->width == 2 || into->width == 4 || (into->width == 8 && (HAS_DOUBLES || into->type == SIGNED));
+    if (into->type == REALS) return *format == 'd' && into->width == sizeof(double);
+    return into->width == 1 || into->width == 2 || into->width == 4 || into->width == 8;
 }
 
 /* A number of the row. */
@@ -819,15 +803,18 @@ static PyGetSetDef properties[] = {{"is_open", is_open, NULL, "Whether it is ope
     {"format", CALL(format), \
      "format($self, number, /, **options)\n--\n\n" \
      "The text of a number: a Decimal, an int, a float, or a str as '-1234.5'. A float is written by the shortest digits that give it back.\n" \
-     "The options are those of the formatter, but for those that are given here. With a rounding the number is rounded at the position\n" \
-     "first: 0, as without a position, is the ones, -2 the hundredths. A position without a rounding is that of Rounding.HALF_EVEN.\n\n" \
+     "The options are sign, rounding, position, increment, trailing_zeros, minimum_integer_digits and minimum_fraction_digits; those that\n" \
+     "are not given are the formatter's. With a rounding the number is rounded at the position first, to a multiple of the increment, which\n" \
+     "is 1, 2, 5 or 25: 0, as without a position, is the ones, -2 the hundredths. A position without a rounding is that of HALF_EVEN.\n\n" \
      "Raises Error 7 where the text is no number, or a float is not finite, 8 where a digit is beyond the magnitudes -32768 to 32767, 9 where\n" \
      "what is shown in compact form does, 2 where the formatter is closed, 1 where memory was refused.\n\n" \
      ">>> german = DecimalFormatter('de')\n" \
      ">>> german.format(Decimal('1234.50')), german.format(1234), german.format(0.1)\n" \
      "('1.234,50', '1.234', '0,1')\n" \
      ">>> german.format('9.65', position=-1), german.format('9.65', sign=Sign.ALWAYS, rounding=Rounding.CEIL, position=-1)\n" \
-     "('9,6', '+9,7')"}
+     "('9,6', '+9,7')\n" \
+     ">>> german.format(1.995, position=-2, trailing_zeros=TrailingZeros.TRIM), german.format(7, minimum_integer_digits=3)\n" \
+     "('2', '007')"}
 #define FORMAT_ALL \
     {"format_all", CALL(format_all), \
      "format_all($self, numbers, /, **options)\n--\n\n" \
@@ -879,12 +866,9 @@ static PyMethodDef decimal_methods[] = {
      "Decimal('-1234.50')\n"
      ">>> german.read('98.7654')\n"
      "Traceback (most recent call last):\n"
-     "legumeyet.InputError: 12: no number is written so"
-#if LEGUMEYET_MINOR >= 1
-     "\n>>> german.read(' 1234,5 ', lenient=True)\n"
-     "Decimal('1234.5')"
-#endif
-    },
+     "legumeyet.InputError: 12: no number is written so\n"
+     ">>> german.read(' 1234,5 ', lenient=True)\n"
+     "Decimal('1234.5')"},
     {NULL, NULL, 0, NULL}};
 
 static PyMethodDef compact_methods[] = {
@@ -1039,11 +1023,7 @@ static PyObject *version(PyObject *module, PyObject *none) {
 
 static PyObject *minor(PyObject *module, PyObject *none) {
     (void)module, (void)none;
-#if LEGUMEYET_MINOR >= 1
     return PyLong_FromUnsignedLong(legumeyet_minor());
-#else
-    return PyLong_FromLong(0);
-#endif
 }
 
 /* forked(): this process is a child of a fork now, and has no other thread. */
@@ -1106,7 +1086,7 @@ static int fill(PyObject *module) {
 /* The objects of Python that are shared. */
 enum { SHARED = 11 };
 static void list_shared(struct shared *shared, PyObject **places[SHARED]) {
-    PyObject **all[SHARED] = {&shared->decimal, &shared->types[0], &shared->types[1], &shared->types[2], &shared->error, &shared->part,
+    PyObject **all[SHARED] = {&shared->error, &shared->decimal, &shared->types[0], &shared->types[1], &shared->types[2], &shared->part,
                               &shared->sign, &shared->rounding, &shared->trailing_zeros, &shared->kind_of, &shared->wrong_number};
     memcpy(places, all, sizeof all);
 }

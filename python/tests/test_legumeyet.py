@@ -551,7 +551,6 @@ class Calls(unittest.TestCase):
         for options in ({"sign": 1}, {"position": "1"}, {"places": 2}, {"rounding": Sign.AUTO}):
             self.assertRaises(TypeError, DecimalFormatter, self.book, "en", **options)
 
-    @unittest.skipIf(legumeyet.minor() < 1, "the library has no such call")
     def test_newer_options(self):
         english = self.english
         self.assertEqual(english.format(1.995, position=-2, trailing_zeros=TrailingZeros.TRIM), "2")
@@ -563,7 +562,6 @@ class Calls(unittest.TestCase):
         for options in ({"trailing_zeros": 1}, {"trailing_zeros": Sign.AUTO}, {"increment": "5"}, {"minimum_integer_digits": 1.0}):
             self.assertRaises(TypeError, english.format, 1, **options)
 
-    @unittest.skipIf(legumeyet.minor() < 1, "the library has no such call")
     def test_reads_leniently(self):
         for text, number in ((" 1234.5 ", "1234.5"), ("1,234.5", "1234.5"), (".5", "0.5"), ("5.", "5"), ("−5", "-5")):
             self.assertEqual(str(self.english.read(text, lenient=True)), number)
