@@ -1,17 +1,13 @@
 #!/bin/sh
-# Answers the same lines by one run, and by GNU parallel with 1, 2 and as many jobs as there are processors. It compares the
-# bytes with those of the one run, and prints lines a second over those of the one run. Each block starts the program once,
-# and with a BOOK that is read once a block too, so blocks are of 16 MB.
+# Answers the same lines by one run, by ./locale_numbers --jobs and, where it is installed, by GNU parallel, each with 1, 2 and as
+# many jobs as there are processors. It compares the bytes with those of the one run, and prints lines a second over those of the
+# one run. GNU parallel starts the program once a block, and a BOOK is read once a block too, so blocks are of 16 MB.
 # usage: bench/parallel.sh [LINES [BOOK]]
 set -eu
 top=$(cd "$(dirname "$0")/.." && pwd)
 made=$top/bench/made
 lines=${1:-10000000}
 book=${2:+$(readlink -f -- "$2")}
-command -v parallel >/dev/null || {
-    echo "bench: GNU parallel is needed (Debian's package parallel)" >&2
-    exit 1
-}
 command -v python3 >/dev/null || {
     echo "bench: python3 is needed" >&2
     exit 1
@@ -24,10 +20,13 @@ if [ ! -f "$input" ]; then
     mv "$input.part" "$input"
 fi
 
-python3 - "$input" "$made" "$lines" "$built" ${book:+"$book"} <<'PYTHON'
-import filecmp, os, subprocess, sys, time
+python3 - "$input" "$made" "$top" "$built" ${book:+"$book"} <<'PYTHON'
+import filecmp, os, shutil, subprocess, sys, time
 
-source, made, lines, *program = sys.argv[1:]
+source, made, top, *program = sys.argv[1:]
+WAYS = {"--jobs": lambda jobs: [f"{top}/locale_numbers", "--jobs", jobs, *program[1:]]}
+if shutil.which("parallel"):
+    WAYS["parallel"] = lambda jobs: ["parallel", "--pipe", "--keep-order", "--block", "16M", "--jobs", jobs, "--quote", *program]
 
 
 def wall(command, name):
@@ -43,14 +42,14 @@ def wall(command, name):
 
 
 alone = wall(program, "alone")
-print(f"{'jobs':>6}{'speed':>8}  bytes")
-print(f"{'none':>6}{1:>8.2f}")
+print(f"{'way':>10}{'jobs':>6}{'speed':>8}  bytes")
+print(f"{'one run':>10}{'none':>6}{1:>8.2f}")
 processors = len(os.sched_getaffinity(0))
-for jobs in sorted({1, 2, processors}):
-    command = ["parallel", "--pipe", "--keep-order", "--block", "16M", "--jobs", str(jobs), "--quote", *program]
-    spent = wall(command, f"parallel-{jobs}")
-    same = filecmp.cmp(f"{made}/alone.out", f"{made}/parallel-{jobs}.out", shallow=False)
-    print(f"{jobs:>6}{alone / spent:>8.2f}  {'the same' if same else 'DIFFERENT'}")
-    if not same:
-        sys.exit(1)
+for way, command in WAYS.items():
+    for jobs in sorted({1, 2, processors}):
+        spent = wall(command(str(jobs)), "jobs")
+        same = filecmp.cmp(f"{made}/alone.out", f"{made}/jobs.out", shallow=False)
+        print(f"{way:>10}{jobs:>6}{alone / spent:>8.2f}  {'the same' if same else 'DIFFERENT'}")
+        if not same:
+            sys.exit(1)
 PYTHON

@@ -60,7 +60,9 @@ def do(seen, words):
     others = said.words_for_programs(book)
     name = COMMAND if any(word.startswith("-") for word in others) else LINES
     if said.has("try"):
-        return answering.try_program(name, others)
+        return answering.try_program(name, others, said.jobs())
+    if said.has("jobs"):
+        return answering.answer(name, others, seen, said.jobs())
     if said.options:
         return answering.call_again(others)
     return answering.answer(name, others, seen)

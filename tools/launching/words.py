@@ -1,10 +1,13 @@
 """The words of a call of ./locale_numbers: those of the launcher's own, and those of the programs."""
+import os
 from dataclasses import dataclass, field
 
 from .common import PROGRAMS, USAGE, Fault
 
 SWITCHES = ("build", "built", "try", "world", "sample")
-WITH_A_WORD = ("cldr",)
+WITH_A_WORD = ("cldr", "jobs")
+# The programs that answer side by side, at most.
+MOST_JOBS = 1024
 # Formatters that are kept over a book of all locales: with many locales in turn half the time of the program's own 16.
 CAPACITY = "512"
 
@@ -19,6 +22,10 @@ class Words:
     def has(self, name):
         """Whether the option was given."""
         return name in self.options
+
+    def jobs(self):
+        """How many programs are to answer side by side: of 0 as many as there are processors."""
+        return int(self.options.get("jobs", "1")) or len(os.sched_getaffinity(0))
 
     def words_for_programs(self, book):
         """The words for a program, where `book` is the path of a book of other data or None."""
@@ -51,6 +58,18 @@ def check_together(said):
         raise Fault(f"--{books[0]} takes one CAPACITY after it and no more", USAGE)
 
 
+def check_jobs(said):
+    """Refuses a count of jobs that is none, and jobs where no lines are answered."""
+    count = said.options.get("jobs")
+    if count is None:
+        return
+    if not (count.isascii() and count.isdigit() and len(count) < 5 and int(count) <= MOST_JOBS):
+        raise Fault(f"--jobs takes a number from 0 to {MOST_JOBS}", USAGE)
+    options = [word for word in said.others if word.startswith("-")]
+    if options and "--lines" not in options:
+        raise Fault("--jobs is for lines: without other options, or with --lines", USAGE)
+
+
 def read_words(words):
     """The options and other words of a call. Raises a Fault of usage where they do not go together."""
     said, left = Words(), list(words)
@@ -75,4 +94,5 @@ def read_words(words):
             raise Fault(f"--{name} is there twice", USAGE)
         said.options[name] = value
     check_together(said)
+    check_jobs(said)
     return said
