@@ -25,6 +25,10 @@ pub record AreTables (t : Tables) : Type 0 where
   pub point : IsUtf8 t.symbols.strings.decimal_separator
   pub group : IsUtf8 t.symbols.strings.grouping_separator
 
+-- the text of a decimal is UTF-8, whether the tables are readable or not
+abbrev pub TextsAreUtf8 : Type 0
+TextsAreUtf8 = (t : Tables) (v : SignedValue Number) → AreTables t → IsDecimal v → IsUtf8 (decimal_text t v)
+
 -- under readable tables no two decimals share a text
 abbrev pub TextsHaveOneDecimal : Type 0
 TextsHaveOneDecimal = (t : Tables) (a b : SignedValue Number) → AreTables t → is_readable_by t ≡ true

@@ -1,5 +1,11 @@
 //! Laws of reading. No call is made: each clause is the law.
-ghost use Rattle.icu_decimal_reading.specs.ReadingLaws.{AutoIsAlways, HasOneReading, ReadIsWrittenAgain, TextsHaveOneDecimal, WrittenReadsBack};
+ghost use Rattle.icu_decimal_reading.specs.ReadingLaws.{AutoIsAlways, HasOneReading, ReadIsWrittenAgain, TextsAreUtf8, TextsHaveOneDecimal, WrittenReadsBack};
+
+/// The text of a decimal is UTF-8, also under symbols that are not readable: in Switzerland that of 1234.5 is
+/// `1’234.5`.
+pub fn texts_are_utf8()
+    ensures { TextsAreUtf8 }
+{}
 
 /// Under readable symbols a text has one decimal: no two decimals are written alike. In English `-1,234.50` is only
 /// -1234.50.
