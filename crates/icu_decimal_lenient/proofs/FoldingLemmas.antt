@@ -23,7 +23,7 @@ use Rattle.icu_decimal_lenient.specs.Folding.{is_apostrophe, is_between, is_comm
 use Rattle.icu_decimal_lenient.specs.LenientLaws.{FoldOfTextIsText}
 use Rattle.icu_decimal_reading.specs.Readable.{all_differ, digit_of, is_readable_by}
 use Rattle.icu_decimal_reading.specs.ReadingLaws.{AreTables}
-use Rattle.icu_decimal_reading.proofs.PlainLemmas.{chars_of, encoded_decimal, ends_of, plain_chars, prefix_for, suffix_for, tests_of, whole_some}
+use Rattle.icu_decimal_reading.proofs.PlainLemmas.{chars_of, decimal_utf8, encoded_decimal, ends_of, plain_chars, prefix_for, suffix_for, tests_of, whole_some}
 use Rattle.icu_decimal_reading.proofs.ScanLemmas.{digit_at, digit_below, fraction_chars, number_chars, spelled_by}
 
 -- ---- a digit
@@ -179,9 +179,9 @@ fold_plain_chars t v are readable =
     ∙ ap (λ cs. chars (prefix_for plain v.sign) ++ (chars_of plain v.absolute ++ cs)) (fold_suffix t v.sign are)
 
 pub fold_of_text : FoldOfTextIsText
-fold_of_text t v are readable is utf8 =
+fold_of_text t v are readable is =
     let plain : Tables = folded_alike t in
     let some = whole_some v.absolute is in
-    ap (λ cs. encodes (folded_chars t.digits cs)) (sym (chars_from_encodes (plain_chars t v) (decimal_text t v) utf8 (sym (encoded_decimal t v are some))))
+    ap (λ cs. encodes (folded_chars t.digits cs)) (sym (chars_from_encodes (plain_chars t v) (decimal_text t v) (decimal_utf8 t v are is) (sym (encoded_decimal t v are some))))
     ∙ ap encodes (fold_plain_chars t v are readable)
     ∙ sym (encoded_decimal plain v (are_alike t are) some)

@@ -58,7 +58,7 @@ folded_again t strategy text v are utf8 readable e =
     let parts = and_parts (is_readable_by t) (is_readable_by (folded_tables Never t)) readable in
     let folded : List ℕ = folded_text t.digits text in
     let written : decimal_text (folded_alike tables) v ≡ folded =
-    sym (fold_of_text tables v (are_under t strategy are) parts.0 plain.decimal (subst IsUtf8 (sym plain.written) utf8)) ∙ ap (folded_text t.digits) plain.written in
+    sym (fold_of_text tables v (are_under t strategy are) parts.0 plain.decimal) ∙ ap (folded_text t.digits) plain.written in
     let either : read_either (folded_symbols t) folded ≡ decimal v = either_again (folded_alike tables) folded v (are_alike tables (are_under t strategy are)) parts.1 (folded_utf8 t.digits text are.ten utf8) plain.decimal written in
     ap (λ b. cond b (read_folded (folded_symbols t) folded) unreadable) readable ∙ ap (λ r. or_else r (read_trimmed (folded_symbols t) folded)) either
 

@@ -35,10 +35,10 @@ GroupingsHaveOneDecimal = (t : Tables) (one other : GroupingStrategy) (a b : Sig
     → AreTables t → is_readable_by t ≡ true → IsDecimal a → IsDecimal b
     → decimal_text (under one t) a ≡ decimal_text (under other t) b → a ≡ b
 
--- the fold of a decimal's text is its text with the folded symbols, under the same grouping
+-- under readable tables the fold of a decimal's text is its text with the folded symbols, under the same grouping
 abbrev pub FoldOfTextIsText : Type 0
 FoldOfTextIsText = (t : Tables) (v : SignedValue Number) → AreTables t → is_readable_by t ≡ true → IsDecimal v
-    → IsUtf8 (decimal_text t v) → folded_text t.digits (decimal_text t v) ≡ decimal_text (folded_alike t) v
+    → folded_text t.digits (decimal_text t v) ≡ decimal_text (folded_alike t) v
 
 -- what is read exactly is read leniently as the same decimal
 abbrev pub ExactIsLenient : Type 0

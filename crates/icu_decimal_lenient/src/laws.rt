@@ -1,7 +1,8 @@
 //! Laws of lenient reading. No call is made: each clause is the law.
 ghost use Rattle.icu_decimal_lenient.specs.LenientLaws.{EachGroupingIsLenient, ExactIsLenient, FoldOfTextIsText, GroupingsHaveOneDecimal, LenientIsTyped, LenientIsUnreadable, LenientMisses, SecondLeavesFirst, SecondReadsRest, TwoGroupingsAreEnough, WrittenReadsLeniently};
 
-/// The fold of a decimal's text is its text with the folded symbols: `1’234.5` of Switzerland is `1'234.5`.
+/// Under readable symbols the fold of a decimal's text is its text with the folded symbols: `1’234.5` of Switzerland is
+/// `1'234.5`.
 pub fn folds_are_texts()
     ensures { FoldOfTextIsText }
 {}
