@@ -15,8 +15,8 @@ use locale_numbers::{
 use std::alloc::{AllocError, Global};
 use std::io::Write;
 
-// How many formatters a call keeps: one to write and one to read.
-const KEPT: usize = 2;
+// How many formatters a call keeps: one to write, one to read what was typed and one to read exactly.
+const KEPT: usize = 3;
 
 // A word of an option, or another where it has none.
 fn word<'a>(matches: &ArgMatches<'a>, id: &str, other: &'static str) -> &'a str {
@@ -32,7 +32,8 @@ struct Fronts<'m, 'a> {
     matches: &'m ArgMatches<'a>,
     tag: &'m str,
     front: &'m str,
-    reading: &'m str,
+    lenient: &'m str,
+    exact: &'m str,
 }
 
 // How many formatters are kept for request lines.
@@ -84,18 +85,20 @@ fn put_words(
     Ok(status)
 }
 
-// Writes the numbers of the texts to be read, and returns the status.
-fn put_read(
+// Writes the numbers of the texts of an option, which are read after a front, and returns the status.
+fn put_read<'m>(
     rt: &HostRuntime,
     answers: &mut Answers<'_, Book>,
-    fronts: &Fronts<'_, '_>,
+    fronts: &Fronts<'m, '_>,
+    option: &str,
+    front: &'m str,
 ) -> Result<u8, ProgramFault> {
     let asked = Asked {
         tag: fronts.tag,
-        front: fronts.reading.as_bytes(),
+        front: front.as_bytes(),
         parts: None,
     };
-    match fronts.matches.get_strs("read") {
+    match fronts.matches.get_strs(option) {
         Some(texts) => put_texts(rt, answers, &asked, texts, &mut rt.stdout()),
         None => Ok(0),
     }
@@ -124,16 +127,17 @@ fn put_written(
     }
 }
 
-// Writes what is read and what is written, in this order, and returns the status.
+// Writes what is read leniently, what is read exactly and what is written, in this order, and returns the status.
 fn put_all(
     rt: &HostRuntime,
     book: &Book,
     answers: &mut Answers<'_, Book>,
     fronts: &Fronts<'_, '_>,
 ) -> Result<u8, ProgramFault> {
-    let read = put_read(rt, answers, fronts)?;
+    let lenient = put_read(rt, answers, fronts, "read", fronts.lenient)?;
+    let exact = put_read(rt, answers, fronts, "read-exact", fronts.exact)?;
     let written = put_written(rt, book, answers, fronts)?;
-    Ok(read | written)
+    Ok(lenient | exact | written)
 }
 
 // Does what is asked for by a book, and returns the status.
@@ -187,11 +191,16 @@ fn front_by(alloc: Global, matches: &ArgMatches<'_>, tag: &str) -> Result<String
     front_of(alloc, &fields)
 }
 
-// The front of each request line of a text that is read.
-fn reading_by(alloc: Global, matches: &ArgMatches<'_>, tag: &str) -> Result<String, AllocError> {
+// The front of each request line of a text that is read by a form.
+fn reading_by(
+    alloc: Global,
+    matches: &ArgMatches<'_>,
+    tag: &str,
+    form: &'static str,
+) -> Result<String, AllocError> {
     let fields = Fields {
         tag,
-        form: "read",
+        form,
         grouping: word(matches, "grouping", "auto"),
         sign: "keep",
         rounding: "-",
@@ -199,12 +208,13 @@ fn reading_by(alloc: Global, matches: &ArgMatches<'_>, tag: &str) -> Result<Stri
     front_of(alloc, &fields)
 }
 
-// The tag and the two fronts that the words say.
-fn make_fronts(rt: &HostRuntime, matches: &ArgMatches<'_>) -> Result<[String; 3], AllocError> {
+// The tag and the three fronts that the words say.
+fn make_fronts(rt: &HostRuntime, matches: &ArgMatches<'_>) -> Result<[String; 4], AllocError> {
     let tag = tag_for(rt, matches.get_str("tag"))?;
     let front = front_by(rt.alloc(), matches, tag.as_str())?;
-    let reading = reading_by(rt.alloc(), matches, tag.as_str())?;
-    Ok([tag, front, reading])
+    let lenient = reading_by(rt.alloc(), matches, tag.as_str(), "read-lenient")?;
+    let exact = reading_by(rt.alloc(), matches, tag.as_str(), "read")?;
+    Ok([tag, front, lenient, exact])
 }
 
 // Whether a form writes a number as it is asked for, so that its text has parts.
@@ -215,7 +225,7 @@ fn has_parts(form: &str) -> bool {
 // Does what the words ask for by a book, where their fronts are those of requests, and returns the status.
 fn act_checked(rt: &HostRuntime, fronts: &Fronts<'_, '_>) -> Result<u8, ProgramFault> {
     let form = word(fronts.matches, "form", "plain");
-    if !is_asked(fronts.reading.as_bytes()) {
+    if !is_asked(fronts.exact.as_bytes()) {
         return Ok(tell_tag(rt));
     }
     if !is_asked(fronts.front.as_bytes()) {
@@ -246,14 +256,15 @@ pub fn act(rt: &HostRuntime, matches: &ArgMatches<'_>) -> Result<u8, ProgramFaul
         Ok(texts) => texts,
         Err(_) => return Err(ProgramFault::Run(RunError::Memory)),
     };
-    let [tag, front, reading] = &texts;
+    let [tag, front, lenient, exact] = &texts;
     act_checked(
         rt,
         &Fronts {
             matches,
             tag: tag.as_str(),
             front: front.as_str(),
-            reading: reading.as_str(),
+            lenient: lenient.as_str(),
+            exact: exact.as_str(),
         },
     )
 }

@@ -1,4 +1,4 @@
-//! Writes numbers as the readers of a locale write them, and reads such texts back: `legumeyet --tag de 1234567.891`.
+//! Writes numbers as the readers of a locale write them, and reads what they type: `legumeyet --tag de 1234567.891`.
 
 #![tactic(auto)]
 

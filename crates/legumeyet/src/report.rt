@@ -66,7 +66,7 @@ pub fn tell_tag(rt: &HostRuntime) -> u8 {
 /// Tells that a sign or a rounding is none, or that the form takes none, and returns the status.
 pub fn tell_fields(rt: &HostRuntime, form: &str, sign: &str, rounding: &str) -> u8 {
     let _ = eprintln!(rt;
-        "error: --form {form} --sign {sign} --round {rounding}: a rounding is a position from -32768 to 32767, then, where given, a mode and an increment of 1, 2, 5 or 25, as -2,half-even,5; exact forms take no rounding, and read neither sign nor rounding"
+        "error: --form {form} --sign {sign} --round {rounding}: a rounding is a position from -32768 to 32767, then, where given, a mode and an increment of 1, 2, 5 or 25, as -2,half-even,5; exact forms take no rounding, and read and read-lenient neither sign nor rounding"
     );
     2
 }

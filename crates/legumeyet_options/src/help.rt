@@ -16,8 +16,15 @@ Tags:
 
 Numbers:
   A number is written as 1234567.891, -0.5 or 1.5e6; for exact-short and exact-long as 1.20c6, which
-  is 1.20 million; for --form read it is a text, as 1.234.567,891. Words after -- are no options:
-  -- -1.20c6. With - the numbers are those of standard input, a line each.
+  is 1.20 million; for --form read and read-lenient it is a text, as 1.234.567,891. Words after --
+  are no options: -- -1.20c6. With - the numbers are those of standard input, a line each.
+
+Reading:
+  --read takes what people type: with all separators between groups or with none, with spaces around
+  it, with the digits of the locale or, where the locale has others, 0 to 9. Nothing is guessed: 1.23
+  is no number under de. --read-exact takes a text only as it is written under the tag and the
+  grouping, so that each number has one text: for texts that a program wrote. The forms are
+  read-lenient and read.
 
 Rounding:
   --round -2 rounds to hundredths, 0 to whole numbers, 3 to thousands. A mode may follow, and then an
@@ -39,7 +46,7 @@ Lines:
     range        the value shown, or an exact form, reaches beyond these magnitudes
     exponent     numbers of this magnitude are shown with another exponent
     unreadable   two numbers may have one text under the tag's symbols
-    not-written  no number is written so under this tag and grouping
+    not-written  no number is written so under this tag and grouping, nor typed so
 
 Statuses:
   0  all is written; of --lines, each line has an answer, which may be err
@@ -65,7 +72,8 @@ Examples:
     decimal ,
     fraction 57
 
-  $ legumeyet --tag de --read 1.234.567,891
+  $ legumeyet --tag de --read 1234567,891 --read-exact 1.234.567,891
+  1234567.891
   1234567.891
 
   $ printf '1234.5\\n-7\\n' | legumeyet --tag hi-u-nu-deva -

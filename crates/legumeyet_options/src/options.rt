@@ -5,13 +5,14 @@ use clap::builder::ValueParser;
 use clap::{Arg, ArgAction, Command};
 use std::alloc::{AllocError, Global};
 
-static FORMS: [&str; 6] = [
+static FORMS: [&str; 7] = [
     "plain",
     "short",
     "long",
     "exact-short",
     "exact-long",
     "read",
+    "read-lenient",
 ];
 
 static GROUPINGS: [&str; 4] = ["auto", "always", "min2", "never"];
@@ -76,7 +77,18 @@ fn read<'a>(alloc: Global) -> Arg<'a> {
         .value_name("TEXT")
         .action(ArgAction::Append)
         .allow_hyphen_values(true)
-        .help("Prints the number that is written so; may be given again")
+        .help(
+            "Prints the number that was typed so, as 1.234,5 or 1234,5 under de; may be given again",
+        )
+}
+
+fn read_exact<'a>(alloc: Global) -> Arg<'a> {
+    Arg::new(alloc, "read-exact")
+        .long("read-exact")
+        .value_name("TEXT")
+        .action(ArgAction::Append)
+        .allow_hyphen_values(true)
+        .help("Prints the number that is written so, to the byte; may be given again")
 }
 
 fn parts<'a>(alloc: Global) -> Result<Arg<'a>, AllocError> {
@@ -84,7 +96,8 @@ fn parts<'a>(alloc: Global) -> Result<Arg<'a>, AllocError> {
         .long("parts")
         .action(ArgAction::SetTrue)
         .help("Prints each text and then its parts, a line each, in plain, short or long form")
-        .conflicts_with("read")
+        .conflicts_with("read")?
+        .conflicts_with("read-exact")
 }
 
 fn book<'a>(alloc: Global) -> Arg<'a> {
@@ -103,6 +116,7 @@ fn locales<'a>(alloc: Global) -> Result<Arg<'a>, AllocError> {
         .help("Lists the locales of the book of all locales")
         .conflicts_with("numbers")?
         .conflicts_with("read")?
+        .conflicts_with("read-exact")?
         .conflicts_with("parts")?
         .conflicts_with("book")
 }
@@ -120,6 +134,7 @@ fn lines<'a>(alloc: Global) -> Result<Arg<'a>, AllocError> {
         .conflicts_with("sign")?
         .conflicts_with("round")?
         .conflicts_with("read")?
+        .conflicts_with("read-exact")?
         .conflicts_with("parts")?
         .conflicts_with("locales")
 }
@@ -133,6 +148,7 @@ fn capacity<'a>(alloc: Global) -> Result<Arg<'a>, AllocError> {
         .help("How many formatters are kept for --lines, from 1 to 65535")
         .conflicts_with("numbers")?
         .conflicts_with("read")?
+        .conflicts_with("read-exact")?
         .conflicts_with("locales")
 }
 
@@ -144,6 +160,7 @@ fn numbers<'a>(alloc: Global) -> Result<Arg<'a>, AllocError> {
         .allow_negative_numbers(true)
         .help("Numbers, as -1234567.891; - stands for those of standard input, a line each")
         .required_unless_present("read")?
+        .required_unless_present("read-exact")?
         .required_unless_present("locales")?
         .required_unless_present("lines")
 }
@@ -163,6 +180,7 @@ fn all_args<'a>(alloc: Global) -> Result<Vec<Arg<'a>>, AllocError> {
         sign(alloc),
         round(alloc),
         read(alloc),
+        read_exact(alloc),
         parts,
         book(alloc),
         locales,
@@ -175,7 +193,7 @@ fn all_args<'a>(alloc: Global) -> Result<Vec<Arg<'a>>, AllocError> {
 fn empty<'a>(alloc: Global) -> Result<Command<'a>, AllocError> {
     Command::new(alloc, "legumeyet")
         .version("1")
-        .about("Writes numbers as the readers of a locale write them, and reads such texts back")
+        .about("Writes numbers as the readers of a locale write them, and reads what they type")
         .after_help(AFTER_HELP)
         .after_long_help(AFTER_LONG_HELP)
         .arg_required_else_help(true)
