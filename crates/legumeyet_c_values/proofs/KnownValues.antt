@@ -1,5 +1,5 @@
 -- Values from outside that a wrong definition of numbers does not survive: the enums of include/legumeyet.h.
-use Rattle.std.proofs.Common.{◌≡◌, ◌*◌, ◌^◌, [], ◌∷◌, Some, None, Ok, Err, refl}
+use Rattle.std.proofs.Common.{arith, ◌≡◌, ◌*◌, ◌^◌, [], ◌∷◌, Some, None, Ok, Err, refl}
 use Rattle.std.specs.Prelude.{pos, negsuc}
 use Rattle.fixed_decimal.specs.declared.RoundingIncrement.TheVariants.{MultiplesOf1, MultiplesOf25}
 use Rattle.fixed_decimal.specs.declared.SignDisplay.TheVariants as display
@@ -125,11 +125,11 @@ reserved_is_refused = refl
 
 -- 7.5 has its digits at the places 32767 and 32768: padded to three integer digits and two fraction digits it is 007.50
 padded_in_front : PadsStartTo (pos 3) (record { count = 75 * 10 ^ 32767; low = 32767; high = 32768 }) (record { count = 75 * 10 ^ 32767; low = 32767; high = 32770 })
-padded_in_front = record { count = refl; low = refl; high = refl }
+padded_in_front = record { count = refl; low = refl; high = λ _. refl; same = λ under. absurd (omega arith) }
 
 padded_at_the_end : PadsEndTo (negsuc 1) (record { count = 75 * 10 ^ 32767; low = 32767; high = 32770 }) (record { count = 75 * 10 ^ 32767; low = 32766; high = 32770 })
-padded_at_the_end = record { count = refl; low = refl; high = refl }
+padded_at_the_end = record { count = refl; high = refl; low = λ _. refl; same = λ above. absurd (omega arith) }
 
 -- a number that shows more digits keeps them
 longer_stays : PadsEndTo (negsuc 1) (record { count = 0; low = 32764; high = 32768 }) (record { count = 0; low = 32764; high = 32768 })
-longer_stays = record { count = refl; low = refl; high = refl }
+longer_stays = record { count = refl; high = refl; low = λ _. refl; same = λ above. absurd (omega arith) }

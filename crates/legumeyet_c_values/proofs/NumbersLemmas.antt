@@ -1,5 +1,5 @@
 -- Numbers that are given: changed as options say, and faults that are not that a text is too long.
-use Rattle.std.proofs.Common.{◌≡◌, ◌≢◌, ℕ, ℤ, true, false, List, Option, Some, None, Result, Ok, Err, IfOk, IfErr, refl, sym, subst, inl, inr}
+use Rattle.std.proofs.Common.{arith, ◌≡◌, ◌≢◌, ℕ, ℤ, true, false, List, Option, Some, None, Result, Ok, Err, IfOk, IfErr, refl, sym, subst, inl, inr}
 use Rattle.std.specs.Float.Ieee.{Float}
 use Rattle.fixed_decimal.specs.Number.{Number}
 use Rattle.fixed_decimal.specs.SignedText.{ReadsSigned}
@@ -8,7 +8,7 @@ use Rattle.fixed_decimal.specs.SignedValue.{SignedValue, OnAbsolute}
 use Rattle.fixed_decimal.specs.WholeNumbers.{IsSignedWhole}
 use Rattle.fixed_decimal.specs.declared.RoundingIncrement.{RoundingIncrement}
 use Rattle.fixed_decimal.specs.declared.RoundingIncrement.TheVariants.{MultiplesOf1, MultiplesOf2, MultiplesOf5, MultiplesOf25}
-use Rattle.legumeyet_c_values.specs.Choices.{Changes, IsChangeRefused}
+use Rattle.legumeyet_c_values.specs.Choices.{Changes, IsChangeRefused, no_change}
 use Rattle.legumeyet_c_values.specs.Numbers.{Gives, IsChangeFault, IsCompactNumberFault, IsDoubleFault, IsNumberFault, IsOfDouble, IsScaled, IsScaledFault, IsSignificand}
 use Rattle.legumeyet_c_values.specs.declared.choices.Choices.{Choices}
 use Rattle.legumeyet_c_values.specs.declared.call_error.CallError.{CallError}
@@ -97,3 +97,24 @@ double_other number error (inr caused) = λ same. subst (λ (e : CallError). IsN
 pub double_fault_other : (choices : Option Choices) (number : Float) (error : CallError)
     → IsChangeFault choices (IsOfDouble number) (IsDoubleFault number) error → error ≢ TooSmall
 double_fault_other choices number error caused = change_fault_other choices (IsOfDouble number) (IsDoubleFault number) (double_other number) error caused
+
+-- options that change nothing
+no_change_stays : (position : ℤ) (value : SignedValue Number) → Changes (no_change position) value value
+no_change_stays position value = record {
+  rounded = value;
+  rounds = refl;
+  trimmed = value;
+  trims = refl;
+  longer = value;
+  pads_start = record { sign = refl; absolute = record { count = refl; low = refl; high = λ above. absurd (omega arith); same = λ _. refl } };
+  padded = value;
+  pads_end = record { sign = refl; absolute = record { count = refl; high = refl; low = λ below. absurd (omega arith); same = λ _. refl } };
+  signs = refl;
+}
+
+-- give what is given
+pub gives_same : (chosen : Option Choices) (position : ℤ) (is_given : SignedValue Number → Type 0) (outcome : Result (SignedValue Number) CallError)
+    → chosen ≡ Some (no_change position) → IfOk outcome is_given → IfOk outcome (λ value. Gives chosen is_given value)
+gives_same chosen position is_given (Ok value) is given =
+    subst (λ (c : Option Choices). Gives c is_given value) (sym is) (record { given = value; given_is = given; changes = no_change_stays position value })
+gives_same chosen position is_given (Err error) is given = tt

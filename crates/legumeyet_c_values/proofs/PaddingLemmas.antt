@@ -36,10 +36,12 @@ highest_reached place count was high below above beyond highest =
 
 pub end_reached : (position : ℤ) (old new : Number) → IsNumber old → place position ≤ old.low → PadsEnd (place position) old new → PadsEndTo position old new
 end_reached position old new number under pads =
-    let ones = number.low in record {
+    let ones = number.low in
+    let reached = lowest_reached (place position) old.count old.low new.low number.whole under (pads.low (omega arith)) in record {
       count = pads.count;
-      low = lowest_reached (place position) old.count old.low new.low number.whole under (pads.low (omega arith));
       high = pads.high;
+      low = λ below. reached;
+      same = λ above. omega arith;
     }
 
 pub start_reached : (position : ℤ) (old new : Number) → IsNumber old → old.high + 1 < place position → PadsStart (place position) old new
@@ -49,5 +51,6 @@ start_reached position old new number above pads =
     let beyond : 32768 < place position = omega arith in record {
       count = pads.count;
       low = pads.low;
-      high = highest_reached (place position) old.count old.high new.high number.below above beyond (pads.high beyond);
+      high = λ _. highest_reached (place position) old.count old.high new.high number.below above beyond (pads.high beyond);
+      same = λ under. absurd (omega arith);
     }

@@ -2,7 +2,7 @@
 -- Defined in include/legumeyet.h, docs/numbers.md, "Ranges", and docs/requests.md, "Rounding and sign".
 -- Cited by the exports that write numbers, and those that open formatters.
 -- The imports are many: each enum that a number stands for, and its cases.
-use Rattle.std.specs.Prelude.{◌≡◌, ℕ, ℤ, pos, neg_ℤ, ◌-◌, ◌==◌, ◌&&◌, nat_lt, min, max, List, [], ◌∷◌, Option, Some, None, slice_get, slice_index, if◌then◌else◌}
+use Rattle.std.specs.Prelude.{◌≡◌, ℕ, ℤ, pos, neg_ℤ, ◌-◌, ◌<◌, ◌≤◌, ◌==◌, ◌&&◌, nat_lt, min, max, List, [], ◌∷◌, Option, Some, None, slice_get, slice_index, if◌then◌else◌}
 use Rattle.fixed_decimal.specs.Number.{Number, place}
 use Rattle.fixed_decimal.specs.Range.{MayGrowAt}
 use Rattle.fixed_decimal.specs.Shifts.{TrimsEnd}
@@ -95,6 +95,10 @@ all_of (Some sign) (Some mode) position (Some increment) (Some zeros) (Some whol
 all_of (Some sign) (Some mode) position (Some increment) (Some zeros) (Some whole) (Some fraction) =
     Some (record { sign = sign; mode = mode; position = position; increment = increment; zeros = zeros; start = whole; end = neg_ℤ fraction })
 
+-- nothing is changed
+abbrev pub no_change : ℤ → Choices
+no_change position = record { sign = None; mode = None; position = position; increment = MultiplesOf1; zeros = Keep; start = pos 0; end = pos 0 }
+
 -- the reserved numbers are 0
 abbrev pub choices_of : Options → Option Choices
 choices_of options =
@@ -113,17 +117,19 @@ abbrev pub TrimsAs : TrailingZeros → SignedValue Number → SignedValue Number
 TrimsAs Keep old new = new ≡ old
 TrimsAs Trim old new = OnAbsolute TrimsEnd old new
 
--- the digit before a position is shown, and all that were
+-- the digit before a position above the ones is shown, and all that were
 pub record PadsStartTo (position : ℤ) (old new : Number) : Type 0 where
   pub count : new.count ≡ old.count
   pub low : new.low ≡ old.low
-  pub high : new.high ≡ max old.high (place position - 1)
+  pub high : 32768 < place position → new.high ≡ max old.high (place position - 1)
+  pub same : place position ≤ 32768 → new.high ≡ old.high
 
--- the digit at a position is shown, and all that were
+-- the digit at a position below the ones is shown, and all that were
 pub record PadsEndTo (position : ℤ) (old new : Number) : Type 0 where
   pub count : new.count ≡ old.count
-  pub low : new.low ≡ min old.low (place position)
   pub high : new.high ≡ old.high
+  pub low : place position < 32768 → new.low ≡ min old.low (place position)
+  pub same : 32768 ≤ place position → new.low ≡ old.low
 
 -- a number with its sign chosen
 abbrev pub signed_as : Option SignDisplay → SignedValue Number → SignedValue Number

@@ -1,12 +1,12 @@
 //! The options of calls, by their numbers.
 
-ghost use Rattle.std.specs.Prelude.{◌≡◌, IfOk, IfErr};
-ghost use Rattle.fixed_decimal.specs.SignedValue.{OnAbsolute};
-ghost use Rattle.legumeyet_c_values.specs.Choices.{Changes, IsChangeRefused, PadsEndTo, PadsStartTo, RoundsAs, TrimsAs, choice_of, choices_of, count_of, grouping_of, increment_of, mode_of, sign_of, signed_as, trimming_of, width_of};
+ghost use Rattle.std.specs.Prelude.{◌≡◌, Some, IfOk, IfErr, OnOk, IsTrue};
+ghost use Rattle.legumeyet_c_values.specs.Choices.{Changes, IsChangeRefused, PadsEndTo, PadsStartTo, RoundsAs, TrimsAs, choice_of, choices_of, count_of, grouping_of, increment_of, mode_of, no_change, sign_of, signed_as, trimming_of, width_of};
 
 use crate::call_error::CallError;
 use fixed_decimal::{
-    Decimal, RoundingIncrement, SignDisplay, SignedRoundingMode, UnsignedRoundingMode,
+    Decimal, RoundingIncrement, SignDisplay, SignedRoundingMode, UnsignedDecimal,
+    UnsignedRoundingMode,
 };
 use icu_decimal_symbols::options::GroupingStrategy;
 
@@ -173,6 +173,20 @@ fn count_by(number: u16) -> Option<i16>
 }
 
 impl Options {
+    // Whether nothing is changed, as each number but the position is 0.
+    pub(crate) fn is_zeroed(&self) -> bool
+        ensures { IsTrue result → choices_of self.now ≡ Some (no_change self.now.position) }
+    {
+        self.sign == 0
+            && self.rounding == 0
+            && self.trailing_zeros == 0
+            && self.increment == 0
+            && self.minimum_integer_digits == 0
+            && self.minimum_fraction_digits == 0
+            && self.reserved[0] == 0
+            && self.reserved[1] == 0
+    }
+
     // What the numbers stand for, where each is known.
     pub(crate) fn choices(&self) -> Option<Choices>
         ensures { result ≡ choices_of self.now }
@@ -198,75 +212,71 @@ impl Options {
     }
 }
 
-// The number rounded, where that is asked for. `Memory`: out of memory, where it gets one more digit.
-fn rounded(mut value: Decimal, choices: Choices) -> Result<Decimal, CallError>
-    ensures value { IfOk result (λ rounded. RoundsAs choices.mode choices.increment choices.position value rounded) }
-    ensures fault { IfErr result (λ error. IsChangeRefused choices value error) }
+// Rounds a number, where that is asked for. `Memory`: out of memory, where it gets one more digit.
+fn round(value: &mut Decimal, choices: Choices) -> Result<(), CallError>
+    ensures value { OnOk result (RoundsAs choices.mode choices.increment choices.position value.old value.new) }
+    ensures fault { IfErr result (λ error. IsChangeRefused choices value.old error) }
 {
     let Some(mode) = choices.mode else {
-        return Ok(value);
+        return Ok(());
     };
     match value.round_with_mode_and_increment(choices.position, mode, choices.increment) {
-        Ok(()) => Ok(value),
+        Ok(()) => Ok(()),
         Err(_) => Err(CallError::Memory),
     }
 }
 
-// The number with or without the zeros at the end of its fraction.
-fn trimmed(value: Decimal, zeros: TrailingZeros) -> Decimal
-    ensures { TrimsAs zeros value result }
+// Trims the zeros at the end of the fraction, where that is asked for.
+fn trim(value: &mut Decimal, zeros: TrailingZeros)
+    ensures { TrimsAs zeros value.old value.new }
 {
     match zeros {
-        TrailingZeros::Keep => value,
-        TrailingZeros::Trim => value.trimmed_end(),
+        TrailingZeros::Keep => (),
+        TrailingZeros::Trim => value.absolute.trim_end(),
     }
 }
 
-// The number with integer digits up to a position at least.
-fn padded_start(value: Decimal, position: i16) -> Decimal
-    ensures { OnAbsolute (PadsStartTo position) value result }
+// Pads a number with integer digits up to a position at least.
+fn pad_start(number: &mut UnsignedDecimal, position: i16)
+    ensures { PadsStartTo position number.old number.new }
 {
-    let range = value.absolute.magnitude_range();
-    if (*range.end() as i32) + 1 < position as i32 {
-        value.padded_start(position)
-    } else {
-        value
+    let range = number.magnitude_range();
+    if position > 0 && (*range.end() as i32) + 1 < position as i32 {
+        number.pad_start(position)
     }
 }
 
-// The number with fraction digits down to a position at least.
-fn padded_end(value: Decimal, position: i16) -> Decimal
-    ensures { OnAbsolute (PadsEndTo position) value result }
+// Pads a number with fraction digits down to a position at least.
+fn pad_end(number: &mut UnsignedDecimal, position: i16)
+    ensures { PadsEndTo position number.old number.new }
 {
-    let range = value.absolute.magnitude_range();
-    if position < *range.start() {
-        value.padded_end(position)
-    } else {
-        value
+    let range = number.magnitude_range();
+    if position < 0 && position < *range.start() {
+        number.pad_end(position)
     }
 }
 
-// The number with the sign that is asked for.
-fn signed(value: Decimal, sign: Option<SignDisplay>) -> Decimal
-    ensures { result ≡ signed_as sign value }
+// Gives a number the sign that is asked for.
+fn sign(value: &mut Decimal, sign: Option<SignDisplay>)
+    ensures { value.new ≡ signed_as sign value.old }
 {
-    match sign {
-        Some(display) => value.with_sign_display(display),
-        None => value,
+    if let Some(display) = sign {
+        value.apply_sign_display(display)
     }
 }
 
 impl Choices {
     // The number rounded, then trimmed, then padded, and then with the sign that is chosen by what that left: 9.75 at -1
     // to the even one, with `Always`, is `+9.8`. `Memory`: out of memory, which only multiples of 25 take.
-    pub(crate) fn changed(self, value: Decimal) -> Result<Decimal, CallError>
+    pub(crate) fn changed(self, mut value: Decimal) -> Result<Decimal, CallError>
         ensures value { IfOk result (λ changed. Changes self value changed) }
         ensures fault { IfErr result (λ error. IsChangeRefused self value error) }
     {
-        let value = rounded(value, self)?;
-        let value = trimmed(value, self.zeros);
-        let value = padded_start(value, self.start);
-        let value = padded_end(value, self.end);
-        Ok(signed(value, self.sign))
+        round(&mut value, self)?;
+        trim(&mut value, self.zeros);
+        pad_start(&mut value.absolute, self.start);
+        pad_end(&mut value.absolute, self.end);
+        sign(&mut value, self.sign);
+        Ok(value)
     }
 }

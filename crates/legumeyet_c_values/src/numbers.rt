@@ -134,6 +134,9 @@ pub fn number_of_text(alloc: Global, text: &[u8], options: &Options) -> Result<D
     ensures value { IfOk result (λ value. Gives (choices_of options.now) (ReadsSigned text.now) value) }
     ensures fault { IfErr result (λ error. IsChangeFault (choices_of options.now) (ReadsSigned text.now) (IsNumberFault text.now) error) }
 {
+    if options.is_zeroed() {
+        return read_number(alloc, text);
+    }
     let choices = known(options)?;
     let value = read_number(alloc, text)?;
     choices.changed(value)
@@ -151,6 +154,9 @@ pub fn number_of_i64(
         (λ error. IsChangeFault (choices_of options.now) (IsScaled mantissa exponent) (IsScaledFault mantissa exponent)
         error) }
 {
+    if options.is_zeroed() {
+        return scaled(alloc, mantissa, exponent);
+    }
     let choices = known(options)?;
     let value = scaled(alloc, mantissa, exponent)?;
     choices.changed(value)
@@ -169,6 +175,9 @@ pub fn number_of_u64(
         (λ error. IsChangeFault (choices_of options.now) (IsScaled (pos mantissa) exponent)
         (IsScaledFault (pos mantissa) exponent) error) }
 {
+    if options.is_zeroed() {
+        return scaled_unsigned(alloc, mantissa, exponent);
+    }
     let choices = known(options)?;
     let value = scaled_unsigned(alloc, mantissa, exponent)?;
     choices.changed(value)
@@ -182,6 +191,9 @@ pub fn number_of_f64(alloc: Global, number: f64, options: &Options) -> Result<De
     ensures fault { IfErr result
         (λ error. IsChangeFault (choices_of options.now) (IsOfDouble number) (IsDoubleFault number) error) }
 {
+    if options.is_zeroed() {
+        return read_double(alloc, number);
+    }
     let choices = known(options)?;
     let value = read_double(alloc, number)?;
     choices.changed(value)

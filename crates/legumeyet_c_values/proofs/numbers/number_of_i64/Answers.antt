@@ -2,7 +2,7 @@ use Rattle.std.proofs.Common.{w16, w64}
 use Rattle.std.proofs.lemmas.Int.{to_z-of_z}
 use Rattle.legumeyet_c_values.specs.Choices.{choices_of}
 use Rattle.legumeyet_c_values.specs.Numbers.{IsScaled, IsScaledFault}
-use Rattle.legumeyet_c_values.proofs.NumbersLemmas.{gives, refuses}
+use Rattle.legumeyet_c_values.proofs.NumbersLemmas.{gives, gives_same, refuses}
 use Rattle.legumeyet_c_values.proofs.numbers.number_of_i64.Goals as goal
 
 pub returns-clause-value : goal.returns-clause-value
@@ -19,3 +19,10 @@ returns-clause-fault c =
     refuses (choices_of c.args.options.now) c.in_ok-choices.choices (IsScaled c.args.mantissa c.args.exponent)
     (IsScaledFault c.args.mantissa c.args.exponent) c.in_ok-value.value c.changed.result c.in_ok-choices.ensures.value
     (simp (mantissa, exponent) at c.in_ok-value.ensures.value) c.changed.ensures.fault
+
+pub returns-then-is_zeroed-clause-value : goal.returns-then-is_zeroed-clause-value
+returns-then-is_zeroed-clause-value c =
+    let mantissa = to_z-of_z w64 c.args.mantissa c.ranges.mantissa in
+    let exponent = to_z-of_z w16 c.args.exponent c.ranges.exponent in
+    gives_same (choices_of c.args.options.now) c.args.options.now.position (IsScaled c.args.mantissa c.args.exponent) c.scaled.result
+    (c.is_zeroed.ensures c.if-is_zeroed.true) (simp (mantissa, exponent) at c.scaled.ensures.value)
