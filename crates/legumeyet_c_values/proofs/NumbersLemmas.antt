@@ -1,13 +1,11 @@
 -- Numbers that are given: changed as options say, and faults that are not that a text is too long.
-use Rattle.std.proofs.Common.{arith, ◌≡◌, ◌≢◌, ℕ, ℤ, true, false, List, Option, Some, None, Result, Ok, Err, IfOk, IfErr, refl, sym, subst, inl, inr}
+use Rattle.std.proofs.Common.{arith, ◌≡◌, ◌≢◌, ℕ, ℤ, List, Option, Some, None, Result, Ok, Err, IfOk, IfErr, refl, sym, subst, inl, inr}
 use Rattle.std.specs.Float.Ieee.{Float}
 use Rattle.fixed_decimal.specs.Number.{Number}
 use Rattle.fixed_decimal.specs.SignedText.{ReadsSigned}
 use Rattle.fixed_decimal.specs.Shifts.{IsShifted, KeepsPlaces}
 use Rattle.fixed_decimal.specs.SignedValue.{SignedValue, OnAbsolute}
 use Rattle.fixed_decimal.specs.WholeNumbers.{IsSignedWhole}
-use Rattle.fixed_decimal.specs.declared.RoundingIncrement.{RoundingIncrement}
-use Rattle.fixed_decimal.specs.declared.RoundingIncrement.TheVariants.{MultiplesOf1, MultiplesOf2, MultiplesOf5, MultiplesOf25}
 use Rattle.legumeyet_c_values.specs.Choices.{Changes, IsChangeRefused, no_change}
 use Rattle.legumeyet_c_values.specs.Numbers.{Gives, IsChangeFault, IsCompactNumberFault, IsDoubleFault, IsNumberFault, IsOfDouble, IsScaled, IsScaledFault, IsSignificand}
 use Rattle.legumeyet_c_values.specs.declared.choices.Choices.{Choices}
@@ -66,13 +64,6 @@ refuses chosen choices is_given fault old (Ok new) is given refused = tt
 refuses chosen choices is_given fault old (Err error) is given refused =
     subst (λ (c : Option Choices). IsChangeFault c is_given fault error) (sym is)
     (inr (record { given = old; given_is = given; refused = refused }))
-
--- an increment with which alone a rounding fails
-pub only_twenty_five : (increment : RoundingIncrement) → (increment ≢ MultiplesOf25 → false ≡ true) → increment ≡ MultiplesOf25
-only_twenty_five MultiplesOf1 succeeds = absurd (cc (succeeds (λ same. absurd (cc same))))
-only_twenty_five MultiplesOf2 succeeds = absurd (cc (succeeds (λ same. absurd (cc same))))
-only_twenty_five MultiplesOf5 succeeds = absurd (cc (succeeds (λ same. absurd (cc same))))
-only_twenty_five MultiplesOf25 succeeds = refl
 
 -- a whole number that is moved by a power of ten
 pub moved_scales : (mantissa exponent : ℤ) (whole : SignedValue Number) (outcome : Result (SignedValue Number) CallError)

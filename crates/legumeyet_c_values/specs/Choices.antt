@@ -4,10 +4,10 @@
 -- The imports are many: each enum that a number stands for, and its cases.
 use Rattle.std.specs.Prelude.{◌≡◌, ℕ, ℤ, pos, neg_ℤ, ◌-◌, ◌<◌, ◌≤◌, ◌==◌, ◌&&◌, nat_lt, min, max, List, [], ◌∷◌, Option, Some, None, slice_get, slice_index, if◌then◌else◌}
 use Rattle.fixed_decimal.specs.Number.{Number, place}
-use Rattle.fixed_decimal.specs.Range.{MayGrowAt}
+use Rattle.fixed_decimal.specs.RoundingMemory.{MayGrow}
 use Rattle.fixed_decimal.specs.Shifts.{TrimsEnd}
 use Rattle.fixed_decimal.specs.SignChoice.{chosen_sign}
-use Rattle.fixed_decimal.specs.SignedRounding.{RoundsSigned}
+use Rattle.fixed_decimal.specs.SignedRounding.{RoundsSigned, size_mode}
 use Rattle.fixed_decimal.specs.SignedValue.{SignedValue, OnAbsolute}
 use Rattle.fixed_decimal.specs.declared.RoundingIncrement.{RoundingIncrement}
 use Rattle.fixed_decimal.specs.declared.RoundingIncrement.TheVariants.{MultiplesOf1, MultiplesOf2, MultiplesOf5, MultiplesOf25}
@@ -148,12 +148,12 @@ pub record Changes (choices : Choices) (old new : SignedValue Number) : Type 0 w
   pub pads_end : OnAbsolute (PadsEndTo choices.end) longer padded
   pub signs : new ≡ signed_as choices.sign padded
 
--- a number of which a multiple of 25 may have one more digit than it has
-pub record MayGrow (choices : Choices) (old : SignedValue Number) : Type 0 where
-  pub increment : choices.increment ≡ MultiplesOf25
-  pub grows : MayGrowAt (place choices.position) old.absolute.count
+-- a rounding that may give a number one more digit than there is room for; only one to multiples of 25 may
+abbrev pub MayGrowAs : Option SignedRoundingMode → RoundingIncrement → ℤ → SignedValue Number → Type 0
+MayGrowAs None increment position old = ⊥
+MayGrowAs (Some mode) increment position old = MayGrow (size_mode old.sign mode) increment (place position) old.absolute.count
 
 -- why it is not changed: memory is wanted only there
 abbrev pub IsChangeRefused : Choices → SignedValue Number → CallError → Type 0
-IsChangeRefused choices old Memory = MayGrow choices old
+IsChangeRefused choices old Memory = MayGrowAs choices.mode choices.increment choices.position old
 IsChangeRefused choices old _ = ⊥
