@@ -5,7 +5,7 @@
 
 use anyhow::Result;
 use locale_numbers::prelude::{
-    Book, Decimal, DecimalFormatter, PartsSink, ReadError, Writeable, read_plain, world_text,
+    Book, Decimal, DecimalFormatter, PartsSink, ReadError, Writeable, read_lenient, world_text,
 };
 
 /// A report: the number's text, and each part of it.
@@ -19,9 +19,10 @@ fn print_parts(rt: &HostRuntime, plain: &DecimalFormatter<'_>, number: &Decimal)
     Ok(())
 }
 
-/// A form field: the number that was typed, or that it is none.
+/// A form field: the number that was typed, or that it is none. In a file that a program wrote `read_plain` takes what
+/// `plain` writes, to the byte, and nothing else.
 fn print_field(rt: &HostRuntime, plain: &DecimalFormatter<'_>, typed: &str) -> Result<()> {
-    match read_plain(rt.alloc(), plain, typed) {
+    match read_lenient(rt.alloc(), plain, typed) {
         Ok(number) => println!(rt; "{typed} is {number}")?,
         Err(ReadError::NotWritten) => println!(rt; "{typed} is no number")?,
         Err(error) => return Err(error.into()),
@@ -45,6 +46,7 @@ fn print_all(rt: &HostRuntime, book: &Book, number: &Decimal) -> Result<()> {
     let german = book.formatter(rt.alloc(), "de")?;
     print_parts(rt, &german, number)?;
     print_field(rt, &german, "1.234,50")?;
+    print_field(rt, &german, "1234,50")?;
     print_field(rt, &german, "98.7654")?;
     print_label(rt, book, "hi", number)?;
     print_label(rt, book, "ar-EG", number)
