@@ -1,0 +1,172 @@
+/*
+ * The calls for JavaScript: those of legumeyet.h with sizes of 32 bits, and with texts in two buffers of the module.
+ *
+ * A result below 0 is less the number of an error; else it is the length of the text that was written, or 0. A text of at most ROOM
+ * bytes is put at js_in() and found at js_out(). A larger one is put at js_large_in(size), and found at js_large_out(); js_let_go() frees
+ * both. In the memory of the module a pointer of the library takes eight bytes, as on the machine that its layouts were computed for.
+ */
+typedef unsigned char u8;
+typedef unsigned short u16;
+typedef unsigned u32;
+typedef unsigned long long u64;
+typedef int number;
+
+void *malloc(__SIZE_TYPE__);
+void free(void *);
+
+typedef struct {
+    u64 content, is_open;
+} handle;
+
+typedef struct {
+    u32 sign, rounding;
+    short position;
+    u16 trailing_zeros;
+    u32 increment;
+    u16 minimum_integer_digits, minimum_fraction_digits;
+    u32 reserved[2];
+} options;
+
+typedef struct {
+    u64 start, end;
+    u32 kind, unused;
+} interval;
+_Static_assert(sizeof(handle) == 16 && sizeof(options) == 28 && sizeof(interval) == 24, "as the library has them");
+
+/* What JavaScript has open: a book, or a formatter with the options of its calls. */
+typedef struct {
+    handle of;
+    options how;
+} opened;
+
+number legumeyet_book_open(const u8 *, u64, handle *);
+number legumeyet_book_close(handle *);
+number legumeyet_book_keep(handle *);
+number legumeyet_book_answer(handle *, const u8 *, u64, u8 *, u64, u64 *);
+number legumeyet_decimal_formatter_open(handle *, const u8 *, u64, u32, handle *);
+number legumeyet_decimal_formatter_close(handle *);
+number legumeyet_decimal_formatter_format(handle *, const u8 *, u64, const options *, u8 *, u64, u64 *);
+number legumeyet_decimal_formatter_format_parts(handle *, const u8 *, u64, const options *, u8 *, u64, u64 *, interval *, u64, u64 *);
+number legumeyet_decimal_formatter_read(handle *, const u8 *, u64, u8 *, u64, u64 *);
+number legumeyet_decimal_formatter_read_lenient(handle *, const u8 *, u64, u8 *, u64, u64 *);
+number legumeyet_compact_formatter_open(handle *, const u8 *, u64, u32, u32, handle *);
+number legumeyet_compact_formatter_close(handle *);
+number legumeyet_compact_formatter_format(handle *, const u8 *, u64, const options *, u8 *, u64, u64 *);
+number legumeyet_compact_formatter_format_parts(handle *, const u8 *, u64, const options *, u8 *, u64, u64 *, interval *, u64, u64 *);
+number legumeyet_compact_formatter_shown(handle *, const u8 *, u64, const options *, u8 *, u64, u64 *);
+number legumeyet_compact_formatter_format_exact(handle *, const u8 *, u64, const options *, u8 *, u64, u64 *);
+number legumeyet_error_text(number, u8 *, u64, u64 *);
+u32 legumeyet_version(void);
+u32 legumeyet_minor(void);
+
+enum { ROOM = 512, PARTS = 64, MEMORY = 1, TOO_SMALL = 3 };
+
+static u8 small_in[ROOM], small_out[ROOM];
+static interval small_parts[PARTS];
+static u8 *large_in, *large_out;
+static interval *large_parts;
+static u32 parts_count;
+
+u8 *js_in(void) { return small_in; }
+u8 *js_out(void) { return small_out; }
+u8 *js_large_in(u32 size) { return large_in = malloc(size); }
+u8 *js_large_out(void) { return large_out; }
+interval *js_parts(void) { return large_parts ? large_parts : small_parts; }
+u32 js_parts_count(void) { return parts_count; }
+
+void js_let_go(void) {
+    free(large_in);
+    free(large_out);
+    free(large_parts);
+    large_in = large_out = 0;
+    large_parts = 0;
+}
+
+/* A call writes `length` bytes and lists `count` parts; it is made again with room for them where there was too little. */
+typedef struct {
+    u8 *out;
+    u64 room, length;
+    interval *parts;
+    u64 parts_room, count;
+} place;
+
+static place small(void) { return (place){small_out, ROOM, 0, small_parts, PARTS, 0}; }
+
+static int is_enlarged(place *at) {
+    if (at->length > at->room) {
+        at->out = large_out = malloc((__SIZE_TYPE__)at->length);
+        at->room = at->length;
+    }
+    if (at->count > at->parts_room) {
+        at->parts = large_parts = malloc((__SIZE_TYPE__)at->count * sizeof(interval));
+        at->parts_room = at->count;
+    }
+    return at->out && at->parts;
+}
+
+static number told(number error, const place *at) {
+    parts_count = (u32)at->count;
+    return error ? -error : (number)at->length;
+}
+
+/* Makes a call that writes to the place `at`, a second time where it says so. */
+#define WRITTEN(CALL)                                                        \
+    place at = small();                                                      \
+    number error = CALL;                                                     \
+    if (error == TOO_SMALL) error = is_enlarged(&at) ? CALL : MEMORY;        \
+    return told(error, &at);
+
+#define OUT at.out, at.room, &at.length
+#define PARTS_OUT OUT, at.parts, at.parts_room, &at.count
+
+static const u8 *text_in(void) { return large_in ? large_in : small_in; }
+
+opened *js_new(void) {
+    opened *it = malloc(sizeof *it);
+    if (it) *it = (opened){{0, 0}, {0}};
+    return it;
+}
+
+/* Books. */
+number js_book_open(opened *it, u32 n) { return -legumeyet_book_open(text_in(), n, &it->of); }
+number js_book_keep(opened *it) { return -legumeyet_book_keep(&it->of); }
+number js_book_answer(opened *it, u32 n) { WRITTEN(legumeyet_book_answer(&it->of, text_in(), n, OUT)) }
+void js_book_close(opened *it) {
+    legumeyet_book_close(&it->of);
+    free(it);
+}
+
+/* The options of a formatter: the one place where they are named. */
+void js_options(opened *it, u32 sign, u32 rounding, int position, u32 zeros, u32 increment, u32 integer, u32 fraction) {
+    it->how = (options){sign, rounding, (short)position, (u16)zeros, increment, (u16)integer, (u16)fraction, {0, 0}};
+}
+
+/* Formatters of plain numbers. */
+number js_decimal_open(opened *book, u32 n, u32 grouping, opened *it) {
+    return -legumeyet_decimal_formatter_open(&book->of, text_in(), n, grouping, &it->of);
+}
+number js_decimal_format(opened *it, u32 n) { WRITTEN(legumeyet_decimal_formatter_format(&it->of, text_in(), n, &it->how, OUT)) }
+number js_decimal_parts(opened *it, u32 n) { WRITTEN(legumeyet_decimal_formatter_format_parts(&it->of, text_in(), n, &it->how, PARTS_OUT)) }
+number js_decimal_read(opened *it, u32 n) { WRITTEN(legumeyet_decimal_formatter_read(&it->of, text_in(), n, OUT)) }
+number js_decimal_read_lenient(opened *it, u32 n) { WRITTEN(legumeyet_decimal_formatter_read_lenient(&it->of, text_in(), n, OUT)) }
+void js_decimal_close(opened *it) {
+    legumeyet_decimal_formatter_close(&it->of);
+    free(it);
+}
+
+/* Formatters of compact numbers. */
+number js_compact_open(opened *book, u32 n, u32 width, u32 grouping, opened *it) {
+    return -legumeyet_compact_formatter_open(&book->of, text_in(), n, width, grouping, &it->of);
+}
+number js_compact_format(opened *it, u32 n) { WRITTEN(legumeyet_compact_formatter_format(&it->of, text_in(), n, &it->how, OUT)) }
+number js_compact_parts(opened *it, u32 n) { WRITTEN(legumeyet_compact_formatter_format_parts(&it->of, text_in(), n, &it->how, PARTS_OUT)) }
+number js_compact_shown(opened *it, u32 n) { WRITTEN(legumeyet_compact_formatter_shown(&it->of, text_in(), n, &it->how, OUT)) }
+number js_compact_exact(opened *it, u32 n) { WRITTEN(legumeyet_compact_formatter_format_exact(&it->of, text_in(), n, &it->how, OUT)) }
+void js_compact_close(opened *it) {
+    legumeyet_compact_formatter_close(&it->of);
+    free(it);
+}
+
+number js_error_text(number of) { WRITTEN(legumeyet_error_text(of, OUT)) }
+u32 js_version(void) { return legumeyet_version(); }
+u32 js_minor(void) { return legumeyet_minor(); }
