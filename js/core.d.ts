@@ -1,0 +1,132 @@
+// The classes over a module and a book of one's own.
+
+declare global {
+  interface SymbolConstructor {
+    readonly dispose: unique symbol;
+  }
+}
+
+/** A number: its digits as a text, with `e` and an exponent or without, a number of JavaScript, or a bigint. */
+export type Num = string | number | bigint;
+export type UseGrouping = "auto" | "always" | "min2" | boolean;
+export type SignDisplay = "keep" | "auto" | "never" | "always" | "exceptZero" | "negative";
+export type RoundingMode =
+  | "expand" | "trunc" | "ceil" | "floor" | "halfExpand" | "halfTrunc" | "halfCeil" | "halfFloor" | "halfEven";
+export type RoundingIncrement = 1 | 2 | 5 | 10 | 20 | 25 | 50 | 100 | 200 | 250 | 500 | 1000 | 2000 | 2500 | 5000;
+export type Locales = string | Intl.Locale | readonly (string | Intl.Locale)[];
+
+export interface FormatterOptions {
+  /** The tables; without it those of the world's book, or of `setWorld`. */
+  book?: Book;
+  /** `auto` without it, and `min2` of compact numbers. */
+  useGrouping?: UseGrouping;
+  /** `auto` without it; `keep` writes a plus where the text of the number has one. */
+  signDisplay?: SignDisplay;
+  /** The power of ten that is rounded to: 0 the ones, -2 the hundredths. All digits down to it are shown. */
+  position?: number;
+  /** `halfExpand` without it. It needs `position` or `maximumFractionDigits`. */
+  roundingMode?: RoundingMode;
+  /** The number is rounded to a multiple of this at that place; 1 without it. */
+  roundingIncrement?: RoundingIncrement;
+}
+
+export interface DecimalFormatterOptions extends FormatterOptions {
+  minimumIntegerDigits?: number;
+  minimumFractionDigits?: number;
+  /** Without it, and without `position`, all digits are shown. */
+  maximumFractionDigits?: number;
+}
+
+export interface CompactDecimalFormatterOptions extends FormatterOptions {
+  /** `short` without it. */
+  compactDisplay?: "short" | "long";
+}
+
+export type ResolvedOptions<Options> = Omit<Options, "book"> & { locale: string; useGrouping: UseGrouping; signDisplay: SignDisplay };
+
+export interface Part {
+  type: "minusSign" | "plusSign" | "integer" | "group" | "decimal" | "fraction" | "literal";
+  value: string;
+}
+
+declare abstract class Open {
+  readonly closed: boolean;
+  /** Gives its memory back. It is also given back when the object is no longer used. */
+  close(): void;
+  [Symbol.dispose](): void;
+}
+
+/** A book of tables, of its JSON: a text, or the bytes of one. Its text is kept with it. */
+export class Book extends Open {
+  constructor(json: string | Uint8Array);
+  /** Keeps the book for the rest of the program: formatters that are opened from it afterwards borrow its tables. */
+  keep(): this;
+  /** The answer to a request line, a text or its bytes. */
+  answer(line: string | Uint8Array): string;
+}
+
+declare abstract class Formatter<Options> extends Open {
+  /** The text of a number. It may be handed on without its formatter: `numbers.map(german.format)`. */
+  readonly format: (number: Num) => string;
+  /** The parts of a number's text. */
+  formatToParts(number: Num): Part[];
+  /** The options, as they were given or as they are without; and the locale that was found. */
+  resolvedOptions(): ResolvedOptions<Options>;
+}
+
+/** Writes plain numbers for a locale, and reads them back. */
+export class DecimalFormatter extends Formatter<DecimalFormatterOptions> {
+  constructor(locales?: Locales, options?: DecimalFormatterOptions);
+  /** The digits of the one number that is written so: `-1,234.50` is `-1234.50` in English. */
+  read(text: string): string;
+  /** The digits of the number that was typed so: `1234.5`, `.5` and ` 5` are read too. */
+  readLenient(text: string): string;
+  /** Those of the locales that the book has tables for. */
+  static supportedLocalesOf(locales: Locales, options?: DecimalFormatterOptions): string[];
+}
+
+/** Writes compact numbers for a locale. */
+export class CompactDecimalFormatter extends Formatter<CompactDecimalFormatterOptions> {
+  constructor(locales?: Locales, options?: CompactDecimalFormatterOptions);
+  /** The value that the text of a number shows: `-1.2c6` is -1.2 times ten to the power 6. */
+  shown(number: Num): string;
+  /** The text of a value as `shown` gives it, its digits as they are: `-1.20c6` is `-1.20M` in English. */
+  formatExact(value: string): string;
+  /** Those of the locales that the book has tables for. */
+  static supportedLocalesOf(locales: Locales, options?: CompactDecimalFormatterOptions): string[];
+}
+
+/** The numbers of errors. */
+export const ErrorNumber: Readonly<
+  Record<
+    | "MEMORY" | "CLOSED" | "OPTION" | "TAG" | "TABLE" | "NUMBER" | "LIMIT" | "RANGE" | "UTF8" | "UNREADABLE" | "NOT_WRITTEN" | "EXPONENT"
+    | "BOOK_JSON" | "BOOK_SHAPE" | "BOOK_TAG" | "BOOK_SYSTEM" | "BOOK_TEXT" | "BOOK_DIGITS" | "BOOK_CONDITION" | "BOOK_TYPES"
+    | "BOOK_EXPONENTS" | "BOOK_DUPLICATE" | "BOOK_CYCLE",
+    number
+  >
+>;
+
+/** A call was refused: `number` says why, and `word` says it in English. */
+export class LegumeyetError extends RangeError {
+  constructor(number: number, hint?: string);
+  readonly number: number;
+  readonly word: string;
+}
+
+/** The library could not be loaded: which file, and why. */
+export class LoadError extends Error {
+  constructor(file: string, reason: LoadError["reason"], message: string, cause?: unknown);
+  readonly file: string;
+  readonly reason: "fetch" | "policy" | "module";
+}
+
+/** Takes the module: its bytes, a WebAssembly.Module, or the response to a request for it. A second call does nothing. */
+export function load(source: BufferSource | WebAssembly.Module | Response): Promise<void>;
+/** Takes the module at once. */
+export function loadSync(source: BufferSource | WebAssembly.Module): void;
+/** Makes the book of formatters for which none is named: a Book, or the JSON of one. It is kept. */
+export function setWorld(book: string | Uint8Array | Book): Book;
+/** The version of the library, with its minor one: `1.1`. */
+export function version(): string;
+/** The bytes of the module's memory, for measurements. */
+export function memorySize(): number;

@@ -1,0 +1,271 @@
+// Books and formatters, as classes in the manner of Intl.
+import { ErrorNumber, LegumeyetError, age, begun, calls, expected, inside, isPresent, partsWritten, put, written } from "./instance.js";
+import { read as readOptions } from "./options.js";
+
+// What the garbage collector takes is closed.
+const unused = typeof FinalizationRegistry === "undefined" ? null : new FinalizationRegistry(close);
+
+// A handle of the module: where it is, at which age of the instance, and by which call it is closed. It is not open where `at` is 0.
+function close(handle) {
+  if (handle.at !== 0 && isPresent(handle.age)) inside(() => calls[handle.close](handle.at));
+  handle.at = 0;
+}
+
+// Opens a handle in the present instance; `fill` opens what it has, and returns what the call returned.
+function open(handle, fill, hint) {
+  const at = inside(() => calls.js_new());
+  if (at === 0) throw new LegumeyetError(ErrorNumber.MEMORY);
+  const told = inside(() => {
+    const result = fill(at);
+    calls.js_let_go();
+    if (result < 0) calls[handle.close](at);
+    return result;
+  });
+  expected(told, hint?.(-told));
+  handle.at = at;
+  handle.age = age;
+}
+
+/** What is open until it is closed, or no longer used. Where its instance is lost, it is opened again when it is used next. */
+class Open {
+  #handle;
+  #again;
+
+  constructor(handle, again) {
+    this.#handle = handle;
+    this.#again = again;
+    unused?.register(this, handle, handle);
+  }
+
+  // Where it is in the present instance.
+  static at(it) {
+    const handle = it.#handle;
+    if (handle.at === 0) throw new LegumeyetError(ErrorNumber.CLOSED);
+    if (!isPresent(handle.age)) {
+      begun();
+      it.#again();
+    }
+    return handle.at;
+  }
+
+  get closed() {
+    return this.#handle.at === 0;
+  }
+
+  close() {
+    unused?.unregister(this.#handle);
+    close(this.#handle);
+  }
+}
+if (Symbol.dispose) Object.defineProperty(Open.prototype, Symbol.dispose, { value: Open.prototype.close });
+const { at: atOf } = Open;
+
+/** A book of tables, of its JSON: a text, or the bytes of one. */
+export class Book extends Open {
+  #source;
+
+  constructor(json) {
+    if (typeof json !== "string" && !(json instanceof Uint8Array)) throw new TypeError("a book is made of a string or a Uint8Array");
+    begun();
+    const source = { json: typeof json === "string" ? json : new Uint8Array(json), isKept: false, handle: { at: 0, age: 0, close: "js_book_close" } };
+    openBook(source, source.handle);
+    super(source.handle, () => openBook(source, source.handle));
+    this.#source = source;
+  }
+
+  // What a formatter needs to be opened again.
+  static source(it) {
+    if (!(it instanceof Book)) throw new TypeError("book is a Book");
+    atOf(it);
+    return it.#source;
+  }
+
+  /** Keeps the book for the rest of the program. A formatter that is opened from it afterwards borrows its tables: it is opened sooner and is faster. */
+  keep() {
+    const at = atOf(this);
+    expected(inside(() => calls.js_book_keep(at)));
+    this.#source.isKept = true;
+    return this;
+  }
+
+  /** The answer to a request line, a text or its bytes. */
+  answer(line) {
+    if (typeof line !== "string" && !(line instanceof Uint8Array)) throw new TypeError("a line is a string or a Uint8Array");
+    return written(atOf(this), calls.js_book_answer, line);
+  }
+}
+
+function openBook(source, handle) {
+  open(handle, (at) => {
+    const told = calls.js_book_open(at, put(source.json));
+    return told === 0 && source.isKept ? calls.js_book_keep(at) : told;
+  });
+}
+
+// Calls with a handle of a book. Of one that was closed since, which a formatter is opened from again, another is opened meanwhile.
+function withBook(source, use) {
+  const { handle } = source;
+  if (handle.at !== 0 && isPresent(handle.age)) return use(handle.at);
+  begun();
+  const other = handle.at === 0 ? { ...handle } : handle;
+  openBook(source, other);
+  try {
+    return use(other.at);
+  } finally {
+    if (other !== handle) close(other);
+  }
+}
+
+let world = null;
+
+/** Makes the book of formatters for which none is named: a Book, or the JSON of one. It is kept. */
+export function setWorld(book) {
+  world = (book instanceof Book ? book : new Book(book)).keep();
+  return world;
+}
+
+function isLocale(it) {
+  return typeof it === "string" || it instanceof Intl.Locale;
+}
+
+// The tags that are asked for: those of a list, one, or that of the machine.
+function tagsOf(locales) {
+  if (locales === undefined) return [new Intl.NumberFormat().resolvedOptions().locale];
+  const asked = isLocale(locales) ? [locales] : typeof locales?.[Symbol.iterator] === "function" ? [...locales] : [null];
+  if (!asked.every(isLocale)) throw new TypeError("a locale is a string or an Intl.Locale");
+  return asked.map(String);
+}
+
+// What the message of an error says of a tag.
+function hintOf(tag) {
+  const [named, written] = [tag, tag.replaceAll("_", "-")].map((it) => JSON.stringify(it.slice(0, 40)));
+  return (number) => (number === ErrorNumber.TAG && tag.includes("_") ? `: ${named} is written ${written}` : `: ${named}`);
+}
+
+// The digits of a number, as the library reads them: what JavaScript writes as 1e+21 is 1e21.
+function digitsOf(number) {
+  if (typeof number === "string") return number.includes("e+") ? number.replace("e+", "e") : number;
+  if (typeof number === "number") return Object.is(number, -0) ? "-0" : String(number).replace("e+", "e");
+  if (typeof number === "bigint") return String(number);
+  throw new TypeError(`a number is a string, a number or a bigint, and not ${number === null ? "null" : typeof number}`);
+}
+
+// Opens a formatter of the first of these locales that the book has tables for. Returns its tag.
+function openFormatter(handle, asked, source, { numbers }, fill) {
+  const { sign, mode, position, zeros, increment, integer, fraction } = numbers;
+  const openOf = (tag) =>
+    withBook(source, (book) =>
+      open(
+        handle,
+        (at) => {
+          calls.js_options(at, sign, mode, position, zeros, increment, integer, fraction);
+          return fill(book, put(tag), numbers, at);
+        },
+        hintOf(tag),
+      ),
+    );
+  for (const tag of asked.slice(0, -1)) {
+    try {
+      openOf(tag);
+      return tag;
+    } catch (error) {
+      if (!(error instanceof LegumeyetError && error.number === ErrorNumber.TABLE)) throw error;
+    }
+  }
+  openOf(asked.at(-1));
+  return asked.at(-1);
+}
+
+class Formatter extends Open {
+  #resolved;
+
+  constructor(kind, locales, options, fill) {
+    const how = readOptions(kind, options);
+    const book = options.book === undefined ? world : options.book;
+    if (book === null) throw new TypeError("the option book is missing, and there is no book of the world: setWorld(..) of legumeyet/core makes one");
+    const source = Book.source(book);
+    const asked = tagsOf(locales);
+    if (asked.length === 0) throw new RangeError("no locale is asked for");
+    const handle = { at: 0, age: 0, close: `js_${kind}_close` };
+    const locale = openFormatter(handle, asked, source, how, fill);
+    super(handle, () => openFormatter(handle, [locale], source, how, fill));
+    this.#resolved = { locale, ...how.resolved };
+  }
+
+  /** The options, as they were given or as they are without; and the locale that was found. */
+  resolvedOptions() {
+    return { ...this.#resolved };
+  }
+
+  /** Those of the locales that the book has tables for. */
+  static supportedLocalesOf(locales, options) {
+    return tagsOf(locales).filter((it) => {
+      try {
+        new this(it, options).close();
+        return true;
+      } catch (error) {
+        if (error instanceof LegumeyetError && error.number === ErrorNumber.TABLE) return false;
+        throw error;
+      }
+    });
+  }
+}
+
+function textOf(text) {
+  if (typeof text !== "string") throw new TypeError("a text is a string");
+  return text;
+}
+
+/** Writes plain numbers for a locale, and reads them back. */
+export class DecimalFormatter extends Formatter {
+  constructor(locales, options = {}) {
+    super("decimal", locales, options, (book, length, { grouping }, at) => calls.js_decimal_open(book, length, grouping, at));
+    /** The text of a number. As Intl's, it may be handed on without its formatter. */
+    this.format = (number) => written(atOf(this), calls.js_decimal_format, digitsOf(number));
+  }
+
+  /** The parts of a number's text, each with its type and value. */
+  formatToParts(number) {
+    return partsWritten(atOf(this), calls.js_decimal_parts, digitsOf(number));
+  }
+
+  /** The digits of the one number that is written so. */
+  read(text) {
+    return written(atOf(this), calls.js_decimal_read, textOf(text));
+  }
+
+  /** The digits of the number that was typed so. */
+  readLenient(text) {
+    return written(atOf(this), calls.js_decimal_read_lenient, textOf(text));
+  }
+}
+
+/** Writes compact numbers for a locale. */
+export class CompactDecimalFormatter extends Formatter {
+  constructor(locales, options = {}) {
+    super("compact", locales, options, (book, length, { width, grouping }, at) => calls.js_compact_open(book, length, width, grouping, at));
+    /** The text of a number. As Intl's, it may be handed on without its formatter. */
+    this.format = (number) => written(atOf(this), calls.js_compact_format, digitsOf(number));
+  }
+
+  /** The parts of a number's text: its sign, and the rest as a literal. */
+  formatToParts(number) {
+    return partsWritten(atOf(this), calls.js_compact_parts, digitsOf(number));
+  }
+
+  /** The value that the text of a number shows: `-1.2c6` is -1.2 times ten to the power 6. */
+  shown(number) {
+    return written(atOf(this), calls.js_compact_shown, digitsOf(number));
+  }
+
+  /** The text of a value as `shown` gives it, its digits as they are. */
+  formatExact(value) {
+    return written(atOf(this), calls.js_compact_exact, textOf(value));
+  }
+}
+
+/** The version of the library, with its minor one: `1.1`. */
+export function version() {
+  begun();
+  return inside(() => `${calls.js_version()}.${calls.js_minor()}`);
+}

@@ -1,0 +1,267 @@
+// The instance of the WebAssembly module: its calls, texts into it and out of it, and a new one where a call did not come back.
+
+const SHORT = 64; // of so many characters a text is put by hand, which is faster than by an encoder
+const ROOM = 512; // as in module/calls.c
+const LITERAL = 0, INTEGER = 3; // kinds of parts
+const NO_UTF8 = new Uint8Array([0xff]);
+const HALF = /\p{Surrogate}/u;
+const encoder = new TextEncoder();
+const decoder = new TextDecoder("utf-8", { ignoreBOM: true });
+
+let module = null;
+let memory = new Uint8Array(0);
+let words = new Uint32Array(0);
+let input = 0;
+let output = 0;
+
+// Whether a call was begun and did not come back, as where JavaScript's stack ran out in it, or where it trapped.
+let isInside = false;
+
+/** The calls of the instance; null where there is none. */
+export let calls = null;
+
+/** How many instances were lost: what was opened in one of them is no longer open. */
+export let age = 0;
+
+/** The numbers of errors, as legumeyet.h has them, and UTF8 of a text with half a pair of surrogates. */
+export const ErrorNumber = Object.freeze({
+  MEMORY: 1, CLOSED: 2, OPTION: 4, TAG: 5, TABLE: 6, NUMBER: 7, LIMIT: 8, RANGE: 9, UTF8: 10, UNREADABLE: 11, NOT_WRITTEN: 12, EXPONENT: 13,
+  BOOK_JSON: 101, BOOK_SHAPE: 102, BOOK_TAG: 103, BOOK_SYSTEM: 104, BOOK_TEXT: 105, BOOK_DIGITS: 106, BOOK_CONDITION: 107,
+  BOOK_TYPES: 108, BOOK_EXPONENTS: 109, BOOK_DUPLICATE: 110, BOOK_CYCLE: 111,
+});
+
+// What each number says. It is asked of the module at first, so that an error can be told where no call can be made.
+const said = new Map();
+
+/** A call was refused: `number` says why, and `word` says it in English. */
+export class LegumeyetError extends RangeError {
+  constructor(number, hint = "") {
+    const word = said.get(number) ?? "an error of another version";
+    super(`${number}: ${word}${hint}`);
+    this.number = number;
+    this.word = word;
+  }
+}
+Object.defineProperty(LegumeyetError.prototype, "name", { value: "LegumeyetError" });
+
+/** The library could not be loaded: `file` and `reason` (`fetch`, `policy`, `module`) say which file, and why. */
+export class LoadError extends Error {
+  constructor(file, reason, message, cause) {
+    super(`${file}: ${message}`, { cause });
+    this.file = file;
+    this.reason = reason;
+  }
+}
+Object.defineProperty(LoadError.prototype, "name", { value: "LoadError" });
+
+// What an engine says where the policy of a page forbids WebAssembly.
+const POLICY = /unsafe-eval|Content.Security|CSP/i;
+
+function loadError(error) {
+  const isPolicy = POLICY.test(String(error?.message));
+  const message = isPolicy ? "the page's policy forbids WebAssembly: it needs script-src 'wasm-unsafe-eval'" : "this is no module that the engine takes";
+  return new LoadError("legumeyet.wasm", isPolicy ? "policy" : "module", message, error);
+}
+
+// Views of the memory end where it grows.
+function look() {
+  memory = new Uint8Array(calls.memory.buffer);
+  words = new Uint32Array(calls.memory.buffer);
+}
+
+function begin(instance) {
+  const made = instance.exports;
+  input = made.js_in();
+  output = made.js_out();
+  memory = new Uint8Array(made.memory.buffer);
+  words = new Uint32Array(made.memory.buffer);
+  calls = made;
+}
+
+function take(from, instance) {
+  if (calls !== null) return;
+  module = from;
+  begin(instance);
+  for (const number of Object.values(ErrorNumber)) said.set(number, got(calls.js_error_text(number)));
+}
+
+/** Takes the module: its bytes, a WebAssembly.Module, or the response to a request for it. A second call does nothing. Throws a LoadError. */
+export async function load(source) {
+  if (module !== null) return;
+  try {
+    const given = typeof Response !== "undefined" && source instanceof Response ? await source.arrayBuffer() : source;
+    const compiled = given instanceof WebAssembly.Module ? given : await WebAssembly.compile(given);
+    take(compiled, await WebAssembly.instantiate(compiled, {}));
+  } catch (error) {
+    throw loadError(error);
+  }
+}
+
+/** Takes the module at once: its bytes, or a WebAssembly.Module. Old browsers do so in workers only. Throws a LoadError. */
+export function loadSync(source) {
+  if (module !== null) return;
+  try {
+    const compiled = source instanceof WebAssembly.Module ? source : new WebAssembly.Module(source);
+    take(compiled, new WebAssembly.Instance(compiled, {}));
+  } catch (error) {
+    throw loadError(error);
+  }
+}
+
+/** Whether the instance is one that was opened at this age, and no call in it failed to come back. */
+export function isPresent(at) {
+  return at === age && !isInside;
+}
+
+/**
+ * Sees to it that there is an instance. Where a call did not come back, nobody knows what it left: nothing of its instance is used again, and
+ * its memory goes with it. What was open in it is opened anew when it is used next.
+ */
+export function begun() {
+  if (isInside) {
+    age += 1;
+    calls = null;
+    isInside = false;
+  }
+  if (calls !== null) return;
+  if (module === null) throw new Error("await load(..) of legumeyet/core comes first");
+  begin(new WebAssembly.Instance(module, {}));
+}
+
+/** Runs what calls the module. It throws nothing of its own, and does not call this. */
+export function inside(run) {
+  isInside = true;
+  const found = run();
+  isInside = false;
+  return found;
+}
+
+/** The result of a call that came back; where it is below 0, the error that it says. */
+export function expected(result, hint) {
+  if (result < 0) throw new LegumeyetError(-result, hint);
+  return result;
+}
+
+function putBytes(bytes) {
+  let at = input;
+  if (bytes.length > ROOM) {
+    at = calls.js_large_in(bytes.length);
+    if (at === 0) {
+      isInside = false;
+      throw new LegumeyetError(ErrorNumber.MEMORY);
+    }
+  }
+  if (memory.length === 0) look();
+  memory.set(bytes, at);
+  return bytes.length;
+}
+
+function putLong(text) {
+  return putBytes(HALF.test(text) ? NO_UTF8 : encoder.encode(text));
+}
+
+/** Puts a text, or bytes of one, where the next call finds it. Returns its length in bytes. Half a pair of surrogates makes it no UTF-8. */
+export function put(text) {
+  if (typeof text !== "string") return putBytes(text);
+  const { length } = text;
+  if (length > SHORT) return putLong(text);
+  if (memory.length === 0) look();
+  for (let at = 0; at < length; at += 1) {
+    const code = text.charCodeAt(at);
+    if (code > 0x7f) return putLong(text);
+    memory[input + at] = code;
+  }
+  return length;
+}
+
+/** The text that the last call wrote. */
+export function got(length) {
+  if (memory.length === 0) look();
+  if (length > ROOM) return decoded(calls.js_large_out(), length);
+  return length > SHORT ? decoded(output, length) : gathered(output, output + length);
+}
+
+function decoded(at, length) {
+  return decoder.decode(memory.subarray(at, at + length));
+}
+
+// A short text of the module, which is UTF-8. A character of four bytes is left to the decoder.
+function gathered(start, end) {
+  let text = "";
+  for (let at = start; at < end; ) {
+    const byte = memory[at];
+    if (byte < 0x80) {
+      text += String.fromCharCode(byte);
+      at += 1;
+    } else if (byte < 0xe0) {
+      text += String.fromCharCode(((byte & 0x1f) << 6) | (memory[at + 1] & 0x3f));
+      at += 2;
+    } else if (byte < 0xf0) {
+      text += String.fromCharCode(((byte & 0x0f) << 12) | ((memory[at + 1] & 0x3f) << 6) | (memory[at + 2] & 0x3f));
+      at += 3;
+    } else return decoded(start, end - start);
+  }
+  return text;
+}
+
+/** The text that a call writes of a handle and a text. The handle comes first: to find it may make a new instance, which has its own calls. */
+export function written(at, call, text) {
+  isInside = true;
+  const size = put(text);
+  const length = call(at, size);
+  if (size > ROOM || length < 0 || length > ROOM) return large(length);
+  const found = got(length);
+  isInside = false;
+  return found;
+}
+
+// Where a text is large room was taken for it, which is given back.
+function large(length) {
+  const text = length >= 0 ? got(length) : "";
+  calls.js_let_go();
+  isInside = false;
+  expected(length);
+  return text;
+}
+
+const KINDS = ["literal", "minusSign", "plusSign", "integer", "group", "decimal", "fraction"];
+
+// The parts of a text, in the flat form of Intl: an integer is cut at its groups, and what is in no part is a literal.
+function flat(from, length) {
+  const parts = [];
+  let done = 0;
+  let integerEnd = 0;
+  const upTo = (end, kind) => {
+    if (end <= done) return;
+    const [start, stop] = [from + done, from + end];
+    parts.push({ type: KINDS[kind], value: end - done > SHORT ? decoded(start, end - done) : gathered(start, stop) });
+    done = end;
+  };
+  const outside = (end) => {
+    upTo(Math.min(end, integerEnd), INTEGER);
+    upTo(end, LITERAL);
+  };
+  const list = calls.js_parts() >> 2;
+  for (let i = list, end = list + 6 * calls.js_parts_count(); i < end; i += 6) {
+    outside(words[i]);
+    if (words[i + 4] === INTEGER) integerEnd = words[i + 2];
+    else upTo(words[i + 2], words[i + 4]);
+  }
+  outside(length);
+  return parts;
+}
+
+/** The parts, each with its type and value, of the text that a call writes of a handle and a text. */
+export function partsWritten(at, call, text) {
+  isInside = true;
+  const length = call(at, put(text));
+  if (memory.length === 0) look();
+  const parts = length < 0 ? [] : flat(length > ROOM ? calls.js_large_out() : output, length);
+  calls.js_let_go();
+  isInside = false;
+  expected(length);
+  return parts;
+}
+
+/** The bytes of the module's memory, for measurements. */
+export const memorySize = () => (calls === null ? 0 : calls.memory.buffer.byteLength);

@@ -1,0 +1,33 @@
+"""The package for JavaScript: its files, the licences of what is inside, and the tar that `npm install` takes."""
+import json
+import runpy
+
+from releasing.common import TOP, committed, licences, version
+
+WRITE_TAR = runpy.run_path(str(TOP / "tools/release"))["write_tar"]
+NAME = "legumeyet"
+LEFT_OUT = ("module/", "tests/", "example.js")
+LOCALES = TOP / "books/world-locales.txt"
+LOCALES_TEXT = "// The tags of the locales of the world's book, in order.\nexport default {tags};\n"
+
+
+def stamped_manifest(text):
+    """package.json, with the version of packages, in the form that npm takes: what follows a `+` says that a file was changed."""
+    manifest = json.loads(text)
+    manifest["version"] = version()
+    return json.dumps(manifest, indent=2, ensure_ascii=False).encode() + b"\n"
+
+
+def files_of(wasm):
+    """The files of the package, by their paths."""
+    files = {name: data for name, data in committed("js").items() if not name.startswith(LEFT_OUT)}
+    files["package.json"] = stamped_manifest(files["package.json"])
+    files["legumeyet.wasm"] = wasm.read_bytes()
+    files["world.json"] = (TOP / "books/world.json").read_bytes()
+    files["locales.js"] = LOCALES_TEXT.format(tags=json.dumps(LOCALES.read_text(encoding="ascii").split(), indent=1)).encode()
+    return {**files, **licences()}
+
+
+def write_package(path, files):
+    """Writes the tar of the files, as npm has it."""
+    WRITE_TAR(path, "package", files)
