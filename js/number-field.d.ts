@@ -1,0 +1,29 @@
+import type { DecimalFormatter } from "./core.js";
+
+/** The direction in which a locale is written. */
+export function directionOf(locale: string): "rtl" | "ltr";
+
+/** `<number-field locale="de">`: a form field of a number. */
+export class NumberField extends HTMLElement {
+  /** The number as digits; empty where there is none. */
+  value: string;
+  locale: string;
+  required: boolean;
+  /** What is shown. */
+  readonly text: string;
+  readonly formatter: DecimalFormatter | null;
+  readonly name: string | null;
+  readonly type: "number-field";
+  readonly form: HTMLFormElement | null;
+  readonly validity: ValidityState;
+  readonly validationMessage: string;
+  readonly willValidate: boolean;
+  checkValidity(): boolean;
+  reportValidity(): boolean;
+}
+
+declare global {
+  interface HTMLElementTagNameMap {
+    "number-field": NumberField;
+  }
+}

@@ -1,0 +1,215 @@
+// <number-field locale="de">: a form field of a number, which is written as the readers of a locale write it while somebody types. Its value is
+// the decimal as digits, as `-1234.50`, and that is what its form sends. It is defined where this module is imported, over the world's book.
+import { DecimalFormatter } from "./index.js";
+import { FieldText } from "./field.js";
+
+const RIGHT_TO_LEFT = new Set(["Adlm", "Arab", "Hebr", "Mand", "Nkoo", "Rohg", "Samr", "Syrc", "Thaa", "Yezi"]);
+const HANDED_ON = ["placeholder", "readonly", "autocomplete", "enterkeyhint"];
+const STYLE = `
+  :host { display: inline-block }
+  :host([hidden]) { display: none }
+  input { font: inherit; color: inherit; inline-size: 100%; box-sizing: border-box; padding: 0.3em 0.5em; border: 1px solid #767676; border-radius: 0.25em;
+    background: inherit; font-variant-numeric: tabular-nums }
+  input:focus-visible { outline: 2px solid #0b57d0; outline-offset: 1px }
+  input[aria-invalid="true"] { border-color: #b3261e; outline-color: #b3261e }
+  p { color: #b3261e; font-size: 0.8em; margin: 0.2em 0 0; min-block-size: 1.2em }
+  p:empty { display: none }`;
+
+/** The direction in which a locale is written: `rtl` or `ltr`. */
+export function directionOf(locale) {
+  return RIGHT_TO_LEFT.has(new Intl.Locale(locale).maximize().script) ? "rtl" : "ltr";
+}
+
+export class NumberField extends HTMLElement {
+  static formAssociated = true;
+  static observedAttributes = ["locale", "value", "required", "disabled", "aria-label", ...HANDED_ON];
+
+  #internals = this.attachInternals();
+  #input = document.createElement("input");
+  #message = document.createElement("p");
+  #formatter = null;
+  #latin = null; // of the same locale with the digits 0 to 9, where its own are others
+  #field = null;
+  #value = "";
+  #left; // what the edit under way leaves of the text
+  #isComposing = false;
+  #isTouched = false; // by its user, so that `value` of the page no longer changes it
+  #before = []; // what the field was before each edit, for undo
+  #undone = [];
+
+  constructor() {
+    super();
+    const root = this.attachShadow({ mode: "open", delegatesFocus: true });
+    const style = document.createElement("style");
+    style.textContent = STYLE;
+    Object.assign(this.#input, { type: "text", inputMode: "decimal", autocomplete: "off", spellcheck: false, id: "input" });
+    this.#input.setAttribute("part", "input");
+    this.#input.setAttribute("aria-describedby", "message");
+    Object.assign(this.#message, { id: "message" });
+    this.#message.setAttribute("part", "message");
+    this.#message.setAttribute("aria-live", "polite");
+    root.append(style, this.#input, this.#message);
+    this.#listen();
+  }
+
+  #listen() {
+    const input = this.#input;
+    input.addEventListener("beforeinput", (event) => this.#begins(event));
+    input.addEventListener("compositionstart", () => {
+      this.#isComposing = true;
+      this.#left = this.#leftBySelection();
+    });
+    input.addEventListener("compositionend", () => {
+      this.#isComposing = false;
+      this.#edited();
+    });
+    input.addEventListener("input", () => this.#isComposing || this.#edited());
+    input.addEventListener("change", () => this.#changed());
+    input.addEventListener("keydown", (event) => this.#pressed(event));
+  }
+
+  connectedCallback() {
+    this.#open();
+    this.#label();
+  }
+
+  attributeChangedCallback(name, before, now) {
+    if (name === "locale") this.#open();
+    else if (name === "value") this.#isTouched || this.#put(now ?? "");
+    else if (name === "aria-label") this.#label();
+    else if (HANDED_ON.includes(name)) now === null ? this.#input.removeAttribute(name) : this.#input.setAttribute(name, now);
+    else if (name === "required") this.#judge();
+  }
+
+  // Opens the formatter of the locale, and writes the number anew.
+  #open() {
+    const locale = this.locale;
+    const formatter = new DecimalFormatter(locale);
+    for (const it of [this.#formatter, this.#latin]) it?.close();
+    this.#formatter = formatter;
+    this.#latin = formatter.format("0") === "0" ? null : new DecimalFormatter(new Intl.Locale(locale, { numberingSystem: "latn" }));
+    this.#field = new FieldText(formatter, this.#latin);
+    this.#input.lang = locale;
+    this.#input.dir = directionOf(locale);
+    this.#put(this.#value === "" && !this.#isTouched ? (this.getAttribute("value") ?? "") : this.#value);
+  }
+
+  #label() {
+    const labels = [...this.#internals.labels].map((it) => it.textContent.trim()).join(" ");
+    this.#input.setAttribute("aria-label", this.getAttribute("aria-label") ?? labels);
+  }
+
+  #leftBySelection() {
+    const { selectionStart, selectionEnd, value } = this.#input;
+    return { front: selectionStart, back: value.length - selectionEnd };
+  }
+
+  #begins(event) {
+    if (this.#isComposing) return;
+    this.#left = event.inputType.startsWith("insert") ? this.#leftBySelection() : undefined;
+    const { value, selectionStart: caret } = this.#input;
+    this.#before.push([value, caret]);
+    this.#undone = [];
+  }
+
+  #edited() {
+    const { value, selectionStart } = this.#input;
+    this.#shows(this.#field.edited(value, selectionStart, this.#left));
+    this.#left = undefined;
+  }
+
+  #shows({ value, text, caret }) {
+    this.#isTouched = true;
+    if (text !== this.#input.value) {
+      this.#input.value = text;
+      this.#input.setSelectionRange(caret, caret);
+    }
+    this.#value = value ?? "";
+    this.#judge();
+    this.#say("");
+  }
+
+  // What undo and redo would do by themselves, had the text not been written anew.
+  #pressed(event) {
+    const key = event.key.toLowerCase();
+    if (!(event.ctrlKey || event.metaKey) || event.altKey || (key !== "z" && key !== "y")) return;
+    event.preventDefault();
+    const isUndo = key === "z" && !event.shiftKey;
+    const [from, to] = isUndo ? [this.#before, this.#undone] : [this.#undone, this.#before];
+    if (from.length === 0) return;
+    const { value, selectionStart } = this.#input;
+    to.push([value, selectionStart]);
+    const [text, caret] = from.pop();
+    this.#shows(this.#field.edited(text, caret, { front: 0, back: 0 }));
+    this.#input.value = this.#field.text;
+    this.#input.setSelectionRange(caret, caret);
+    this.dispatchEvent(new Event("input", { bubbles: true }));
+  }
+
+  #changed() {
+    this.#judge();
+    this.#say(this.#internals.validationMessage);
+    this.dispatchEvent(new Event("change", { bubbles: true }));
+  }
+
+  // Tells the form what it sends, and whether the text is a number.
+  #judge() {
+    const isNone = this.#input.value.trim() !== "" && this.#value === "";
+    const isMissing = this.required && this.#value === "";
+    const example = this.#formatter?.format("1234.5") ?? "";
+    const message = isNone ? `This is no number as it is written here: ${example}` : isMissing ? "A number is missing." : "";
+    this.#internals.setFormValue(this.#value === "" ? null : this.#value, this.#input.value);
+    this.#internals.setValidity({ badInput: isNone, valueMissing: isMissing && !isNone }, message, this.#input);
+  }
+
+  #say(message) {
+    this.#message.textContent = message;
+    this.#input.setAttribute("aria-invalid", String(message !== ""));
+    this.#input.setAttribute("aria-required", String(this.required));
+  }
+
+  #put(value) {
+    this.#input.value = this.#field?.put(value) ?? "";
+    this.#value = value;
+    if (this.#field) this.#judge();
+    this.#say("");
+  }
+
+  /** The number as digits, as `-1234.50`; empty where there is none. Set to what is no number, it throws as a formatter does. */
+  get value() { return this.#value; }
+  set value(value) {
+    this.#isTouched = true;
+    this.#put(String(value));
+  }
+
+  /** What is shown. */
+  get text() { return this.#input.value; }
+
+  get formatter() { return this.#formatter; }
+  get locale() { return this.getAttribute("locale") || this.closest("[lang]")?.lang || "en"; }
+  set locale(locale) { this.setAttribute("locale", locale); }
+  get required() { return this.hasAttribute("required"); }
+  set required(isRequired) { this.toggleAttribute("required", Boolean(isRequired)); }
+  get name() { return this.getAttribute("name"); }
+  get form() { return this.#internals.form; }
+  get type() { return "number-field"; }
+  get validity() { return this.#internals.validity; }
+  get validationMessage() { return this.#internals.validationMessage; }
+  get willValidate() { return this.#internals.willValidate; }
+  checkValidity() { return this.#internals.checkValidity(); }
+  reportValidity() {
+    this.#say(this.#internals.validationMessage);
+    return this.#internals.reportValidity();
+  }
+
+  formDisabledCallback(isDisabled) { this.#input.disabled = isDisabled; }
+  formResetCallback() {
+    this.#isTouched = false;
+    this.#put(this.getAttribute("value") ?? "");
+  }
+  formStateRestoreCallback(text) {
+    if (this.#field) this.#shows(this.#field.edited(text, text.length, { front: 0, back: 0 }));
+  }
+}
+
+if (!customElements.get("number-field")) customElements.define("number-field", NumberField);
