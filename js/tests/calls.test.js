@@ -1,0 +1,222 @@
+// Each call well and badly.
+import assert from "node:assert/strict";
+import { test } from "node:test";
+import { Book, CompactDecimalFormatter, DecimalFormatter, ErrorNumber, LegumeyetError, version } from "legumeyet";
+import locales from "legumeyet/locales";
+
+const JSON_OF_ONE = '[[["xx","","latn","-","","+","",";","_",3,3,1]],[["latn","0123456789"]],[],[],[]]';
+const en = new DecimalFormatter("en");
+
+function refuses(number, call, ...words) {
+  assert.throws(call, (error) => {
+    assert.ok(error instanceof LegumeyetError && error instanceof RangeError, String(error));
+    assert.equal(error.number, number);
+    assert.ok(error.word.length > 0);
+    for (const word of words) assert.ok(error.message.includes(word), error.message);
+    return true;
+  });
+}
+
+test("numbers of each kind", () => {
+  const rows = [
+    ["-987654.321", "-987,654.321"], [-0, "-0"], ["-0", "-0"], ["+5", "5"], [0.1 + 0.2, "0.30000000000000004"], ["1.50", "1.50"], [1e21, "1,000,000,000,000,000,000,000"],
+    ["1e+21", "1,000,000,000,000,000,000,000"], ["1e21", "1,000,000,000,000,000,000,000"], [5e-324, `0.${"0".repeat(323)}5`], [1.7976931348623157e308, Intl.NumberFormat("en").format("1.7976931348623157e308")],
+    [-1234, "-1,234"], [12345678901234567890n, "12,345,678,901,234,567,890"], [-1n, "-1"], [0, "0"],
+  ];
+  for (const [number, text] of rows) assert.equal(en.format(number), text);
+  assert.equal(en.format("1".repeat(20000)).length, 20000 + 6666);
+  assert.deepEqual([1234, "5", 6n].map(en.format), ["1,234", "5", "6"]);
+});
+
+test("numbers that are none", () => {
+  for (const wrong of [NaN, Infinity, -Infinity, "5.", "", " 5", "1,5", "٣", "NaN", "1e++21", "e+", "x".repeat(5000), "\ud800"]) refuses(ErrorNumber.NUMBER, () => en.format(wrong));
+  for (const wrong of [undefined, null, {}, [], true, Symbol("x"), () => 1]) assert.throws(() => en.format(wrong), TypeError);
+  for (const wrong of ["1e40000", "1e-40000", "9".repeat(40000)]) refuses(ErrorNumber.LIMIT, () => en.format(wrong));
+  assert.equal(en.format("1234"), "1,234");
+});
+
+test("numbers of JavaScript as their texts", () => {
+  const words = new Float64Array(1);
+  const bytes = new Uint32Array(words.buffer);
+  for (let i = 1, seed = 1; i < 20000; i += 1) {
+    for (const at of [0, 1]) bytes[at] = seed = (Math.imul(seed, 1664525) + 1013904223) >>> 0;
+    for (const number of [words[0], Number(words[0].toPrecision(1 + (i % 15)))]) {
+      if (Number.isFinite(number)) assert.equal(en.format(number), en.format(Object.is(number, -0) ? "-0" : String(number)));
+    }
+  }
+});
+
+test("options", () => {
+  const rows = [
+    [{ useGrouping: false }, "1234567", "1234567"], [{ useGrouping: true }, "1234", "1,234"], [{ useGrouping: "min2" }, "1234", "1234"], [{ useGrouping: "min2" }, "12345", "12,345"],
+    [{ signDisplay: "keep" }, "+5", "+5"], [{ signDisplay: "always" }, "5", "+5"], [{ signDisplay: "never" }, "-5", "5"], [{ signDisplay: "exceptZero" }, "0", "0"],
+    [{ signDisplay: "negative" }, "-0", "0"], [{ position: -2 }, "5", "5.00"], [{ position: 3, roundingMode: "floor" }, "-1500", "-2,000"],
+    [{ position: -1, roundingMode: "halfEven", signDisplay: "always" }, "9.65", "+9.6"], [{ position: 0 }, "2.5", "3"], [{ position: 0, roundingMode: "halfEven" }, "2.5", "2"],
+    [{ minimumFractionDigits: 2, maximumFractionDigits: 2 }, "1.005", "1.01"], [{ useGrouping: undefined, position: undefined }, "1234.5", "1,234.5"],
+  ];
+  for (const [options, number, text] of rows) assert.equal(new DecimalFormatter("en", options).format(number), text, JSON.stringify(options));
+});
+
+test("options as Intl has them", () => {
+  const numbers = ["0", "1.005", "-1.995", "1234.5", "0.05", "999.999", "12345678.125", "-0.001", "7", "1.5000", "22.5", "-37.475"];
+  const choices = [
+    { maximumFractionDigits: 2 }, { maximumFractionDigits: 0 }, { minimumFractionDigits: 1, maximumFractionDigits: 3 }, { minimumFractionDigits: 3, maximumFractionDigits: 3 },
+    { maximumFractionDigits: 20, minimumIntegerDigits: 3 }, { maximumFractionDigits: 1, roundingMode: "floor" }, { maximumFractionDigits: 1, roundingMode: "halfEven", signDisplay: "exceptZero" },
+  ];
+  for (const roundingIncrement of [5, 10, 20, 25, 50, 200, 500]) choices.push({ minimumFractionDigits: 2, maximumFractionDigits: 2, roundingIncrement });
+  for (const roundingIncrement of [100, 250, 1000, 5000]) choices.push({ minimumFractionDigits: 3, maximumFractionDigits: 3, roundingIncrement });
+  for (const options of choices) {
+    const [ours, theirs] = [new DecimalFormatter("de", options), new Intl.NumberFormat("de", options)];
+    for (const number of numbers) {
+      if (theirs.resolvedOptions().roundingMode === undefined && options.roundingMode) continue; // Node 18 has no roundingMode
+      if (theirs.resolvedOptions().roundingIncrement === undefined && options.roundingIncrement) continue;
+      assert.equal(ours.format(number), theirs.format(number), `${JSON.stringify(options)} ${number}`);
+    }
+  }
+  const most = new DecimalFormatter("en", { maximumFractionDigits: 2 });
+  assert.deepEqual(["1.995", "1.5", "1.255"].map(most.format), ["2", "1.5", "1.26"]);
+});
+
+test("options that are none", () => {
+  const rows = [
+    [{ useGrouping: "x" }, "useGrouping"], [{ useGrouping: "false" }, "useGrouping"], [{ signDisplay: "toString" }, "signDisplay"], [{ signDisplay: 1 }, "signDisplay"],
+    [{ position: 0, roundingMode: "half-even" }, "roundingMode"], [{ roundingMode: "floor" }, "position"], [{ position: 1.5 }, "position"], [{ position: 40000 }, "position"],
+    [{ maximumFractionDigits: -1 }, "maximumFractionDigits"], [{ minimumFractionDigits: 3, maximumFractionDigits: 2 }, "minimumFractionDigits"], [{ minimumIntegerDigits: 0 }, "minimumIntegerDigits"],
+    [{ position: 0, maximumFractionDigits: 0 }, "position"], [{ maximumFractionDigits: 2, roundingIncrement: 5 }, "roundingIncrement"], [{ position: -2, roundingIncrement: 3 }, "roundingIncrement"], [{ position: -2, roundingIncrement: 5000 }, "roundingIncrement"],
+    [{ maximumFractionDigits: 0, minimumFractionDigits: 0, roundingIncrement: 50 }, "roundingIncrement"],
+    [{ style: "percent" }, "style"], [{ compactDisplay: "short" }, "compactDisplay"],
+  ];
+  for (const [options, word] of rows) assert.throws(() => new DecimalFormatter("en", options), (error) => error instanceof RangeError && error.message.includes(word), JSON.stringify(options));
+  assert.throws(() => new CompactDecimalFormatter("en", { compactDisplay: "medium" }), RangeError);
+  assert.throws(() => new CompactDecimalFormatter("en", { maximumFractionDigits: 2 }), RangeError);
+  for (const options of [null, "x", 5]) assert.throws(() => new DecimalFormatter("en", options), TypeError);
+  for (const book of [null, "{}", en, {}]) assert.throws(() => new DecimalFormatter("en", { book }), TypeError);
+});
+
+test("resolved options", () => {
+  const money = new DecimalFormatter("de-CH", { minimumFractionDigits: 2, maximumFractionDigits: 2, roundingMode: "halfEven", useGrouping: false });
+  const found = { locale: "de-CH", useGrouping: false, signDisplay: "auto", minimumFractionDigits: 2, maximumFractionDigits: 2, roundingMode: "halfEven" };
+  assert.deepEqual(money.resolvedOptions(), found);
+  assert.deepEqual(new CompactDecimalFormatter("en").resolvedOptions(), { locale: "en", useGrouping: "min2", signDisplay: "auto", compactDisplay: "short" });
+  assert.deepEqual(new DecimalFormatter(["zz", "de-AT"], { useGrouping: true }).resolvedOptions(), { locale: "de-AT", useGrouping: "always", signDisplay: "auto" });
+  assert.deepEqual(new DecimalFormatter("en", { position: -2 }).resolvedOptions(), { locale: "en", useGrouping: "auto", signDisplay: "auto", position: -2, roundingMode: "halfExpand" });
+});
+
+test("locales", () => {
+  assert.deepEqual(DecimalFormatter.supportedLocalesOf(["en", "zz", "hi-u-nu-deva", new Intl.Locale("de")]), ["en", "hi-u-nu-deva", "de"]);
+  assert.deepEqual(CompactDecimalFormatter.supportedLocalesOf("zz"), []);
+  assert.equal(new DecimalFormatter(new Intl.Locale("hi", { numberingSystem: "deva" })).format("12"), "१२");
+  assert.equal(new DecimalFormatter("hi-u-nu-deva").format("12"), "१२");
+  refuses(ErrorNumber.TABLE, () => new DecimalFormatter("zz"), '"zz"');
+  refuses(ErrorNumber.TABLE, () => new DecimalFormatter(["yy", "zz"]), '"zz"');
+  refuses(ErrorNumber.TAG, () => new DecimalFormatter("e"), '"e"');
+  refuses(ErrorNumber.TAG, () => new DecimalFormatter("de_DE"), '"de_DE" is written "de-DE"');
+  for (const wrong of ["", "\ud800", "a".repeat(100000)]) refuses(ErrorNumber.TAG, () => new DecimalFormatter(wrong));
+  assert.throws(() => new DecimalFormatter([]), RangeError);
+  for (const wrong of [5, null, [5], [null]]) assert.throws(() => new DecimalFormatter(wrong), TypeError);
+  assert.equal(new DecimalFormatter().resolvedOptions().locale, new Intl.NumberFormat().resolvedOptions().locale);
+  assert.ok(locales.length > 900 && ["de", "hi", "ar-EG"].every((it) => locales.includes(it)));
+});
+
+test("parts", () => {
+  const types = (parts) => parts.map(({ type, value }) => `${type} ${value}`);
+  for (const number of ["-1234567.5", "0", "5", "0.25", "123456"]) assert.deepEqual(en.formatToParts(number), new Intl.NumberFormat("en").formatToParts(number));
+  assert.deepEqual(types(new DecimalFormatter("ar-EG").formatToParts("-1234.5")), ["minusSign \u061c-", "integer ١", "group ٬", "integer ٢٣٤", "decimal ٫", "fraction ٥"]);
+  assert.deepEqual(types(new CompactDecimalFormatter("en").formatToParts("-1650")), ["minusSign -", "literal 1.6K"]);
+  assert.deepEqual(types(new CompactDecimalFormatter("de", { compactDisplay: "long" }).formatToParts(-0)), ["minusSign -", "literal 0"]);
+  assert.equal(en.formatToParts("1".repeat(3000)).length, 1999);
+  assert.equal(en.formatToParts("1".repeat(3000)).map((it) => it.value).join(""), en.format("1".repeat(3000)));
+  refuses(ErrorNumber.NUMBER, () => en.formatToParts("5."));
+  refuses(ErrorNumber.NUMBER, () => en.formatToParts(NaN));
+});
+
+test("reading", () => {
+  assert.equal(en.read("-1,234.50"), "-1234.50");
+  assert.equal(new DecimalFormatter("ar-EG").read("\u061c-١٬٢٣٤٫٥"), "-1234.5");
+  for (const wrong of ["1234", "98,7654", "1,234,", ".5", "", "x".repeat(2000)]) refuses(ErrorNumber.NOT_WRITTEN, () => en.read(wrong));
+  for (const wrong of ["\ud800", "1\udc00"]) refuses(ErrorNumber.UTF8, () => en.read(wrong));
+  for (const wrong of [1234, null, undefined]) assert.throws(() => en.read(wrong), TypeError);
+  const long = en.format("7".repeat(3000));
+  assert.equal(en.read(long), "7".repeat(3000));
+});
+
+test("reading what people type", () => {
+  const rows = {
+    en: [["1234.5", "1234.5"], ["1,234.5", "1234.5"], [" 1,234.5 ", "1234.5"], [".5", "0.5"], ["5.", "5"], ["\u22125", "-5"], ["\uff11\uff12\uff13\uff14", "1234"], ["1.50\n", "1.50"]],
+    de: [["1.234", "1234"], ["1234,5", "1234.5"]], es: [["1.234", "1234"], ["1234", "1234"], ["12.345", "12345"]],
+    fr: [["1 234,5", "1234.5"], ["1\u00a0234,5", "1234.5"], ["1\u202f234,5", "1234.5"]], "de-CH": [["1'234.5", "1234.5"], ["1\u2019234.5", "1234.5"]],
+    hi: [["12,34,567", "1234567"]], "ar-EG": [["١٬٢٣٤٫٥", "1234.5"], ["1٬234٫5", "1234.5"], ["-5", "-5"]], sv: [["-5", "-5"]], he: [["-5", "-5"]], fa: [["-5", "-5"]],
+  };
+  for (const [tag, texts] of Object.entries(rows)) {
+    const it = new DecimalFormatter(tag);
+    for (const [text, digits] of texts) assert.equal(it.readLenient(text), digits, `${tag} ${text}`);
+  }
+  for (const wrong of ["1,23", "12,34,567", "1,234,5", "1 234", "1.2.3", "--5", "5-", ".", "-", ""]) refuses(ErrorNumber.NOT_WRITTEN, () => en.readLenient(wrong));
+  for (const wrong of ["1,234.5", "1.5"]) refuses(ErrorNumber.NOT_WRITTEN, () => new DecimalFormatter("de").readLenient(wrong));
+  refuses(ErrorNumber.UTF8, () => en.readLenient("\ud800"));
+  assert.throws(() => en.readLenient(5), TypeError);
+});
+
+test("compact numbers", () => {
+  const short = new CompactDecimalFormatter("en");
+  assert.deepEqual([-1172700, "999500", 1650n, "950", "1e10"].map(short.format), ["-1.2M", "1M", "1.6K", "950", "10B"]);
+  assert.equal(new CompactDecimalFormatter("de", { compactDisplay: "long" }).format(1234567), "1,2 Millionen");
+  assert.equal(new CompactDecimalFormatter("en", { position: 6 }).format(-1172700), "-1M");
+  assert.deepEqual([-1172700, "950"].map((it) => short.shown(it)), ["-1.2c6", "950"]);
+  assert.equal(short.formatExact("-1.20c6"), "-1.20M");
+  refuses(ErrorNumber.EXPONENT, () => short.formatExact("1.2c5"));
+  refuses(ErrorNumber.NUMBER, () => short.formatExact("1.2e6"));
+  refuses(ErrorNumber.RANGE, () => short.format("9".repeat(32768)));
+  refuses(ErrorNumber.NUMBER, () => short.shown(NaN));
+  assert.throws(() => short.formatExact(1), TypeError);
+});
+
+test("books", () => {
+  const book = new Book(JSON_OF_ONE);
+  const it = new DecimalFormatter("xx", { book });
+  book.close();
+  assert.equal(it.format("-1234.5"), "-1_234;5");
+  assert.ok(book.closed && !it.closed);
+  book.close();
+  it.close();
+  refuses(ErrorNumber.CLOSED, () => it.format(1));
+  refuses(ErrorNumber.CLOSED, () => it.formatToParts(1));
+  refuses(ErrorNumber.CLOSED, () => new DecimalFormatter("xx", { book }));
+  refuses(ErrorNumber.CLOSED, () => book.answer(""));
+  refuses(ErrorNumber.CLOSED, () => book.keep());
+  refuses(ErrorNumber.BOOK_JSON, () => new Book("[1"));
+  refuses(ErrorNumber.BOOK_JSON, () => new Book(new Uint8Array([0xff])));
+  refuses(ErrorNumber.BOOK_JSON, () => new Book("\ud800"));
+  refuses(ErrorNumber.BOOK_SHAPE, () => new Book("[]"));
+  for (const wrong of [5, null, undefined, []]) assert.throws(() => new Book(wrong), TypeError);
+  const kept = new Book(new TextEncoder().encode(JSON_OF_ONE)).keep();
+  assert.equal(new DecimalFormatter("xx", { book: kept }).format("-1234.5"), "-1_234;5");
+  kept.keep().close();
+});
+
+test("a text of the first character of a file is as it is", () => {
+  const book = new Book('[[["xx","","latn","\ufeff-","","+","",";","😀",3,3,1]],[["latn","0123456789"]],[],[],[]]');
+  const it = new DecimalFormatter("xx", { book });
+  assert.equal(it.format("-1234.5"), "\ufeff-1😀234;5");
+  assert.equal(it.read("\ufeff-1😀234;5"), "-1234.5");
+  assert.deepEqual(it.formatToParts("-1234.5").map((part) => part.value), ["\ufeff-", "1", "😀", "234", ";", "5"]);
+});
+
+test("answers", () => {
+  const book = new Book(JSON_OF_ONE);
+  const line = "xx\tplain\tauto\tkeep\t-\t-1234.5";
+  assert.equal(book.answer(line), "ok\t-1_234;5");
+  assert.equal(book.answer(new TextEncoder().encode(line)), "ok\t-1_234;5");
+  assert.equal(book.answer(`xx\tplain\tauto\tkeep\t-\t${"1".repeat(3000)}`).length, 3 + 3999);
+  for (const wrong of ["", "\ud800", new Uint8Array([0xff])]) assert.equal(book.answer(wrong), "err\tshape");
+  assert.throws(() => book.answer(5), TypeError);
+});
+
+test("a formatter is closed where its block ends", () => {
+  if (!Symbol.dispose) return;
+  const it = new DecimalFormatter("en");
+  it[Symbol.dispose]();
+  assert.ok(it.closed);
+});
+
+test("the version", () => assert.match(version(), /^1\.\d+$/));

@@ -1,0 +1,65 @@
+// What a field shows after each key; `<` is a step to the left, `~` a deletion of the character before the caret.
+import assert from "node:assert/strict";
+import { test } from "node:test";
+import { DecimalFormatter } from "legumeyet";
+import { FieldText } from "legumeyet/field";
+
+function typed(locale, keys) {
+  const field = new FieldText(new DecimalFormatter(locale), new DecimalFormatter(new Intl.Locale(locale, { numberingSystem: "latn" })));
+  let it = { text: "", caret: 0, value: "" };
+  for (const key of keys) {
+    const { text, caret } = it;
+    if (key === "<") it = { ...it, caret: caret - 1 };
+    else if (key === "~") it = field.edited(text.slice(0, caret - 1) + text.slice(caret), caret - 1);
+    else it = field.edited(text.slice(0, caret) + key + text.slice(caret), caret + key.length, { front: caret, back: text.length - caret });
+  }
+  return `${it.text.slice(0, it.caret)}|${it.text.slice(it.caret)} ${it.value}`;
+}
+
+test("typing", () => {
+  const rows = [
+    ["en", "12345.6", "12,345.6| 12345.6"], ["en", "12345<<9", "123,9|45 123945"], ["en", "1234.50", "1,234.50| 1234.50"], ["en", "1234.", "1,234.| 1234"], ["en", ".5", "0.5| 0.5"],
+    ["en", "-1234", "-1,234| -1234"], ["en", "-", "-| null"], ["en", "", "| "], ["en", "0.05", "0.05| 0.05"], ["en", "1,5", "1,5| null"], ["en", "1,234", "1,234| 1234"],
+    ["en", "12x", "12x| null"], ["en", "12x~3", "123| 123"], ["en", "1234567~~~~", "123| 123"], ["en", "1234<<<~", "1|,234 1234"], ["en", "1234<<<<~", "|234 234"],
+    ["de", "-1234567,89", "-1.234.567,89| -1234567.89"], ["de", "1.5", "1.5| null"], ["de", "1.234", "1.234| 1234"], ["de", "1234,", "1.234,| 1234"],
+    ["fr", "1234,5", "1\u202f234,5| 1234.5"], ["sv", "-1", "\u22121| -1"], ["de-CH", "1234.5", "1'234.5| 1234.5"],
+    ["ar-EG", "1234٫5", "١٬٢٣٤٫٥| 1234.5"], ["ar-EG", "-٥", "\u061c-٥| -5"], ["hi", "1234567", "12,34,567| 1234567"], ["hi-u-nu-deva", "१२३४५६", "१,२३,४५६| 123456"],
+    ["ar-EG", "1234.5", "١٬٢٣٤٫٥| 1234.5"], ["ar-EG", "1234.", "١٬٢٣٤٫| 1234"], ["ar-EG", "12,5", "١٢,5| null"], ["fa", "-1234.5", "\u200e\u2212۱٬۲۳۴٫۵| -1234.5"], ["es", "1234", "1234| 1234"], ["es", "12345", "12.345| 12345"],
+  ];
+  for (const [locale, keys, wanted] of rows) assert.equal(typed(locale, keys), wanted, `${locale} ${keys}`);
+});
+
+test("a paste is read as it is", () => {
+  const field = new FieldText(new DecimalFormatter("en"));
+  field.put("1234");
+  assert.equal(field.text, "1,234");
+  // over all of it: no separator of before is left
+  assert.deepEqual(field.edited("1,23", 4, { front: 0, back: 0 }), { value: null, text: "1,23", caret: 4 });
+  field.put("1234");
+  assert.deepEqual(field.edited("5,678", 5, { front: 0, back: 0 }), { value: "5678", text: "5,678", caret: 5 });
+  field.put("1234");
+  assert.deepEqual(field.edited("1,25,67834", 8, { front: 3, back: 2 }), { value: null, text: "1,25,67834", caret: 8 });
+  field.put("1234");
+  assert.deepEqual(field.edited(" 1234.50\n", 9, { front: 0, back: 0 }), { value: "1234.50", text: "1,234.50", caret: 8 });
+  // what is said to be left and is not counts for nothing
+  field.put("1234");
+  assert.deepEqual(field.edited("9,8765", 6, { front: 5, back: 0 }), { value: null, text: "9,8765", caret: 6 });
+});
+
+test("a deletion of a separator alone moves the caret past it", () => {
+  const field = new FieldText(new DecimalFormatter("en"));
+  field.put("1234");
+  assert.deepEqual(field.edited("1234", 1), { value: "1234", text: "1,234", caret: 1 });
+});
+
+test("what is shown is read back exactly", () => {
+  for (const locale of ["en", "de", "fr", "ar-EG", "fa", "hi", "sv", "de-CH", "es", "my", "ff-Adlm", "zh-u-nu-hanidec"]) {
+    const formatter = new DecimalFormatter(locale);
+    const field = new FieldText(formatter);
+    for (const value of ["0", "-1234567.50", "0.05", "123456789012345678901234567890", "-0.00"]) {
+      const found = field.edited(formatter.format(value), 0, { front: 0, back: 0 });
+      assert.equal(found.value, value);
+      assert.equal(formatter.read(found.text), value);
+    }
+  }
+});

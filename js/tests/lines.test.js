@@ -1,0 +1,84 @@
+// The native program's answers to seeded lines: by a book, and by formatters where they do what a line asks for. LINES names a folder that has, for
+// each book NAME.json, the lines and the answers, NAME.lines and NAME.answers.
+import assert from "node:assert/strict";
+import { readFileSync, readdirSync } from "node:fs";
+import { test } from "node:test";
+import { Book, CompactDecimalFormatter, DecimalFormatter, LegumeyetError } from "legumeyet";
+
+const FOLDER = process.env.LINES;
+const WORDS = { 5: "tag", 6: "table", 7: "number", 8: "limit", 9: "range", 10: "shape", 11: "unreadable", 12: "not-written", 13: "exponent" };
+const camel = (word) => word.replace(/-(.)/g, (_, it) => it.toUpperCase());
+
+function linesOf(name) {
+  const bytes = readFileSync(`${FOLDER}/${name}`);
+  const lines = [];
+  for (let start = 0; start < bytes.length; ) {
+    const end = bytes.indexOf(10, start);
+    lines.push(bytes.subarray(start, end));
+    start = end + 1;
+  }
+  return lines;
+}
+
+// What a formatter says to a line, as an answer; null where none can.
+function said(book, line) {
+  const [tag, form, grouping, sign, rounding, number] = line.split("\t");
+  const options = { book, useGrouping: grouping === "never" ? false : grouping, signDisplay: camel(sign) };
+  if (rounding !== "-") {
+    const [position, mode, increment] = rounding.split(",");
+    Object.assign(options, { position: Number(position), roundingMode: camel(mode), roundingIncrement: Number(increment) });
+  }
+  const width = form.replace("exact-", "");
+  let it = null;
+  try {
+    it = width === form && width !== "short" && width !== "long" ? new DecimalFormatter(tag, options) : new CompactDecimalFormatter(tag, { ...options, compactDisplay: width });
+    if (form === "plain") return `ok\t${it.format(number)}`;
+    if (form === "read") return `ok\t${it.read(number)}`;
+    return form === width ? `ok\t${it.format(number)}\t${it.shown(number)}` : `ok\t${it.formatExact(number)}`;
+  } catch (error) {
+    if (!(error instanceof LegumeyetError)) throw error;
+    return `err\t${WORDS[error.number]}`;
+  } finally {
+    it?.close();
+  }
+}
+
+for (const file of FOLDER ? readdirSync(FOLDER).filter((it) => it.endsWith(".json")) : []) {
+  const name = file.replace(/\.json$/, "");
+  const [lines, answers] = [linesOf(`${name}.lines`), linesOf(`${name}.answers`).map(String)];
+
+  test(`a book of ${name} answers ${lines.length} lines as the native program`, () => {
+    const book = new Book(readFileSync(`${FOLDER}/${file}`));
+    assert.equal(lines.length, answers.length);
+    lines.forEach((line, at) => assert.equal(book.answer(line), answers[at], String(line)));
+  });
+
+  test(`formatters of ${name} say the same, of a book and of a kept one`, () => {
+    const book = new Book(readFileSync(`${FOLDER}/${file}`));
+    lines.forEach((line, at) => {
+      if (at === lines.length >> 1) book.keep();
+      const text = said(book, String(line));
+      // a formatter is opened before its number is looked at
+      if (!(text === "err\ttable" && answers[at].startsWith("err"))) assert.equal(text, answers[at], String(line));
+    });
+  });
+
+  test(`the parts of ${name} make the text`, () => {
+    const book = new Book(readFileSync(`${FOLDER}/${file}`)).keep();
+    let count = 0;
+    for (const line of lines) {
+      const [tag, form, , , , number] = String(line).split("\t");
+      if (form !== "plain" && form !== "short") continue;
+      try {
+        const it = new (form === "plain" ? DecimalFormatter : CompactDecimalFormatter)(tag, { book });
+        assert.equal(it.formatToParts(number).map((part) => part.value).join(""), it.format(number), String(line));
+        count += 1;
+      } catch (error) {
+        if (!(error instanceof LegumeyetError)) throw error;
+      }
+    }
+    assert.ok(count > lines.length / 8, `${count}`);
+  });
+}
+
+test("the lines are there", () => assert.ok(FOLDER, "LINES names no folder"));

@@ -1,0 +1,144 @@
+// Nothing is lost: where JavaScript's stack runs out inside a call, where a call traps, and where formatters are dropped.
+import assert from "node:assert/strict";
+import { pathToFileURL } from "node:url";
+import { createRequire } from "node:module";
+import { test } from "node:test";
+import { setFlagsFromString } from "node:v8";
+import { runInNewContext } from "node:vm";
+import { Book, CompactDecimalFormatter, DecimalFormatter, LegumeyetError } from "legumeyet";
+import { memorySize } from "legumeyet/core";
+
+// The package's own module of the instance, which is in no export.
+const root = createRequire(import.meta.url).resolve("legumeyet/legumeyet.wasm");
+const instance = await import(new URL("instance.js", pathToFileURL(root)));
+
+setFlagsFromString("--expose-gc");
+const gc = runInNewContext("gc");
+
+const JSON_OF_ONE = '[[["en","","latn","-","","+","",".",",",3,3,1]],[["latn","0123456789"]],[["en",[]]],[["en","",[[3,3,[["other",["","K"]]]]],null]],[]]';
+
+// Makes a call on each of the last 2,000 steps of the stack, from where nothing fits to where all does.
+function onLastSteps(call) {
+  const outcomes = { well: 0, refused: 0, others: [] };
+  let left = 2000;
+  const once = () => {
+    try {
+      call();
+      outcomes.well += 1;
+    } catch (error) {
+      if (error instanceof RangeError && !(error instanceof LegumeyetError)) outcomes.refused += 1;
+      else outcomes.others.push(error);
+    }
+  };
+  const deeper = () => {
+    try {
+      deeper();
+    } catch (error) {
+      left -= 1;
+      if (left >= 0) once();
+      throw error;
+    }
+  };
+  once(); // it is compiled while there is room
+  assert.throws(deeper, RangeError);
+  return outcomes;
+}
+
+const book = new Book(JSON_OF_ONE);
+const world = new DecimalFormatter("de", { minimumFractionDigits: 2, maximumFractionDigits: 2 });
+const short = new CompactDecimalFormatter("en");
+const own = new DecimalFormatter("en", { book });
+const ofClosed = new Book(JSON_OF_ONE);
+const orphan = new DecimalFormatter("en", { book: ofClosed, useGrouping: false });
+ofClosed.close();
+
+function areWell() {
+  assert.equal(world.format("-1234567.5"), "-1.234.567,50");
+  assert.equal(world.read("-1.234.567,50"), "-1234567.50");
+  assert.equal(short.format("1650"), "1.6K");
+  assert.equal(own.format("1234"), "1,234");
+  assert.equal(orphan.format("1234"), "1234");
+  assert.equal(book.answer("en\tplain\tauto\tkeep\t-\t1234"), "ok\t1,234");
+  assert.ok(ofClosed.closed);
+}
+
+function trap() {
+  assert.throws(() => instance.written(0x7fffff00, instance.calls.js_decimal_format, "1"), WebAssembly.RuntimeError);
+}
+
+test("where the stack runs out inside a call, the next one is well", () => {
+  const calls = [
+    () => world.format("1234567.5"), () => world.format(1234567.5), () => world.read("-1.234.567,50"), () => world.formatToParts("1234567.5"), () => short.shown("1234567"),
+    () => book.answer("en\tplain\tauto\tkeep\t-\t1234"), () => new DecimalFormatter("hi").close(), () => new CompactDecimalFormatter("hi", { compactDisplay: "long" }).close(),
+    () => new Book(JSON_OF_ONE).close(), () => orphan.format("1"),
+  ];
+  let lost = 0;
+  for (const call of calls) {
+    const before = instance.age;
+    const { well, refused, others } = onLastSteps(call);
+    assert.deepEqual(others, []);
+    assert.ok(well > 0 && refused > 0, `${well} ${refused}`);
+    areWell();
+    lost += instance.age - before;
+  }
+  assert.ok(lost > 0, "no call ran out of stack inside the module");
+});
+
+test("after a trap there is a new instance", () => {
+  for (let i = 0; i < 3; i += 1) {
+    const before = instance.age;
+    trap();
+    areWell();
+    assert.equal(instance.age, before + 1);
+  }
+});
+
+test("a refused call keeps its instance", () => {
+  const before = instance.age;
+  for (const call of [() => world.format("5."), () => world.read("x"), () => new DecimalFormatter("zz"), () => new Book("["), () => short.format("9".repeat(32768))]) assert.throws(call, LegumeyetError);
+  areWell();
+  assert.equal(instance.age, before);
+});
+
+test("where memory is refused, the call says so, and its formatter stays", () => {
+  const before = instance.age;
+  for (let size = 1 << 30; size >= 1 << 11; size >>= 1) while (instance.calls.js_large_in(size) !== 0);
+  instance.calls.js_let_go();
+  for (const call of [() => world.format("1".repeat(30000)), () => world.read("x".repeat(1e6)), () => new Book(" ".repeat(1e6)), () => new Book(JSON_OF_ONE)]) {
+    assert.throws(call, (error) => error instanceof LegumeyetError && error.number === 1);
+  }
+  assert.equal(world.format("-1234567.5"), "-1.234.567,50");
+  assert.equal(instance.age, before);
+  trap();
+  areWell();
+});
+
+test("a book that is nested as deep as can be is refused", () => {
+  for (const json of ["[".repeat(100000), '{"a":'.repeat(127) + "1" + "}".repeat(127), '{"a":'.repeat(1000), `"${"x".repeat(1e6)}"`, "", "\0"]) assert.throws(() => new Book(json), LegumeyetError);
+  areWell();
+});
+
+test("what is dropped is closed", { timeout: 120000 }, async () => {
+  const round = async () => {
+    for (let i = 0; i < 20000; i += 1) new DecimalFormatter("en", { book });
+    gc();
+    await new Promise((well) => setTimeout(well, 50));
+  };
+  trap(); // a new and small memory
+  areWell();
+  await round();
+  await round();
+  const before = memorySize();
+  for (let i = 0; i < 6; i += 1) await round();
+  assert.equal(memorySize(), before);
+});
+
+test("large texts are let go", () => {
+  const text = "7".repeat(32000);
+  const written = own.format(text);
+  const before = memorySize();
+  for (let i = 0; i < 300; i += 1) assert.equal(own.read(own.format(text)), text);
+  for (let i = 0; i < 50; i += 1) assert.throws(() => new Book(`[${" ".repeat(1e5)}`), LegumeyetError);
+  assert.equal(own.format(text), written);
+  assert.ok(memorySize() <= before + (1 << 20), `${before} ${memorySize()}`);
+});

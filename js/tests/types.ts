@@ -1,0 +1,39 @@
+// What `tsc --strict` has to take, and what it has to refuse: a line after `@ts-expect-error` is refused.
+import { Book, CompactDecimalFormatter, DecimalFormatter, ErrorNumber, LegumeyetError, LoadError, version } from "legumeyet";
+import type { DecimalFormatterOptions, Part } from "legumeyet";
+import { load, loadSync, memorySize, setWorld } from "legumeyet/core";
+import { FieldText } from "legumeyet/field";
+import { NumberField, directionOf } from "legumeyet/number-field";
+import locales from "legumeyet/locales";
+
+const options: DecimalFormatterOptions = { minimumFractionDigits: 2, maximumFractionDigits: 2, roundingMode: "halfEven", useGrouping: false };
+const german = new DecimalFormatter(["de", new Intl.Locale("en")], options);
+const texts: string[] = [1, "2", 3n].map(german.format);
+const parts: Part[] = german.formatToParts(texts[0]);
+const digits: string = german.read(german.readLenient("1"));
+const locale: string = german.resolvedOptions().locale;
+const short = new CompactDecimalFormatter("en", { compactDisplay: "short", book: new Book("[]") });
+const answer: string = new Book(new Uint8Array(0)).keep().answer(short.formatExact(short.shown(5)));
+const supported: string[] = DecimalFormatter.supportedLocalesOf(["de"]);
+const { value, text, caret } = new FieldText(german).edited("1", 1, { front: 0, back: 0 });
+const field: NumberField | null = document.querySelector("number-field");
+german[Symbol.dispose]();
+const world: Book = setWorld("[]");
+const loaded: Promise<void> = load(new Uint8Array(0));
+loadSync(new ArrayBuffer(0));
+const told: (string | number | null | undefined)[] = [
+  digits, locale, answer, value, text, caret, ...supported, ...locales, field?.value, directionOf("de"), memorySize(), version(), world.closed ? 1 : 0, ErrorNumber.TAG,
+  new LegumeyetError(5).word, new LoadError("a", "fetch", "b").reason, parts[0]?.type,
+];
+export { told, loaded };
+
+// @ts-expect-error
+german.format(null);
+// @ts-expect-error
+new DecimalFormatter("de", { style: "percent" });
+// @ts-expect-error
+new CompactDecimalFormatter("de", { maximumFractionDigits: 2 });
+// @ts-expect-error
+german.read(5);
+// @ts-expect-error
+german.locale;
