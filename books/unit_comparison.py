@@ -4,7 +4,7 @@ import collections
 import random
 
 from comparison import number, say_unknown, text
-from look_up import LETTERS, PLACE, locale_of
+from look_up import LETTERS, PLACEHOLDER, locale_of
 from unit_text import (
     FORM, Format, Symbols, affixes_of, answer, chosen_pattern, number_of, plain_tables, rounded, text_of, with_sign,
 )
@@ -42,9 +42,9 @@ def answers_here(book, lines):
 
 
 def spaced(pattern):
-    """A pattern with a space between each number and the unit's place next to it."""
-    before = lambda text: text + APART if text.endswith(PLACE) else text
-    after = lambda text: APART + text if text.startswith(PLACE) else text
+    """A pattern with a space between each number and the unit's placeholder next to it."""
+    before = lambda text: text + APART if text.endswith(PLACEHOLDER) else text
+    after = lambda text: APART + text if text.startswith(PLACEHOLDER) else text
     return [(before, after)[place % 2](it) for place, it in enumerate(pattern)]
 
 

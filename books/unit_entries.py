@@ -5,7 +5,7 @@ import unicodedata
 
 from cldr import BESIDE_LETTER, Fault, tag_of
 from entries import MOST, around, halves, written
-from look_up import INCREMENTS, PLACE, USUAL_DIGITS, is_code
+from look_up import INCREMENTS, PLACEHOLDER, USUAL_DIGITS, is_code
 
 APART = "\u00a0"  # between a letter and a digit, by the currency spacing that all locales of CLDR have
 FORMATS = {
@@ -28,11 +28,12 @@ def letters(text):
 
 def number_and_pairs(text, char, minus, plus):
     """The characters of a pattern's number, and what is before and after the number: without a sign, with a minus, with
-    a plus. None where a half of the pattern has no number or several. The unit's character becomes the place."""
-    forms = [around(form, "#,0.") for form in halves(text) if form is not None]
-    if any(form is None or not form[1] for form in forms):
+    a plus. None where a half of the pattern has no number or several, or has the placeholder as a text. The unit's character becomes its placeholder."""
+    texts = [form for form in halves(text) if form is not None]
+    forms = [around(form, "#,0.") for form in texts]
+    if any(form is None or not form[1] for form in forms) or any((PLACEHOLDER, True) in form for form in texts):
         return None
-    pair = lambda form, sign: [written(form[at], {"-": sign, char: PLACE}) for at in (0, 2)]
+    pair = lambda form, sign: [written(form[at], {"-": sign, char: PLACEHOLDER}) for at in (0, 2)]
     none = pair(forms[0], minus)
     pairs = [none]
     for sign in (minus, plus):
@@ -44,9 +45,9 @@ def number_and_pairs(text, char, minus, plus):
     return written(forms[0][1]), pairs
 
 
-def has_places(found):
-    """Whether each pair of what a pattern was read as has one place for the unit."""
-    return found is not None and all((before + after).count(PLACE) == 1 for before, after in found[1])
+def has_placeholders(found):
+    """Whether each pair of what a pattern was read as has one placeholder."""
+    return found is not None and all((before + after).count(PLACEHOLDER) == 1 for before, after in found[1])
 
 
 def sizes_of(number):
@@ -56,9 +57,10 @@ def sizes_of(number):
 
 
 def apart(pair):
-    """The pair with a space between the place and the number where they stand side by side."""
+    """The pair with a space between the placeholder and the number where they stand side by side."""
     before, after = pair
-    return [before + APART if before.endswith(PLACE) else before, APART + after if after.startswith(PLACE) else after]
+    before = before + APART if before.endswith(PLACEHOLDER) else before
+    return [before, APART + after if after.startswith(PLACEHOLDER) else after]
 
 
 def short_form(pairs, symbols):
@@ -148,8 +150,8 @@ class UnitEntries:
         symbols, table = self.entries.symbols_of[tag, system], self.cldr.table(chain, (f"symbols[{system}]",))
         signs = CHARS[kind], table["minusSign"], table["plusSign"]
         found = number_and_pairs(values.get("pattern", ""), *signs)
-        if not has_places(found):
-            return self.without(f"{kind} patterns without one place for the unit", tag)
+        if not has_placeholders(found):
+            return self.without(f"{kind} patterns without one placeholder", tag)
         number, pairs = found
         separators = [table["decimal"], table["group"]]
         if kind != "percent":
@@ -159,7 +161,7 @@ class UnitEntries:
         if len(number) > MOST or any(char in text for text in texts for char in "\t\n"):
             return self.without(f"{kind} patterns that a book can't hold", tag)
         own_symbols = [system, *symbols[:4], *separators, *sizes_of(number), symbols[8]]
-        # Separators that a currency has in all places are the entry's own, also where they are the usual ones.
+        # Separators that a currency has everywhere are the entry's own, also where they are the usual ones.
         is_usual = own_symbols[1:] == symbols and not {"decimal", "group"} & set(own)
         rest = [None if is_usual else own_symbols, short_form(pairs, symbols)]
         if kind == "percent":
@@ -174,7 +176,7 @@ class UnitEntries:
         """The pairs of the pattern that CLDR has beside a letter, or the usual ones."""
         text = values.get(f"pattern[{BESIDE_LETTER}]")
         found = number_and_pairs(text, *signs) if text else usual
-        if not has_places(found) or sizes_of(found[0]) != sizes_of(usual[0]):
-            self.without("patterns beside a letter with other groups, or without one place for the unit", tag)
+        if not has_placeholders(found) or sizes_of(found[0]) != sizes_of(usual[0]):
+            self.without("patterns beside a letter with other groups, or without one placeholder", tag)
             found = usual
         return found[1]

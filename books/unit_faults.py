@@ -1,7 +1,7 @@
 """Which fault the units of a book have: the rule of docs/books.md ("Units"), written down once more."""
 import re
 
-from look_up import INCREMENTS, LETTERS, PLACE, UNIT_ARRAYS, is_code, locale_of
+from look_up import INCREMENTS, LETTERS, PLACEHOLDER, UNIT_ARRAYS, is_code, locale_of
 
 SYSTEM = re.compile("[a-z0-9]{3,8}")
 MOST = 255
@@ -88,9 +88,9 @@ def has_systems(kind, entry):
     return not of_entry and all(SYSTEM.fullmatch(it) for it in own)
 
 
-def has_places(pattern):
-    """Whether each pair of texts of a pattern has the unit's place once."""
-    return all("".join(pattern[at : at + 2]).count(PLACE) == 1 for at in range(0, len(pattern), 2))
+def has_placeholders(pattern):
+    """Whether each pair of texts of a pattern has the placeholder once."""
+    return all("".join(pattern[at : at + 2]).count(PLACEHOLDER) == 1 for at in range(0, len(pattern), 2))
 
 
 def key_of(kind, entry):
@@ -110,7 +110,7 @@ def entry_fault(kind, entry, keys):
         return "text"
     if key_of(kind, entry) in keys:
         return "duplicate"
-    if not all(map(has_places, patterns_of(kind, entry))):
+    if not all(map(has_placeholders, patterns_of(kind, entry))):
         return "unit"
     code = {"currency symbols": entry[1], "currency digits": entry[0]}.get(kind)
     return "code" if code is not None and not is_code(code) else None

@@ -101,6 +101,22 @@ en | percent | keep | - | 1,5 | err number
 """.splitlines()
 ]
 
+# Lines that another formatter writes otherwise under the same data, what it writes, and the causes that are named.
+CAUSES = [
+    tuple(row.split(" | "))
+    for row in """\
+en | currency-DKK | keep | cash | 1.25 | DKK~1.0 | CASH_ZERO
+en | currency-CHF | keep | cash | 2.4 | CHF~2.4 | none
+pt-CV | currency-EUR | keep | - | 12345 | 12~345$00~€ | OWN_CURRENCY
+pt-CV | currency-DKK | keep | cash | 12345.25 | 12~345$0~DKK | OWN_CURRENCY CASH_ZERO
+tr | accounting-EUR | keep | - | -5 | -€5,00 | OWN_CURRENCY
+gaa | accounting-CHF | keep | - | -5 | -CHF~5.00 | NO_LETTERS
+fr-CH-u-nu-arab | currency-CHF | keep | - | 5 | ٥.٠٠~CHF | OF_LATN
+en | currency-EUR | keep | - | 5 | 5.00 euros | none
+en | percent | keep | - | 5 | 5~% | none
+""".splitlines()
+]
+
 OWN = ["latn", "-", "", "+", "", ".", ",", 3, 3, 1]
 # Units that are five arrays, with the place and the word of the first fault or None: the array's index and its entries.
 FAULTS = [

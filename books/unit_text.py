@@ -6,7 +6,7 @@ docs/plain-text.md, and shares nothing with the program or with what makes the t
 import re
 import typing
 
-from look_up import LETTERS, PLACE, locale_of
+from look_up import LETTERS, PLACEHOLDER, locale_of
 
 FORM = re.compile("(read-)?(?:percent|(currency|code|accounting)-([A-Z]{3}))", re.A)
 GROUPINGS = ("auto", "never", "always", "min2")
@@ -119,9 +119,9 @@ def text_of(form, number, grouping="auto"):
 
 
 def affixes_of(pattern, unit, symbols):
-    """The texts before and after a number of each sign, with the unit in its place: those of the sign itself where the
+    """The texts before and after a number of each sign, with the unit for the placeholder: those of the sign itself where the
     pattern has six texts, else the two texts with those of the symbols' sign around them."""
-    texts = [text.replace(PLACE, unit) for text in pattern]
+    texts = [text.replace(PLACEHOLDER, unit) for text in pattern]
     if len(texts) == 6:
         return {"": (texts[0], texts[1]), "-": (texts[2], texts[3]), "+": (texts[4], texts[5])}
     before, after = texts
@@ -134,8 +134,8 @@ def affixes_of(pattern, unit, symbols):
 
 def chosen_pattern(pattern, beside_letter, ends):
     """The pattern beside a letter, where there is one and the unit's end next to the number is a letter: its last
-    character where its place is before the number, else its first."""
-    next_to_number = 2 if PLACE in pattern[0] else 1
+    character where the placeholder is before the number, else its first."""
+    next_to_number = 2 if PLACEHOLDER in pattern[0] else 1
     return beside_letter if beside_letter is not None and ends & next_to_number else pattern
 
 
