@@ -1,5 +1,5 @@
 -- Values from outside that a wrong definition does not survive: the tables of docs/units.md.
-use Rattle.std.proofs.Common.{◌≡◌, ℕ, Bool, ◌*◌, ◌^◌, true, false, List, [], ◌∷◌, ◌++◌, Option, None, Some, refl}
+use Rattle.std.proofs.Common.{◌≡◌, ℕ, Bool, ◌*◌, ◌^◌, true, false, List, [], ◌∷◌, ◌++◌, None, Some, refl}
 use Rattle.std.specs.Prelude.{codes}
 use Rattle.std.specs.Str.{chars}
 use Rattle.writeable.specs.AnnotatedText.{AnnotatedText, Interval, annotated, bytes, closing, opening}

@@ -1,11 +1,10 @@
 -- How often the place of the unit is in a text.
-use Rattle.std.proofs.Common.{Bor, ◌≡◌, ◌≢◌, ℕ, ◌+◌, List, [], ◌∷◌, ◌++◌, length, length-append, Bool, true, false, cond, ◌&&◌, refl, sym, ap, subst, ◌∙◌, arith, eqb}
+use Rattle.std.proofs.Common.{Bor, ◌≡◌, ◌≢◌, ℕ, ◌+◌, List, [], ◌∷◌, ◌++◌, length, length-append, Bool, true, false, cond, ◌&&◌, refl, sym, ap, ◌∙◌, arith, eqb}
 use Rattle.std.proofs.lemmas.Bool.{eqb-true}
 use Rattle.std.specs.Prelude.{◌↔◌, ◌<◌, IfNone, IfOk, IfSome, IsErrOf, MatchOption, Option, None, Some, Result, Ok, Err}
 use Rattle.icu_dimension_affixes.specs.declared.error.UnitPatternError.{UnitPatternError}
 use Rattle.icu_dimension_affixes.specs.declared.error.UnitPatternError.TheVariants.{Memory, NoPlace, PlaceTwice}
-use Rattle.std.proofs.lemmas.List.{append_assoc}
-use Rattle.icu_dimension_affixes.specs.UnitPlaces.{begins_with_second, placeholder, places}
+use Rattle.icu_dimension_affixes.specs.UnitPlaces.{placeholder, places}
 
 -- a text round the place has it once more
 pub places_around : (xs ys : List ℕ) → places (xs ++ (placeholder ++ ys)) ≡ places xs + (1 + places ys)

@@ -1,10 +1,9 @@
 -- The steps of a reader: what is between the affixes of a sign.
-use Rattle.std.proofs.Common.{Bor, ◌≡◌, ◌≢◌, ℕ, Bool, true, false, List, [], ◌∷◌, ◌++◌, Option, None, Some, IfNone, IfSome, refl, sym, ap, subst, ◌∙◌}
+use Rattle.std.proofs.Common.{Bor, ◌≡◌, ◌≢◌, ℕ, true, List, ◌++◌, Option, None, Some, IfNone, refl, sym, ap, ◌∙◌}
 use Rattle.std.proofs.lemmas.Bool.{and_parts}
 use Rattle.std.proofs.lemmas.List.{append-nil, append_cancel_left, append_cancel_right}
-use Rattle.fixed_decimal.specs.Number.{IsNumber, Number}
+use Rattle.fixed_decimal.specs.Number.{Number}
 use Rattle.fixed_decimal.specs.SignedValue.{SignedValue}
-use Rattle.fixed_decimal.specs.TextLaws.{IsDecimal}
 use Rattle.fixed_decimal.specs.declared.Sign.{Sign}
 use Rattle.fixed_decimal.specs.declared.Sign.TheVariants.{None as NoSign, Negative, Positive}
 use Rattle.icu_decimal_plain.specs.PlainText.{Tables, decimal_text, unsigned_text}
@@ -13,7 +12,7 @@ use Rattle.icu_decimal_reading.specs.Readable.{is_readable_by}
 use Rattle.icu_decimal_reading.specs.ReadingLaws.{AreTables}
 use Rattle.icu_decimal_reading.proofs.LawLemmas.{one_decimal}
 use Rattle.icu_dimension_affixes.specs.UnitPatterns.{AffixPair}
-use Rattle.icu_dimension_affixes.specs.UnitReading.{HasManyBetween, HasManyIn, HasNoDecimal, HasNoNumberBetween, HasNoUnsigned, IsSignedText, IsUnitText, IsUnsignedText, ReaderTexts, is_unit_readable_by, pair_for, text_by}
+use Rattle.icu_dimension_affixes.specs.UnitReading.{HasManyBetween, HasManyIn, HasNoDecimal, HasNoNumberBetween, HasNoUnsigned, IsSignedText, IsUnitText, IsUnsignedText, ReaderTexts, is_unit_readable_by, pair_for}
 use Rattle.icu_dimension_affixes.specs.UnitText.{text_between}
 
 -- what is left of a text has no such end, and so nothing is between the two

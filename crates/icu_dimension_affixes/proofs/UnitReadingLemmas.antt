@@ -1,5 +1,5 @@
 -- Where it is readable, a text with a unit has one decimal: that of tables in which two pairs of affixes are those of the signs.
-use Rattle.std.proofs.Common.{◌≡◌, ℕ, Bool, true, false, ◌&&◌, not, List, [], ◌∷◌, ◌++◌, length, refl, sym, ap, subst, ◌∙◌, arith}
+use Rattle.std.proofs.Common.{◌≡◌, ℕ, Bool, true, false, not, List, [], ◌∷◌, ◌++◌, length, refl, sym, ap, subst, ◌∙◌, arith}
 use Rattle.std.proofs.lemmas.Bool.{and_from, and_parts, both_ways, not-true}
 use Rattle.std.proofs.lemmas.List.{append_assoc, append_cancel_left, append_cancel_right}
 use Rattle.std.proofs.lemmas.List.Folds.{list_all-append}
@@ -10,18 +10,17 @@ use Rattle.std.specs.Prelude.{is_none}
 use Rattle.std.specs.Str.{IsUtf8, bytes_eq, chars}
 use Rattle.fixed_decimal.specs.Number.{IsNumber, Number}
 use Rattle.fixed_decimal.specs.SignedValue.{SignedValue}
-use Rattle.fixed_decimal.specs.TextLaws.{IsDecimal}
 use Rattle.fixed_decimal.specs.declared.Sign.{Sign}
 use Rattle.fixed_decimal.specs.declared.Sign.TheVariants.{None as NoSign, Negative, Positive}
 use Rattle.icu_decimal_plain.specs.PlainText.{Tables, decimal_text, unsigned_text}
-use Rattle.icu_decimal_reading.specs.DecimalOfText.{PlainReading, decimal, not_written, unreadable}
+use Rattle.icu_decimal_reading.specs.DecimalOfText.{decimal, not_written, unreadable}
 use Rattle.icu_decimal_reading.specs.Readable.{all_differ, are_clear, digit_of, do_separators_differ, do_signs_differ, has_no_digit, is_readable_by, is_same_pair}
 use Rattle.icu_decimal_reading.specs.ReadingLaws.{AreTables}
 use Rattle.icu_decimal_reading.proofs.LawLemmas.{one_decimal}
 use Rattle.icu_dimension_affixes.specs.UnitPatterns.{AffixPair}
-use Rattle.icu_dimension_affixes.specs.UnitReading.{AreReaderTexts, IsUnitReading, IsUnitText, ReaderTexts, SignPairs, are_clear_pairs, do_differ, do_pairs_differ, is_clear, is_unit_readable_by, pair_for, reader_texts, text_by}
+use Rattle.icu_dimension_affixes.specs.UnitReading.{AreReaderTexts, ReaderTexts, SignPairs, are_clear_pairs, do_differ, do_pairs_differ, is_clear, is_unit_readable_by, pair_for, reader_texts, text_by}
 use Rattle.icu_dimension_affixes.specs.UnitReadingLaws.{HasOneUnitReading, ReadUnitIsWrittenAgain, ReadersReadWhatIsWritten, UnitTextsHaveOneDecimal, WrittenUnitReadsBack}
-use Rattle.icu_dimension_affixes.specs.UnitText.{UnitSettings, sign_pair, text_between, unit_decimal_text}
+use Rattle.icu_dimension_affixes.specs.UnitText.{UnitSettings, sign_pair, text_between}
 use Rattle.icu_dimension_affixes.proofs.ReaderLemmas.{plain_unsigned}
 
 -- ---- tests

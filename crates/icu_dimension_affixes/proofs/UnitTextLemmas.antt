@@ -1,5 +1,5 @@
 -- The text of a number with a unit.
-use Rattle.std.proofs.Common.{◌≡◌, ℕ, ◌+◌, ◌≤◌, List, [], ◌∷◌, ◌++◌, length, length-append, Option, None, Some, refl, sym, ap, ◌∙◌, arith}
+use Rattle.std.proofs.Common.{◌≡◌, ℕ, ◌+◌, ◌≤◌, List, [], ◌++◌, length, length-append, Option, None, Some, refl, sym, ap, ◌∙◌, arith}
 use Rattle.std.proofs.lemmas.List.{append-nil, append_assoc}
 use Rattle.writeable.specs.AnnotatedText.{Event, bytes, closing, opening, text_of, without_parts}
 use Rattle.writeable.specs.PartName.{PartName}
@@ -9,8 +9,8 @@ use Rattle.fixed_decimal.specs.Number.{Number}
 use Rattle.fixed_decimal.specs.SignedValue.{SignedValue}
 use Rattle.fixed_decimal.specs.declared.Sign.{Sign}
 use Rattle.fixed_decimal.specs.declared.Sign.TheVariants.{None as NoSign, Negative, Positive}
-use Rattle.icu_decimal_plain.specs.Affixes.{AffixTexts, affixes_of, as_part}
-use Rattle.icu_decimal_plain.specs.PlainText.{PlainNumber, Tables, decimal_text, prefix_text, suffix_text, unsigned_events, unsigned_text}
+use Rattle.icu_decimal_plain.specs.Affixes.{AffixTexts, affixes_of}
+use Rattle.icu_decimal_plain.specs.PlainText.{PlainNumber, prefix_text, suffix_text, unsigned_events, unsigned_text}
 use Rattle.icu_decimal_plain.proofs.TextLemmas.{text_of_part, text_with_sign, unsigned_is_text}
 use Rattle.icu_dimension_affixes.specs.UnitPatterns.{AffixPair, AffixText, AffixesText, after_in, affix_text, around, before_in, literal, own_affixes, pair_with}
 use Rattle.icu_dimension_affixes.specs.declared.affixes.UnitPlace.{UnitPlace}

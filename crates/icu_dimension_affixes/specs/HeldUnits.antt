@@ -1,7 +1,6 @@
 -- What a unit, and what is written with it, borrow and own.
 -- Defined in docs/units.md, "Patterns".
 -- Cited by the views of the types, and by the calls of `UnitTables`.
-use Rattle.std.specs.Prelude.{string_bytes}
 use Rattle.icu_decimal_plain.specs.BorrowedTables.{borrowed_tables}
 use Rattle.icu_dimension_affixes.specs.UnitPatterns.{AffixText, around, literal}
 use Rattle.icu_dimension_affixes.specs.UnitText.{UnitName, UnitSettings}

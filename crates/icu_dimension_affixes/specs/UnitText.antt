@@ -8,7 +8,6 @@ use Rattle.fixed_decimal.specs.Number.{Number}
 use Rattle.fixed_decimal.specs.SignedValue.{SignedValue}
 use Rattle.fixed_decimal.specs.declared.Sign.{Sign}
 use Rattle.fixed_decimal.specs.declared.Sign.TheVariants.{None as NoSign, Negative, Positive}
-use Rattle.icu_decimal_symbols.specs.Symbols.{SymbolStrings}
 use Rattle.icu_decimal_plain.specs.Affixes.{AffixTexts, WithSign, affixes_of, as_part, decimal_part, events_with_sign}
 use Rattle.icu_decimal_plain.specs.PlainText.{PlainNumber, Tables, prefix_text, suffix_text, unsigned_events, unsigned_text}
 use Rattle.icu_dimension_affixes.specs.UnitPatterns.{AffixPair, AffixText, AffixesText, PatternTexts, after_in, around, before_in, literal, own_affixes, pair_with}

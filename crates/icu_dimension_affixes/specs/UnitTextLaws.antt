@@ -1,15 +1,14 @@
 -- Laws of the text of a number with a unit, over the definitions alone.
 -- Defined in docs/units.md, "Laws".
 -- Cited by the functions of `laws`.
-use Rattle.std.specs.Prelude.{◌≡◌, [], Option, None, Some}
+use Rattle.std.specs.Prelude.{◌≡◌, [], None}
 use Rattle.writeable.specs.AnnotatedText.{text_of}
 use Rattle.fixed_decimal.specs.Number.{Number}
 use Rattle.fixed_decimal.specs.SignedValue.{SignedValue}
-use Rattle.icu_decimal_plain.specs.PlainText.{decimal_text, unsigned_text}
-use Rattle.icu_dimension_affixes.specs.UnitPatterns.{AffixesText, PatternTexts}
-use Rattle.icu_dimension_affixes.specs.UnitText.{UnitName, UnitSettings, sign_pair, text_between, unit_decimal_events, unit_decimal_text, unit_formatted}
+use Rattle.icu_decimal_plain.specs.PlainText.{decimal_text}
+use Rattle.icu_dimension_affixes.specs.UnitPatterns.{AffixesText}
+use Rattle.icu_dimension_affixes.specs.UnitText.{UnitSettings, unit_decimal_events, unit_decimal_text, unit_formatted}
 use Rattle.icu_dimension_affixes.specs.declared.affixes.UnitPlace.{UnitPlace}
-use Rattle.icu_dimension_affixes.specs.declared.unit.UnitKind.{UnitKind}
 
 -- what the events of a decimal write is the text of its definition
 abbrev pub UnitIsText : Type 0

@@ -1,6 +1,5 @@
-use Rattle.std.proofs.Common.{IfNone, IfSome, ◌≡◌, ◌++◌, ◌≢◌, ℕ, List, Option, Some, None, Bor, MatchOption}
 use Rattle.std.proofs.lemmas.Str.Pattern.{split_text_parts}
-use Rattle.icu_dimension_affixes.specs.UnitPlaces.{placeholder, places}
+use Rattle.icu_dimension_affixes.specs.UnitPlaces.{placeholder}
 use Rattle.icu_dimension_affixes.proofs.PlaceLemmas.{cut_none, cut_some}
 use Rattle.icu_dimension_affixes.proofs.affixes.split_at_place.Goals as goal
 

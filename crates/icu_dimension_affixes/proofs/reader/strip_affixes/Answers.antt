@@ -1,4 +1,4 @@
-use Rattle.std.proofs.Common.{◌≡◌, ◌≢◌, ◌++◌, ◌∙◌, ℕ, List, IfNone, ap, string_bytes, subst}
+use Rattle.std.proofs.Common.{◌≢◌, ◌++◌, ◌∙◌, ℕ, List, IfNone, ap, string_bytes, subst}
 use Rattle.icu_dimension_affixes.proofs.ReaderLemmas.{strip_none}
 use Rattle.icu_dimension_affixes.proofs.reader.strip_affixes.Goals as goal
 

@@ -1,4 +1,4 @@
-use Rattle.std.proofs.Common.{◌≡◌, ℕ, ◌+◌}
+use Rattle.std.proofs.Common.{◌+◌}
 use Rattle.icu_dimension_affixes.specs.UnitPlaces.{places}
 use Rattle.icu_dimension_affixes.proofs.PlaceLemmas.{cut_once, cut_somewhere, cut_twice, memory_first, memory_second, places_first, places_second}
 use Rattle.icu_dimension_affixes.proofs.affixes.UnitAffixes.try_new.Goals as goal

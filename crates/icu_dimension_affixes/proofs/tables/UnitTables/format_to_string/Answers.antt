@@ -1,7 +1,7 @@
 use Rattle.std.proofs.Common.{◌≡◌, ◌∙◌, ap, subst, IfOk, string_bytes}
 use Rattle.writeable.specs.AnnotatedText.{text_of}
 use Rattle.icu_dimension_affixes.specs.HeldUnits.{settings_of}
-use Rattle.icu_dimension_affixes.specs.UnitText.{unit_decimal_events, unit_decimal_text}
+use Rattle.icu_dimension_affixes.specs.UnitText.{unit_decimal_events}
 use Rattle.icu_dimension_affixes.proofs.UnitTextLemmas.{unit_is_text}
 use Rattle.icu_dimension_affixes.proofs.tables.UnitTables.format_to_string.Goals as goal
 
