@@ -1,14 +1,13 @@
 -- Amounts that were rounded to a fraction.
-use Rattle.std.proofs.Common.{◌≡◌, ◌≢◌, ℕ, ◌+◌, ◌-◌, ◌*◌, ◌/◌, ◌%◌, ◌^◌, ◌<◌, ◌≤◌, Bool, true, false, ◌⊎◌, inl, inr, refl, sym, ap, subst, ◌∙◌, arith, min}
-use Rattle.std.proofs.Math.Nat.{mul-mod_left, mul_assoc, mul_comm, pow-suc, zero-mul}
+use Rattle.std.proofs.Common.{◌≡◌, ℕ, ◌+◌, ◌*◌, ◌%◌, ◌^◌, ◌<◌, ◌≤◌, Bool, true, false, inl, inr, sym, ap, subst, ◌∙◌, arith}
+use Rattle.std.proofs.Math.Nat.{mul-mod_left, mul_assoc, mul_comm, zero-mul}
 use Rattle.std.proofs.lemmas.Nat.{pow-add}
 use Rattle.fixed_decimal.specs.Number.{IsNumber, Number}
-use Rattle.fixed_decimal.specs.Range.{IsHighest, IsLowest, Rounds}
-use Rattle.fixed_decimal.specs.Rounding.{IsLimited, IsMultiple, IsNearest, IsRounded, Takes, distance, increment_number}
+use Rattle.fixed_decimal.specs.Range.{IsLowest, Rounds}
+use Rattle.fixed_decimal.specs.Rounding.{IsLimited, IsMultiple, IsNearest, Takes, increment_number}
 use Rattle.fixed_decimal.specs.Shifts.{PadsEnd}
-use Rattle.fixed_decimal.specs.SignedValue.{SignedValue}
 use Rattle.fixed_decimal.specs.declared.UnsignedRoundingMode.TheVariants.{HalfEven}
-use Rattle.icu_dimension_fractions.specs.FractionRounding.{RoundsAmount, RoundsToFraction}
+use Rattle.icu_dimension_fractions.specs.FractionRounding.{RoundsToFraction}
 use Rattle.icu_dimension_fractions.specs.FractionLaws.{RoundedAmountsStay}
 use Rattle.fixed_decimal.specs.declared.RoundingIncrement.{RoundingIncrement}
 use Rattle.icu_dimension_fractions.specs.Fractions.{increment_of, last_place, step}

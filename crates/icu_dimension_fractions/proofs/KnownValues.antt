@@ -1,5 +1,5 @@
 -- Rows of docs/units.md on the digits of currencies, so that a wrong definition does not pass.
-use Rattle.std.proofs.Common.{◌≡◌, ◌*◌, ◌^◌, refl, arith, lit≤}
+use Rattle.std.proofs.Common.{◌≡◌, ◌*◌, ◌^◌, refl, arith}
 use Rattle.fixed_decimal.specs.Rounding.{IsRounded}
 use Rattle.fixed_decimal.specs.declared.UnsignedRoundingMode.TheVariants.{HalfEven}
 use Rattle.icu_dimension_fractions.specs.Fractions.{fraction_for, increment_of, last_place, step}
