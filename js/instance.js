@@ -185,8 +185,28 @@ function decoded(at, length) {
   return decoder.decode(memory.subarray(at, at + length));
 }
 
+// A short text of ASCII, by eight characters where there are as many; null where it is another.
+function ascii(start, end) {
+  const from = memory;
+  let text = "";
+  let at = start;
+  for (; end - at >= 8; at += 8) {
+    const [a, b, c, d] = [from[at], from[at + 1], from[at + 2], from[at + 3]];
+    const [e, f, g, h] = [from[at + 4], from[at + 5], from[at + 6], from[at + 7]];
+    if ((a | b | c | d | e | f | g | h) > 0x7f) return null;
+    text += String.fromCharCode(a, b, c, d, e, f, g, h);
+  }
+  for (; at < end; at += 1) {
+    if (from[at] > 0x7f) return null;
+    text += String.fromCharCode(from[at]);
+  }
+  return text;
+}
+
 // A short text of the module, which is UTF-8. A character of four bytes is left to the decoder.
 function gathered(start, end) {
+  const simple = ascii(start, end);
+  if (simple !== null) return simple;
   let text = "";
   for (let at = start; at < end; ) {
     const byte = memory[at];
