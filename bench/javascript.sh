@@ -1,0 +1,20 @@
+#!/bin/sh
+# Times calls of the package for JavaScript beside those of `Intl.NumberFormat`, in one run of Node: for 1, 7 and 18 digits nanoseconds and the one
+# over the other; below 1 this package is faster. Then how long it takes from the import to the first text, and how large the files are. It needs node.
+# usage: bench/javascript.sh [PACKAGE [TURNS]]
+# Without PACKAGE, the folder legumeyet that tools/build_js leaves, it is made.
+set -eu
+top=$(cd "$(dirname "$0")/.." && pwd)
+here=$top/bench/javascript made=$top/bench/made
+turns=${2:-25}
+[ $# -gt 0 ] || "$top/tools/build_js" "$made/js" >/dev/null
+package=$(cd "${1:-$made/js/legumeyet}" && pwd)
+node --version
+echo "digits call            here    Intl  ratio"
+node "$here/calls.js" "$package" "$turns" 1 7 18
+for run in 1 2 3 4 5 6 7 8 9 10 11; do
+    node "$here/start.js" "$package"
+done | sort -n | awk '{ ms[NR] = $1; other[NR] = $2 }
+    END { printf "start, milliseconds: least %.0f, middle %.0f; Intl %.0f, %.0f\n", ms[1], ms[6], other[1], other[6] }'
+echo "bytes       plain     gzip   brotli"
+node "$here/sizes.js" "$package"
