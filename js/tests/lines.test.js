@@ -7,6 +7,7 @@ import { Book, CompactDecimalFormatter, DecimalFormatter, LegumeyetError } from 
 
 const FOLDER = process.env.LINES;
 const WORDS = { 5: "tag", 6: "table", 7: "number", 8: "limit", 9: "range", 10: "shape", 11: "unreadable", 12: "not-written", 13: "exponent" };
+const FORMS = ["plain", "read", "short", "long", "exact-short", "exact-long"];
 const camel = (word) => word.replace(/-(.)/g, (_, it) => it.toUpperCase());
 
 function linesOf(name) {
@@ -23,6 +24,7 @@ function linesOf(name) {
 // What a formatter says to a line, as an answer; null where none can.
 function said(book, line) {
   const [tag, form, grouping, sign, rounding, number] = line.split("\t");
+  if (!FORMS.includes(form)) return null;
   const options = { book, useGrouping: grouping === "never" ? false : grouping, signDisplay: camel(sign) };
   if (rounding !== "-") {
     const [position, mode, increment] = rounding.split(",");
@@ -31,7 +33,7 @@ function said(book, line) {
   const width = form.replace("exact-", "");
   let it = null;
   try {
-    it = width === form && width !== "short" && width !== "long" ? new DecimalFormatter(tag, options) : new CompactDecimalFormatter(tag, { ...options, compactDisplay: width });
+    it = ["plain", "read"].includes(form) ? new DecimalFormatter(tag, options) : new CompactDecimalFormatter(tag, { ...options, compactDisplay: width });
     if (form === "plain") return `ok\t${it.format(number)}`;
     if (form === "read") return `ok\t${it.read(number)}`;
     return form === width ? `ok\t${it.format(number)}\t${it.shown(number)}` : `ok\t${it.formatExact(number)}`;
@@ -59,7 +61,7 @@ for (const file of FOLDER ? readdirSync(FOLDER).filter((it) => it.endsWith(".jso
       if (at === lines.length >> 1) book.keep();
       const text = said(book, String(line));
       // a formatter is opened before its number is looked at
-      if (!(text === "err\ttable" && answers[at].startsWith("err"))) assert.equal(text, answers[at], String(line));
+      if (text !== null && !(text === "err\ttable" && answers[at].startsWith("err"))) assert.equal(text, answers[at], String(line));
     });
   });
 
