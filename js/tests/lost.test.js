@@ -17,10 +17,10 @@ const gc = runInNewContext("gc");
 
 const JSON_OF_ONE = '[[["en","","latn","-","","+","",".",",",3,3,1]],[["latn","0123456789"]],[["en",[]]],[["en","",[[3,3,[["other",["","K"]]]]],null]],[]]';
 
-// Makes a call on each of the last 2,000 steps of the stack, from where nothing fits to where all does.
+// Makes a call on each of the last 400 steps of the stack, from where nothing fits to where all does.
 function onLastSteps(call) {
   const outcomes = { well: 0, refused: 0, others: [] };
-  let left = 2000;
+  let left = 400;
   const once = () => {
     try {
       call();
