@@ -1,0 +1,93 @@
+//! Symbols of currencies.
+
+ghost use Rattle.std.specs.Prelude.{◌≡◌};
+ghost use Rattle.serde_json.specs.View.{view};
+ghost use Rattle.locale_numbers_units.specs.CurrencySymbols.{has_symbols_shape};
+
+use crate::UnitsError;
+use crate::array::UnitArray;
+use crate::fields::{code, ends};
+use icu_decimal::provider::DataIdentifier;
+use icu_dimension_affixes::LetterEnds;
+use locale_numbers_tables::fields::{has_count, has_text, is_text_at, locale, symbol};
+use serde_json::Value;
+use std::alloc::Global;
+use std::marker::Model;
+
+/// The symbol of a currency: `US$`, whose first end is a letter.
+#[derive(Debug, Drop)]
+pub struct CurrencySymbol {
+    /// How the currency is written.
+    pub text: String,
+    /// Which ends of the text are letters.
+    pub ends: LetterEnds,
+}
+
+impl Model for CurrencySymbol {
+    ghost use Rattle.std.specs.Prelude.{string_bytes};
+    ghost use Rattle.locale_numbers_units.specs.CurrencySymbols.{SymbolText};
+
+    ghost Value = { SymbolText };
+
+    ghost view = { λ s. record { text = string_bytes s.text; ends = s.ends } };
+}
+
+fn has_symbols_shape(entry: &Value) -> bool
+    ensures { result ≡ has_symbols_shape (view entry.now) }
+{
+    has_count(entry, 4)
+        && is_text_at(entry, 0)
+        && is_text_at(entry, 1)
+        && is_text_at(entry, 2)
+        && ends(entry, 3).is_some()
+}
+
+/// The array of symbols of currencies: `["und","USD","US$",1]` says that dollars are `US$`, whose first end is a letter.
+pub struct CurrencySymbols;
+
+impl UnitArray for CurrencySymbols {
+    ghost use Rattle.locale_numbers_units.specs.Allocation.{tagged_may_grow};
+    ghost use Rattle.locale_numbers_units.specs.CurrencySymbols.{has_symbols_shape, symbols_fault, symbols_key, symbols_said};
+
+    type Key = DataIdentifier;
+
+    type Said = CurrencySymbol;
+
+    ghost key_in = { symbols_key };
+
+    ghost said_in = { symbols_said };
+
+    ghost fault_in = { symbols_fault };
+
+    // A fault is reported as out of memory only after a locale whose reading may allocate.
+    ghost may_grow = { tagged_may_grow has_symbols_shape symbols_fault };
+
+    fn read_key(alloc: Global, entry: &Value) -> Result<DataIdentifier, UnitsError> {
+        if !has_symbols_shape(entry) {
+            return Err(UnitsError::Shape);
+        }
+        let Ok(found) = locale(alloc, entry, 0) else {
+            return Err(UnitsError::Memory);
+        };
+        let Some(locale) = found else {
+            return Err(UnitsError::Tag);
+        };
+        if !has_text(entry, 2) {
+            return Err(UnitsError::Text);
+        }
+        match code(entry, 1) {
+            Some(code) => Ok(DataIdentifier::for_marker_attributes_and_locale(code, locale)),
+            None => Err(UnitsError::Code),
+        }
+    }
+
+    fn read(alloc: Global, entry: &Value) -> Result<CurrencySymbol, UnitsError> {
+        let Some(ends) = ends(entry, 3) else {
+            return Err(UnitsError::Shape);
+        };
+        match symbol(alloc, entry, 2) {
+            Ok(text) => Ok(CurrencySymbol { text, ends }),
+            Err(_) => Err(UnitsError::Memory),
+        }
+    }
+}

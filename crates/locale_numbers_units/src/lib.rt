@@ -1,0 +1,20 @@
+//! The units of a book: what the entries of its five arrays say, each under its key, and what is wrong with the first
+//! faulty one.
+//!
+//! The array `[["CHF",2,1,2,5]]` is the table of the digits of one currency; with a second entry for `CHF` it is refused
+//! as `Duplicate`.
+
+#![tactic(auto)]
+
+mod array;
+mod currency_digits;
+mod currency_symbols;
+mod error;
+mod fields;
+mod tables;
+
+pub use array::UnitArray;
+pub use currency_digits::CurrencyDigits;
+pub use currency_symbols::{CurrencySymbol, CurrencySymbols};
+pub use error::UnitsError;
+pub use tables::table_of;

@@ -1,0 +1,121 @@
+//! Arrays of units as tables.
+
+ghost use Rattle.std.specs.Prelude.{◌≡◌, false, true, Bool, IfOk, IsErrOf, IfErr, OnOk, Some, None, [], map};
+ghost use Rattle.indexmap.specs.IndexMap.{get, hasher_of};
+ghost use Rattle.serde_json.specs.Data.{item, no_items};
+ghost use Rattle.serde_json.specs.View.{items_view, view};
+ghost use Rattle.locale_numbers_tables.specs.Allocation.{begins_with};
+ghost use Rattle.locale_numbers_tables.specs.Keys.{table_in};
+ghost use Rattle.locale_numbers_units.specs.Adding.{Adds};
+ghost use Rattle.locale_numbers_units.specs.Faults.{first_fault_behind, under_key};
+ghost use Rattle.locale_numbers_units.specs.Telling.{IsTold};
+ghost use Rattle.locale_numbers_units.specs.declared.error.UnitsError.{UnitsError};
+
+use crate::UnitsError;
+use crate::array::UnitArray;
+use indexmap::IndexMap;
+use locale_numbers_tables::{Seed, Table};
+use serde_json::Value;
+use std::alloc::Global;
+
+// The key of an entry, where the table does not have it yet.
+fn new_key<A: UnitArray>(
+    alloc: Global,
+    table: &IndexMap<A::Key, A::Said, Seed>,
+    entry: &Value,
+) -> Result<A::Key, UnitsError>
+    ensures key { IfOk result (λ key. A.key_in (view entry.now) ≡ Some key) }
+    ensures sound { OnOk result (A.fault_in false (view entry.now) ≡ Some UnitsError.Duplicate) }
+    ensures fresh { IfOk result (λ key. get A.Key.eq table.now key ≡ None) }
+    ensures fault { IfErr result
+        (λ fault. IsTold
+        (first_fault_behind A.Key.eq A.key_in A.fault_in (map (λ pair. pair.0) table.now.entries)
+        (item (view entry.now) no_items)) fault) }
+    ensures grows { OnOk result (A.may_grow (view entry.now) ≡ true) }
+    ensures room { IsErrOf result UnitsError.Memory → A.may_grow (view entry.now) ≡ true }
+{
+    match A::read_key(alloc, entry) {
+        Ok(key) => {
+            if table.contains_key(&key) {
+                return Err(UnitsError::Duplicate);
+            }
+            Ok(key)
+        }
+        Err(fault) => Err(fault),
+    }
+}
+
+// Adds what an entry says, and lets the entry go.
+fn add_entry<A: UnitArray>(
+    alloc: Global,
+    table: &mut IndexMap<A::Key, A::Said, Seed>,
+    entry: Value,
+) -> Result<(), UnitsError>
+    ensures added { OnOk result
+        (Adds A.Key.eq A.key_in A.said_in A.fault_in (view entry) table.old.entries table.new.entries) }
+    ensures fault { IfErr result
+        (λ fault. IsTold
+        (first_fault_behind A.Key.eq A.key_in A.fault_in (map (λ pair. pair.0) table.old.entries)
+        (item (view entry) no_items)) fault) }
+    ensures seeded { OnOk result (hasher_of table.new ≡ hasher_of table.old) }
+    ensures grows { OnOk result (A.may_grow (view entry) ≡ true) }
+    ensures room { IsErrOf result UnitsError.Memory → A.may_grow (view entry) ≡ true }
+{
+    match new_key::<A>(alloc, &*table, &entry) {
+        Ok(key) => match A::read(alloc, &entry) {
+            Ok(said) => match table.insert(key, said) {
+                Ok(_) => Ok(()),
+                Err(_) => Err(UnitsError::Memory),
+            },
+            Err(fault) => Err(fault),
+        },
+        Err(fault) => Err(fault),
+    }
+}
+
+// Adds what the entries of an array say to an empty table.
+fn fill<A: UnitArray>(
+    alloc: Global,
+    table: &mut IndexMap<A::Key, A::Said, Seed>,
+    entries: Vec<Value>,
+) -> Result<(), UnitsError>
+    requires { table.old.entries ≡ [] }
+    ensures value { OnOk result
+        (table_in A.Key.eq (under_key A.key_in A.said_in) (items_view entries.items) ≡ Some table.new.entries) }
+    ensures seeded { OnOk result (hasher_of table.new ≡ hasher_of table.old) }
+    ensures sound { OnOk result (first_fault_behind A.Key.eq A.key_in A.fault_in [] (items_view entries.items) ≡ None) }
+    ensures fault { IfErr result
+        (λ fault. IsTold (first_fault_behind A.Key.eq A.key_in A.fault_in [] (items_view entries.items)) fault) }
+    ensures room { IsErrOf result UnitsError.Memory → begins_with A.may_grow (items_view entries.items) ≡ true }
+{
+    for entry in entries {
+        match add_entry::<A>(alloc, table, entry) {
+            Ok(()) => {}
+            Err(fault) => return Err(fault),
+        }
+    }
+    Ok(())
+}
+
+/// The table that the entries of an array of units make, hashed by this seed; each entry is let go once it is read.
+pub fn table_of<A: UnitArray>(
+    alloc: Global,
+    seed: Seed,
+    entries: Vec<Value>,
+) -> Result<Table<A::Key, A::Said>, UnitsError>
+    ensures value { IfOk result
+        (λ table. table_in A.Key.eq (under_key A.key_in A.said_in) (items_view entries.items) ≡ Some table.map.entries) }
+    ensures seeded { IfOk result (λ table. hasher_of table.map ≡ seed) }
+    ensures sound { OnOk result (first_fault_behind A.Key.eq A.key_in A.fault_in [] (items_view entries.items) ≡ None) }
+    ensures fault { IfErr result
+        (λ fault. IsTold (first_fault_behind A.Key.eq A.key_in A.fault_in [] (items_view entries.items)) fault) }
+
+    // A fault of the first entry that is found before anything is allocated is never reported as out of memory.
+    ensures room { IsErrOf result UnitsError.Memory → begins_with A.may_grow (items_view entries.items) ≡ true }
+{
+    let mut map: IndexMap<A::Key, A::Said, Seed> = IndexMap::with_hasher(alloc, seed);
+    match fill::<A>(alloc, &mut map, entries) {
+        Ok(()) => Ok(Table { map }),
+        Err(fault) => Err(fault),
+    }
+}
