@@ -445,8 +445,13 @@ class Calls(unittest.TestCase):
         before = signal.signal(signal.SIGALRM, stop)
         try:
             for numbers in (array.array("q", [1234]) * 5_000_000, itertools.repeat(1234)):
-                signal.setitimer(signal.ITIMER_REAL, 0.02)
-                self.assertRaises(KeyError, self.english.format_all, numbers)
+                said = []
+                try:
+                    signal.setitimer(signal.ITIMER_REAL, 0.02)
+                    said = self.english.format_all(numbers)
+                except KeyError:
+                    pass
+                self.assertEqual(len(said), 0)
         finally:
             signal.signal(signal.SIGALRM, before)
         self.assertEqual(self.english.format(1234), "1,234")
