@@ -9,6 +9,7 @@ export class NumberField extends HTMLElement {
   value: string;
   locale: string;
   required: boolean;
+  disabled: boolean;
   /** What is shown. */
   readonly text: string;
   readonly formatter: DecimalFormatter | null;

@@ -190,6 +190,8 @@ export class NumberField extends HTMLElement {
   set locale(locale) { this.setAttribute("locale", locale); }
   get required() { return this.hasAttribute("required"); }
   set required(isRequired) { this.toggleAttribute("required", Boolean(isRequired)); }
+  get disabled() { return this.hasAttribute("disabled"); }
+  set disabled(isDisabled) { this.toggleAttribute("disabled", Boolean(isDisabled)); }
   get name() { return this.getAttribute("name"); }
   get form() { return this.#internals.form; }
   get type() { return "number-field"; }

@@ -184,6 +184,9 @@ test("a page of one's own takes the field in a line", async () => {
   assert.equal(await page.evaluate('document.getElementById("bare").locale'), "hi");
   assert.equal(await page.evaluate('document.getElementById("off").shadowRoot.querySelector("input").disabled'), true);
   assert.deepEqual((await page.told("textbox")).map((it) => it.name).filter((it) => it !== "").sort(), ["Bare", "Price"]);
+  await page.evaluate(`${price}.disabled = true`);
+  assert.equal(await page.evaluate('[...new FormData(document.forms[0])].length'), 0);
+  await page.evaluate(`${price}.disabled = false`);
   await page.evaluate(`${price}.value = "-5"`);
   assert.equal(await page.evaluate(`${price}.text`), "-5");
   await page.evaluate(`${price}.locale = "sv"`);
