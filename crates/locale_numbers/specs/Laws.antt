@@ -131,6 +131,11 @@ ReadIsReadLeniently = (book : BookTables) (asked : Asked) (text digits : List �
     → answer_asked book (Some (reading_request asked text)) ≡ written digits
     → answer_asked book (Some (lenient_request asked text)) ≡ written digits
 
+-- the text of each decimal is UTF-8
+abbrev pub WrittenIsUtf8 : Type 0
+WrittenIsUtf8 = (book : BookTables) (asked : Asked) (tables : Tables) (value : SignedValue Number)
+    → FindsTables book asked tables → IsDecimal value → IsUtf8 (decimal_text tables value)
+
 -- under readable symbols the text of each decimal reads back as the decimal
 abbrev pub WrittenReadsBack : Type 0
 WrittenReadsBack = (book : BookTables) (asked : Asked) (tables : Tables) (value : SignedValue Number)

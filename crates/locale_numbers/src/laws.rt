@@ -4,7 +4,7 @@
 ghost use Rattle.locale_numbers.specs.Answer.{found_in};
 ghost use Rattle.locale_numbers.specs.CompactAnswer.{found_compact};
 ghost use Rattle.locale_numbers.specs.FormatterKeys.{same_keys};
-ghost use Rattle.locale_numbers.specs.Laws.{AlikeTagsAreAnsweredAlike, NormalTextIsAnsweredAlike, AutoIsAnsweredAsAlways, AreTexts, FoundTablesAreTexts, LinesAskTheirFields, ReadIsReadLeniently, ReadIsWrittenAgain, RoundedIsWrittenAgain, TellsKeys, WrittenReadsBack};
+ghost use Rattle.locale_numbers.specs.Laws.{AlikeTagsAreAnsweredAlike, NormalTextIsAnsweredAlike, AutoIsAnsweredAsAlways, AreTexts, FoundTablesAreTexts, LinesAskTheirFields, ReadIsReadLeniently, ReadIsWrittenAgain, RoundedIsWrittenAgain, TellsKeys, WrittenIsUtf8, WrittenReadsBack};
 ghost use Rattle.locale_numbers.specs.PrintedLaws.{FoundTablesAreSound, IsSoundWhereFound, PrintedIsAnswered, PrintedIsNear, PrintedIsWrittenAgain, PrintedKeepsOrder, PrintedPrintsItself, ZeroIsPrintedForZero};
 ghost use Rattle.locale_numbers_requests.specs.declared.PatternLength.TheVariants.{Short, Long};
 
@@ -15,7 +15,7 @@ use icu_decimal::laws::compact::{
     held_entries_are_sound, shown_forms_are_answered, shown_values_are_compact,
 };
 use icu_decimal::laws::reading::{
-    both_trips, plain_reading_is_the_reading, texts_have_one_decimal,
+    both_trips, plain_reading_is_the_reading, texts_are_utf8, texts_have_one_decimal,
 };
 use icu_decimal::laws::shown::{exact_forms_of_shown_values, tables_show_values};
 use icu_decimal::options::GroupingStrategy;
@@ -101,6 +101,13 @@ pub fn read_is_written_again()
 pub fn read_is_read_leniently()
     ensures { ReadIsReadLeniently }
 {}
+
+/// What is written of a number is UTF-8, as each field of a line is: with `en` that of -987654.321 is `-987,654.321`.
+pub fn written_is_utf8()
+    ensures { WrittenIsUtf8 }
+{
+    texts_are_utf8();
+}
 
 /// Under readable symbols a text that was written reads back: the answer is the number, with its sign and the digits
 /// shown. With `en`, `-987,654.321` is read as `-987654.321`.
