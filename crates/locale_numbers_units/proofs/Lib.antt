@@ -1,3 +1,7 @@
 pub mod FaultLemmas
 pub mod AddLemmas
-mod KnownValues
+pub mod OwnLemmas
+pub mod PatternLemmas
+pub mod UnitsLemmas
+pub mod KnownValues
+mod KnownUnits

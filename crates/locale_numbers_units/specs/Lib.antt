@@ -1,9 +1,14 @@
 -- What a reader must believe: what each field and each entry says, the first fault of an array, its number and its word.
 pub mod Fields
+pub mod OwnSymbols
+pub mod Patterns
+pub mod Percents
+pub mod Amounts
 pub mod CurrencyDigits
 pub mod CurrencySymbols
 pub mod Faults
 pub mod UnitsError
+pub mod Units
 -- What private steps follow.
 pub mod Telling
 pub mod Allocation

@@ -5,11 +5,11 @@ ghost use Rattle.std.specs.List.{list_all};
 ghost use Rattle.std.specs.Char.{is_ascii_uppercase};
 ghost use Rattle.serde_json.specs.View.{view};
 ghost use Rattle.locale_numbers_tables.specs.Entries.{field_at};
-ghost use Rattle.locale_numbers_units.specs.Fields.{code_in, code_named, ends_in, ends_numbered, increment_in, increment_numbered, is_code};
+ghost use Rattle.locale_numbers_units.specs.Fields.{code_in, code_named, ends_in, ends_numbered, increment_in, increment_numbered, is_code, system_or_code_at};
 
 use icu_dimension_affixes::LetterEnds;
 use icu_dimension_fractions::FractionIncrement;
-use locale_numbers_tables::fields::{size, text_at};
+use locale_numbers_tables::fields::{size, system_or_none, text_at};
 use serde_json::Value;
 use tinystr::TinyAsciiStr;
 
@@ -45,6 +45,16 @@ pub fn code(entry: &Value, place: usize) -> Option<TinyAsciiStr<8>>
 {
     let text = text_at(entry, place)?;
     read_code(text)
+}
+
+/// The system or the code at a place of an entry, which may be empty.
+pub fn system_or_code(entry: &Value, place: usize) -> Option<TinyAsciiStr<8>>
+    ensures { result ≡ system_or_code_at place (view entry.now) }
+{
+    match code(entry, place) {
+        Some(code) => Some(code),
+        None => system_or_none(entry, place),
+    }
 }
 
 // Which ends are letters, by the sum of 1 for the first and 2 for the last.

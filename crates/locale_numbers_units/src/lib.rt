@@ -6,15 +6,23 @@
 
 #![tactic(auto)]
 
+mod amounts;
 mod array;
 mod currency_digits;
 mod currency_symbols;
 mod error;
 mod fields;
+mod own_symbols;
+mod patterns;
+mod percents;
 mod tables;
+mod units;
 
+pub use amounts::{Accounts, AmountPatterns, Currencies};
 pub use array::UnitArray;
 pub use currency_digits::CurrencyDigits;
-pub use currency_symbols::{CurrencySymbol, CurrencySymbols};
+pub use currency_symbols::{CurrencyName, CurrencySymbol, CurrencySymbols};
 pub use error::UnitsError;
+pub use percents::{PercentPattern, Percents};
 pub use tables::table_of;
+pub use units::{UnitArrays, Units};

@@ -1,0 +1,4 @@
+use Rattle.locale_numbers_units.proofs.units.Units.currency.Goals as goal
+
+pub returns : goal.returns
+returns c = rw (← c.self.view_is) c.get.ensures.value
