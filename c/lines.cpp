@@ -9,9 +9,8 @@
 #include <string>
 #include <vector>
 
-using legumeyet::Book;
-using legumeyet::CompactDecimalFormatter;
-using legumeyet::DecimalFormatter;
+using legumeyet::Book, legumeyet::CompactDecimalFormatter, legumeyet::DecimalFormatter;
+using legumeyet::Code, legumeyet::Grouping, legumeyet::Options, legumeyet::Rounding, legumeyet::Sign, legumeyet::Width;
 using Words = std::vector<std::string>;
 
 // The words of fields, in the order of their numbers.
@@ -24,8 +23,9 @@ static const Words MODES{"-",           "expand",     "trunc",     "ceil",      
 
 static bool is_in(const std::string &word, const Words &words) { return std::find(words.begin(), words.end(), word) != words.end(); }
 
-static uint32_t number_of(const std::string &word, const Words &words) {
-    return static_cast<uint32_t>(std::find(words.begin(), words.end(), word) - words.begin());
+// The choice that a word is, of an enum whose numbers are the places of its words.
+template <class Choice> static Choice choice_of(const std::string &word, const Words &words) {
+    return static_cast<Choice>(std::find(words.begin(), words.end(), word) - words.begin());
 }
 
 // The pieces of a text between the marks.
@@ -40,31 +40,31 @@ static Words pieces(const std::string &text, char mark) {
     return found;
 }
 
-// The word of an answer that an error stands for.
-static std::string word_of(int32_t error) {
+// The word that an answer has for an error.
+static std::string word_of(Code error) {
     switch (error) {
-    case LEGUMEYET_TAG: return "tag";
-    case LEGUMEYET_TABLE: return "table";
-    case LEGUMEYET_NUMBER: return "number";
-    case LEGUMEYET_LIMIT: return "limit";
-    case LEGUMEYET_RANGE: return "range";
-    case LEGUMEYET_EXPONENT: return "exponent";
-    case LEGUMEYET_UNREADABLE: return "unreadable";
-    case LEGUMEYET_NOT_WRITTEN: return "not-written";
+    case Code::Tag: return "tag";
+    case Code::Table: return "table";
+    case Code::Number: return "number";
+    case Code::Limit: return "limit";
+    case Code::Range: return "range";
+    case Code::Exponent: return "exponent";
+    case Code::Unreadable: return "unreadable";
+    case Code::NotWritten: return "not-written";
     default: return "no word";
     }
 }
 
 // The text for the fields of a request by the call of a formatter; for `short` and `long` with the value shown after a tab.
-static std::string text_for(Book &book, const Words &fields, const legumeyet_options &options) {
+static std::string text_for(Book &book, const Words &fields, const Options &options) {
     const std::string &form = fields[1], &number = fields[5];
-    const uint32_t grouping = number_of(fields[2], GROUPINGS);
+    const auto grouping = choice_of<Grouping>(fields[2], GROUPINGS);
     if (is_in(form, SHOWN_FORMS)) {
-        CompactDecimalFormatter compact(book, fields[0], number_of(form, SHOWN_FORMS), grouping);
+        CompactDecimalFormatter compact(book, fields[0], choice_of<Width>(form, SHOWN_FORMS), grouping);
         return compact.format(number, options) + '\t' + compact.shown(number, options);
     }
     if (is_in(form, EXACT_FORMS))
-        return CompactDecimalFormatter(book, fields[0], number_of(form, EXACT_FORMS), grouping).format_exact(number, options);
+        return CompactDecimalFormatter(book, fields[0], choice_of<Width>(form, EXACT_FORMS), grouping).format_exact(number, options);
     DecimalFormatter plain(book, fields[0], grouping);
     return form == "read" ? plain.read(number) : plain.format(number, options);
 }
@@ -74,14 +74,14 @@ static std::string by_formatter(Book &book, const std::string &line) {
     const auto fields = pieces(line, '\t'), rounding = pieces(fields[4], ',');
     const bool is_rounded = rounding.size() == 3;
     if (is_rounded && rounding[2] != "1") return "";
-    legumeyet_options options{};
-    options.sign = number_of(fields[3], SIGNS);
-    options.rounding = number_of(rounding[is_rounded], MODES);
+    Options options;
+    options.sign = choice_of<Sign>(fields[3], SIGNS);
+    options.rounding = choice_of<Rounding>(rounding[is_rounded], MODES);
     if (is_rounded) options.position = static_cast<int16_t>(std::stoi(rounding[0]));
     try {
         return "ok\t" + text_for(book, fields, options);
     } catch (const legumeyet::Error &error) {
-        return "err\t" + word_of(error.number);
+        return "err\t" + word_of(error.code());
     }
 }
 

@@ -1,65 +1,332 @@
-// legumeyet.h for C++17: handles that close themselves, errors as exceptions, texts as strings.
+// legumeyet.h for C++17 and later: handles that close themselves, options of types of their own, texts as strings.
 //
 //     legumeyet::DecimalFormatter german("de");
-//     german.format("1234567.891");                              // 1.234.567,891
+//     german.format(1234567.891);                                // 1.234.567,891
+//     std::cout << german(1234.5);                               // 1.234,5
 //     legumeyet::CompactDecimalFormatter short_german("de");
 //     short_german.format(1234567);                              // 1,2 Mio. with a no-break space
 //
-// Each call throws a legumeyet::Error where the function of legumeyet.h that it calls returns one; std::bad_alloc may come too.
-// As there, a book or a formatter may go to another thread, and is used by one call at a time, so no call is const.
+// Where a function of legumeyet.h returns an error, a call whose name begins with `try_` has it in its Result, `format_to` and `try_keep`
+// return it as a Code, and each other call throws it as an Error. A program that is compiled with -fno-exceptions has all but the last.
+// A call that makes a std::string or a std::vector may throw std::bad_alloc.
+//
+// Threads: a book or a formatter may go to another thread, and is used by one call at a time, also by a call that only reads, so no call
+// is const.
 #ifndef LEGUMEYET_HPP
 #define LEGUMEYET_HPP
+
+#if __cplusplus < 201703L
+#error "legumeyet.hpp is for C++17 and later: -std=c++17"
+#endif
 
 #include <legumeyet.h>
 
 #include <algorithm>
 #include <atomic>
 #include <cerrno>
+#include <charconv>
 #include <cstddef>
+#include <iosfwd>
+#include <iterator>
 #include <memory>
 #include <mutex>
-#include <stdexcept>
 #include <string>
 #include <string_view>
-#include <system_error>
 #include <type_traits>
 #include <unistd.h>
 #include <utility>
+#include <variant>
 #include <vector>
+
+#ifdef __cpp_exceptions
+#include <stdexcept>
+#include <system_error>
+#endif
+#if __cplusplus >= 202002L
+#include <version>
+#endif
+#ifdef __cpp_lib_expected
+#include <expected>
+#endif
+#if defined(__cpp_lib_format) && defined(__cpp_exceptions)
+#include <format>
+#endif
 
 namespace legumeyet {
 
-// Why a call was refused: `number` as in legumeyet.h, `what()` in English.
-class Error : public std::runtime_error {
-    static std::string text_of(int32_t number) {
-        uint8_t out[128];
-        size_t length = 0;
-        const bool is_known = legumeyet_error_text(number, out, sizeof out, &length) == LEGUMEYET_OK;
-        return is_known ? std::string(out, out + length) : "an error of another version";
-    }
+// What a call returns; legumeyet.h says of each call which.
+enum class Code : int32_t {
+    File = LEGUMEYET_FILE,
+    Ok = LEGUMEYET_OK,
+    Memory = LEGUMEYET_MEMORY,
+    Closed = LEGUMEYET_CLOSED,
+    TooSmall = LEGUMEYET_TOO_SMALL,
+    Option = LEGUMEYET_OPTION,
+    Tag = LEGUMEYET_TAG,
+    Table = LEGUMEYET_TABLE,
+    Number = LEGUMEYET_NUMBER,
+    Limit = LEGUMEYET_LIMIT,
+    Range = LEGUMEYET_RANGE,
+    Utf8 = LEGUMEYET_UTF8,
+    Unreadable = LEGUMEYET_UNREADABLE,
+    NotWritten = LEGUMEYET_NOT_WRITTEN,
+    Exponent = LEGUMEYET_EXPONENT,
+    BookJson = LEGUMEYET_BOOK_JSON,
+    BookShape = LEGUMEYET_BOOK_SHAPE,
+    BookTag = LEGUMEYET_BOOK_TAG,
+    BookSystem = LEGUMEYET_BOOK_SYSTEM,
+    BookText = LEGUMEYET_BOOK_TEXT,
+    BookDigits = LEGUMEYET_BOOK_DIGITS,
+    BookCondition = LEGUMEYET_BOOK_CONDITION,
+    BookTypes = LEGUMEYET_BOOK_TYPES,
+    BookExponents = LEGUMEYET_BOOK_EXPONENTS,
+    BookDuplicate = LEGUMEYET_BOOK_DUPLICATE,
+    BookCycle = LEGUMEYET_BOOK_CYCLE
+};
 
-  public:
-    int32_t number;
-    explicit Error(int32_t error, const std::string &hint = "") : std::runtime_error(text_of(error) + hint), number(error) {}
+// When grouping separators are written: LEGUMEYET_GROUPING.
+enum class Grouping : uint32_t {
+    Auto = LEGUMEYET_GROUPING_AUTO,
+    Never = LEGUMEYET_GROUPING_NEVER,
+    Always = LEGUMEYET_GROUPING_ALWAYS,
+    Min2 = LEGUMEYET_GROUPING_MIN2
+};
+
+// Which patterns compact numbers are written in: LEGUMEYET_WIDTH.
+enum class Width : uint32_t { Short = LEGUMEYET_WIDTH_SHORT, Long = LEGUMEYET_WIDTH_LONG };
+
+// Which sign is written: LEGUMEYET_SIGN.
+enum class Sign : uint32_t {
+    Keep = LEGUMEYET_SIGN_KEEP,
+    Auto = LEGUMEYET_SIGN_AUTO,
+    Never = LEGUMEYET_SIGN_NEVER,
+    Always = LEGUMEYET_SIGN_ALWAYS,
+    ExceptZero = LEGUMEYET_SIGN_EXCEPT_ZERO,
+    Negative = LEGUMEYET_SIGN_NEGATIVE
+};
+
+// Which multiple of the increment, at the position, a number is rounded to: LEGUMEYET_ROUND.
+enum class Rounding : uint32_t {
+    Keep = LEGUMEYET_ROUND_KEEP,
+    Expand = LEGUMEYET_ROUND_EXPAND,
+    Trunc = LEGUMEYET_ROUND_TRUNC,
+    Ceil = LEGUMEYET_ROUND_CEIL,
+    Floor = LEGUMEYET_ROUND_FLOOR,
+    HalfExpand = LEGUMEYET_ROUND_HALF_EXPAND,
+    HalfTrunc = LEGUMEYET_ROUND_HALF_TRUNC,
+    HalfCeil = LEGUMEYET_ROUND_HALF_CEIL,
+    HalfFloor = LEGUMEYET_ROUND_HALF_FLOOR,
+    HalfEven = LEGUMEYET_ROUND_HALF_EVEN
+};
+
+// What becomes of the zeros at the end of the fraction digits: LEGUMEYET_TRAILING_ZEROS.
+enum class TrailingZeros : uint16_t { Keep = LEGUMEYET_TRAILING_ZEROS_KEEP, Trim = LEGUMEYET_TRAILING_ZEROS_TRIM };
+
+// What a number is rounded to a multiple of, at the position.
+enum class Increment : uint32_t { One = 1, Two = 2, Five = 5, TwentyFive = 25 };
+
+// What a part of a text is: LEGUMEYET_PART. A later library may have other kinds.
+enum class Kind : uint32_t {
+    MinusSign = LEGUMEYET_PART_MINUS_SIGN,
+    PlusSign = LEGUMEYET_PART_PLUS_SIGN,
+    Integer = LEGUMEYET_PART_INTEGER,
+    Group = LEGUMEYET_PART_GROUP,
+    Decimal = LEGUMEYET_PART_DECIMAL,
+    Fraction = LEGUMEYET_PART_FRACTION
 };
 
 namespace inner {
 
-inline void expect_well(int32_t error) {
-    if (error != LEGUMEYET_OK) throw Error(error);
+// Options with another field.
+template <class Options, class T> constexpr Options with(Options options, T Options::*field, T it) noexcept {
+    options.*field = it;
+    return options;
+}
+
+} // namespace inner
+
+// What is made of a number before it is written: legumeyet_options. At most two fraction digits, in C++20 and in each version:
+//
+//     german.format(1.255, {.rounding = Rounding::HalfEven, .position = -2, .trailing_zeros = TrailingZeros::Trim});
+//     german.format(1.255, Options().with_rounding(Rounding::HalfEven, -2).with_trailing_zeros(TrailingZeros::Trim));
+struct Options {
+    Sign sign = Sign::Keep;
+    Rounding rounding = Rounding::Keep;
+    int16_t position = 0;
+    TrailingZeros trailing_zeros = TrailingZeros::Keep;
+    Increment increment = Increment::One;
+    uint16_t minimum_integer_digits = 0;
+    uint16_t minimum_fraction_digits = 0;
+
+    // The same with another choice.
+    constexpr Options with_sign(Sign it) const noexcept { return inner::with(*this, &Options::sign, it); }
+    constexpr Options with_rounding(Rounding it, int16_t at = 0) const noexcept {
+        return inner::with(inner::with(*this, &Options::rounding, it), &Options::position, at);
+    }
+    constexpr Options with_trailing_zeros(TrailingZeros it) const noexcept { return inner::with(*this, &Options::trailing_zeros, it); }
+    constexpr Options with_increment(Increment it) const noexcept { return inner::with(*this, &Options::increment, it); }
+    constexpr Options with_minimum_integer_digits(uint16_t count) const noexcept {
+        return inner::with(*this, &Options::minimum_integer_digits, count);
+    }
+    constexpr Options with_minimum_fraction_digits(uint16_t count) const noexcept {
+        return inner::with(*this, &Options::minimum_fraction_digits, count);
+    }
+
+    // The same for legumeyet.h.
+    constexpr explicit operator legumeyet_options() const noexcept {
+        legumeyet_options found{};
+        found.sign = static_cast<uint32_t>(sign);
+        found.rounding = static_cast<uint32_t>(rounding);
+        found.position = position;
+        found.trailing_zeros = static_cast<uint16_t>(trailing_zeros);
+        found.increment = static_cast<uint32_t>(increment);
+        found.minimum_integer_digits = minimum_integer_digits;
+        found.minimum_fraction_digits = minimum_fraction_digits;
+        return found;
+    }
+};
+
+namespace inner {
+
+inline const uint8_t *bytes(std::string_view text) noexcept { return reinterpret_cast<const uint8_t *>(text.data()); }
+inline uint8_t *bytes(char *text) noexcept { return reinterpret_cast<uint8_t *>(text); }
+
+// How many bytes a text may have that is written without an allocation of this header.
+inline constexpr std::size_t NEAR = 256;
+
+// Calls `use` with the text that `call` writes, which takes the last three arguments of such a function of legumeyet.h.
+template <class Call, class Use> Code with_text(Call call, Use use) {
+    char near[NEAR];
+    std::size_t length = 0;
+    auto code = static_cast<Code>(call(bytes(near), sizeof near, &length));
+    if (code == Code::Ok) use(std::string_view(near, length));
+    if (code != Code::TooSmall) return code;
+    std::string far(length, ' ');
+    code = static_cast<Code>(call(bytes(&far[0]), far.size(), &length));
+    if (code == Code::Ok) use(std::string_view(far.data(), length));
+    return code;
+}
+
+// Whether a type is of integers that numbers are given as: not of characters, and not bool.
+template <class T>
+inline constexpr bool is_number = std::is_integral_v<T> && sizeof(T) <= sizeof(int64_t) && !std::is_same_v<T, bool> &&
+                                  !std::is_same_v<T, char> && !std::is_same_v<T, wchar_t> && !std::is_same_v<T, char16_t> &&
+#ifdef __cpp_char8_t
+                                  !std::is_same_v<T, char8_t> &&
+#endif
+                                  !std::is_same_v<T, char32_t>;
+
+// Whether a type is of texts.
+template <class T> inline constexpr bool is_text = std::is_convertible_v<const T &, std::string_view> && !std::is_null_pointer_v<T>;
+
+// Whether a type is of numbers that are given otherwise: bool and the characters, and a float or a long double, which has other shortest
+// digits than a double.
+template <class T>
+inline constexpr bool is_refused = std::is_null_pointer_v<T> || (std::is_arithmetic_v<T> && !is_number<T> && !std::is_same_v<T, double>);
+
+// Whether an integer is one of the type.
+template <class To, class From> constexpr bool fits(From number) noexcept {
+    const To narrow = static_cast<To>(number);
+    return static_cast<From>(narrow) == number && (narrow < To{}) == (number < From{});
+}
+
+} // namespace inner
+
+// What a code means, in English.
+inline std::string message(Code code) {
+    const auto write = [&](auto... out) { return legumeyet_error_text(static_cast<int32_t>(code), out...); };
+    std::string found = code == Code::Ok ? "all is well" : code == Code::File ? "the file cannot be read" : "an error of another version";
+    inner::with_text(write, [&](std::string_view text) { found = text; });
+    return found;
+}
+
+#ifdef __cpp_exceptions
+// Why a call was refused: `number` as in legumeyet.h, `what()` in English.
+class Error : public std::runtime_error {
+  public:
+    int32_t number;
+    explicit Error(int32_t error, const std::string &hint = "") : Error(static_cast<Code>(error), hint) {}
+    explicit Error(Code code, const std::string &hint = "")
+        : std::runtime_error(message(code) + hint), number(static_cast<int32_t>(code)) {}
+
+    Code code() const noexcept { return static_cast<Code>(number); }
+};
+
+namespace inner {
+
+inline void expect_well(Code code) {
+    if (code != Code::Ok) throw Error(code);
 }
 
 // The same of a formatter that is opened. An underscore of a tag is told.
-inline void expect_opened(int32_t error, std::string_view tag) {
+inline void expect_opened(Code code, std::string_view tag) {
     std::string hyphens(tag);
     std::replace(hyphens.begin(), hyphens.end(), '_', '-');
-    if (error == LEGUMEYET_TAG && hyphens != tag) throw Error(error, ": `" + std::string(tag) + "` is written `" + hyphens + "`");
-    expect_well(error);
+    if (code == Code::Tag && hyphens != tag) throw Error(code, ": `" + std::string(tag) + "` is written `" + hyphens + "`");
+    expect_well(code);
 }
 
-inline const uint8_t *bytes(std::string_view text) { return reinterpret_cast<const uint8_t *>(text.data()); }
+} // namespace inner
+#endif
 
-// A handle that is closed where it goes out of scope. What is moved from is closed.
+// What a call found, or the code that refused it, which is not Code::Ok. It is the same type in each version of C++; in C++23 it converts
+// to a std::expected.
+template <class T> class [[nodiscard]] Result {
+    static_assert(std::is_nothrow_move_constructible_v<T>);
+    std::variant<T, Code> content;
+
+  public:
+    Result(T &&found) noexcept : content(std::in_place_index<0>, std::move(found)) {}
+    Result(Code code) noexcept : content(std::in_place_index<1>, code) {}
+
+    bool has_value() const noexcept { return content.index() == 0; }
+    explicit operator bool() const noexcept { return has_value(); }
+    Code error() const noexcept {
+        const Code *code = std::get_if<1>(&content);
+        return code != nullptr ? *code : Code::Ok;
+    }
+
+    // What was found; only of a result that has it.
+    T &operator*() &noexcept { return *std::get_if<0>(&content); }
+    const T &operator*() const &noexcept { return *std::get_if<0>(&content); }
+    T &&operator*() &&noexcept { return std::move(**this); }
+    T *operator->() noexcept { return std::get_if<0>(&content); }
+    const T *operator->() const noexcept { return std::get_if<0>(&content); }
+
+    // What was found, or another value.
+    template <class U> T value_or(U &&other) const & { return has_value() ? **this : static_cast<T>(std::forward<U>(other)); }
+    template <class U> T value_or(U &&other) && { return has_value() ? std::move(**this) : static_cast<T>(std::forward<U>(other)); }
+
+#ifdef __cpp_exceptions
+    // What was found. Throws the Error of the code.
+    T &value() & { return expect(), **this; }
+    const T &value() const & { return expect(), **this; }
+    T &&value() && { return expect(), std::move(**this); }
+
+  private:
+    void expect() const { inner::expect_well(error()); }
+
+  public:
+#endif
+#ifdef __cpp_lib_expected
+    operator std::expected<T, Code>() && {
+        if (!has_value()) return std::unexpected(error());
+        return std::move(**this);
+    }
+#endif
+};
+
+namespace inner {
+
+// The text that a call writes, as `with_text` takes it.
+template <class Call> Result<std::string> text_of(Call call) {
+    std::string text;
+    const Code code = with_text(call, [&](std::string_view written) { text = written; });
+    if (code != Code::Ok) return code;
+    return text;
+}
+
+// A handle that is closed where it goes out of scope. What is moved from is closed, but for what is moved to itself.
 template <class Handle, int32_t (*close)(Handle *)> class Owned {
   protected:
     Handle handle{};
@@ -76,50 +343,139 @@ template <class Handle, int32_t (*close)(Handle *)> class Owned {
     ~Owned() { close(&handle); }
 };
 
-// Whether a type is of integers that numbers are given as: not of characters, and not bool.
-template <class T>
-inline constexpr bool is_number = std::is_integral_v<T> && sizeof(T) <= sizeof(int64_t) && !std::is_same_v<T, bool> &&
-                                  !std::is_same_v<T, char> && !std::is_same_v<T, wchar_t> && !std::is_same_v<T, char16_t> &&
-                                  !std::is_same_v<T, char32_t>;
-
-// Whether an integer is one of the type.
-template <class To, class From> constexpr bool fits(From number) {
-    const To narrow = static_cast<To>(number);
-    return static_cast<From>(narrow) == number && (narrow < To{}) == (number < From{});
-}
-
-// The text that a call writes, with as much room as it needs: `call` takes the last three arguments of such a function.
-template <class Call> std::string written(Call call) {
-    std::string text(64, ' ');
-    size_t length = 0;
-    int32_t error = call(reinterpret_cast<uint8_t *>(&text[0]), text.size(), &length);
-    if (error == LEGUMEYET_TOO_SMALL) {
-        text.resize(length);
-        error = call(reinterpret_cast<uint8_t *>(&text[0]), text.size(), &length);
-    }
-    expect_well(error);
-    text.resize(length);
-    return text;
-}
-
 } // namespace inner
 
-// A text, and its parts by bytes: each `kind` is a LEGUMEYET_PART.
-struct Annotated {
-    std::string text;
-    std::vector<legumeyet_interval> parts;
+// A number to be written: a text, as `-987654.321`, an integer, a double, or an integer times a power of ten. It borrows a text.
+class Number {
+    std::variant<std::string_view, int64_t, uint64_t, double> content;
+    int16_t exponent = 0;
+
+  public:
+    template <class T, std::enable_if_t<inner::is_text<T>, int> = 0> Number(const T &text) : content(std::string_view(text)) {}
+
+    // The number `mantissa` times ten to the power `exponent`, with all digits down to it: 500 and -2 are `5.00`.
+    template <class T, std::enable_if_t<inner::is_number<T>, int> = 0> Number(T number) noexcept : Number(number, 0) {}
+    template <class T, class E, std::enable_if_t<inner::is_number<T> && inner::is_number<E>, int> = 0>
+    Number(T mantissa, E power) noexcept {
+        if (!inner::fits<int16_t>(power))
+            content = std::string_view("1e99999"); // no call takes it: Code::Limit
+        else if (inner::fits<int64_t>(mantissa))
+            content = static_cast<int64_t>(mantissa);
+        else
+            content = static_cast<uint64_t>(mantissa);
+        exponent = static_cast<int16_t>(power);
+    }
+
+    // The shortest number that gives the double back: `1,234.5` of 1234.5 in English, `5` of 5.0.
+    template <class T, std::enable_if_t<std::is_same_v<T, double>, int> = 0> Number(T number) noexcept : content(number) {}
+
+    template <class T, std::enable_if_t<inner::is_refused<T>, int> = 0> Number(T) = delete;
+
+    // Calls the function of `Calls` for the number.
+    template <class Calls, class Handle, class... Out>
+    int32_t written_by(Handle &handle, const legumeyet_options &options, Out... out) const noexcept {
+        if (const auto *text = std::get_if<std::string_view>(&content))
+            return Calls::format(&handle, inner::bytes(*text), text->size(), &options, out...);
+        if (const auto *number = std::get_if<int64_t>(&content)) return Calls::format_i64(&handle, *number, exponent, &options, out...);
+        if (const auto *number = std::get_if<uint64_t>(&content)) return Calls::format_u64(&handle, *number, exponent, &options, out...);
+        return Calls::format_double(&handle, *std::get_if<double>(&content), &options, out...);
+    }
 };
 
 namespace inner {
 
-// The same with parts: `call` takes the last six arguments of such a function.
-template <class Call> Annotated annotated(Call call) {
+// A number that is given as text, as an integer or as a double, for a function of legumeyet.h that takes texts alone.
+class Digits {
+    const char *text = nullptr;
+    std::size_t length;
+    char near[32];
+
+  public:
+    template <class T, std::enable_if_t<is_text<T>, int> = 0> Digits(const T &number) {
+        const std::string_view view(number);
+        text = view.data();
+        length = view.size();
+    }
+    template <class T, std::enable_if_t<is_number<T> || std::is_same_v<T, double>, int> = 0> Digits(T number) noexcept {
+        char *end = near;
+        if constexpr (is_number<T>)
+            end = std::to_chars(near, near + sizeof near, number).ptr;
+        else
+            end = std::remove(near, std::to_chars(near, near + sizeof near, number, std::chars_format::scientific).ptr, '+');
+        length = static_cast<std::size_t>(end - near);
+    }
+    template <class T, std::enable_if_t<is_refused<T>, int> = 0> Digits(T) = delete;
+
+    std::string_view view() const noexcept { return {text != nullptr ? text : near, length}; }
+};
+
+} // namespace inner
+
+// What a call wrote to `out`, which is the place after the last byte. The text has `size` bytes. Code::TooSmall says that the room has the
+// first of them, which may end inside a character; of any other error nothing is written, and `size` is 0.
+template <class Out> struct FormatToResult {
+    Out out;
+    std::size_t size;
+    Code code;
+
+    explicit operator bool() const noexcept { return code == Code::Ok; }
+};
+
+// A part of a text.
+struct Part {
+    std::string_view text;
+    Kind kind;
+};
+
+// A text, and its parts by bytes. As a range it has the same parts with their texts: for (auto [text, kind] : annotated) ..
+struct Annotated {
+    std::string text;
+    std::vector<legumeyet_interval> parts;
+
+    class iterator {
+        const Annotated *whole = nullptr;
+        std::size_t at = 0;
+
+      public:
+        using iterator_category = std::input_iterator_tag;
+        using iterator_concept = std::forward_iterator_tag;
+        using difference_type = std::ptrdiff_t;
+        using value_type = Part;
+        using reference = Part;
+        using pointer = void;
+
+        iterator() = default;
+        iterator(const Annotated &annotated, std::size_t part) noexcept : whole(&annotated), at(part) {}
+
+        Part operator*() const noexcept {
+            const legumeyet_interval &it = whole->parts[at];
+            return {std::string_view(whole->text).substr(it.start, it.end - it.start), static_cast<Kind>(it.kind)};
+        }
+        iterator &operator++() noexcept {
+            ++at;
+            return *this;
+        }
+        iterator operator++(int) noexcept { return {*whole, at++}; }
+        friend bool operator==(const iterator &left, const iterator &right) noexcept { return left.at == right.at; }
+        friend bool operator!=(const iterator &left, const iterator &right) noexcept { return left.at != right.at; }
+    };
+
+    iterator begin() const noexcept { return {*this, 0}; }
+    iterator end() const noexcept { return {*this, parts.size()}; }
+};
+
+namespace inner {
+
+// The same of a call that takes the last six arguments of such a function.
+template <class Call> Result<Annotated> annotated_of(Call call) {
     Annotated found{std::string(), std::vector<legumeyet_interval>(16)};
-    size_t count = 0;
-    found.text = written([&](auto... out) {
+    std::size_t count = 0;
+    Result<std::string> text = text_of([&](auto... out) {
         found.parts.resize(std::max(found.parts.size(), count));
         return call(out..., found.parts.data(), found.parts.size(), &count);
     });
+    if (!text) return text.error();
+    found.text = *std::move(text);
     found.parts.resize(count);
     return found;
 }
@@ -129,7 +485,9 @@ template <class Call> Annotated annotated(Call call) {
 // The tag of a locale's name as LANG and setlocale give it: `de-DE` of `de_DE.UTF-8`; legumeyet_tag_of_locale_name has the rule. A null
 // pointer is an empty name.
 inline std::string tag_of_locale_name(const char *name) {
-    return inner::written([&](auto... out) { return legumeyet_tag_of_locale_name(name, out...); });
+    std::string tag;
+    inner::with_text([&](auto... out) { return legumeyet_tag_of_locale_name(name, out...); }, [&](std::string_view text) { tag = text; });
+    return tag;
 }
 
 // The tags of the world's locales, in order.
@@ -146,34 +504,48 @@ class Book : inner::Owned<legumeyet_book, legumeyet_book_close> {
 
     Book() = default;
 
-  public:
-    // The book that a JSON text is.
-    explicit Book(std::string_view json) { inner::expect_well(legumeyet_book_open(inner::bytes(json), json.size(), &handle)); }
-
-    // The world's book, which is in the library.
-    static Book world() {
+    template <class Call> static Result<Book> opened(Call call) noexcept {
         Book book;
-        inner::expect_well(legumeyet_book_open_world(&book.handle));
+        const auto code = static_cast<Code>(call(&book.handle));
+        if (code != Code::Ok) return code;
         return book;
     }
 
-    // The book that a file is. Throws a std::system_error where the file cannot be read.
-    static Book from_file(const std::string &path) {
-        Book book;
-        const int32_t error = legumeyet_book_open_file(path.c_str(), &book.handle);
-        if (error == LEGUMEYET_FILE) throw std::system_error(errno, std::generic_category(), path);
-        inner::expect_well(error);
-        return book;
+  public:
+    // The book that a JSON text is.
+    static Result<Book> try_from_json(std::string_view json) noexcept {
+        return opened([&](legumeyet_book *book) { return legumeyet_book_open(inner::bytes(json), json.size(), book); });
+    }
+
+    // The world's book, which is in the library.
+    static Result<Book> try_world() noexcept { return opened(legumeyet_book_open_world); }
+
+    // The book that a file is. Of Code::File errno says why the file cannot be read.
+    static Result<Book> try_from_file(const std::string &path) noexcept {
+        return opened([&](legumeyet_book *book) { return legumeyet_book_open_file(path.c_str(), book); });
     }
 
     // Keeps the book for the rest of the program: its memory is never given back. Formatters that are opened from it afterwards borrow
     // its tables: they hold less memory and write faster.
-    void keep() { inner::expect_well(legumeyet_book_keep(&handle)); }
+    [[nodiscard]] Code try_keep() noexcept { return static_cast<Code>(legumeyet_book_keep(&handle)); }
 
     // The answer to a request line, without its line feed: `ok`, a tab and a text, or `err`, a tab and a word.
-    std::string answer(std::string_view line) {
-        return inner::written([&](auto... out) { return legumeyet_book_answer(&handle, inner::bytes(line), line.size(), out...); });
+    Result<std::string> try_answer(std::string_view line) {
+        return inner::text_of([&](auto... out) { return legumeyet_book_answer(&handle, inner::bytes(line), line.size(), out...); });
     }
+
+#ifdef __cpp_exceptions
+    explicit Book(std::string_view json) : Book(try_from_json(json).value()) {}
+    static Book world() { return try_world().value(); }
+    // Throws a std::system_error where the file cannot be read.
+    static Book from_file(const std::string &path) {
+        Result<Book> book = try_from_file(path);
+        if (book.error() == Code::File) throw std::system_error(errno, std::generic_category(), path);
+        return std::move(book).value();
+    }
+    void keep() { inner::expect_well(try_keep()); }
+    std::string answer(std::string_view line) { return try_answer(line).value(); }
+#endif
 };
 
 namespace inner {
@@ -181,86 +553,111 @@ namespace inner {
 // The world's book, kept, which a process opens at the first formatter of a tag alone. A forked child opens its own, since a thread that is
 // not in it may have had the book's lock.
 class World {
-    Book book = Book::world();
+    Book book;
     std::mutex lock;
     const pid_t process = getpid();
 
-    static World &of_process() {
+    static Result<World *> of_process() {
         static std::atomic<World *> shared{nullptr};
         World *found = shared.load();
-        if (found != nullptr && found->process == getpid()) return *found;
-        auto made = std::make_unique<World>();
+        if (found != nullptr && found->process == getpid()) return found;
+        Result<Book> opened = Book::try_world();
+        if (!opened) return opened.error();
+        auto made = std::make_unique<World>(*std::move(opened));
         while (found == nullptr || found->process != getpid()) {
             if (!shared.compare_exchange_weak(found, made.get())) continue;
-            return *made.release();
+            return made.release();
         }
-        return *found;
+        return found;
     }
 
   public:
-    World() = default;
+    explicit World(Book opened) noexcept : book(std::move(opened)) {}
 
     // Calls with the book, one call at a time.
-    template <class Call> static void with(Call call) {
-        World &world = of_process();
-        const std::lock_guard<std::mutex> held(world.lock);
-        world.book.keep();
-        call(world.book);
+    template <class Call> static auto with(Call call) -> decltype(call(std::declval<Book &>())) {
+        const Result<World *> world = of_process();
+        if (!world) return world.error();
+        const std::lock_guard<std::mutex> held((*world)->lock);
+        const Code code = (*world)->book.try_keep();
+        if (code != Code::Ok) return code;
+        return call((*world)->book);
     }
 };
 
 } // namespace inner
 
+template <class Formatter> class Formatted;
+
 namespace inner {
 
 // What a formatter of any kind writes; `Calls` has the functions of legumeyet.h for the kind.
 template <class Handle, class Calls> class Formatter : Owned<Handle, Calls::close> {
+    friend class Formatted<Formatter>;
+
+    // Calls with the text of a number.
+    template <class Use> Code with_text_of(const Number &number, const Options &options, Use use) {
+        const auto choices = static_cast<legumeyet_options>(options);
+        return with_text([&](auto... out) { return number.written_by<Calls>(handle, choices, out...); }, use);
+    }
+
   protected:
     using Owned<Handle, Calls::close>::handle;
 
     Formatter() = default;
 
-    template <class Call> static std::string of_text(Call call, Handle &handle, std::string_view number, const legumeyet_options &options) {
-        return written([&](auto... out) { return call(&handle, bytes(number), number.size(), &options, out...); });
+    // What a call for a number as text writes.
+    template <class Call> Result<std::string> of_text(Call call, std::string_view number, const Options &options) {
+        const auto choices = static_cast<legumeyet_options>(options);
+        return text_of([&](auto... out) { return call(&handle, bytes(number), number.size(), &choices, out...); });
     }
 
   public:
-    // The text of a number that is given as text: `-987654.321`.
-    std::string format(std::string_view number, const legumeyet_options &options = {}) {
-        return of_text(Calls::format, handle, number, options);
+    // Writes the text of a number to the front of the room. Nothing is allocated by this header.
+    FormatToResult<char *> format_to(char *first, std::size_t room, Number number, const Options &options = {}) noexcept {
+        std::size_t size = 0;
+        const auto choices = static_cast<legumeyet_options>(options);
+        const auto code = static_cast<Code>(number.written_by<Calls>(handle, choices, bytes(first), room, &size));
+        return {first == nullptr ? first : first + std::min(size, room), size, code};
     }
 
-    // The text of an integer, or of `mantissa` times ten to the power `exponent`: 500 and -2 are `5.00`.
-    template <class T, std::enable_if_t<is_number<T>, int> = 0> std::string format(T number, const legumeyet_options &options = {}) {
-        return format(number, 0, options);
-    }
-    template <class T, class E, std::enable_if_t<is_number<T> && is_number<E>, int> = 0>
-    std::string format(T mantissa, E exponent, const legumeyet_options &options = {}) {
-        if (!fits<int16_t>(exponent)) throw Error(LEGUMEYET_LIMIT);
-        const auto power = static_cast<int16_t>(exponent);
-        return written([&](auto... out) {
-            if (fits<int64_t>(mantissa)) return Calls::format_i64(&handle, static_cast<int64_t>(mantissa), power, &options, out...);
-            return Calls::format_u64(&handle, static_cast<uint64_t>(mantissa), power, &options, out...);
+    // Writes the text of a number to an output iterator, as std::back_inserter(text). A text up to 256 bytes takes no allocation.
+    template <class Out, std::enable_if_t<!std::is_pointer_v<Out>, int> = 0>
+    FormatToResult<Out> format_to(Out out, Number number, const Options &options = {}) {
+        FormatToResult<Out> found{std::move(out), 0, Code::Ok};
+        found.code = with_text_of(number, options, [&](std::string_view text) {
+            found.out = std::copy(text.begin(), text.end(), std::move(found.out));
+            found.size = text.size();
         });
+        return found;
     }
 
-    // The text of a double, by the shortest number that gives it back: `1,234.5` of 1234.5 in English, `5` of 5.0.
-    template <class T, std::enable_if_t<std::is_same_v<T, double>, int> = 0>
-    std::string format(T number, const legumeyet_options &options = {}) {
-        return written([&](auto... out) { return Calls::format_double(&handle, number, &options, out...); });
+    // What `<<` and std::format write a number by; it borrows the formatter, and a text. It is used in the statement that makes it.
+    Formatted<Formatter> operator()(Number number, const Options &options = {}) &noexcept { return {*this, number, options}; }
+
+    // The text of a number.
+    Result<std::string> try_format(Number number, const Options &options = {}) {
+        std::string text;
+        const Code code = with_text_of(number, options, [&](std::string_view written) { text = written; });
+        if (code != Code::Ok) return code;
+        return text;
     }
 
-    // A float or a long double has other shortest digits than a double, and a double has no exponent beside it.
-    template <class T, std::enable_if_t<std::is_floating_point_v<T> && !std::is_same_v<T, double>, int> = 0>
-    std::string format(T, const legumeyet_options & = {}) = delete;
-    template <class T, class E, class... Rest, std::enable_if_t<std::is_floating_point_v<T> && std::is_arithmetic_v<E>, int> = 0>
-    std::string format(T, E, Rest &&...) = delete;
-    template <class... Rest> std::string format(std::nullptr_t, Rest &&...) = delete;
-
-    // The text of `format` with its parts, in order of their beginning; of a compact number those of its sign.
-    Annotated format_parts(std::string_view number, const legumeyet_options &options = {}) {
-        return annotated([&](auto... out) { return Calls::format_parts(&handle, bytes(number), number.size(), &options, out...); });
+    // The same with its parts, in order of their beginning; of a compact number those of its sign.
+    Result<Annotated> try_format_parts(const Digits &number, const Options &options = {}) {
+        const std::string_view text = number.view();
+        const auto choices = static_cast<legumeyet_options>(options);
+        return annotated_of([&](auto... out) { return Calls::format_parts(&handle, bytes(text), text.size(), &choices, out...); });
     }
+
+#ifdef __cpp_exceptions
+    std::string format(Number number, const Options &options = {}) { return try_format(number, options).value(); }
+    template <class T, class E, std::enable_if_t<is_number<T> && is_number<E>, int> = 0>
+    std::string format(T mantissa, E exponent, const Options &options = {}) {
+        return format(Number(mantissa, exponent), options);
+    }
+    Annotated format_parts(const Digits &number, const Options &options = {}) { return try_format_parts(number, options).value(); }
+#endif
 };
 
 struct DecimalCalls {
@@ -283,64 +680,138 @@ struct CompactCalls {
 
 } // namespace inner
 
+// A number as a formatter writes it: std::cout << german(1234.5), and in C++20 std::format("{:>12}", german(1234.5)).
+template <class Formatter> class Formatted {
+    friend Formatter;
+
+    Formatter *formatter;
+    Number number;
+    Options options;
+
+    Formatted(Formatter &by, Number it, const Options &how) noexcept : formatter(&by), number(it), options(how) {}
+
+  public:
+    // Calls with the text.
+    template <class Use> Code with_text(Use use) const { return formatter->with_text_of(number, options, use); }
+
+    // Writes the text, or where a program has no exceptions sets the failbit.
+    template <class Traits>
+    friend std::basic_ostream<char, Traits> &operator<<(std::basic_ostream<char, Traits> &out, const Formatted &it) {
+        using View = std::basic_string_view<char, Traits>;
+        const Code code = it.with_text([&](std::string_view text) { out << View(text.data(), text.size()); });
+#ifdef __cpp_exceptions
+        inner::expect_well(code);
+#else
+        if (code != Code::Ok) out.setstate(std::basic_ostream<char, Traits>::failbit);
+#endif
+        return out;
+    }
+};
+
 // The formatter of plain numbers for a locale tag. It may outlive its book.
 class DecimalFormatter : public inner::Formatter<legumeyet_decimal_formatter, inner::DecimalCalls> {
+    DecimalFormatter() = default;
+
   public:
     // Of the world's book, which the process opens once and keeps.
-    explicit DecimalFormatter(std::string_view tag, uint32_t grouping = LEGUMEYET_GROUPING_AUTO) {
-        inner::World::with([&](Book &book) { open(book, tag, grouping); });
+    static Result<DecimalFormatter> try_open(std::string_view tag, Grouping grouping = Grouping::Auto) {
+        return inner::World::with([&](Book &book) { return try_open(book, tag, grouping); });
     }
 
-    DecimalFormatter(Book &book, std::string_view tag, uint32_t grouping = LEGUMEYET_GROUPING_AUTO) { open(book, tag, grouping); }
+    static Result<DecimalFormatter> try_open(Book &book, std::string_view tag, Grouping grouping = Grouping::Auto) noexcept {
+        DecimalFormatter found;
+        const auto code = static_cast<Code>(legumeyet_decimal_formatter_open(&book.handle, inner::bytes(tag), tag.size(),
+                                                                             static_cast<uint32_t>(grouping), &found.handle));
+        if (code != Code::Ok) return code;
+        return found;
+    }
 
     // The number that is written so, as digits: `-1234.50` of `-1,234.50` in English.
-    std::string read(std::string_view text) {
-        return inner::written(
+    Result<std::string> try_read(std::string_view text) {
+        return inner::text_of(
             [&](auto... out) { return legumeyet_decimal_formatter_read(&handle, inner::bytes(text), text.size(), out...); });
     }
 
     // The number that somebody typed, as digits: `1234.5` of ` 1234.5 ` in English; legumeyet_decimal_formatter_read_lenient has the rule.
-    std::string read_lenient(std::string_view text) {
-        return inner::written(
+    Result<std::string> try_read_lenient(std::string_view text) {
+        return inner::text_of(
             [&](auto... out) { return legumeyet_decimal_formatter_read_lenient(&handle, inner::bytes(text), text.size(), out...); });
     }
 
+#ifdef __cpp_exceptions
+    explicit DecimalFormatter(std::string_view tag, Grouping grouping = Grouping::Auto) { take(try_open(tag, grouping), tag); }
+    DecimalFormatter(Book &book, std::string_view tag, Grouping grouping = Grouping::Auto) { take(try_open(book, tag, grouping), tag); }
+    std::string read(std::string_view text) { return try_read(text).value(); }
+    std::string read_lenient(std::string_view text) { return try_read_lenient(text).value(); }
+
   private:
-    void open(Book &book, std::string_view tag, uint32_t grouping) {
-        inner::expect_opened(legumeyet_decimal_formatter_open(&book.handle, inner::bytes(tag), tag.size(), grouping, &handle), tag);
+    void take(Result<DecimalFormatter> opened, std::string_view tag) {
+        inner::expect_opened(opened.error(), tag);
+        *this = *std::move(opened);
     }
+#endif
 };
 
-// The formatter of compact numbers for a locale tag, of a LEGUMEYET_WIDTH. It may outlive its book.
+// The formatter of compact numbers for a locale tag. It may outlive its book.
 class CompactDecimalFormatter : public inner::Formatter<legumeyet_compact_formatter, inner::CompactCalls> {
+    CompactDecimalFormatter() = default;
+
   public:
     // Of the world's book, which the process opens once and keeps.
-    explicit CompactDecimalFormatter(std::string_view tag, uint32_t width = LEGUMEYET_WIDTH_SHORT,
-                                     uint32_t grouping = LEGUMEYET_GROUPING_MIN2) {
-        inner::World::with([&](Book &book) { open(book, tag, width, grouping); });
+    static Result<CompactDecimalFormatter> try_open(std::string_view tag, Width width = Width::Short, Grouping grouping = Grouping::Min2) {
+        return inner::World::with([&](Book &book) { return try_open(book, tag, width, grouping); });
     }
 
-    CompactDecimalFormatter(Book &book, std::string_view tag, uint32_t width = LEGUMEYET_WIDTH_SHORT,
-                            uint32_t grouping = LEGUMEYET_GROUPING_MIN2) {
-        open(book, tag, width, grouping);
+    static Result<CompactDecimalFormatter> try_open(Book &book, std::string_view tag, Width width = Width::Short,
+                                                    Grouping grouping = Grouping::Min2) noexcept {
+        CompactDecimalFormatter found;
+        const auto code = static_cast<Code>(legumeyet_compact_formatter_open(
+            &book.handle, inner::bytes(tag), tag.size(), static_cast<uint32_t>(width), static_cast<uint32_t>(grouping), &found.handle));
+        if (code != Code::Ok) return code;
+        return found;
     }
 
-    // The value that the text of `format` shows: `-1.2c6` of `-1.2M`.
-    std::string shown(std::string_view number, const legumeyet_options &options = {}) {
-        return of_text(legumeyet_compact_formatter_shown, handle, number, options);
+    // The value that the text of a number shows: `-1.2c6` of `-1.2M`.
+    Result<std::string> try_shown(const inner::Digits &number, const Options &options = {}) {
+        return of_text(legumeyet_compact_formatter_shown, number.view(), options);
     }
 
     // The text of a significand with an exponent, its digits as they are: `-1.20M` of `-1.20c6`.
-    std::string format_exact(std::string_view number, const legumeyet_options &options = {}) {
-        return of_text(legumeyet_compact_formatter_format_exact, handle, number, options);
+    Result<std::string> try_format_exact(std::string_view number, const Options &options = {}) {
+        return of_text(legumeyet_compact_formatter_format_exact, number, options);
     }
 
-  private:
-    void open(Book &book, std::string_view tag, uint32_t width, uint32_t grouping) {
-        inner::expect_opened(legumeyet_compact_formatter_open(&book.handle, inner::bytes(tag), tag.size(), width, grouping, &handle), tag);
+#ifdef __cpp_exceptions
+    explicit CompactDecimalFormatter(std::string_view tag, Width width = Width::Short, Grouping grouping = Grouping::Min2) {
+        take(try_open(tag, width, grouping), tag);
     }
+    CompactDecimalFormatter(Book &book, std::string_view tag, Width width = Width::Short, Grouping grouping = Grouping::Min2) {
+        take(try_open(book, tag, width, grouping), tag);
+    }
+    std::string shown(const inner::Digits &number, const Options &options = {}) { return try_shown(number, options).value(); }
+    std::string format_exact(std::string_view number, const Options &options = {}) { return try_format_exact(number, options).value(); }
+
+  private:
+    void take(Result<CompactDecimalFormatter> opened, std::string_view tag) {
+        inner::expect_opened(opened.error(), tag);
+        *this = *std::move(opened);
+    }
+#endif
 };
 
 } // namespace legumeyet
+
+#if defined(__cpp_lib_format) && defined(__cpp_exceptions)
+// The text of a number, with the width, fill and precision that a std::string_view takes. Throws a legumeyet::Error.
+template <class Formatter> struct std::formatter<legumeyet::Formatted<Formatter>, char> : std::formatter<std::string_view, char> {
+    template <class Context> auto format(const legumeyet::Formatted<Formatter> &it, Context &context) const {
+        std::formatter<std::string_view, char> writer = *this;
+        auto out = context.out();
+        const auto write = [&](std::string_view text) { out = writer.format(text, context); };
+        legumeyet::inner::expect_well(it.with_text(write));
+        return out;
+    }
+};
+#endif
 
 #endif

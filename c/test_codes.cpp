@@ -1,0 +1,107 @@
+// Calls what legumeyet.hpp has for a program without exceptions, well and badly; it is compiled with -fno-exceptions. The status is 1 where
+// one does otherwise than it should, and a line says which.
+//
+// usage: test_codes BOOK
+//
+// BOOK is a file with the world's book.
+#include <legumeyet.hpp>
+
+#include <cstdio>
+#include <sstream>
+
+#ifdef __cpp_exceptions
+#error "compile it with -fno-exceptions"
+#endif
+
+using legumeyet::Book, legumeyet::CompactDecimalFormatter, legumeyet::DecimalFormatter;
+using legumeyet::Code, legumeyet::Grouping, legumeyet::Options, legumeyet::Result, legumeyet::Sign, legumeyet::Width;
+
+// Nothing is constructed that may be refused, and what was found cannot be forgotten to be looked for.
+static_assert(!std::is_constructible_v<DecimalFormatter, const char *> && !std::is_constructible_v<Book, const char *>);
+static_assert(!std::is_convertible_v<Result<std::string>, bool> && !std::is_convertible_v<Result<std::string>, std::string>);
+
+static int wrong = 0;
+
+static void expect(std::string_view got, std::string_view wanted) {
+    if (got == wanted) return;
+    std::printf("%.*s, and not %.*s\n", static_cast<int>(got.size()), got.data(), static_cast<int>(wanted.size()), wanted.data());
+    wrong = 1;
+}
+
+static void expect_code(Code got, Code wanted) { expect(std::to_string(static_cast<int>(got)), std::to_string(static_cast<int>(wanted))); }
+
+// The result has this text.
+static void expect_text(const Result<std::string> &got, std::string_view wanted) {
+    expect_code(got.error(), Code::Ok);
+    if (got) expect(*got, wanted);
+}
+
+static void books(const char *path) {
+    Result<Book> world = Book::try_world(), same = Book::try_from_file(path), none = Book::try_from_file("/no/file");
+    expect_code(none.error(), Code::File);
+    expect(std::to_string(errno), std::to_string(ENOENT));
+    expect_text(world->try_answer("de\tplain\tauto\tkeep\t-\t-987654.321"), "ok\t-987.654,321");
+    expect_text(same->try_answer(""), "err\tshape");
+    expect_code(world->try_keep(), Code::Ok);
+    expect_code(Book::try_from_json("[1").error(), Code::BookJson);
+    Book moved = *std::move(world);
+    expect_code(world->try_answer("").error(), Code::Closed);
+    expect_code(world->try_keep(), Code::Closed);
+    expect_code(DecimalFormatter::try_open(*world, "de").error(), Code::Closed);
+    auto english = CompactDecimalFormatter::try_open(moved, "en", Width::Long);
+    moved = *Book::try_from_json("[[],[],[],[],[]]");
+    expect_text(english->try_format(1650), "1.6 thousand");
+    expect_code(CompactDecimalFormatter::try_open(moved, "en").error(), Code::Table);
+    expect_code(DecimalFormatter::try_open(moved, "e").error(), Code::Tag);
+}
+
+static void plain() {
+    auto german = DecimalFormatter::try_open("de");
+    if (!german) return expect_code(german.error(), Code::Ok);
+    char room[8];
+    std::string text;
+    std::ostringstream out;
+    expect_text(german->try_format("1234567.891", Options().with_sign(Sign::Always)), "+1.234.567,891");
+    expect_text(german->try_format({500, -2}), "5,00");
+    expect_code(german->try_format("5.").error(), Code::Number);
+    expect_code(german->try_format(1, Options().with_sign(Sign{6})).error(), Code::Option);
+    expect_text(german->try_read("-1.234,50"), "-1234.50");
+    expect_code(german->try_read("x").error(), Code::NotWritten);
+    expect_text(german->try_read_lenient(" 1234,5"), "1234.5");
+    expect_code(german->format_to(room, sizeof room, 0.1).code, Code::Ok);
+    expect(std::string_view(room, 3), "0,1");
+    expect_code(german->format_to(std::back_inserter(text), std::string(1000, '1')).code, Code::Ok);
+    expect_text(german->try_format(std::string(1000, '1')), text);
+    const auto parts = german->try_format_parts(-1.5);
+    expect(parts->text + std::to_string(parts->parts.size()) + std::string((*++parts->begin()).text), "-1,541");
+    expect_code(german->try_format_parts("5.").error(), Code::Number);
+    out << (*german)(-1234.5) << '|';
+    expect(out.str() + (out ? "well" : "badly"), "-1.234,5|well");
+    out << (*german)("5.");
+    expect(out.fail() ? "failed" : "well", "failed");
+    expect_text(DecimalFormatter::try_open("de", Grouping::Never)->try_format(1234), "1234");
+    expect_code(DecimalFormatter::try_open("de_DE").error(), Code::Tag);
+    expect_code(DecimalFormatter::try_open("xx").error(), Code::Table);
+}
+
+static void compact() {
+    auto english = CompactDecimalFormatter::try_open("en");
+    if (!english) return expect_code(english.error(), Code::Ok);
+    expect_text(english->try_format(-1172700), "-1.2M");
+    expect_text(english->try_shown("-1172700"), "-1.2c6");
+    expect_text(english->try_format_exact("-1.20c6"), "-1.20M");
+    expect_code(english->try_format_exact("1.2c5").error(), Code::Exponent);
+    expect_code(english->try_shown("x").error(), Code::Number);
+    expect_code(CompactDecimalFormatter::try_open("en", Width{2}).error(), Code::Option);
+    expect(legumeyet::message(Code::Tag), "no locale tag");
+    expect(legumeyet::tag_of_locale_name("de_DE.UTF-8"), "de-DE");
+    expect(legumeyet::world_locales().back(), "zu-ZA");
+}
+
+int main(int count, char **words) {
+    if (count != 2) return 1;
+    books(words[1]);
+    plain();
+    compact();
+    return wrong;
+}
