@@ -720,8 +720,8 @@ class DecimalFormatter : public inner::Formatter<legumeyet_decimal_formatter, in
 
     static Result<DecimalFormatter> try_open(Book &book, std::string_view tag, Grouping grouping = Grouping::Auto) noexcept {
         DecimalFormatter found;
-        const auto code = static_cast<Code>(legumeyet_decimal_formatter_open(&book.handle, inner::bytes(tag), tag.size(),
-                                                                             static_cast<uint32_t>(grouping), &found.handle));
+        const auto code = static_cast<Code>(
+            legumeyet_decimal_formatter_open(&book.handle, inner::bytes(tag), tag.size(), static_cast<uint32_t>(grouping), &found.handle));
         if (code != Code::Ok) return code;
         return found;
     }
