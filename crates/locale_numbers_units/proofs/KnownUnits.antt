@@ -1,23 +1,26 @@
--- Worked rows of `specs/Percents.antt` and `specs/Amounts.antt`: what the entries of five locales say, and a row for each fault.
--- The entries are those of CLDR 48 as docs/books.md, "Units", writes them; the rest follows from its rules by hand.
-use Rattle.std.proofs.Common.{◌≡◌, ℕ, List, [], ◌∷◌, codes, Option, Some, None, refl}
+-- Worked rows of `specs/Percents.antt`, `specs/Amounts.antt` and `specs/Units.antt`: what the entries of five locales say, and a row for each fault.
+-- The entries of en, tr and de-CH are those of docs/books.md, "Units"; the rest follows from its rules by hand.
+use Rattle.std.proofs.Common.{◌≡◌, ℕ, List, [], ◌∷◌, codes, Option, Some, None, refl, true}
 use Rattle.std.specs.Char.{encode_utf8}
 use Rattle.std.specs.Str.{chars, is_utf8}
-use Rattle.serde_json.specs.Data.{Data, null}
+use Rattle.serde_json.specs.Data.{Data, null, no_items}
 use Rattle.icu_decimal.specs.Symbols.{Symbols}
 use Rattle.icu_locale_core.specs.Stepping.{headed_after, whole_after}
 use Rattle.icu_locale_core.specs.TagStages.{with_piece, body_after}
 use Rattle.icu_dimension_affixes.specs.UnitPatterns.{AffixesText, PatternTexts}
 use Rattle.icu_dimension_affixes.specs.declared.affixes.UnitPlace.TheVariants.{Before, After}
+use Rattle.icu_dimension_fractions.specs.declared.increment.FractionIncrement.TheVariants.{MultiplesOf1, MultiplesOf5}
 use Rattle.locale_numbers_tables.specs.Entries.{entry_key}
 use Rattle.locale_numbers_tables.specs.Keys.{same_key}
 use Rattle.locale_numbers_tables.specs.TagReading.{tag_of, data_locale_of}
 use Rattle.locale_numbers_units.specs.declared.error.UnitsError.{UnitsError}
-use Rattle.locale_numbers_units.specs.declared.error.UnitsError.TheVariants.{Shape, Tag, System, Text, Duplicate, Unit}
+use Rattle.locale_numbers_units.specs.declared.error.UnitsError.TheVariants.{Shape, Tag, System, Text, Duplicate, Unit, Code}
 use Rattle.locale_numbers_units.specs.Amounts.{accounts_fault, accounts_key, amounts_said, currencies_fault, currencies_key}
+use Rattle.locale_numbers_units.specs.CurrencySymbols.{written_as}
 use Rattle.locale_numbers_units.specs.Faults.{first_fault_behind}
+use Rattle.locale_numbers_units.specs.Units.{UnitsTables, digits_for, units_fault}
 use Rattle.locale_numbers_units.specs.Percents.{percents_fault, percents_said}
-use Rattle.locale_numbers_units.proofs.KnownValues.{items, list, text, size}
+use Rattle.locale_numbers_units.proofs.KnownValues.{digits, items, list, size, symbol, text}
 
 -- ---- entries
 
@@ -178,3 +181,27 @@ duplicate_without_place = refl
 first_entry : percents_faults (english_percents (two [] []) ∷ percents (codes "e") [] (codes "%") null (two [] place) ∷ []) ≡ Some Unit
 unfolding data_locale_of tag_of whole_after headed_after body_after with_piece chars is_utf8 encode_utf8
 first_entry = refl
+
+-- ---- the whole
+
+-- the first array with a fault decides: symbols are before digits
+first_array : units_fault no_items no_items no_items (items (symbol (codes "en") (codes "US") (codes "$") 0 ∷ [])) (items (digits (codes "CHF") 2 3 ∷ [])) ≡ Some Code
+unfolding data_locale_of tag_of whole_after headed_after body_after with_piece chars is_utf8 encode_utf8
+first_array = refl
+
+no_arrays : units_fault no_items no_items no_items no_items no_items ≡ None
+no_arrays = refl
+
+-- francs by their entry, and a code without one
+abbrev francs_alone : UnitsTables
+francs_alone = record { percents = []; currencies = []; accounts = []; symbols = []; digits = (codes "CHF", record { standard = record { digits = 2; increment = MultiplesOf1 }; cash = record { digits = 2; increment = MultiplesOf5 } }) ∷ [] }
+
+cash_of_francs : (digits_for francs_alone (codes "CHF")).cash ≡ record { digits = 2; increment = MultiplesOf5 }
+cash_of_francs = refl
+
+cash_of_others : (digits_for francs_alone (codes "QQQ")).cash ≡ record { digits = 2; increment = MultiplesOf1 }
+cash_of_others = refl
+
+-- a currency without a symbol is written by its code, both of whose ends are letters
+code_itself : written_as None (codes "CHF") ≡ record { text = codes "CHF"; ends = record { first = true; last = true } }
+code_itself = refl

@@ -32,7 +32,7 @@ size n = number (unsigned n)
 
 -- ---- digits of currencies
 
-abbrev digits : List ℕ → ℕ → ℕ → Data
+abbrev pub digits : List ℕ → ℕ → ℕ → Data
 digits code shown increment = list (text code ∷ size shown ∷ size 1 ∷ size 2 ∷ size increment ∷ [])
 
 -- francs: two digits, and in cash multiples of 5
@@ -69,7 +69,7 @@ first_entry = refl
 
 -- ---- symbols of currencies
 
-abbrev symbol : List ℕ → List ℕ → List ℕ → ℕ → Data
+abbrev pub symbol : List ℕ → List ℕ → List ℕ → ℕ → Data
 symbol locale code said ends = list (text locale ∷ text code ∷ text said ∷ size ends ∷ [])
 
 -- dollars begin with a letter
