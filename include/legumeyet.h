@@ -346,8 +346,9 @@ int32_t legumeyet_decimal_formatter_read(legumeyet_decimal_formatter *formatter,
  * `1,23`, `1,234,5` and `1 234` are not.
  *
  * docs/reading.md of the repository has what is folded. A separator is never dropped: digits are grouped wholly, by the sizes of the
- * locale, or not at all. ASCII digits are read in every locale; the separators are always those of the formatter. A call folds the
- * symbols for a text that the formatter does not write so, and keeps nothing of it.
+ * locale, or not at all. ASCII digits are read in every locale; the separators are always those of the formatter. A formatter of a kept
+ * book folds its symbols at the first call, and keeps them so until it is closed. One with its own copy of the tables, or one to which
+ * memory for that is refused, folds them for each text that it does not write so, and keeps nothing of it.
  *
  * Returns as legumeyet_decimal_formatter_read; LEGUMEYET_UNREADABLE also where two numbers may have one text once the symbols are
  * folded, but not of a text that the formatter writes; LEGUMEYET_MEMORY also where the formatter does not write the text.

@@ -1,12 +1,18 @@
 //! What plain numbers are written with: tables of one's own, or those of a book that is kept.
 
-ghost use Rattle.std.specs.Prelude.{◌≡◌, IfOk};
+ghost use Rattle.std.specs.Prelude.{◌≡◌, IfOk, IsErrOf};
 ghost use Rattle.icu_decimal.specs.HeldTables.{tables_of};
+ghost use Rattle.icu_decimal.specs.LenientReading.{MayAllocate, lenient_reading};
+ghost use Rattle.icu_decimal.specs.PlainReading.{IsAnswered};
+ghost use Rattle.legumeyet_c.specs.Places.{decimal_at};
 
-use icu_decimal::DecimalFormatter;
+use crate::kept_formatter::KeptFormatter;
+use fixed_decimal::Decimal;
+use icu_decimal::error::ReadError;
 use icu_decimal::options::{DecimalFormatterOptions, GroupingStrategy};
 use icu_decimal::provider::DecimalSymbols;
-use std::alloc::AllocError;
+use icu_decimal::{DecimalFormatter, read_lenient};
+use std::alloc::{AllocError, Global};
 use std::marker::Model;
 
 // Symbols, digits, and when separators are written, in memory of their own.
@@ -56,7 +62,7 @@ enum DecimalPlace {
     // In memory of their own.
     Own(OwnedDecimalTables),
     // In a book that is kept.
-    Kept(DecimalFormatter<'static>),
+    Kept(KeptFormatter),
 }
 
 /// What a handle writes plain numbers with.
@@ -73,6 +79,18 @@ impl Model for DecimalTables {
     ghost use Rattle.legumeyet_c.specs.Places.{decimal_at};
 
     ghost view = { λ t. decimal_at t.place };
+}
+
+// The decimal that was typed, with the tables that are there.
+fn read_at(alloc: Global, place: &mut DecimalPlace, text: &str) -> Result<Decimal, ReadError>
+    ensures same { place.new ≡ place.old }
+    ensures answered { IsAnswered result (lenient_reading (decimal_at place.old) text.now) }
+    ensures memory { IsErrOf result ReadError.Memory → MayAllocate (decimal_at place.old) text.now }
+{
+    match place {
+        DecimalPlace::Own(tables) => read_lenient(alloc, &tables.formatter(), text),
+        DecimalPlace::Kept(kept) => kept.read_lenient(alloc, text),
+    }
 }
 
 // The same formatter with another strategy. It does not allocate.
@@ -108,7 +126,7 @@ impl DecimalTables {
         ensures { result ≡ record (tables_of formatter.now) { strategy = strategy } }
     {
         DecimalTables {
-            place: DecimalPlace::Kept(with_strategy(formatter, strategy)),
+            place: DecimalPlace::Kept(KeptFormatter::new(with_strategy(formatter, strategy))),
         }
     }
 
@@ -118,7 +136,18 @@ impl DecimalTables {
     {
         match &self.place {
             DecimalPlace::Own(tables) => tables.formatter(),
-            DecimalPlace::Kept(formatter) => *formatter,
+            DecimalPlace::Kept(kept) => kept.formatter(),
         }
+    }
+
+    // The decimal that was typed. Symbols of a book that is kept are folded for the first text, and stay folded for the
+    // later ones; where memory for them is refused, and of tables of one's own, they are folded for each text that is
+    // not the formatter's own.
+    pub(crate) fn read_lenient(&mut self, alloc: Global, text: &str) -> Result<Decimal, ReadError>
+        ensures same { self.new ≡ self.old }
+        ensures answered { IsAnswered result (lenient_reading self.old text.now) }
+        ensures memory { IsErrOf result ReadError.Memory → MayAllocate self.old text.now }
+    {
+        read_at(alloc, &mut self.place, text)
     }
 }

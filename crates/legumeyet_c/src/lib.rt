@@ -25,6 +25,7 @@ mod handle;
 mod handles;
 pub mod information;
 pub mod keeping;
+mod kept_formatter;
 mod opening;
 pub mod parts;
 pub mod reading;

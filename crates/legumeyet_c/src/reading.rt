@@ -1,19 +1,19 @@
 //! Texts read back, and what people type: `legumeyet_decimal_formatter_read` and `_read_lenient`.
 
-ghost use Rattle.std.specs.Prelude.{◌≡◌, IfOk, IfErr, IsErrOf};
-ghost use Rattle.icu_decimal.specs.HeldTables.{tables_of};
+ghost use Rattle.std.specs.Prelude.{◌≡◌, Some, IfOk, IfErr, IsErrOf};
 ghost use Rattle.icu_decimal.specs.LenientReading.{MayAllocate, lenient_reading};
 ghost use Rattle.icu_decimal.specs.PlainReading.{HasManyDigits, IsAnswered, decimal, plain_reading};
 ghost use Rattle.legumeyet_c_values.specs.Putting.{Answers, IsPut};
+ghost use Rattle.legumeyet_c.specs.Kinds.{decimal_in};
 ghost use Rattle.legumeyet_c.specs.Reading.{HasReading, IsReadFault, IsUnread, ReadsBack, SaysRead};
 ghost use Rattle.legumeyet_c.specs.Views.{decimal_content, decimal_open};
 
-use crate::content::Held;
+use crate::content::Content;
 use crate::decimal_tables::DecimalTables;
 use crate::handles::DecimalHandle;
 use fixed_decimal::Decimal;
 use icu_decimal::error::ReadError;
-use icu_decimal::{DecimalFormatter, read_lenient, read_plain};
+use icu_decimal::read_plain;
 use legumeyet_c_values::{CallError, answer, put};
 use std::alloc::Global;
 
@@ -30,13 +30,10 @@ trait Reader {
     ghost allocates: { Tables → List ℕ → Type 0 };
 
     /// The number of the text.
-    fn read(
-        alloc: Global,
-        formatter: &DecimalFormatter<'_>,
-        text: &str,
-    ) -> Result<Decimal, ReadError>
-        ensures answered { IsAnswered result (reading (tables_of formatter.now) text.now) }
-        ensures memory { IsErrOf result ReadError.Memory → allocates (tables_of formatter.now) text.now };
+    fn read(alloc: Global, tables: &mut DecimalTables, text: &str) -> Result<Decimal, ReadError>
+        ensures same { tables.new ≡ tables.old }
+        ensures answered { IsAnswered result (reading tables.old text.now) }
+        ensures memory { IsErrOf result ReadError.Memory → allocates tables.old text.now };
 }
 
 // As the formatter writes numbers.
@@ -47,12 +44,8 @@ impl Reader for Exact {
 
     ghost allocates = { HasManyDigits };
 
-    fn read(
-        alloc: Global,
-        formatter: &DecimalFormatter<'_>,
-        text: &str,
-    ) -> Result<Decimal, ReadError> {
-        read_plain(alloc, formatter, text)
+    fn read(alloc: Global, tables: &mut DecimalTables, text: &str) -> Result<Decimal, ReadError> {
+        read_plain(alloc, &tables.formatter(), text)
     }
 }
 
@@ -64,32 +57,48 @@ impl Reader for Lenient {
 
     ghost allocates = { MayAllocate };
 
-    fn read(
-        alloc: Global,
-        formatter: &DecimalFormatter<'_>,
-        text: &str,
-    ) -> Result<Decimal, ReadError> {
-        read_lenient(alloc, formatter, text)
+    fn read(alloc: Global, tables: &mut DecimalTables, text: &str) -> Result<Decimal, ReadError> {
+        tables.read_lenient(alloc, text)
     }
 }
 
 // The number that is written so with tables.
 fn read_with<R: Reader>(
     alloc: Global,
-    tables: &DecimalTables,
+    tables: &mut DecimalTables,
     text: &[u8],
 ) -> Result<Decimal, CallError>
-    ensures value { IfOk result (λ value. HasReading R.reading tables.now text.now (decimal value)) }
-    ensures fault { IfErr result (λ error. IsUnread R.reading R.allocates tables.now text.now error) }
+    ensures same { tables.new ≡ tables.old }
+    ensures value { IfOk result (λ value. HasReading R.reading tables.old text.now (decimal value)) }
+    ensures fault { IfErr result (λ error. IsUnread R.reading R.allocates tables.old text.now error) }
 {
     let Ok(text) = str::from_utf8(text) else {
         return Err(CallError::NoUtf8);
     };
-    match R::read(alloc, &tables.formatter(), text) {
+    match R::read(alloc, tables, text) {
         Ok(value) => Ok(value),
         Err(ReadError::Unreadable) => Err(CallError::Unreadable),
         Err(ReadError::NotWritten) => Err(CallError::NotWritten),
         Err(ReadError::Memory) => Err(CallError::Memory),
+    }
+}
+
+// The number that is written so with what a content has.
+fn read_content<R: Reader>(
+    alloc: Global,
+    content: &mut Content,
+    text: &[u8],
+) -> Result<Decimal, CallError>
+    ensures same { content.new ≡ content.old }
+    ensures value { IfOk result (λ value. ReadsBack R.reading (decimal_in (Some content.old)) text.now value) }
+    ensures fault { IfErr result
+        (λ error. IsReadFault R.reading R.allocates (decimal_in (Some content.old)) text.now error) }
+{
+    match content {
+        Content::Decimal(tables) => read_with::<R>(alloc, tables, text),
+        Content::Book(_) | Content::Kept(_) | Content::Compact(_) | Content::Nothing => {
+            Err(CallError::Closed)
+        }
     }
 }
 
@@ -104,13 +113,10 @@ fn read_behind<R: Reader>(
     ensures fault { IfErr result
         (λ error. IsReadFault R.reading R.allocates (decimal_open formatter.old) text.now error) }
 {
-    let Some(content) = formatter.handle.take(alloc) else {
+    let Some(mut content) = formatter.handle.take(alloc) else {
         return Err(CallError::Closed);
     };
-    let found = match DecimalTables::held_by(&content) {
-        Some(tables) => read_with::<R>(alloc, tables, text),
-        None => Err(CallError::Closed),
-    };
+    let found = read_content::<R>(alloc, &mut content, text);
     formatter.handle.put(alloc, content);
     found
 }
