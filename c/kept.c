@@ -68,6 +68,10 @@ static void write_all(legumeyet_decimal_formatter *decimal, legumeyet_compact_fo
     expect("parts", (int64_t)count, 5);
     TWICE(legumeyet_decimal_formatter_read(decimal, TEXT("12,345"), out, sizeof out, &length));
     expect_text("12345");
+    TWICE(legumeyet_decimal_formatter_read_lenient(decimal, TEXT(" 12345.50 "), out, sizeof out, &length));
+    expect_text("12345.50");
+    expect("a group of two", legumeyet_decimal_formatter_read_lenient(decimal, TEXT("1,23"), out, sizeof out, &length),
+           LEGUMEYET_NOT_WRITTEN);
     TWICE(legumeyet_compact_formatter_format(compact, TEXT("1650"), &AS_GIVEN, out, sizeof out, &length));
     expect_text("1.6 k");
     TWICE(legumeyet_compact_formatter_format_i64(compact, 98765432109, 0, &AS_GIVEN, out, sizeof out, &length));
