@@ -84,7 +84,10 @@ def main(book="", count="2000"):
             print(f"{kind:<20}{a_line(words, lines_of(kind, 2 * count, locales), folder):>12,.0f}", flush=True)
         _, answers = counted(words, lines_of("plain", 2 * count, locales), folder)
         texts = [it.split("\t")[1] for it in answers.decode().splitlines()]
-        print(f"{'read':<20}{a_line(words, [f'en{chr(9)}read{chr(9)}auto{chr(9)}keep{chr(9)}-{chr(9)}{it}' for it in texts], folder):>12,.0f}")
+        typed = [it.rpartition("\t")[2] for it in lines_of("plain", 2 * count, locales)]
+        for said, form, given in (("read", "read", texts), ("read-lenient", "read-lenient", texts), ("typed", "read-lenient", typed)):
+            lines = [f"en\t{form}\tauto\tkeep\t-\t{it}" for it in given]
+            print(f"{said:<20}{a_line(words, lines, folder):>12,.0f}", flush=True)
     return 0
 
 

@@ -91,15 +91,15 @@ static bool make(const std::vector<std::string_view>& field, LocalizedNumberForm
     return U_SUCCESS(code);
 }
 
-// The number that the whole text spells in the locale, or nothing.
-static bool read(std::string_view tag, std::string_view text, std::string& number) {
-    static std::unordered_map<std::string, std::unique_ptr<icu::NumberFormat>> kept;
+// The number that the whole text spells in the locale, as ICU4C reads it strictly or leniently, or nothing.
+static bool read(std::string_view tag, std::string_view text, bool is_lenient, std::string& number) {
+    static std::unordered_map<std::string, std::unique_ptr<icu::NumberFormat>> kept[2];
     UErrorCode code = U_ZERO_ERROR;
-    auto& parser = kept[std::string(tag)];
+    auto& parser = kept[is_lenient][std::string(tag)];
     if (parser == nullptr) {
         parser.reset(icu::NumberFormat::createInstance(icu::Locale::forLanguageTag({tag.data(), int32_t(tag.size())}, code), code));
         if (U_FAILURE(code)) return false;
-        parser->setLenient(false);
+        parser->setLenient(is_lenient);
     }
     const icu::UnicodeString given = icu::UnicodeString::fromUTF8({text.data(), int32_t(text.size())});
     icu::ParsePosition end;
@@ -124,7 +124,8 @@ int main() {
     while (std::getline(std::cin, line)) {
         const auto field = fields(line);
         const LocalizedNumberFormatter* formatter = nullptr;
-        const bool is_read = field.size() == 6 && field[1] == "read";
+        const bool is_lenient = field.size() == 6 && field[1] == "read-lenient";
+        const bool is_read = is_lenient || (field.size() == 6 && field[1] == "read");
         if (field.size() == 6 && !is_read) {
             const std::string key = line.substr(0, field[5].data() - line.data());
             auto found = kept.find(key);
@@ -135,7 +136,7 @@ int main() {
             if (found != kept.end()) formatter = &found->second;
         }
         if (is_read) {
-            if (read(field[0], field[5], text)) answers.append("ok\t").append(text).push_back('\n');
+            if (read(field[0], field[5], is_lenient, text)) answers.append("ok\t").append(text).push_back('\n');
             else answers += "err\tnot-written\n";
         } else if (formatter == nullptr) {
             answers += "err\tshape\n";

@@ -56,6 +56,14 @@ static size_t open_both(legumeyet_decimal_formatter *decimal, legumeyet_compact_
     return mallinfo2().uordblks - start;
 }
 
+/* What is told of a text that was typed, where memory for it was not refused; a refused call is made again. */
+static int32_t told_of(legumeyet_decimal_formatter *decimal, const char *text) {
+    int32_t told = legumeyet_decimal_formatter_read_lenient(decimal, TEXT(text), out, sizeof out, &length);
+    if (told != LEGUMEYET_MEMORY) return told;
+    refused++;
+    return legumeyet_decimal_formatter_read_lenient(decimal, TEXT(text), out, sizeof out, &length);
+}
+
 /* Each call of formatters, which are the same whoever has the tables. */
 static void write_all(legumeyet_decimal_formatter *decimal, legumeyet_compact_formatter *compact) {
     legumeyet_interval parts[8];
@@ -70,8 +78,7 @@ static void write_all(legumeyet_decimal_formatter *decimal, legumeyet_compact_fo
     expect_text("12345");
     TWICE(legumeyet_decimal_formatter_read_lenient(decimal, TEXT(" 12345.50 "), out, sizeof out, &length));
     expect_text("12345.50");
-    expect("a group of two", legumeyet_decimal_formatter_read_lenient(decimal, TEXT("1,23"), out, sizeof out, &length),
-           LEGUMEYET_NOT_WRITTEN);
+    expect("a group of two", told_of(decimal, "1,23"), LEGUMEYET_NOT_WRITTEN);
     TWICE(legumeyet_compact_formatter_format(compact, TEXT("1650"), &AS_GIVEN, out, sizeof out, &length));
     expect_text("1.6 k");
     TWICE(legumeyet_compact_formatter_format_i64(compact, 98765432109, 0, &AS_GIVEN, out, sizeof out, &length));
