@@ -77,7 +77,7 @@ enum {
     LEGUMEYET_OPTION = 4,       /* an option has a number that is not in its list, as a grouping of 4 */
     LEGUMEYET_TAG = 5,          /* the text is no locale tag, as `e`, or `de_DE`, which is written `de-DE`: legumeyet_tag_of_locale_name */
     LEGUMEYET_TABLE = 6,        /* the book lacks a table for the tag */
-    LEGUMEYET_NUMBER = 7,       /* the text is no decimal number, as `5.` */
+    LEGUMEYET_NUMBER = 7,       /* the text is no decimal number, as `5.`, or `1e+3`, which is written `1e3` */
     LEGUMEYET_LIMIT = 8,        /* a digit of the number is beyond the magnitudes -32768 to 32767 */
     LEGUMEYET_RANGE = 9,        /* what the number is shown as in compact form, or an exact form, reaches ten to the power 32768 */
     LEGUMEYET_UTF8 = 10,        /* the text is not UTF-8 */
