@@ -2,7 +2,8 @@
 import json
 import runpy
 
-from releasing.common import TOP, committed, licences, version
+from releasing.common import TOP, committed, version
+from releasing.notices import licences
 
 WRITE_TAR = runpy.run_path(str(TOP / "tools/release"))["write_tar"]
 NAME = "legumeyet"

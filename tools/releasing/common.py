@@ -67,13 +67,6 @@ def committed(folder):
     return {os.path.relpath(path, folder): (TOP / path).read_bytes() for path in listed if path}
 
 
-def licences():
-    """The licences of what is inside, by their names: that of the code, that of CLDR's data, of which the world's book is made, and those of
-    the crates of the kit, with the list of them, in a folder."""
-    own = {path.name: path.read_bytes() for path in (TOP / "LICENSE", TOP / "books/LICENSE-Unicode")}
-    return {**own, **{str(it.relative_to(TOP)): it.read_bytes() for it in sorted((TOP / "LICENSES").rglob("*")) if it.is_file()}}
-
-
 def newest_glibc(*files):
     """The newest version of glibc that programs and libraries ask for, as `2.34`."""
     named = " ".join(said_by("objdump", "-T", it) for it in files)

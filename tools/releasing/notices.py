@@ -17,7 +17,7 @@ PAGE = """\
 
 The library and the command of Legumeyet are compiled of its own crates, under `LICENSE`, of the tables of CLDR, under `LICENSE-Unicode`, and of the
 crates of the Rattle kit, here {kit}, that are listed below. Many of those are ports of Rust crates. Where the kit has a port under two
-licences, it is here under the MIT licence. The files that are named are the kit's own, and are in folders beside this page.
+licences, it is here under the MIT licence. In a package the files that are named, the kit's own, are in folders beside this page.
 
 | Crate of the kit | Inside | What it says of itself | Files |
 |---|---|---|---|
@@ -92,32 +92,32 @@ def made():
     return files
 
 
-def there():
-    """The files of LICENSES as the repository has them."""
-    folder = TOP / FOLDER
-    return {str(it.relative_to(folder)): it.read_bytes() for it in sorted(folder.rglob("*")) if it.is_file()}
-
-
 def check():
-    """Raises a Fault where a file is not as the kit has it. Without the kit that they are of nothing is looked at."""
-    ours = there()
-    if kit() is None or f"here {name_of_kit()}, ".encode() not in ours.get(LIST, b""):
-        return
-    its = made()
-    wrong = sorted(name for name in {*ours, *its} if ours.get(name) != its.get(name))
-    if wrong:
-        raise Fault(f"{FOLDER}/{wrong[0]} is not as the kit has it: tools/notices --write makes it")
+    """Raises a Fault where the list is not as the kit has it. Without the kit that it is of nothing is looked at."""
+    ours = (TOP / FOLDER / LIST).read_bytes()
+    if kit() is not None and f"here {name_of_kit()}, ".encode() in ours and ours != made()[LIST]:
+        raise Fault(f"{FOLDER}/{LIST} is not as the kit has it: tools/notices --write makes it")
 
 
 def write():
-    """Writes them anew. Raises a Fault without the kit."""
+    """Writes the list anew. Raises a Fault without the kit."""
     if kit() is None:
         raise Fault(f"the command {RT} of the Rattle kit is not on the PATH")
-    its = made()
-    for name in there():
-        if name not in its:
-            (TOP / FOLDER / name).unlink()
-    for name, text in its.items():
-        path = TOP / FOLDER / name
-        path.parent.mkdir(parents=True, exist_ok=True)
-        path.write_bytes(text)
+    (TOP / FOLDER / LIST).write_bytes(made()[LIST])
+
+
+def below_folder(folder):
+    """The files of a folder, by their paths from it."""
+    return {str(it.relative_to(folder)): it.read_bytes() for it in sorted(folder.rglob("*")) if it.is_file()}
+
+
+def licences(library=None):
+    """The licences of what is inside, by their names: that of the code, that of CLDR's data, of which the world's book is made, and those of
+    the crates of the kit, with the list of them, in a folder. These are the kit's own; without the kit they are those that tools/build_c put
+    beside a library."""
+    files = {path.name: path.read_bytes() for path in (TOP / "LICENSE", TOP / "books/LICENSE-Unicode")}
+    beside = pathlib.Path(library or TOP, FOLDER)
+    texts = made() if kit() is not None else below_folder(beside)
+    if len(texts) < 2:
+        raise Fault(f"the command {RT} of the Rattle kit is not on the PATH: its crates' licences are missing")
+    return {**files, **{f"{FOLDER}/{name}": text for name, text in texts.items()}}
