@@ -5,12 +5,12 @@ use Rattle.icu_locale_core_grammar.specs.Subtags.{Text}
 use Rattle.icu_locale_core_grammar.specs.Pieces.{pieces}
 use Rattle.icu_locale_core_grammar.specs.LanguagePart.{MeansLanguage}
 use Rattle.icu_locale_core_grammar.specs.Meaning.{TagMeaning, MeansTag}
-use Rattle.icu_locale_core_grammar.specs.NormalText.{normal_text}
+use Rattle.icu_locale_core_grammar.specs.NormalText.{language_text, normal_text}
 use Rattle.icu_locale_core_grammar.specs.FaultyPiece.{HasFault}
 use Rattle.icu_locale_core_grammar.specs.Stepping.{run, IsReader}
 use Rattle.icu_locale_core_grammar.specs.SingleVariant.{MeansSingle, HasSingleFault, InLanguage, single_after, single_ends, single_fault}
 use Rattle.icu_locale_core_grammar.specs.TagStages.{language_after, language_ends, language_fault, tag_start, tag_after, tag_ends, tag_fault}
-use Rattle.icu_locale_core_grammar.specs.KnownRows.{end_answer, answer_from, shown_by, tag_answer, answer_to, language_text, language_answer, single_text, single_answer, language_first_text, language_first_answer, region_first_text, region_first_answer}
+use Rattle.icu_locale_core_grammar.specs.KnownRows.{end_answer, answer_from, shown_by, tag_answer, answer_to, language_answer, single_text, single_answer, language_first_text, language_first_answer, region_first_text, region_first_answer}
 use Rattle.icu_locale_core_grammar.specs.TagLaws.{IsShown, IsPrinted, IsRefused, AnswersAreRight}
 use Rattle.icu_locale_core_grammar.proofs.Runs.{run_joined, stops_at_piece, stops_at_end, Stop}
 use Rattle.icu_locale_core_grammar.proofs.TagReader.{tag_reader, tag_named}
