@@ -1,11 +1,11 @@
 -- Of any grammar: a list stops at one place at most, with one name, and a list that stops has no meaning.
-use Rattle.std.proofs.Common.{◌≡◌, true, false, List, [], ◌∷◌, ◌++◌, Option, None, Some, ◌⊎◌, inl, inr, sym, refl, ap, ◌∙◌, subst, append_assoc, append-nil}
+use Rattle.std.proofs.Common.{◌≡◌, true, false, List, [], ◌∷◌, ◌++◌, Option, None, Some, ◌⊎◌, ◌↔◌, inl, inr, sym, refl, ap, ◌∙◌, subst, append_assoc, append-nil}
 use Rattle.std.specs.List.{list_any}
 use Rattle.std.proofs.lemmas.List.{append_cancel_left}
 use Rattle.icu_locale_core_grammar.specs.declared.error.ParseError.{ParseError}
 use Rattle.icu_locale_core_grammar.specs.declared.error.ParseError.TheVariants.{InvalidLanguage, InvalidSubtag, InvalidExtension, DuplicatedExtension, Memory}
 use Rattle.icu_locale_core_grammar.specs.Subtags.{Text, is_single}
-use Rattle.icu_locale_core_grammar.specs.FaultyPiece.{BeginsSome, StopsAt, IsNamed, HasFault}
+use Rattle.icu_locale_core_grammar.specs.FaultyPiece.{IsAccepted, BeginsSome, StopsAt, IsDuplicate, IsNamed, HasFault}
 
 -- of two fronts of one list, one begins with the other
 pub record IsLonger (long left short rest : List Text) : Type 0 where
@@ -49,6 +49,23 @@ module _ {M : Type 0} (Means : List Text → M → Type 0) where
   one_name DuplicatedExtension InvalidSubtag front place a b = cc (a.0, b.1)
   one_name DuplicatedExtension InvalidExtension front place a b = absurd (b.1 a.1)
   one_name DuplicatedExtension DuplicatedExtension front place a b = refl
+
+-- grammars that accept the same lists name alike
+module _ {M : Type 0} (Means Other : List Text → M → Type 0) (alike : (ps : List Text) → IsAccepted Means ps ↔ IsAccepted Other ps) where
+  other_duplicate : (front : List Text) (place : Option Text) → IsDuplicate Means front place → IsDuplicate Other front place
+  other_duplicate front None d = d
+  other_duplicate front (Some p) d = ((alike front).0 d.0, d.1, d.2)
+
+  same_duplicate : (front : List Text) (place : Option Text) → IsDuplicate Other front place → IsDuplicate Means front place
+  same_duplicate front None d = d
+  same_duplicate front (Some p) d = ((alike front).1 d.0, d.1, d.2)
+
+  pub named_alike : (e : ParseError) (front : List Text) (place : Option Text) → IsNamed Other e front place → IsNamed Means e front place
+  named_alike InvalidLanguage front place n = n
+  named_alike InvalidSubtag front place n = n
+  named_alike InvalidExtension front place n = (n.0, λ d. n.1 (other_duplicate front place d))
+  named_alike DuplicatedExtension front place n = (n.0, same_duplicate front place n.1)
+  named_alike Memory front place n = n
 
 module _ {M : Type 0} {Means : List Text → M → Type 0} where
   -- a list that stops has no meaning

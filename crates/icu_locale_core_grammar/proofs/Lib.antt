@@ -39,6 +39,7 @@ pub mod DataFaults
 pub mod CallerLemmas
 pub mod SubtagLemmas
 pub mod CollectionLemmas
+pub mod WholeMeaning
 pub mod WholeParts
 pub mod WholeFound
 pub mod WholeReader

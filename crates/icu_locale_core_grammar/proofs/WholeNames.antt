@@ -8,13 +8,14 @@ use Rattle.std.proofs.lemmas.Bool.{or_cases, or_left, or_right, or_from, and_par
 use Rattle.icu_locale_core_grammar.specs.declared.error.ParseError.TheVariants.{InvalidLanguage, InvalidSubtag, InvalidExtension, DuplicatedExtension}
 use Rattle.icu_locale_core_grammar.specs.Subtags.{Text, is_single, is_singleton, same_text, lower}
 use Rattle.icu_locale_core_grammar.specs.Collections.{contains_text}
-use Rattle.icu_locale_core_grammar.specs.Extensions.{Block, spelled_block, block_key, Whole, MeansWhole}
+use Rattle.icu_locale_core_grammar.specs.Extensions.{Block, spelled_block, block_key, Whole}
 use Rattle.icu_locale_core_grammar.specs.FaultyPiece.{IsAccepted, IsDuplicate, IsNamed}
 use Rattle.icu_locale_core_grammar.specs.Stepping.{run, WholeStage, InFront, AtBlock, InBlock, InPrivate, opened, next_part, after_block, whole_after, whole_ends, is_repeated, stage_fault}
 use Rattle.icu_locale_core_grammar.specs.TagStages.{has_none}
 use Rattle.icu_locale_core_grammar.proofs.ListLemmas.{mapped_some}
 use Rattle.icu_locale_core_grammar.proofs.CollectionLemmas.{contains-append}
 use Rattle.icu_locale_core_grammar.proofs.Runs.{first_step, accepted_ends}
+use Rattle.icu_locale_core_grammar.proofs.WholeMeaning.{MeansWhole}
 use Rattle.icu_locale_core_grammar.proofs.WholeParts.{AreParts}
 use Rattle.icu_locale_core_grammar.proofs.WholeFound.{InBlocks, InBody, Stands, stands, ends_well}
 use Rattle.icu_locale_core_grammar.proofs.WholeReader.{whole_reader}
