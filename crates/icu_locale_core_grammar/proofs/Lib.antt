@@ -3,6 +3,7 @@ pub mod KnownParts
 pub mod KnownReadings
 pub mod ListLemmas
 pub mod Runs
+pub mod FaultNames
 pub mod FaultyPieceLemmas
 pub mod SetLemmas
 pub mod SameLemmas

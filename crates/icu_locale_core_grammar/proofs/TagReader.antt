@@ -5,7 +5,7 @@ use Rattle.icu_locale_core_grammar.specs.declared.error.ParseError.{ParseError}
 use Rattle.icu_locale_core_grammar.specs.Subtags.{Text, is_private, is_private_piece}
 use Rattle.icu_locale_core_grammar.specs.LanguagePart.{LanguageId, MeansLanguage, MeansInner}
 use Rattle.icu_locale_core_grammar.specs.Meaning.{put_part, no_extensions, MeansPart, MeansTag}
-use Rattle.icu_locale_core_grammar.specs.FaultyPiece.{IsAccepted, IsNamed, HasFault}
+use Rattle.icu_locale_core_grammar.specs.FaultyPiece.{first_piece, IsAccepted, IsNamed, HasFault}
 use Rattle.icu_locale_core_grammar.specs.Stepping.{run, IsReader}
 use Rattle.icu_locale_core_grammar.specs.TagStages.{has_none, language_after, language_ends, body_after, body_ends, opens, TagStage, tag_start, tag_after, tag_ends, tag_fault}
 use Rattle.icu_locale_core_grammar.specs.TagLaws.{IsStuckAt, StagesNameFaults}
@@ -82,4 +82,4 @@ tag_answered ps = by_answer (answered tag_reader ps)
   where
     by_answer : IsAccepted MeansTag ps ⊎ Stop tag_reader ps → IsAccepted MeansTag ps ⊎ ((e : ParseError) × HasFault MeansTag ps e)
     by_answer (inl a) = inl a
-    by_answer (inr s) = inr (tag_fault s.stage s.place, record { front = s.front; place = s.place; stops = s.stops; named = tag_named s.front s.stage s.place s.reached s.stuck })
+    by_answer (inr s) = inr (tag_fault s.stage (first_piece s.rest), record { front = s.front; rest = s.rest; stops = s.stops; named = tag_named s.front s.stage (first_piece s.rest) s.reached s.stuck })
