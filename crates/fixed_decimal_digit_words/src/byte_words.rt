@@ -35,13 +35,13 @@ pub(crate) fn first_eight(bytes: &[u8]) -> u64
     u64::from(first_four(front)) * 4_294_967_296 + u64::from(first_four(rest))
 }
 
-// The digits of a word, two of each byte. It is a function of its own, of which the compiler makes vectors.
+// The halves of eight bytes. It is a function of its own over bytes in memory, since the compiler makes vectors of these,
+// and not of a word.
 #[inline(never)]
 #[tactic(auto, using(crate::proofs::HalvesLemmas::two_halves, crate::proofs::HalvesLemmas::halves_filled))]
-pub(crate) fn digits_of_word(word: u64) -> [u8; 16]
-    ensures { result ≡ word_digits word 16 }
+fn halves_of(bytes: &[u8; 8]) -> [u8; 16]
+    ensures { result ≡ halves bytes.now }
 {
-    let bytes = word.to_be_bytes();
     let mut digits = [0; 16];
     let mut index = 0;
     while index < 8 {
@@ -50,4 +50,12 @@ pub(crate) fn digits_of_word(word: u64) -> [u8; 16]
         index += 1;
     }
     digits
+}
+
+// The digits of a word.
+#[inline(always)]
+pub(crate) fn digits_of_word(word: u64) -> [u8; 16]
+    ensures { result ≡ word_digits word 16 }
+{
+    halves_of(&word.to_be_bytes())
 }

@@ -1,6 +1,6 @@
 use Rattle.std.proofs.Common.{◌≡◌, ◌-◌, ◌*◌, ◌≤◌, ◌++◌, length, take, drop}
 use Rattle.fixed_decimal_digit_words.specs.Packed.{halves}
-use Rattle.fixed_decimal_digit_words.proofs.byte_words.digits_of_word.Given as goal
+use Rattle.fixed_decimal_digit_words.proofs.byte_words.halves_of.Given as goal
 
 abbrev pub invariant-loop-index : goal.invariant-loop-index
 invariant-loop-index l = record {
