@@ -292,14 +292,15 @@ def build_all(crates, sums, guard, done):
         raise Fault(faults[0])
 
 
-def build_crates(tops, programs):
-    """Builds the libraries below these crates that are not built of the sources as they are, and the programs, and records of
-    which sources each program is."""
+def build_crates(tops, programs, libraries=()):
+    """Builds the libraries below these crates, and those of them that are named, where they are not built of the sources as they are,
+    and the programs, and records of which sources each program is."""
     sources.look_anew()
     before, sums = sources.state(*tops), sources.checksums(*tops)
     make_out()
     shutil.rmtree(ROOMS, ignore_errors=True)
-    wanted, done = [it for it in sources.whole(*tops) if it not in tops and not is_built(it, sums)], set()
+    used = {name for it in tops for name in sources.below(it)}
+    wanted, done = [it for it in sources.whole(*tops) if (it in used or it in libraries) and not is_built(it, sums)], set()
     try:
         with Guard(ROOMS) as guard:
             build_all([*wanted, *programs], sums, guard, done)
@@ -329,7 +330,7 @@ def build_programs():
         say(f"proved and built {' and '.join(program_of(it)[len(TOP) + 1:] for it in programs)}, in {(time.monotonic() - start) / 60:.0f} minutes")
 
 
-def build_libraries(crate):
-    """Proves and builds the libraries below a crate."""
+def build_libraries(*crates, with_them=False):
+    """Proves and builds the libraries below crates, and those of the crates that are libraries too where that is asked for."""
     with one_at_a_time():
-        build_crates([crate], [])
+        build_crates(crates, [], [it for it in crates if with_them and sources.is_library(it)])
