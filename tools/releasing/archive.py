@@ -8,7 +8,7 @@ from launching.common import TOP, Fault, out_of, read_text, write_whole
 
 CRATE = "legumeyet_c"
 ARCHIVE = f"{out_of(CRATE)}/lib{CRATE}.a"
-CPU = "x86-64"
+CPU = building.EVERY_CPU
 
 
 def rlib(crate):
