@@ -25,3 +25,5 @@ pub use Rattle.locale_numbers_tables.specs.Fields
 pub use Rattle.locale_numbers_tables.specs.Keys
 pub use Rattle.locale_numbers_tables.specs.RulesEntries
 pub use Rattle.locale_numbers_tables.specs.TagReading
+-- Of the inner crate of units: entries and tables.
+pub use Rattle.locale_numbers_units.specs.Units

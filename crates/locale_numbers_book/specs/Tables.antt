@@ -1,8 +1,8 @@
--- What stands in a book under an identifier, of each of its tables.
--- Defined in docs/books.md, "Choosing tables".
--- Cited by the impls of `DataProvider` for `Book`, and by the answer to a line.
+-- What stands in a book under an identifier, of each of its tables, and the locales of a book.
+-- Defined in docs/books.md, "Choosing tables" and "The locales of a book".
+-- Cited by the impls of `DataProvider` for `Book`, by `Book::locale`, and by the answer to a line.
 -- A book has five tables, and the type and the key of each are imported.
-use Rattle.std.specs.Prelude.{ℕ, ◌==◌, length, List, Option, None, Some, Result, if◌then◌else◌}
+use Rattle.std.specs.Prelude.{ℕ, ◌==◌, length, filter, map, List, Option, None, Some, Result, if◌then◌else◌}
 use Rattle.std.specs.Str.{bytes_eq}
 use Rattle.icu_locale_core.specs.DataLocales.{unknown_data}
 use Rattle.icu_locale_core.specs.TagPreferences.{DataLocaleMeaning}
@@ -62,3 +62,12 @@ parent_under book locale = step_in book.parents locale
 -- the locales that are asked for
 abbrev pub chain_in : BookTables → DataLocaleMeaning → List DataLocaleMeaning
 chain_in book locale = chain (parent_under book) (steps_in book.parents) locale
+
+-- ---- locales
+
+-- those of the entries of symbols without a system, in their order; none is there twice, since no key is
+abbrev pub usual_locales : List (Identifier × Symbols) → List DataLocaleMeaning
+usual_locales entries = map (λ entry. entry.0.locale) (filter (λ entry. length entry.0.attributes == 0) entries)
+
+abbrev pub locales_in : BookTables → List DataLocaleMeaning
+locales_in book = usual_locales book.symbols

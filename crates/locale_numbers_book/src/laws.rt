@@ -1,6 +1,6 @@
 //! Laws of the definitions, each the contract of a function that does nothing.
 
-ghost use Rattle.locale_numbers_book.specs.Laws.{TagsAreRead, DataLocalesAreRead, KeysAreOneWhereEqual, TablesAreMade, IsOneBook, BookTablesAreSound, BookTablesAreTexts, BookChainsEnd, SampleBookIsKnown};
+ghost use Rattle.locale_numbers_book.specs.Laws.{TagsAreRead, DataLocalesAreRead, KeysAreOneWhereEqual, TablesAreMade, IsOneBook, OldBooksStay, BookTablesAreSound, BookTablesAreTexts, BookChainsEnd, SampleBookIsKnown};
 
 pub use locale_numbers_parents::laws::cycles_are_met;
 
@@ -31,6 +31,13 @@ pub fn tables_are_made()
 /// A JSON value is one book at most: `[[],[],[],[],[]]` is only the book without tables and without parents.
 pub fn is_one_book()
     ensures { IsOneBook }
+{}
+
+/// A book of five arrays or six is what it was before books had units: a value that is no array of two items has the
+/// fault of such arrays, and as a book their tables and no units. So `[[],[],[],[],[]]` is the book without tables, and
+/// seven arrays are none.
+pub fn old_books_stay()
+    ensures { OldBooksStay }
 {}
 
 /// The types of each table of patterns of a book rise strictly, each exponent fits its type, and both fit into bytes:
