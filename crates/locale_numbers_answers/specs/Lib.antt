@@ -13,7 +13,6 @@ pub mod Rounded
 pub mod AmountRounding
 pub mod UnitReadings
 -- What private steps follow.
-pub mod HeldUnit
 pub mod AnswerSink
 pub mod AnswerSinkLaws
 -- Statements of laws.

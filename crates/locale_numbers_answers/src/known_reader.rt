@@ -12,9 +12,9 @@ use icu_dimension_affixes::laws::both_trips as unit_trips;
 use std::alloc::Global;
 use std::marker::Model;
 
-// A reader, and whether its texts can be read.
+/// A reader of texts with a unit that was asked once whether they can be read: that of English and `€` reads `€1.50`.
 #[derive(Drop)]
-pub(crate) struct KnownReader<'a> {
+pub struct KnownReader<'a> {
     reader: UnitReader<'a>,
     is_readable: bool,
 }
@@ -31,8 +31,8 @@ impl<'a> Model for KnownReader<'a> {
 }
 
 impl<'a> KnownReader<'a> {
-    // The reader, once it is asked. It does not allocate.
-    pub(crate) fn new(reader: UnitReader<'a>) -> Self
+    /// The reader, once it is asked. It does not allocate.
+    pub fn new(reader: UnitReader<'a>) -> Self
         ensures { result ≡ reader.entry }
     {
         let is_readable = reader.is_readable();
@@ -42,8 +42,11 @@ impl<'a> KnownReader<'a> {
         }
     }
 
-    // The number whose text with the unit this is.
-    pub(crate) fn read(&self, alloc: Global, text: &str) -> Result<Decimal, ReadError>
+    /// The number whose text with the unit this is: of English and `€` 1.50 of `€1.50`.
+    ///
+    /// `Unreadable`, `NotWritten`: as `UnitReader::read`. `Memory`: out of memory. It allocates where more than eight
+    /// digits are between the affixes of a sign.
+    pub fn read(&self, alloc: Global, text: &str) -> Result<Decimal, ReadError>
         ensures { IsAnswered result (unit_reading self.now text.now) }
     {
         plain_reading_is_the_reading();

@@ -34,6 +34,7 @@ pub use answer_line::{write_refusal, write_refusal_or_shape};
 pub use changing::{change, choose_sign};
 pub use compact_answer::write_compact_answer;
 pub use exact_answer::{read_compact, write_exact_answer};
+pub use known_reader::KnownReader;
 pub use lenient_answer::write_lenient_answer;
 pub use lenient_reader::{LenientReader, has_ascii_digits};
 pub use number_answer::{read_number, write_plain_answer};
