@@ -11,5 +11,7 @@ pub mod KnownBooks
 pub mod KnownPairs
 pub mod WantedLemmas
 pub mod FormatterLemmas
+pub mod UnitLemmas
 pub mod SampleLemmas
+pub mod SampleUnitsLemmas
 pub mod TextTables

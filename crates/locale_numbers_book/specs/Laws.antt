@@ -1,5 +1,5 @@
 -- Laws of the definitions: which tags and data locales are read, when two keys are one, which tables of patterns are made, when a value
--- is a book, with units or without, that its symbols and digits are texts, that its chains of parents end, and which tables the sample book has.
+-- is a book, with units or without, that its symbols and digits are texts, that its chains of parents end, and which tables the sample books have.
 -- Defined in docs/books.md, "Tags", "The form", "Units", "Parents", "Faults" and "The sample books".
 -- Cited by the functions of `laws.rt`.
 -- Each law is about definitions of other files, so the imports are many.
@@ -24,7 +24,8 @@ use Rattle.locale_numbers_book.specs.BookAllocation.{alone_may_grow, book_may_gr
 use Rattle.locale_numbers_book.specs.Form.{alone_fault, book_fault}
 use Rattle.locale_numbers_book.specs.Json.{Reads}
 use Rattle.locale_numbers_book.specs.SampleBook.{sample_tables}
-use Rattle.locale_numbers_book.specs.declared.sample_book.TheConstants.{SAMPLE_BOOK}
+use Rattle.locale_numbers_book.specs.SampleUnitsBook.{sample_units_tables}
+use Rattle.locale_numbers_book.specs.declared.sample_book.TheConstants.{SAMPLE_BOOK, SAMPLE_UNITS_BOOK}
 use Rattle.locale_numbers_tables.specs.CompactEntries.{table_made}
 use Rattle.locale_numbers_tables.specs.Entries.{has_count}
 use Rattle.locale_numbers_tables.specs.Keys.{same_key}
@@ -89,3 +90,7 @@ BookChainsEnd = (value : Data) (book : BookTables) → IsBook value book → (lo
 -- the text of the sample book is a book, and its tables are those that are written out
 abbrev pub SampleBookIsKnown : Type 0
 SampleBookIsKnown = (value : Data) × Reads SAMPLE_BOOK.now value × IsBook value sample_tables
+
+-- and so is that of the sample book with units
+abbrev pub SampleUnitsBookIsKnown : Type 0
+SampleUnitsBookIsKnown = (value : Data) × Reads SAMPLE_UNITS_BOOK.now value × IsBook value sample_units_tables

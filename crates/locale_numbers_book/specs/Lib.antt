@@ -4,6 +4,7 @@ pub mod Form
 pub mod ParentEntries
 pub mod Book
 pub mod SampleBook
+pub mod SampleUnitsBook
 pub mod Refusal
 -- What a reader must believe: what is in a book under an identifier, and the formatters that it has for a tag.
 pub mod Tables

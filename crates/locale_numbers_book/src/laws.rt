@@ -1,6 +1,6 @@
 //! Laws of the definitions, each the contract of a function that does nothing.
 
-ghost use Rattle.locale_numbers_book.specs.Laws.{TagsAreRead, DataLocalesAreRead, KeysAreOneWhereEqual, TablesAreMade, IsOneBook, OldBooksStay, BookTablesAreSound, BookTablesAreTexts, BookChainsEnd, SampleBookIsKnown};
+ghost use Rattle.locale_numbers_book.specs.Laws.{TagsAreRead, DataLocalesAreRead, KeysAreOneWhereEqual, TablesAreMade, IsOneBook, OldBooksStay, BookTablesAreSound, BookTablesAreTexts, BookChainsEnd, SampleBookIsKnown, SampleUnitsBookIsKnown};
 
 pub use locale_numbers_parents::laws::cycles_are_met;
 
@@ -62,4 +62,10 @@ pub fn chains_end()
 /// `arab` and `thai`, the English plural rules and the English patterns, short and long.
 pub fn sample_book_is_known()
     ensures { SampleBookIsKnown }
+{}
+
+/// The sample book with units is a book with these tables, these units and no others: symbols, percents and amounts of
+/// `de`, `de-CH`, `en`, `he` and `tr`, and the digits of CHF, JPY and KWD.
+pub fn sample_units_book_is_known()
+    ensures { SampleUnitsBookIsKnown }
 {}

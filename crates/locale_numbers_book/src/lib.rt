@@ -14,6 +14,8 @@ mod providers;
 mod sample_book;
 mod tag_formatters;
 mod tag_reader;
+mod unit_formatters;
+mod unit_providers;
 
 pub use book::{Book, book_from};
 pub use formatter_error::FormatterError;
