@@ -34,12 +34,24 @@ use Rattle.locale_numbers.specs.Laws.{AutoIsAnsweredAsAlways, FindsTables, ReadI
 use Rattle.locale_numbers_answers.specs.LenientAnswer.{lenient_with, reading_by, second_of, where_found}
 use Rattle.locale_numbers_answers.specs.NumberReading.{Reading, beyond, nothing, number, reading_of}
 use Rattle.locale_numbers_answers.specs.ReadAnswer.{read_answer, read_with}
+use Rattle.locale_numbers_answers.specs.UnitAnswer.{UnitFound, read_unit_with, unit_to}
+use Rattle.icu_dimension.specs.FoundUnits.{amount_settings, percent_settings, then_found, unit_locales, with_own}
+use Rattle.icu_dimension.specs.ProvidedUnits.{AmountTexts, PercentTexts, SymbolText}
+use Rattle.icu_dimension.specs.UnitChoice.{amounts_found, fractions_found, name_found, percent_found}
+use Rattle.icu_dimension.specs.UnitPatterns.{PatternTexts, chosen}
+use Rattle.icu_dimension.specs.UnitText.{UnitName}
+use Rattle.icu_dimension.specs.declared.FractionInfo.{FractionInfo}
+use Rattle.icu_dimension.specs.declared.UnitKind.TheVariants as kind
+use Rattle.locale_numbers_book.specs.TagFormatters.{currencies_in, percents_in}
+use Rattle.locale_numbers.specs.FoundUnit.{as_amounts, as_percents, found_unit, way_of, width_of}
+use Rattle.locale_numbers_requests.specs.declared.UnitAsked.{UnitAsked}
+use Rattle.locale_numbers_requests.specs.declared.UnitAsked.TheVariants.{Percent, Currency}
 use Rattle.locale_numbers_requests.specs.Request.{Asked}
 use Rattle.locale_numbers_book.specs.Wanted.{wanted_of}
 use Rattle.locale_numbers_requests.specs.declared.Refusal.{Refusal}
 use Rattle.locale_numbers_requests.specs.declared.Refusal.TheVariants as refusal
 use Rattle.locale_numbers_requests.specs.declared.Form.{Form}
-use Rattle.locale_numbers_requests.specs.declared.Form.TheVariants.{Plain, Compact, Exact, Read, ReadLenient}
+use Rattle.locale_numbers_requests.specs.declared.Form.TheVariants.{Plain, Compact, Exact, Read, ReadLenient, Unit, ReadUnit}
 use Rattle.locale_numbers_requests.specs.declared.PatternLength.{PatternLength}
 use Rattle.locale_numbers_requests.specs.declared.RoundingAsked.{RoundingAsked}
 use Rattle.locale_numbers_requests.specs.declared.RoundingAsked.TheVariants.{Unrounded}
@@ -140,6 +152,62 @@ twins_exactly one two twins sign compact_beyond = refl
 twins_exactly one two twins sign (compact_number value) =
     twins_exact one two twins (record { significand = signed_as sign value.significand; exponent = value.exponent })
 
+-- the same of what numbers with a unit are written with
+data AreUnitTwins : Result UnitFound DataError → Result UnitFound DataError → Type 0 where
+  unit_found : (symbols : Symbols) (digits : List ℕ) (pattern : PatternTexts) (unit : UnitName) (fractions : Option FractionInfo)
+      → AreUnitTwins
+      (Ok (record { settings = record { tables = record { symbols = symbols; digits = digits; strategy = Auto }; pattern = pattern; unit = unit }; digits = fractions }))
+      (Ok (record { settings = record { tables = record { symbols = symbols; digits = digits; strategy = Always }; pattern = pattern; unit = unit }; digits = fractions }))
+  unit_failed : (error : DataError) → AreUnitTwins (Err error) (Err error)
+
+-- with the symbols of an entry's own, or those of plain text
+own_twins : (own : Option Symbols) (symbols : Symbols) (digits : List ℕ) (pattern : PatternTexts) (unit : UnitName) (fractions : Option FractionInfo)
+    → AreUnitTwins
+    (Ok (record { settings = record { tables = with_own own (record { symbols = symbols; digits = digits; strategy = Auto }); pattern = pattern; unit = unit }; digits = fractions }))
+    (Ok (record { settings = record { tables = with_own own (record { symbols = symbols; digits = digits; strategy = Always }); pattern = pattern; unit = unit }; digits = fractions }))
+own_twins None symbols digits pattern unit fractions = unit_found symbols digits pattern unit fractions
+own_twins (Some own) symbols digits pattern unit fractions = unit_found own digits pattern unit fractions
+
+percent_twins : (one two : Result Tables DataError) → AreTwins one two → (percents : Result PercentTexts DataError)
+    → AreUnitTwins
+    (as_percents (then_found one (λ t. then_found percents (λ e. Ok (percent_settings t e)))))
+    (as_percents (then_found two (λ t. then_found percents (λ e. Ok (percent_settings t e)))))
+percent_twins one two (found symbols digits) (Ok e) = own_twins e.symbols symbols digits e.pattern (record { kind = kind.Percent; text = e.sign }) None
+percent_twins one two (found symbols digits) (Err error) = unit_failed error
+percent_twins one two (failed error) percents = unit_failed error
+
+amount_twins : (one two : Result Tables DataError) → AreTwins one two → (amounts : Result AmountTexts DataError) (name : Result SymbolText DataError) (fractions : Result FractionInfo DataError)
+    → AreUnitTwins
+    (as_amounts (then_found one (λ t. then_found amounts (λ e. then_found name (λ n. then_found fractions (λ f. Ok (record { unit = amount_settings t e n; fractions = f })))))))
+    (as_amounts (then_found two (λ t. then_found amounts (λ e. then_found name (λ n. then_found fractions (λ f. Ok (record { unit = amount_settings t e n; fractions = f })))))))
+amount_twins one two (found symbols digits) (Ok e) (Ok n) (Ok f) = own_twins e.symbols symbols digits (chosen e.patterns n.ends) (record { kind = kind.Currency; text = n.text }) (Some f)
+amount_twins one two (found symbols digits) (Ok e) (Ok n) (Err error) = unit_failed error
+amount_twins one two (found symbols digits) (Ok e) (Err error) fractions = unit_failed error
+amount_twins one two (found symbols digits) (Err error) name fractions = unit_failed error
+amount_twins one two (failed error) amounts name fractions = unit_failed error
+
+unit_twins_of : (unit : UnitAsked) (book : BookTables) (p : Preferences) → AreUnitTwins (found_unit unit book p Auto) (found_unit unit book p Always)
+unit_twins_of Percent book p =
+    percent_twins (found_in book p Auto) (found_in book p Always) (twins_of book p)
+    (percent_found (percents_in book).percents (unit_locales (percents_in book).decimals p) p.numbering_system)
+unit_twins_of (Currency style code) book p =
+    amount_twins (found_in book p Auto) (found_in book p Always) (twins_of book p)
+    (amounts_found (way_of style) (currencies_in book).currencies (currencies_in book).accounts (unit_locales (currencies_in book).decimals p) p.numbering_system code)
+    (name_found (width_of style) (currencies_in book).symbols (unit_locales (currencies_in book).decimals p) code)
+    (fractions_found (currencies_in book).fractions code)
+
+twins_with_unit : (one two : Result UnitFound DataError) → AreUnitTwins one two → (sign : SignAsked) (rounding : RoundingAsked) (reading : Reading)
+    → unit_to one sign rounding reading ≡ unit_to two sign rounding reading
+twins_with_unit one two twins sign rounding nothing = refl
+twins_with_unit one two twins sign rounding beyond = refl
+twins_with_unit one two (unit_found symbols digits pattern unit fractions) sign rounding (number value) = refl
+twins_with_unit one two (unit_failed error) sign rounding (number value) = refl
+
+twins_read_unit : (one two : Result UnitFound DataError) → AreUnitTwins one two → (rounding : RoundingAsked) (text : List ℕ)
+    → read_unit_with one rounding text ≡ read_unit_with two rounding text
+twins_read_unit one two (unit_found symbols digits pattern unit fractions) rounding text = refl
+twins_read_unit one two (unit_failed error) rounding text = refl
+
 auto_in : (book : BookTables) (p : Preferences) (asked : Asked) (form : Form)
     → answer_in form book p (grouped_by Auto asked) ≡ answer_in form book p (grouped_by Always asked)
 auto_in book p asked Plain =
@@ -154,6 +222,10 @@ auto_in book p asked Read = twins_read (found_in book p Auto) (found_in book p A
 auto_in book p asked ReadLenient =
     twins_lenient (found_in book p Auto) (found_in book p Always) (found_in book (in_latin p) Auto) (found_in book (in_latin p) Always)
     (twins_of book p) (twins_of book (in_latin p)) asked.text
+auto_in book p asked (Unit unit) =
+    twins_with_unit (found_unit unit book p Auto) (found_unit unit book p Always) (unit_twins_of unit book p) asked.sign asked.rounding (reading_of asked.text)
+auto_in book p asked (ReadUnit unit) =
+    twins_read_unit (found_unit unit book p Auto) (found_unit unit book p Always) (unit_twins_of unit book p) asked.rounding asked.text
 
 auto_tagged : (book : BookTables) (asked : Asked) (p : Option Preferences)
     → answer_tagged book p (grouped_by Auto asked) ≡ answer_tagged book p (grouped_by Always asked)
