@@ -1,11 +1,10 @@
-//! The book of all locales, as a constant. `tools/world_copies --write` makes this file of `books/world.json`.
+//! The book of all locales, as texts of which each goes on where the one before it ends. `tools/world_copies --write` makes this
+//! file of `books/world.json`.
 
-/// The book of all locales of CLDR 48: symbols, digits, plural rules, short and long patterns, and parents; and its units, the
-/// tables of percents and of amounts of money.
-///
-/// It is the text of `books/world.json`, to the last line feed, and `Book::from_json` takes its bytes. A locale without an entry
-/// finds those of its parents: `WORLD_LOCALES` has the names of all. Under the Unicode License v3 (`books/LICENSE-Unicode`).
-pub const WORLD_BOOK: &str = r#"[[[["af","","latn","-","","+","",","," ",3,3,1],
+/// How many bytes the book has.
+pub const LENGTH: usize = 203944;
+
+const PIECE_1: &str = r#"[[[["af","","latn","-","","+","",","," ",3,3,1],
 ["agq","","latn","-","","+","",","," ",3,3,1],
 ["ar","","latn","‎-","","‎+","",".",",",3,3,1],
 ["ar","arab","arab","؜-","","؜+","","٫","٬",3,3,1],
@@ -738,7 +737,9 @@ pub const WORLD_BOOK: &str = r#"[[[["af","","latn","-","","+","",","," ",3,3,1]
 ["se","",[[3,3,[["other",[""," dt"]]]],[6,6,[["other",[""," mn"]]]],[9,9,[["other",[""," md"]]]],[12,12,[["other",[""," bn"]]]]],null],
 ["si","",[[3,3,[["other",["ද",""]]]],[6,6,[["other",["මි",""]]]],[9,9,[["other",["බි",""]]]],[12,12,[["other",["ට්‍රි",""]]]]],null],
 ["sk","",[[3,3,[["other",[""," tis."]]]],[6,6,[["other",[""," mil."]]]],[9,9,[["other",[""," mld."]]]],[12,12,[["other",[""," bil."]]]]],null],
-["sl","",[[3,3,[["other",[""," tis."]]]],[6,6,[["other",[""," mio."]]]],[9,9,[["other",[""," mrd."]]]],[12,12,[["other",[""," bil."]]]]],null],
+["sl","",[[3,3,[["other",[""," tis."]]]],[6,6,[["other",[""," mio."]]]],[9,9,[["other",[""," mrd."]]]],[12,12,[["other",[""," bil."]]]]],null],"#;
+
+const PIECE_2: &str = r#"
 ["so","",[[3,3,[["other",["","K"]]]],[6,6,[["other",["","M"]]]],[9,9,[["other",["","B"]]]],[12,12,[["other",["","T"]]]]],null],
 ["sq","",[[3,3,[["other",[""," mijë"]]]],[6,6,[["other",[""," mln"]]]],[9,9,[["other",[""," mld"]]]],[12,12,[["other",[""," bln"]]]]],null],
 ["sr","",[[3,3,[["other",[""," хиљ."]]]],[6,6,[["other",[""," мил."]]]],[9,9,[["other",[""," млрд."]]]],[12,12,[["other",[""," бил."]]]]],null],
@@ -1163,7 +1164,9 @@ pub const WORLD_BOOK: &str = r#"[[[["af","","latn","-","","+","",","," ",3,3,1]
 ["en-Latn-CZ","en-CZ"],
 ["en-Latn-DD","en-DE"],
 ["en-Latn-DE","en-DE"],
-["en-Latn-DK","en-DK"],
+["en-Latn-DK","en-DK"],"#;
+
+const PIECE_3: &str = r#"
 ["en-Latn-EE","en-EE"],
 ["en-Latn-ES","en-ES"],
 ["en-Latn-FI","en-FI"],
@@ -2416,7 +2419,9 @@ pub const WORLD_BOOK: &str = r#"[[[["af","","latn","-","","+","",","," ",3,3,1]
 ["th","",null,["¤","","(¤",")","+¤",""],["¤ ","","(¤ ",")","+¤ ",""]],
 ["tnf","",null,["¤ ","","‎(¤ ",")","‎+¤ ",""],null],
 ["tr","",null,["¤","","(¤",")","+¤",""],["¤ ","","(¤ ",")","+¤ ",""]],
-["ug","",null,["¤","","(¤",")","+¤",""],["¤ ","","(¤ ",")","+¤ ",""]],
+["ug","",null,["¤","","(¤",")","+¤",""],["¤ ","","(¤ ",")","+¤ ",""]],"#;
+
+const PIECE_4: &str = r#"
 ["ug","arabext",null,["¤","","(¤",")","‎+‎¤",""],["¤ ","","(¤ ",")","‎+‎¤ ",""]],
 ["ur","",null,["¤","","(¤",")","‎+¤",""],["¤ ","","(¤ ",")","‎+¤ ",""]],
 ["ur","arab",null,[""," ¤"],null],
@@ -4316,7 +4321,9 @@ pub const WORLD_BOOK: &str = r#"[[[["af","","latn","-","","+","",","," ",3,3,1]
 ["und","CNY","CN¥",1],
 ["und","EUR","€",0],
 ["und","GBP","£",0],
-["und","HKD","HK$",1],
+["und","HKD","HK$",1],"#;
+
+const PIECE_5: &str = r#"
 ["und","ILS","₪",0],
 ["und","INR","₹",0],
 ["und","JPY","JP¥",1],
@@ -4512,3 +4519,33 @@ pub const WORLD_BOOK: &str = r#"[[[["af","","latn","-","","+","",","," ",3,3,1]
 ["ZMK",0,1,0,1],
 ["ZWD",0,1,0,1]]]]
 "#;
+
+// The piece 1: a function that names it has all of its text in its proof, and one that calls this has not.
+fn piece_1() -> &'static str {
+    PIECE_1
+}
+
+// The piece 2: a function that names it has all of its text in its proof, and one that calls this has not.
+fn piece_2() -> &'static str {
+    PIECE_2
+}
+
+// The piece 3: a function that names it has all of its text in its proof, and one that calls this has not.
+fn piece_3() -> &'static str {
+    PIECE_3
+}
+
+// The piece 4: a function that names it has all of its text in its proof, and one that calls this has not.
+fn piece_4() -> &'static str {
+    PIECE_4
+}
+
+// The piece 5: a function that names it has all of its text in its proof, and one that calls this has not.
+fn piece_5() -> &'static str {
+    PIECE_5
+}
+
+/// The pieces of the book, in order.
+pub fn pieces() -> [&'static str; 5] {
+    [piece_1(), piece_2(), piece_3(), piece_4(), piece_5()]
+}
