@@ -40,7 +40,8 @@ fn print_all(rt: &HostRuntime, book: &Book) -> Result<()> {
 }
 
 fn main(rt: HostRuntime) -> Result<()> {
-    let book = Book::from_json(rt.alloc(), world_text().as_bytes())?;
+    let text = world_text(rt.alloc())?;
+    let book = Book::from_json(rt.alloc(), text.as_bytes())?;
     let printed = print_all(&rt, &book);
     drop(book);
     printed

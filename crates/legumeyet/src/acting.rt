@@ -170,7 +170,10 @@ fn act_by_text(rt: &HostRuntime, text: &[u8], fronts: &Fronts<'_, '_>) -> Result
 // Does what is asked for by the book that the words name, or by that of all locales.
 fn act_asked(rt: &HostRuntime, fronts: &Fronts<'_, '_>) -> Result<u8, ProgramFault> {
     match fronts.matches.get_str("book") {
-        None => act_by_text(rt, world_text().as_bytes(), fronts),
+        None => match world_text(rt.alloc()) {
+            Ok(text) => act_by_text(rt, text.as_bytes(), fronts),
+            Err(_) => Err(ProgramFault::Run(RunError::Memory)),
+        },
         Some(path) => match read_text(rt, path) {
             Ok(text) => act_by_text(rt, &text, fronts),
             Err(fault) => Err(fault),

@@ -44,7 +44,7 @@ pub use locale_numbers_lines::{
     ByteReadFault, ByteReader, ByteWriteFault, ByteWriter, Report, RunError, Tracked,
 };
 pub use locale_numbers_requests::{Form, PatternLength, RoundingAsked, SignAsked};
-pub use locale_numbers_world::{WORLD_BOOK, WORLD_LOCALES, world_tags, world_text};
+pub use locale_numbers_world::{WORLD_LOCALES, world_tags, world_text};
 pub use program_run::program;
 pub use running::run;
 pub use starting::start;

@@ -54,7 +54,8 @@ fn print_all(rt: &HostRuntime, book: &Book, number: &Decimal) -> Result<()> {
 
 fn main(rt: HostRuntime) -> Result<()> {
     let number = Decimal::try_from_str(rt.alloc(), "-987654.321")?;
-    let book = Book::from_json(rt.alloc(), world_text().as_bytes())?;
+    let text = world_text(rt.alloc())?;
+    let book = Book::from_json(rt.alloc(), text.as_bytes())?;
     let printed = print_all(&rt, &book, &number);
     drop(book);
     printed
