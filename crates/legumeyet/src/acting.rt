@@ -5,13 +5,15 @@ ghost use Rattle.std.specs.Prelude.{◌≤◌};
 use crate::book_text::{book_of, read_text};
 use crate::environment::tag_for;
 use crate::input::put_input;
-use crate::numbers::{Asked, put_number, put_texts};
+use crate::numbers::{Asked, put_number, put_text, put_texts};
 use crate::report::{tell_code, tell_fields, tell_parts, tell_tag};
 use clap::ArgMatches;
+use icu_locale_core::DataLocale;
 use legumeyet_options::{Fields, UnitStyle, front_of, is_asked, unit_form, whole_rounding};
 use locale_numbers::{
     Answers, Book, ProgramFault, RunError, Tracked, WORLD_LOCALES, run, world_text,
 };
+use locale_numbers::prelude::CurrencyCode;
 use std::alloc::{AllocError, Global};
 use std::io::Write;
 
@@ -314,8 +316,47 @@ fn act_checked(rt: &HostRuntime, fronts: &Fronts<'_, '_>) -> Result<u8, ProgramF
     act_asked(rt, fronts)
 }
 
-// Lists the locales of the book of all locales.
-fn list_locales(rt: &HostRuntime) -> Result<u8, ProgramFault> {
+// Writes the tag of a locale in a line of its own.
+fn put_locale<W: Write>(
+    rt: &HostRuntime,
+    locale: &DataLocale,
+    out: &mut W,
+) -> Result<(), ProgramFault> {
+    match format!(in rt.alloc(); "{locale}") {
+        Ok(tag) => put_text(out, tag.as_bytes()),
+        Err(_) => Err(ProgramFault::Run(RunError::Memory)),
+    }
+}
+
+// Lists the locales that a book has symbols for, in its order.
+fn list_of_book(rt: &HostRuntime, book: &Book) -> Result<u8, ProgramFault> {
+    let mut out = rt.stdout();
+    for index in 0..book.locale_count() {
+        if let Some(locale) = book.locale(index) {
+            put_locale(rt, locale, &mut out)?;
+        }
+    }
+    Ok(0)
+}
+
+// Lists the locales of the book of a file.
+fn list_of_file(rt: &HostRuntime, path: &str) -> Result<u8, ProgramFault> {
+    let text = read_text(rt, path)?;
+    match book_of(rt.alloc(), &text) {
+        Ok(book) => {
+            let listed = list_of_book(rt, &book);
+            drop(book);
+            listed
+        }
+        Err(fault) => Err(fault),
+    }
+}
+
+// Lists the locales of the book that the words name, or of that of all locales.
+fn list_locales(rt: &HostRuntime, matches: &ArgMatches<'_>) -> Result<u8, ProgramFault> {
+    if let Some(path) = matches.get_str("book") {
+        return list_of_file(rt, path);
+    }
     match rt.stdout().write_all(WORLD_LOCALES.as_bytes()) {
         Ok(()) => Ok(0),
         Err(_) => Err(ProgramFault::Run(RunError::Write)),
@@ -325,7 +366,7 @@ fn list_locales(rt: &HostRuntime) -> Result<u8, ProgramFault> {
 /// Does what the words ask for, and returns the status.
 pub fn act(rt: &HostRuntime, matches: &ArgMatches<'_>) -> Result<u8, ProgramFault> {
     if matches.get_flag("locales") {
-        return list_locales(rt);
+        return list_locales(rt, matches);
     }
     let texts = match make_fronts(rt, matches) {
         Ok(texts) => texts,
