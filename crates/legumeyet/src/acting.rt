@@ -10,10 +10,10 @@ use crate::report::{tell_code, tell_fields, tell_parts, tell_tag};
 use clap::ArgMatches;
 use icu_locale_core::DataLocale;
 use legumeyet_options::{Fields, UnitStyle, front_of, is_asked, unit_form, whole_rounding};
+use locale_numbers::prelude::CurrencyCode;
 use locale_numbers::{
     Answers, Book, ProgramFault, RunError, Tracked, WORLD_LOCALES, run, world_text,
 };
-use locale_numbers::prelude::CurrencyCode;
 use std::alloc::{AllocError, Global};
 use std::io::Write;
 
