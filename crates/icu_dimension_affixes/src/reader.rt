@@ -7,7 +7,7 @@ ghost use Rattle.icu_decimal_reading.specs.DecimalOfText.{HasManyDigits};
 ghost use Rattle.icu_decimal_reading.specs.Readable.{is_readable_by};
 ghost use Rattle.icu_dimension_affixes.specs.HeldReaders.{pair_of, reader_of};
 ghost use Rattle.icu_dimension_affixes.specs.HeldUnits.{name_of, settings_of};
-ghost use Rattle.icu_dimension_affixes.specs.UnitReading.{AreReaderTexts, HasManyBetween, HasNoDecimal, HasNoNumberBetween, HasNoUnsigned, IsSignedText, IsUnitText, IsUnsignedText, HasManyIn, do_differ, is_clear, is_unit_readable_by, reader_texts};
+ghost use Rattle.icu_dimension_affixes.specs.UnitReading.{AreReaderTexts, HasManyBetween, HasNoDecimal, HasNoNumberBetween, HasNoUnsigned, IsSignedText, IsUnitText, IsUnsignedText, HasManyIn, do_differ, is_clear, is_unit_readable_by, pair_for, reader_texts};
 
 use crate::patterns::UnitPattern;
 use crate::sign_affixes::{SignAffixes, sign_affixes};
@@ -187,8 +187,8 @@ fn are_texts(
     let _plus_after = plus.after.as_str();
 }
 
-// Whether no digit is in the affixes.
-fn are_clear(digits: &[char; 10], affixes: &SignAffixes) -> bool
+/// Whether no digit of a table is in the affixes: none of ASCII is in `-€` and the empty text. It does not allocate.
+pub fn are_clear(digits: &[char; 10], affixes: &SignAffixes) -> bool
     ensures { result ≡ is_clear digits.now (pair_of affixes.now) }
 {
     has_none(digits, affixes.before.as_str()) && has_none(digits, affixes.after.as_str())
@@ -201,8 +201,8 @@ fn is_same_text(one: &str, other: &str) -> bool
     one == other
 }
 
-// Whether the affixes differ.
-fn are_apart(one: &SignAffixes, other: &SignAffixes) -> bool
+/// Whether the affixes differ: `-€` and the empty text, and `€` and the empty text, do. It does not allocate.
+pub fn are_apart(one: &SignAffixes, other: &SignAffixes) -> bool
     ensures { result ≡ do_differ (pair_of one.now) (pair_of other.now) }
 {
     !(is_same_text(one.before.as_str(), other.before.as_str())
@@ -259,6 +259,18 @@ impl<'b> UnitReader<'b> {
                 && (are_clear(digits, &self.minus) && are_clear(digits, &self.plus)))
                 && (are_apart(&self.none, &self.minus)
                     && (are_apart(&self.none, &self.plus) && are_apart(&self.minus, &self.plus))))
+    }
+
+    /// The affixes of a sign, with the unit in its place: of English and `€`, `-€` and the empty text of a minus sign. It
+    /// does not allocate.
+    pub fn affixes(&self, sign: Sign) -> &SignAffixes
+        ensures { pair_of result.now ≡ pair_for self.now.pairs sign }
+    {
+        match sign {
+            Sign::None => &self.none,
+            Sign::Negative => &self.minus,
+            Sign::Positive => &self.plus,
+        }
     }
 
     /// As `read`, of a reader that is known to be readable: of English and `€`, `-€1,234.50` is -1234.50.

@@ -41,6 +41,20 @@ impl<'b> UnitTables<'b> {
         }
     }
 
+    /// The tables of the formatter of decimals. It does not allocate.
+    pub fn decimals(&self) -> &'b DecimalTables<'b>
+        ensures { borrowed_tables result.now ≡ (settings_of self.now).tables }
+    {
+        self.decimals
+    }
+
+    /// The unit: `€`, a currency. It does not allocate.
+    pub fn unit(&self) -> Unit<'b>
+        ensures { name_of result ≡ (settings_of self.now).unit }
+    {
+        self.unit
+    }
+
     /// The decimal with its unit as it is written: -1234.5 as `-€1,234.5` in English. It does not allocate.
     ///
     /// The decimal is written as it is given, with its digits: 12.50 with a percent sign is `12.50%`. What is given borrows
