@@ -25,6 +25,7 @@ pub use Rattle.fixed_decimal_signed.specs.NonzeroPlaces
 pub use Rattle.fixed_decimal_signed.specs.Number
 pub use Rattle.fixed_decimal_signed.specs.NumberText
 pub use Rattle.fixed_decimal_signed.specs.TextParts
+pub use Rattle.fixed_decimal_signed.specs.ReadNumber
 pub use Rattle.fixed_decimal_signed.specs.Range
 pub use Rattle.fixed_decimal_signed.specs.Rounding
 pub use Rattle.fixed_decimal_signed.specs.RoundingMemory

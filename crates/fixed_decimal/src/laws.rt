@@ -4,7 +4,7 @@ ghost use Rattle.fixed_decimal.specs.TextLaws.{DecimalTextsReadOnce, IntegerText
 
 pub use fixed_decimal_signed::laws::{
     equal_texts_are_equal_numbers, equality_is_that_of_texts, printed_texts_read_back,
-    signed_modes_go_by_order, texts_read_once,
+    signed_modes_go_by_order, texts_read_by_exponent, texts_read_once,
 };
 
 /// A text spells at most one decimal, and is not both within the limits and beyond them: `-12.30` spells only -12.3,

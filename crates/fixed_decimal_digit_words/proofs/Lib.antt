@@ -9,3 +9,4 @@ pub mod HalvesLemmas
 pub mod BlockLemmas
 pub mod TextBlockLemmas
 pub mod KnownDigits
+pub mod ByteWordLemmas

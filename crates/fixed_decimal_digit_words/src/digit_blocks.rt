@@ -1,10 +1,11 @@
 //! Blocks of digits, two to a byte: the bytes of a text, the text of bytes, and the digits that lie in them.
 
-ghost use Rattle.std.specs.Prelude.{◌≡◌, ◌/◌, ◌%◌, ◌≤◌, length, map, take, drop};
+ghost use Rattle.std.specs.Prelude.{◌≡◌, ◌/◌, ◌%◌, ◌≤◌, ◌++◌, length, map, replicate, take, drop};
 ghost use Rattle.std.specs.Char.{digit_value};
 ghost use Rattle.fixed_decimal_digit_words.specs.DigitText.{AreDigits, character};
 ghost use Rattle.fixed_decimal_digit_words.specs.Packed.{halves, packed};
 
+use crate::byte_words::{digits_of_word, first_eight};
 use crate::digit_text::digit_of;
 
 /// The bytes that hold the digits of a text, two to a byte, with zeros behind: 0x90, 0x57 and thirty zeros of `9057`.
@@ -47,39 +48,22 @@ pub fn text_of_block(bytes: &[u8]) -> [u8; 64]
     text
 }
 
-/// The digits that lie in eight bytes: 9, 0, 5, 7 and twelve zeros of 0x90, 0x57 and six zeros.
+/// The sixteen digits that lie in bytes from the first half on: 9, 0, 5, 7 and twelve zeros of 0x90, 0x57.
 ///
-/// The condition is that there are so many bytes. It does not allocate.
-#[tactic(auto, using(crate::proofs::HalvesLemmas::two_halves, crate::proofs::HalvesLemmas::halves_filled))]
+/// Zeros stand for the bytes that are not there. It does not allocate.
 pub fn digits_within(bytes: &[u8]) -> [u8; 16]
-    requires { length bytes.now ≡ 8 }
-    ensures { result ≡ halves bytes.now }
+    ensures { result ≡ take 16 (halves (bytes.now ++ replicate 9 0)) }
 {
-    let mut digits = [0; 16];
-    let mut index = 0;
-    while index < 8 {
-        digits[2 * index] = bytes[index] / 16;
-        digits[2 * index + 1] = bytes[index] % 16;
-        index += 1;
-    }
-    digits
+    digits_of_word(first_eight(bytes))
 }
 
-/// The digits that lie in nine bytes between the first half and the last one: 0, 5, 7 and thirteen zeros of 0x90, 0x57
-/// and seven zeros.
+/// The sixteen digits that lie in bytes from the second half on: 0, 5, 7 and thirteen zeros of 0x90, 0x57.
 ///
-/// The condition is that there are so many bytes. It does not allocate.
-#[tactic(auto, using(crate::proofs::HalvesLemmas::two_between, crate::proofs::HalvesLemmas::between_filled))]
+/// Zeros stand for the bytes that are not there. It does not allocate.
 pub fn digits_between(bytes: &[u8]) -> [u8; 16]
-    requires { length bytes.now ≡ 9 }
-    ensures { result ≡ take 16 (drop 1 (halves bytes.now)) }
+    ensures { result ≡ take 16 (drop 1 (halves (bytes.now ++ replicate 9 0))) }
 {
-    let mut digits = [0; 16];
-    let mut index = 0;
-    while index < 8 {
-        digits[2 * index] = bytes[index] % 16;
-        digits[2 * index + 1] = bytes[index + 1] / 16;
-        index += 1;
-    }
-    digits
+    let ninth = if bytes.len() > 8 { bytes[8] / 16 } else { 0 };
+    let word = first_eight(bytes) % 1_152_921_504_606_846_976 * 16;
+    digits_of_word(word + u64::from(ninth))
 }

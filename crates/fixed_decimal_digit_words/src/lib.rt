@@ -5,6 +5,7 @@
 
 #![tactic(auto)]
 
+mod byte_words;
 mod digit_blocks;
 mod digit_text;
 mod digit_words;

@@ -1,12 +1,12 @@
 -- The bytes of a word hold its digits.
-use Rattle.std.proofs.Common.{◌≡◌, ℕ, zero, suc, ◌+◌, ◌-◌, ◌*◌, ◌/◌, ◌%◌, ◌^◌, ◌≤◌, List, [], ◌∷◌, ◌++◌, drop, refl, sym, ap, ◌∙◌, arith, w64}
+use Rattle.std.proofs.Common.{◌≡◌, ℕ, zero, suc, ◌+◌, ◌-◌, ◌*◌, ◌/◌, ◌%◌, ◌≤◌, List, [], ◌∷◌, ◌++◌, drop, refl, sym, ap, ◌∙◌, arith, w64}
 use Rattle.std.proofs.lemmas.List.{append_assoc}
-use Rattle.std.proofs.Math.Nat.{pow-suc, mul_comm, div-div-eq-div-mul}
-use Rattle.std.specs.Int.{byte_at, bytes_high_first, to_be_bytes}
+use Rattle.std.specs.Int.{bytes_high_first, to_be_bytes}
 use Rattle.std.specs.Int.Digits.{AllBelowBase}
 use Rattle.fixed_decimal_digit_words.specs.DigitWord.{word_digits, word_bytes}
 use Rattle.fixed_decimal_digit_words.specs.Packed.{packed, digits_in, IsPacked}
 use Rattle.fixed_decimal_digit_words.proofs.WordLemmas.{word_length}
+use Rattle.fixed_decimal_digit_words.proofs.ByteWordLemmas.{high_word}
 use Rattle.fixed_decimal_digits.proofs.PackedLemmas.{kept_so, pushed_upper, pushed_both}
 
 -- two digits are a byte
@@ -49,18 +49,6 @@ pub odd_word : (kept : List ℕ) (w count : ℕ) → AllBelowBase 10 (word_digit
 odd_word kept w count h odd e =
     let twice : count ≡ 2 * (count / 2) + 1 = omega arith in
     kept_so kept (word_digits w count) count h (e ∙ sym (ap (λ n. packed (word_digits w n)) twice ∙ word_odd (count / 2) w)) (sym (word_length count w))
-
-high_next : (n w : ℕ) → byte_at (suc n) w ≡ byte_at n (w / 256)
-high_next zero w = refl
-high_next (suc n) w = ap (λ t. w / t % 256) (pow-suc 256 (suc n) ∙ mul_comm (256 ^ suc n) 256) ∙ ap (λ q. q % 256) (sym (div-div-eq-div-mul w 256 (256 ^ suc n)))
-
-high_push : (n w : ℕ) → bytes_high_first (suc n) w ≡ bytes_high_first n (w / 256) ++ (w % 256 ∷ [])
-high_push zero w = refl
-high_push (suc n) w = let first = high_next n w in let rest = high_push n w in λ i. first i ∷ rest i
-
-high_word : (n w : ℕ) → bytes_high_first n w ≡ word_bytes w n
-high_word zero w = refl
-high_word (suc n) w = high_push n w ∙ ap (λ bs. bs ++ (w % 256 ∷ [])) (high_word n (w / 256))
 
 high_last : (n w : ℕ) → n ≤ 8 → drop (8 - n) (bytes_high_first 8 w) ≡ bytes_high_first n w
 high_last zero w h = refl

@@ -43,26 +43,6 @@ pub fn assign_bytes(kept: &mut SmallVec<u8, INLINE>, word: u64, count: usize)
     }
 }
 
-// The first N bytes, or all where they are fewer, with zeros behind them.
-pub fn first_bytes<const N: usize>(bytes: &[u8]) -> [u8; N]
-    ensures { take (length bytes.now) result ≡ take N bytes.now }
-{
-    let count = bytes.len().min(N);
-    let mut first = [0; N];
-    first[..count].copy_from_slice(&bytes[..count]);
-    first
-}
-
-// Puts the first `count` digits of a block into the front of a part. The rest of the part stays.
-pub fn put_front(part: &mut [u8], block: &[u8; 16], count: usize)
-    requires block { count ≤ 16 }
-    requires room { count ≤ length part.old }
-    ensures taken { take count part.new ≡ take count block.now }
-    ensures same { drop count part.new ≡ drop count part.old }
-{
-    part[..count].copy_from_slice(&block[..count]);
-}
-
 // Adds bytes, for which there is room, behind those that are there.
 pub fn copy_bytes(kept: &mut SmallVec<u8, INLINE>, bytes: &[u8])
     requires { length kept.old.items + length bytes.now ≤ kept.old.capacity }

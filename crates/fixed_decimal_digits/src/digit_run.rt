@@ -1,9 +1,9 @@
-//! Some of the digits of a list, one after another, or sixteen at once.
+//! Some of the digits of a list, one after another, or up to sixteen at once.
 
 ghost use Rattle.std.specs.Prelude.{◌≡◌, ◌+◌, ◌^◌, ◌<◌, ◌≤◌, length, min, take, drop};
+ghost use Rattle.std.specs.Int.Digits.{AllBelowBase};
 ghost use Rattle.std.specs.Iterator.{YieldsFirst, item_count};
 
-use crate::digit_bytes::{first_bytes, put_front};
 use crate::digits::{Digits, STEP};
 use fixed_decimal_digit_words::{digits_between, digits_within};
 use std::iter::FusedIterator;
@@ -44,18 +44,19 @@ impl Digits {
         }
     }
 
-    // The `count` digits from an index on, at the front of a block.
+    // A block of digits that begins with the `count` from an index on.
     #[tactic(auto, using(crate::proofs::PackedChanges::bytes_length))]
-    fn few(&self, index: usize, count: usize) -> [u8; 16]
+    fn block_from(&self, index: usize, count: usize) -> [u8; 16]
         requires few { count ≤ 16 }
         requires within { index + count ≤ length self.now.items }
-        ensures { take count result ≡ take count (drop index self.now.items) }
+        ensures taken { take count result ≡ take count (drop index self.now.items) }
+        ensures tens { AllBelowBase 10 result }
     {
         let (_, rest) = self.kept.as_slice().split_at(index / 2);
         if index % 2 == 0 {
-            digits_within(&first_bytes::<8>(rest))
+            digits_within(rest)
         } else {
-            digits_between(&first_bytes::<9>(rest))
+            digits_between(rest)
         }
     }
 }
@@ -69,30 +70,16 @@ impl<'l> DigitRun<'l> {
         self.left
     }
 
-    // The next sixteen digits.
-    pub fn next_sixteen(&mut self) -> [u8; 16]
-        requires { 16 ≤ length self.old }
-        ensures value { result ≡ take 16 self.old }
-        ensures rest { self.new ≡ drop 16 self.old }
-    {
-        let digits = self.digits.sixteen(self.next);
-        self.next += STEP;
-        self.left -= STEP;
-        digits
-    }
-
-    // Puts the digits that are left into the front of a part, as many as it holds, and returns how many. The rest of
-    // the part stays.
-    pub fn next_few(&mut self, part: &mut [u8]) -> usize
-        requires { length part.old ≤ 16 }
-        ensures count { result ≡ min (length part.old) (length self.old) }
-        ensures taken { take result part.new ≡ take result self.old }
-        ensures same { drop result part.new ≡ drop result part.old }
+    // Puts the next digits into the front of a block, sixteen or all that are left where these are fewer, and returns
+    // how many. The rest of the block are digits that mean nothing.
+    pub fn next_block(&mut self, block: &mut [u8; 16]) -> usize
+        ensures count { result ≡ min 16 (length self.old) }
+        ensures taken { take result block.new ≡ take result self.old }
+        ensures tens { AllBelowBase 10 block.new }
         ensures rest { self.new ≡ drop result self.old }
     {
-        let count = part.len().min(self.left);
-        let digits = self.digits.few(self.next, count);
-        put_front(part, &digits, count);
+        let count = STEP.min(self.left);
+        *block = self.digits.block_from(self.next, count);
         self.next += count;
         self.left -= count;
         count

@@ -4,7 +4,7 @@ ghost use Rattle.std.specs.Prelude.{◌≡◌, ◌==◌, ◌+◌, ◌%◌, ◌<�
 ghost use Rattle.std.specs.Bool.{Decides};
 ghost use Rattle.fixed_decimal_digit_words.specs.DigitText.{character};
 
-use fixed_decimal_digit_words::{digits_between, digits_within, text_of_block};
+use fixed_decimal_digit_words::text_of_block;
 use smallvec::SmallVec;
 use std::alloc::{AllocError, Global};
 use std::marker::Model;
@@ -113,22 +113,6 @@ impl Digits {
             self.kept.as_slice()[index / 2] == digit * 17
         } else {
             self.get(index) == digit && self.get(index + 1) == digit
-        }
-    }
-
-    // The sixteen digits from an index on.
-    #[tactic(auto, using(crate::proofs::PackedChanges::bytes_length))]
-    pub(crate) fn sixteen(&self, index: usize) -> [u8; 16]
-        requires { index + 16 ≤ length self.now.items }
-        ensures { result ≡ take 16 (drop index self.now.items) }
-    {
-        let (_, rest) = self.kept.as_slice().split_at(index / 2);
-        if index % 2 == 0 {
-            let (front, _) = rest.split_at(STEP / 2);
-            digits_within(front)
-        } else {
-            let (front, _) = rest.split_at(STEP / 2 + 1);
-            digits_between(front)
         }
     }
 

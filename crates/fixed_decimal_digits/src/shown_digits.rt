@@ -11,9 +11,6 @@ use crate::digits::{Digits, STEP};
 use std::iter::{ExactSizeIterator, FusedIterator};
 use std::marker::Model;
 
-// How many digits are returned faster one by one than by one step.
-const FEW: usize = 4;
-
 /// The digits of a number at a range of magnitudes, from the highest to the lowest, each from 0 to 9: before the point
 /// of `012.30` they are 0, 1, 2, and behind it 3, 0.
 ///
@@ -58,22 +55,19 @@ pub fn digits_at(digits: &Digits, top: u16, base: u16, count: u16) -> ShownDigit
 
 impl<'l> ShownDigits<'l> {
     /// Puts the next digits into the front of `block`, sixteen or all that are left where these are fewer, and returns
-    /// how many. The rest of `block` stays.
+    /// how many. What else is in `block` then means nothing.
     ///
-    /// Each is from 0 to 9. Of `012.30` the digits before the point are 0, 1, 2: the first call returns 3, the next 0.
-    /// One call for sixteen digits costs one step, not sixteen. It does not allocate.
+    /// Each is from 0 to 9, and so is each behind them, where those of `block` were. Of `012.30` the digits before the
+    /// point are 0, 1, 2: the first call returns 3, the next 0. One call for sixteen digits costs one step, not sixteen.
+    /// It does not allocate.
     pub fn next_block(&mut self, block: &mut [u8; 16]) -> usize
         ensures count { result ≡ min 16 (length self.old) }
         ensures taken { take result block.new ≡ take result self.old }
-        ensures same { drop result block.new ≡ drop result block.old }
+        ensures tens { AllBelowBase 10 self.old → AllBelowBase 10 block.old → AllBelowBase 10 block.new }
         ensures rest { self.new ≡ drop result self.old }
     {
-        if self.zeros_before == 0 && self.inside.len() >= STEP {
-            *block = self.inside.next_sixteen();
-            return STEP;
-        }
-        if self.zeros_before == 0 && self.zeros_behind == 0 && self.inside.len() > FEW {
-            return self.inside.next_few(block);
+        if self.zeros_before == 0 && (self.zeros_behind == 0 || self.inside.len() >= STEP) {
+            return self.inside.next_block(block);
         }
         self.next_few(block)
     }
@@ -82,7 +76,7 @@ impl<'l> ShownDigits<'l> {
     fn next_few(&mut self, block: &mut [u8; 16]) -> usize
         ensures count { result ≡ min 16 (length self.old) }
         ensures taken { take result block.new ≡ take result self.old }
-        ensures same { drop result block.new ≡ drop result block.old }
+        ensures tens { AllBelowBase 10 self.old → AllBelowBase 10 block.old → AllBelowBase 10 block.new }
         ensures rest { self.new ≡ drop result self.old }
     {
         let mut count = 0;

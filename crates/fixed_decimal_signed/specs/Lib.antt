@@ -16,6 +16,7 @@ pub use Rattle.fixed_decimal_unsigned.specs.NonzeroPlaces
 pub use Rattle.fixed_decimal_unsigned.specs.Number
 pub use Rattle.fixed_decimal_unsigned.specs.NumberText
 pub use Rattle.fixed_decimal_unsigned.specs.TextParts
+pub use Rattle.fixed_decimal_unsigned.specs.ReadNumber
 pub use Rattle.fixed_decimal_unsigned.specs.Range
 pub use Rattle.fixed_decimal_unsigned.specs.Rounding
 pub use Rattle.fixed_decimal_unsigned.specs.RoundingMemory

@@ -3,7 +3,7 @@ ghost use Rattle.fixed_decimal_signed.specs.SignedOrder.{SignedModesGoByOrder};
 
 pub use fixed_decimal_unsigned::laws::{
     equal_texts_are_equal_numbers, equality_is_that_of_texts, printed_texts_read_back,
-    texts_read_once,
+    texts_read_by_exponent, texts_read_once,
 };
 
 /// Rounding goes by order: `Ceil` takes the least multiple that is not smaller than the signed number, `Floor`

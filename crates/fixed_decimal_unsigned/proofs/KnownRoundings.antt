@@ -1,5 +1,5 @@
 -- When a rounding may allocate, at known numbers, so that a wrong definition does not pass.
-use Rattle.std.proofs.Common.{◌≡◌, ℕ, zero, suc, ◌<◌, ◌≤◌, refl, arith, lit≤}
+use Rattle.std.proofs.Common.{ℕ, zero, suc, ◌<◌, ◌≤◌, refl, arith, lit≤}
 use Rattle.fixed_decimal_digits.specs.declared.UnsignedRoundingMode.TheVariants.{Expand, Trunc}
 use Rattle.fixed_decimal_digits.specs.declared.RoundingIncrement.TheVariants.{MultiplesOf5, MultiplesOf25}
 use Rattle.fixed_decimal_digits.proofs.KnownRoundings.{up_to_an_odd_count, down_to_an_even_count}

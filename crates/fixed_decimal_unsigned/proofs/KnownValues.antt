@@ -1,7 +1,9 @@
 -- Rows of docs/numbers.md on places, digits, texts and equality, so that a wrong definition does not pass.
 use Rattle.std.proofs.Common.{◌≡◌, ℕ, pos, negsuc, ◌*◌, ◌^◌, ◌≤◌, false, inl, List, [], ◌∷◌, ◌++◌, length, codes, refl, ap, arith, lit≤, length-append}
+use Rattle.std.proofs.lemmas.Int.{ints}
 use Rattle.fixed_decimal_unsigned.specs.Number.{Number, place, digit}
 use Rattle.fixed_decimal_unsigned.specs.NumberText.{Parts, Spells, Reads, IsBeyond, IsNoText, IsWithin, AreEndsIn, text_of, behind_point}
+use Rattle.fixed_decimal_unsigned.specs.ReadNumber.{IsInLimits, ReadsAs}
 use Rattle.fixed_decimal_unsigned.specs.Shifts.{plain_zero}
 use Rattle.fixed_decimal_unsigned.specs.Equality.{are_equal}
 
@@ -60,6 +62,23 @@ half_within = record { exponent_high = lit≤ tt; exponent_low = lit≤ tt; firs
 half_read : Reads (codes "0.50e1") (record { count = 5 * 10 ^ 32768; low = 32767; high = 32769 })
 unfolding half_times_ten
 half_read = record { parts = half_times_ten; spells = half_spelled; within = half_within; is = refl }
+
+-- the same, by its exponent 1: the last digit has magnitude -1
+half_in_limits : IsInLimits half_times_ten
+unfolding half_times_ten
+half_in_limits = record { exponent_low = omega (arith, ints); exponent_high = omega (arith, ints); lowest = omega (arith, ints); highest = omega (arith, ints) }
+
+half_read_as : ReadsAs (codes "0.50e1") (record { count = 5 * 10 ^ 32768; low = 32767; high = 32769 })
+unfolding half_times_ten
+half_read_as = record { parts = half_times_ten; spells = half_spelled; within = half_in_limits; is = refl }
+
+-- an exponent above 32767 is past the limits, also where the digits are not: `.1e32768`
+tenth_high : Parts
+tenth_high = record { integer = []; fraction = codes "1"; negative = false; exponent = codes "32768" }
+
+tenth_past : ¬ (IsInLimits tenth_high)
+unfolding tenth_high
+tenth_past h = let most = h.exponent_high in absurd (omega (arith, ints, most))
 
 -- the number that is read so is shown as `05.0`
 half_text : text_of (record { count = 5 * 10 ^ 32768; low = 32767; high = 32769 }) ≡ codes "05.0"

@@ -3,6 +3,7 @@ pub mod TextPartsLemmas
 pub mod SpelledLemmas
 pub mod MantissaLemmas
 pub mod ReadOnceLemmas
+pub mod ReadNumberLemmas
 pub mod PrintedLemmas
 pub mod RangeLemmas
 pub mod ShiftLemmas

@@ -1,8 +1,10 @@
 -- Digits written a piece a call: the events of the next piece, and of the rest.
-use Rattle.std.proofs.Common.{◌≡◌, ℕ, zero, suc, ◌+◌, ◌-◌, ◌<◌, ◌≤◌, List, [], ◌∷◌, ◌++◌, length, map, take, refl, sym, ap, ◌∙◌, arith, set}
+use Rattle.std.proofs.Common.{◌≡◌, ℕ, zero, suc, ◌+◌, ◌-◌, ◌<◌, ◌≤◌, List, [], ◌∷◌, ◌++◌, length, get_or, map, replicate, take, drop, refl, sym, ap, ◌∙◌, arith, set}
 use Rattle.std.proofs.Math.ListN.{set}
 use Rattle.std.specs.Str.{IsAscii}
-use Rattle.std.proofs.lemmas.List.{append_assoc, append-nil, map-append, take_more_set, take_all}
+use Rattle.std.proofs.lemmas.List.{append_assoc, append-nil, drop_all, drop_more, length-take-le, map-append, take-append-drop, take-map, take-take, take_more_set, take_all}
+use Rattle.std.proofs.Math.Seq.{take-append-add}
+use Rattle.std.specs.Int.Digits.{AllBelowBase}
 use Rattle.std.proofs.lemmas.Str.Ascii.{IsAscii-nil, IsAscii-cons}
 use Rattle.std.proofs.lemmas.Str.{IsAscii-append}
 use Rattle.writeable.specs.AnnotatedText.{bytes, text_of as written}
@@ -21,28 +23,61 @@ next_piece count base left size rest e =
     ∙ ap bytes (map-append character (digits_down count (base + rest) size) (digits_down count base rest))
     ∙ bytes_joined (map character (digits_down count (base + rest) size)) (map character (digits_down count base rest))
 
--- one character more in a piece
-pub spelled_more : (piece : List ℕ) (count base from done left rest c : ℕ) → from + done < length piece → left ≡ rest + 1 → c ≡ character (digit count (base + rest))
-    → take (from + (done + 1)) (set piece (from + done) c) ++ map character (digits_down count base rest) ≡ take (from + done) piece ++ map character (digits_down count base left)
-spelled_more piece count base from done left rest c within e is =
-    let more : suc rest ≡ left = omega arith in
-    let next : from + (done + 1) ≡ from + done + 1 = omega arith in
-    ap (λ n. take n (set piece (from + done) c) ++ map character (digits_down count base rest)) next
-    ∙ ap (λ t. t ++ map character (digits_down count base rest)) (take_more_set piece (from + done) c within)
-    ∙ append_assoc (take (from + done) piece) (c ∷ []) (map character (digits_down count base rest))
-    ∙ ap (λ d. take (from + done) piece ++ d ∷ map character (digits_down count base rest)) is
-    ∙ ap (λ n. take (from + done) piece ++ map character (digits_down count base n)) more
+-- a digit of those that are below ten
+pub ten_at : (ds : List ℕ) (i : ℕ) → i < length ds → AllBelowBase 10 ds → get_or ds i 0 < 10
+ten_at [] i within tens = absurd (omega (arith, within))
+ten_at (d ∷ ds) zero within tens = tens.0
+ten_at (d ∷ ds) (suc i) within tens = ten_at ds i (omega (arith, within)) tens.1
+
+-- one character more of a block, and none that is left
+pub character_more : (digits text : List ℕ) (i c : ℕ) → i < length digits → i < length text → c ≡ character (get_or digits i 0)
+    → take (i + 1) (set text i c) ++ map character (drop (i + 1) digits) ≡ take i text ++ map character (drop i digits)
+character_more digits text i c within room is =
+    let behind = map character (drop (i + 1) digits) in
+    ap (λ t. t ++ behind) (take_more_set text i c room)
+    ∙ append_assoc (take i text) (c ∷ []) behind
+    ∙ ap (λ d. take i text ++ d ∷ behind) is
+    ∙ ap (λ ds. take i text ++ map character ds) (sym (drop_more digits i 0 within))
+
+pub characters_whole : (digits text : List ℕ) (i : ℕ) → length digits ≤ i → length text ≤ i → take i text ++ map character (drop i digits) ≡ map character digits → text ≡ map character digits
+characters_whole digits text i l m e =
+    sym (take_all i text m)
+    ∙ sym (append-nil (take i text))
+    ∙ ap (λ ds. take i text ++ map character ds) (sym (drop_all i digits l)) ∙ e
+
+-- a block of characters more in a piece, of which the first few count
+pub spelled_block : (piece after block digits rest : List ℕ) (at n : ℕ) → at ≤ length piece → n ≤ 16 → take (at + 16) after ≡ take at piece ++ map character block → take n block ≡ take n digits → rest ≡ drop n digits
+    → take (at + n) after ++ map character rest ≡ take at piece ++ map character digits
+spelled_block piece after block digits rest at n within few put taken left =
+    let size : length (take at piece) ≡ at = length-take-le at piece within in
+    let front : take (at + n) after ≡ take at piece ++ map character (take n digits) =
+    sym (take-take (at + n) (at + 16) after (omega (arith, few)))
+    ∙ ap (take (at + n)) put
+    ∙ ap (λ k. take (k + n) (take at piece ++ map character block)) (sym size)
+    ∙ take-append-add (take at piece) (map character block) n
+    ∙ ap (λ cs. take at piece ++ cs) (take-map character n block ∙ ap (map character) taken) in
+    ap (λ t. t ++ map character rest) front
+    ∙ ap (λ ds. (take at piece ++ map character (take n digits)) ++ map character ds) left
+    ∙ append_assoc (take at piece) (map character (take n digits)) (map character (drop n digits))
+    ∙ ap (λ cs. take at piece ++ cs) (sym (map-append character (take n digits) (drop n digits)) ∙ ap (map character) (take-append-drop n digits))
 
 -- a piece in which no digit is left to spell
-pub spelled_all : (piece whole : List ℕ) (count base from done size : ℕ) → done ≤ size → size ≤ done
-    → take (from + done) piece ++ map character (digits_down count base (size - done)) ≡ whole → take (from + size) piece ≡ whole
-spelled_all piece whole count base from done size l m e =
-    let same : size ≡ done = omega arith in
-    let left : size - done ≡ 0 = omega arith in
-    ap (λ n. take (from + n) piece) same
-    ∙ sym (append-nil (take (from + done) piece))
-    ∙ ap (λ n. take (from + done) piece ++ map character (digits_down count base n)) (sym left)
-    ∙ e
+pub spelled_all : (piece digits whole : List ℕ) (from done size : ℕ) → done ≡ size → length digits ≡ 0 → take (from + done) piece ++ map character digits ≡ whole → take (from + size) piece ≡ whole
+spelled_all piece [] whole from done size e none is = ap (λ n. take (from + n) piece) (sym e) ∙ sym (append-nil (take (from + done) piece)) ∙ is
+spelled_all piece (d ∷ ds) whole from done size e none is = absurd (omega (arith, none))
+
+-- the digits of a count at so many places: how many they are, and that they are below ten
+pub length_down : (count base n : ℕ) → length (digits_down count base n) ≡ n
+length_down count base zero = refl
+length_down count base (suc k) = omega (arith, length_down count base k)
+
+pub tens_down : (count base n : ℕ) → AllBelowBase 10 (digits_down count base n)
+tens_down count base zero = tt
+tens_down count base (suc k) = (digit_below_ten count (base + k), tens_down count base k)
+
+pub zeros_below : (n : ℕ) → AllBelowBase 10 (replicate n 0)
+zeros_below zero = tt
+zeros_below (suc n) = (omega arith, zeros_below n)
 
 no_fraction : (count low left : ℕ) → left ≡ 0 → behind_point (map character (digits_down count low left)) ≡ []
 no_fraction count low zero e = refl

@@ -9,6 +9,7 @@ pub mod Laws
 pub mod Number
 pub mod NonzeroPlaces
 pub mod NumberText
+pub mod ReadNumber
 pub mod Range
 pub mod RoundingMemory
 pub mod Shifts

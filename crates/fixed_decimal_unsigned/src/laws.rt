@@ -1,11 +1,17 @@
 //! Laws on texts and numbers. No call is made: each clause is the law.
 
-ghost use Rattle.fixed_decimal_unsigned.specs.Laws.{TextsReadOnce, PrintedTextsReadBack, EqualTextsAreEqualNumbers, EqualityIsIdentity, EqualityIsThatOfTexts};
+ghost use Rattle.fixed_decimal_unsigned.specs.Laws.{TextsReadOnce, TextsReadByExponent, PrintedTextsReadBack, EqualTextsAreEqualNumbers, EqualityIsIdentity, EqualityIsThatOfTexts};
 
 /// A text spells at most one number, and is not both within the limits and beyond them: `12.30` spells only 12.3, shown
 /// down to magnitude -2.
 pub fn texts_read_once()
     ensures { TextsReadOnce }
+{}
+
+/// A text spells the number that its exponent makes of its digits, the exponent a whole number, and is beyond the limits
+/// where this or a magnitude passes them: `0.50e1` spells 5, shown from magnitude 1 to -1.
+pub fn texts_read_by_exponent()
+    ensures { TextsReadByExponent }
 {}
 
 /// The printed text of a number spells that number: `012.30` spells the number that is printed `012.30`.

@@ -1,15 +1,15 @@
 //! The text of a number, written in pieces of up to sixty-four characters.
 
-ghost use Rattle.std.specs.Prelude.{◌≡◌, ℕ, ◌+◌, ◌-◌, ◌<◌, ◌≤◌, ◌++◌, codes, false, is_err, length, map, take, IfSome, OnOk, OnErr, Some};
+ghost use Rattle.std.specs.Prelude.{◌≡◌, ℕ, ◌+◌, ◌-◌, ◌*◌, ◌/◌, ◌<◌, ◌≤◌, ◌++◌, codes, false, is_err, length, map, take, IfSome, OnOk, OnErr, Some};
+ghost use Rattle.std.specs.Int.Digits.{AllBelowBase};
 ghost use Rattle.std.specs.Str.{IsAscii};
 ghost use Rattle.writeable.specs.AnnotatedText.{bytes};
 ghost use Rattle.writeable.specs.Taking.{HasBegun};
-ghost use Rattle.fixed_decimal_unsigned.specs.Number.{digit, digits_down, whole_digits, fraction_digits};
+ghost use Rattle.fixed_decimal_unsigned.specs.Number.{digits_down, whole_digits, fraction_digits};
 ghost use Rattle.fixed_decimal_unsigned.specs.NumberText.{character, behind_point, text_of};
 
-use crate::places::magnitude_of;
 use crate::unsigned_decimal::UnsignedDecimal;
-use fixed_decimal_digits::{BLOCK, ONES};
+use fixed_decimal_digits::{BLOCK, ONES, digits_at};
 use std::fmt;
 use writeable::{Error, LengthHint, Sink, Writeable, display};
 
@@ -19,25 +19,48 @@ const SHORT: u16 = 32;
 // How many digits of a longer text are written by one call of the sink at most.
 const PIECE: u16 = 64;
 
-// The character of the digit at a place.
-fn character_at(number: &UnsignedDecimal, place: u16) -> u8
-    ensures value { result ≡ character (digit number.now.count place) }
-    ensures ascii { result < 128 }
+// The characters of sixteen digits.
+#[inline(always)]
+#[tactic(auto, using(crate::proofs::WritingLemmas::character_more, crate::proofs::WritingLemmas::characters_whole, crate::proofs::WritingLemmas::ten_at))]
+fn characters_of(digits: &[u8; 16]) -> [u8; 16]
+    requires { AllBelowBase 10 digits.now }
+    ensures { result ≡ map character digits.now }
 {
-    b'0' + number.digit_at(magnitude_of(place))
+    let mut text = [b'0'; 16];
+    let mut index = 0;
+    while index < 16 {
+        text[index] = b'0' + digits[index];
+        index += 1;
+    }
+    text
+}
+
+// Puts the characters of sixteen digits into a piece, from an index on.
+fn put_characters(piece: &mut [u8; 64], at: usize, digits: &[u8; 16])
+    requires room { at + 16 ≤ 64 }
+    requires tens { AllBelowBase 10 digits.now }
+    ensures { take (at + 16) piece.new ≡ take at piece.old ++ map character digits.now }
+{
+    let text = characters_of(digits);
+    let all = &mut piece[..];
+    all[at..at + 16].copy_from_slice(&text);
 }
 
 // Puts the characters of `size` digits into a piece, from an index on: the highest first, down to the one at `base`.
+// They are put sixteen by sixteen, so the bytes behind them mean nothing.
 fn spell(number: &UnsignedDecimal, base: u16, size: u16, piece: &mut [u8; 64], from: u16)
-    requires room { from + size ≤ 64 }
+    requires room { from + (size + 15) / 16 * 16 ≤ 64 }
     requires places { base + size ≤ 65536 }
     ensures { take (from + size) piece.new
         ≡ take from piece.old ++ map character (digits_down number.now.count base size) }
 {
+    let mut digits = digits_at(&number.digits, number.top, base, size);
     let mut done = 0;
-    while done < size {
-        piece[(from + done) as usize] = character_at(number, base + (size - 1 - done));
-        done += 1;
+    while done < size as usize {
+        let mut block = [0; 16];
+        let count = digits.next_block(&mut block);
+        put_characters(piece, from as usize + done, &block);
+        done += count;
     }
 }
 

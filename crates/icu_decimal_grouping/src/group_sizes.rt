@@ -125,6 +125,19 @@ impl GroupSizes {
     }
 }
 
+// How many groups of a size so many digits fill: 3 of three digits in eleven. Three and two are divisors that the
+// compiler knows.
+fn whole_groups(digits: u16, size: u8) -> u16
+    requires { 0 < size }
+    ensures { result ≡ digits / size }
+{
+    match size {
+        3 => digits / 3,
+        2 => digits / 2,
+        _ => digits / size as u16,
+    }
+}
+
 // `digits` digits cut from the right: the last group has `last`, each before it `middle`, the first what is left.
 fn cut(digits: u16, last: u8, middle: u8) -> GroupSizes
     requires enough { last < digits }
@@ -132,7 +145,7 @@ fn cut(digits: u16, last: u8, middle: u8) -> GroupSizes
     requires turns { 0 < middle }
     ensures { result ≡ cut_sizes last middle digits }
 {
-    let middles = (digits - last as u16 - 1) / middle as u16;
+    let middles = whole_groups(digits - last as u16 - 1, middle);
     GroupSizes {
         first: digits - last as u16 - middles * middle as u16,
         middles,

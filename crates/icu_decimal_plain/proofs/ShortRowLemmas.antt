@@ -11,13 +11,7 @@ use Rattle.icu_decimal_plain.proofs.RowLemmas.{row_digits, threes_ahead}
 
 -- Digits taken.
 
--- digits in front of digits are digits
-tens_joined : (n : ℕ) (ds : List ℕ) → AllBelowBase 10 (take n ds) → AllBelowBase 10 (drop n ds) → AllBelowBase 10 ds
-tens_joined zero ds front behind = behind
-tens_joined (suc n) [] front behind = tt
-tens_joined (suc n) (d ∷ ds) front behind = (front.0, tens_joined n ds front.1 behind)
-
-zeros_below : (n : ℕ) → AllBelowBase 10 (replicate n 0)
+pub zeros_below : (n : ℕ) → AllBelowBase 10 (replicate n 0)
 zeros_below zero = tt
 zeros_below (suc n) = (omega arith, zeros_below n)
 
@@ -26,11 +20,6 @@ pub block_front : (ds block : List ℕ) (n : ℕ) → length ds ≤ 16 → n ≡
 block_front ds block n few count taken =
     let all : n ≡ length ds = omega (arith, few, count) in
     ap (λ k. take k block) (sym all) ∙ taken ∙ take_all n ds (omega (arith, all))
-
--- a block of them and of zeros
-pub block_tens : (ds block : List ℕ) (n : ℕ) → AllBelowBase 10 ds → take n block ≡ take n ds → drop n block ≡ drop n (replicate 16 0) → AllBelowBase 10 block
-block_tens ds block n tens taken same =
-    tens_joined n block (subst (AllBelowBase 10) (sym taken) (below_take n ds tens)) (subst (AllBelowBase 10) (sym same) (below_drop n (replicate 16 0) (zeros_below 16)))
 
 -- so many digits, of a block that begins with them
 pub front_shown : (ds block : List ℕ) (count : ℕ) → length ds ≡ count → take (length ds) block ≡ ds → take count block ≡ take count ds

@@ -15,12 +15,16 @@ use std::iter::ExactSizeIterator;
 use writeable::{Error, Sink};
 
 // Puts a block of digits into a chunk, from a place on.
-pub(crate) fn set_block<const N: usize>(chunk: &mut [u8; N], at: usize, block: &[u8; 16])
-    requires { at + 16 ≤ N }
-    ensures { take (at + 16) chunk.new ≡ take at chunk.old ++ block.now }
+pub(crate) fn set_block<const N: usize, const M: usize>(
+    chunk: &mut [u8; N],
+    at: usize,
+    block: &[u8; M],
+)
+    requires { at + M ≤ N }
+    ensures { take (at + M) chunk.new ≡ take at chunk.old ++ block.now }
 {
     let all = &mut chunk[..];
-    all[at..at + 16].copy_from_slice(block);
+    all[at..at + M].copy_from_slice(block);
 }
 
 // Puts the next digits into a chunk, from a place on, sixteen or all that are left, and returns how many they are.

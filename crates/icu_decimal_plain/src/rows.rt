@@ -7,6 +7,8 @@ ghost use Rattle.icu_decimal_plain.specs.LaterGroups.{groups_ahead};
 ghost use Rattle.icu_decimal_plain.specs.PlainText.{chained};
 ghost use Rattle.icu_decimal_plain.specs.Rows.{IsRow, row_text};
 
+use crate::digit_chunks::set_block;
+
 // The byte of zero, where the ten characters of a table are ASCII characters in a row.
 #[tactic(auto, using(crate::proofs::RowLemmas::row_is))]
 pub(crate) fn row_of(table: &[char; 10]) -> Option<u8>
@@ -50,6 +52,7 @@ pub(crate) fn put_row<const N: usize>(
 
 // Puts groups of three digits, each with the separator before it, behind the first `len` bytes, and returns how many
 // bytes there are then.
+#[inline(always)]
 #[tactic(auto, using(crate::proofs::PieceLemmas::ten_at, crate::proofs::RowLemmas::threes_next, crate::proofs::RowLemmas::threes_none))]
 pub(crate) fn put_threes<const N: usize>(
     waiting: &mut [u8; N],
@@ -78,4 +81,43 @@ pub(crate) fn put_threes<const N: usize>(
         at += 1;
     }
     len + 4 * groups
+}
+
+// Sixteen groups of three digits, each with the separator before it. It is a function of its own, of which the compiler
+// makes vectors.
+#[inline(never)]
+fn sixteen_threes(separator: u8, digits: &[u8], nought: u8) -> [u8; 64]
+    requires enough { 48 ≤ length digits.now }
+    requires small { nought + 9 < 128 }
+    requires tens { AllBelowBase 10 digits.now }
+    ensures { result ≡ groups_ahead (separator ∷ []) (row_text nought) (replicate 16 3) digits.now }
+{
+    let mut text = [0; 64];
+    put_threes(&mut text, 0, separator, digits, 16, nought);
+    text
+}
+
+// Does what `put_threes` does, sixteen groups at once.
+pub(crate) fn put_many_threes<const N: usize>(
+    waiting: &mut [u8; N],
+    len: usize,
+    separator: u8,
+    digits: &[u8],
+    groups: usize,
+    nought: u8,
+) -> usize
+    requires room { len + 4 * groups ≤ N }
+    requires enough { 3 * groups ≤ length digits.now }
+    requires small { nought + 9 < 128 }
+    requires tens { AllBelowBase 10 digits.now }
+    ensures text { take result waiting.new
+        ≡ take len waiting.old ++ groups_ahead (separator ∷ []) (row_text nought) (replicate groups 3) digits.now }
+    ensures room { result ≡ len + 4 * groups }
+{
+    if groups != 16 {
+        return put_threes(waiting, len, separator, digits, groups, nought);
+    }
+    let text = sixteen_threes(separator, digits, nought);
+    set_block(waiting, len, &text);
+    len + 64
 }

@@ -23,7 +23,7 @@ const BLOCK: u16 = 16;
 // The bytes that a short text may have.
 pub(crate) const SHORT: usize = 64;
 
-// The digits that are left, sixteen at most, and zeros behind them.
+// The digits that are left, sixteen at most, and others behind them, which mean nothing.
 #[inline(always)]
 fn block_of(digits: &mut ShownDigits<'_>) -> [u8; 16]
     requires few { length digits.old ≤ 16 }

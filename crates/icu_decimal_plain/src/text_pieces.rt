@@ -7,7 +7,7 @@ ghost use Rattle.icu_decimal_plain.specs.LaterGroups.{groups_ahead};
 ghost use Rattle.icu_decimal_plain.specs.Pieces.{Holds, HoldTable};
 
 use crate::piece_tables::DigitTable;
-use crate::rows::{put_row, put_threes};
+use crate::rows::{put_many_threes, put_row};
 use icu_decimal_grouping::GroupSizes;
 
 // The bytes that the digits of a chunk may have, with a separator before each.
@@ -183,7 +183,7 @@ pub(crate) fn put_groups<const N: usize>(
     if let Some(nought) = table.nought {
         if let Some(groups) = sizes.threes() {
             if separator.len == 1 {
-                return put_threes(waiting, len, separator.bytes[0], digits, groups, nought);
+                return put_many_threes(waiting, len, separator.bytes[0], digits, groups, nought);
             }
         }
     }

@@ -6,6 +6,7 @@ pub use Rattle.icu_locale_core_grammar.specs.LanguagePart
 pub use Rattle.icu_locale_core_grammar.specs.Extensions
 pub use Rattle.icu_locale_core_grammar.specs.Meaning
 pub use Rattle.icu_locale_core_grammar.specs.FaultyPiece
+pub use Rattle.icu_locale_core_grammar.specs.FaultNumber
 pub use Rattle.icu_locale_core_grammar.specs.NormalText
 pub use Rattle.icu_locale_core_grammar.specs.WellFormed
 pub use Rattle.icu_locale_core_grammar.specs.PartReaders

@@ -5,12 +5,12 @@ use Rattle.icu_locale_core_grammar.specs.Subtags.{Text}
 use Rattle.icu_locale_core_grammar.specs.Pieces.{pieces}
 use Rattle.icu_locale_core_grammar.specs.LanguagePart.{MeansLanguage}
 use Rattle.icu_locale_core_grammar.specs.Meaning.{TagMeaning, MeansTag}
-use Rattle.icu_locale_core_grammar.specs.NormalText.{normal_text}
-use Rattle.icu_locale_core_grammar.specs.FaultyPiece.{HasFault}
+use Rattle.icu_locale_core_grammar.specs.NormalText.{language_text, normal_text}
+use Rattle.icu_locale_core_grammar.specs.FaultyPiece.{first_piece, HasFault}
 use Rattle.icu_locale_core_grammar.specs.Stepping.{run, IsReader}
 use Rattle.icu_locale_core_grammar.specs.SingleVariant.{MeansSingle, HasSingleFault, InLanguage, single_after, single_ends, single_fault}
 use Rattle.icu_locale_core_grammar.specs.TagStages.{language_after, language_ends, language_fault, tag_start, tag_after, tag_ends, tag_fault}
-use Rattle.icu_locale_core_grammar.specs.KnownRows.{end_answer, answer_from, shown_by, tag_answer, answer_to, language_text, language_answer, single_text, single_answer, language_first_text, language_first_answer, region_first_text, region_first_answer}
+use Rattle.icu_locale_core_grammar.specs.KnownRows.{end_answer, answer_from, shown_by, tag_answer, answer_to, language_answer, single_text, single_answer, language_first_text, language_first_answer, region_first_text, region_first_answer}
 use Rattle.icu_locale_core_grammar.specs.TagLaws.{IsShown, IsPrinted, IsRefused, AnswersAreRight}
 use Rattle.icu_locale_core_grammar.proofs.Runs.{run_joined, stops_at_piece, stops_at_end, Stop}
 use Rattle.icu_locale_core_grammar.proofs.TagReader.{tag_reader, tag_named}
@@ -19,18 +19,18 @@ use Rattle.icu_locale_core_grammar.proofs.LanguageFaults.{language_named}
 use Rattle.icu_locale_core_grammar.proofs.SingleReader.{single_reader, single_named}
 
 module _ {S M : Type 0} (step : S → Text → Option S) (start : S) (ends : S → Option M) (fault : S → Option Text → ParseError) (Means : List Text → M → Type 0) (Faulty : List Text → ParseError → Type 0)
-    (right : IsReader step start ends Means) (named : (ps : List Text) (s : Stop right ps) → Faulty ps (fault s.stage s.place)) where
+    (right : IsReader step start ends Means) (named : (ps : List Text) (s : Stop right ps) → Faulty ps (fault s.stage (first_piece s.rest))) where
   abbrev IsAnswer : List Text → Result M ParseError → Type 0
   IsAnswer ps r = MatchResult r (Means ps) (Faulty ps)
 
   right_end : (taken : List Text) (s : S) (o : Option M) → run step (Some start) taken ≡ Some s → ends s ≡ o → IsAnswer taken (end_answer step ends fault s o)
-  right_end taken s None r e = named taken (record { front = taken; place = None; stage = s; reached = r; stuck = e; stops = stops_at_end right taken s r e })
+  right_end taken s None r e = named taken (record { front = taken; rest = []; stage = s; reached = r; stuck = e; stops = stops_at_end right taken s r e })
   right_end taken s (Some m) r e = right.found taken s m r e
 
   right_piece : (taken ps : List Text) (s : S) (p : Text) (o : Option S) → run step (Some start) taken ≡ Some s → step s p ≡ o
       → ((t : S) → run step (Some start) (taken ++ p ∷ []) ≡ Some t → IsAnswer ((taken ++ p ∷ []) ++ ps) (answer_from step ends fault t ps))
       → IsAnswer (taken ++ p ∷ ps) (elim o [ None ↦ Err (fault s (Some p)) | Some t ↦ answer_from step ends fault t ps ])
-  right_piece taken ps s p None r e onward = named (taken ++ p ∷ ps) (record { front = taken; place = Some p; stage = s; reached = r; stuck = e; stops = stops_at_piece right taken s p ps r e })
+  right_piece taken ps s p None r e onward = named (taken ++ p ∷ ps) (record { front = taken; rest = p ∷ ps; stage = s; reached = r; stuck = e; stops = stops_at_piece right taken s p ps r e })
   right_piece taken ps s p (Some t) r e onward =
       subst (λ l. IsAnswer l (answer_from step ends fault t ps)) (append_assoc taken (p ∷ []) ps) (onward t (run_joined step start s (Some t) taken (p ∷ []) r (ap (λ o. run step o []) e)))
 
@@ -49,14 +49,14 @@ module _ {S M : Type 0} (step : S → Text → Option S) (start : S) (ends : S �
   pub meaning_right : (text : Text) → IsAnswer (pieces text) (answer_from step ends fault start (pieces text))
   meaning_right text = right_from (pieces text) [] start refl
 
-tag_faulty : (ps : List Text) (s : Stop tag_reader ps) → HasFault MeansTag ps (tag_fault s.stage s.place)
-tag_faulty ps s = record { front = s.front; place = s.place; stops = s.stops; named = tag_named s.front s.stage s.place s.reached s.stuck }
+tag_faulty : (ps : List Text) (s : Stop tag_reader ps) → HasFault MeansTag ps (tag_fault s.stage (first_piece s.rest))
+tag_faulty ps s = record { front = s.front; rest = s.rest; stops = s.stops; named = tag_named s.front s.stage (first_piece s.rest) s.reached s.stuck }
 
 language_faulty : (ps : List Text) (s : Stop language_reader ps) → HasFault MeansLanguage ps (language_fault s.stage)
-language_faulty ps s = record { front = s.front; place = s.place; stops = s.stops; named = language_named s.front s.stage s.place s.reached }
+language_faulty ps s = record { front = s.front; rest = s.rest; stops = s.stops; named = language_named s.front s.stage (first_piece s.rest) s.reached }
 
-single_faulty : (ps : List Text) (s : Stop single_reader ps) → HasSingleFault ps (single_fault s.stage s.place)
-single_faulty ps s = record { front = s.front; place = s.place; stops = s.stops; named = single_named s.front s.stage s.place s.reached }
+single_faulty : (ps : List Text) (s : Stop single_reader ps) → HasSingleFault ps (single_fault s.stage (first_piece s.rest))
+single_faulty ps s = record { front = s.front; rest = s.rest; stops = s.stops; named = single_named s.front s.stage (first_piece s.rest) s.reached }
 
 tag_shown : (show : TagMeaning → Text) (text : Text) → MatchResult (shown_by show (answer_from tag_after tag_ends tag_fault tag_start (pieces text))) (IsShown MeansTag show text) (IsRefused text)
 tag_shown show text = answer_is_right tag_after tag_start tag_ends tag_fault MeansTag (HasFault MeansTag) tag_reader tag_faulty show text

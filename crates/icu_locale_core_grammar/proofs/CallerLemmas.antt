@@ -41,33 +41,33 @@ module _ {S M : Type 0} {step : S → Text → Option S} {start : S} {ends : S �
 pub tag_refused : (ps taken rest : List Text) (s : TagStage) (p : Text) → ps ≡ taken ++ p ∷ rest → run tag_after (Some tag_start) taken ≡ Some s → tag_after s p ≡ None → HasFault MeansTag ps (tag_fault s (Some p))
 tag_refused ps taken rest s p e reached none =
     subst (λ l. HasFault MeansTag l (tag_fault s (Some p))) (sym e)
-    (record { front = taken; place = Some p; stops = stops_at_piece tag_reader taken s p rest reached none; named = stages_named taken s (Some p) reached none })
+    (record { front = taken; rest = p ∷ rest; stops = stops_at_piece tag_reader taken s p rest reached none; named = stages_named taken s (Some p) reached none })
 
 pub tag_cut : (ps taken : List Text) (s : TagStage) → ps ≡ taken → run tag_after (Some tag_start) taken ≡ Some s → tag_ends s ≡ None → HasFault MeansTag ps (tag_fault s None)
 tag_cut ps taken s e reached none =
     subst (λ l. HasFault MeansTag l (tag_fault s None)) (sym e)
-    (record { front = taken; place = None; stops = stops_at_end tag_reader taken s reached none; named = stages_named taken s None reached none })
+    (record { front = taken; rest = []; stops = stops_at_end tag_reader taken s reached none; named = stages_named taken s None reached none })
 
 -- ---- faults of language identifiers
 
 pub language_refused : (ps taken rest : List Text) (s : Option LanguageId) (p : Text) → ps ≡ taken ++ p ∷ rest → run language_after (Some None) taken ≡ Some s → language_after s p ≡ None → HasFault MeansLanguage ps (language_fault s)
 language_refused ps taken rest s p e reached none =
     subst (λ l. HasFault MeansLanguage l (language_fault s)) (sym e)
-    (record { front = taken; place = Some p; stops = stops_at_piece language_reader taken s p rest reached none; named = language_named taken s (Some p) reached })
+    (record { front = taken; rest = p ∷ rest; stops = stops_at_piece language_reader taken s p rest reached none; named = language_named taken s (Some p) reached })
 
 pub language_cut : (ps taken : List Text) → ps ≡ taken → run language_after (Some None) taken ≡ Some None → HasFault MeansLanguage ps (language_fault None)
 language_cut ps taken e reached =
     subst (λ l. HasFault MeansLanguage l (language_fault None)) (sym e)
-    (record { front = taken; place = None; stops = stops_at_end language_reader taken None reached refl; named = language_named taken None None reached })
+    (record { front = taken; rest = []; stops = stops_at_end language_reader taken None reached refl; named = language_named taken None None reached })
 
 -- ---- faults of tags of one variant and one keyword
 
 pub single_refused : (ps taken rest : List Text) (s : SingleStage) (p : Text) → ps ≡ taken ++ p ∷ rest → run single_after (Some (InLanguage None)) taken ≡ Some s → single_after s p ≡ None → HasSingleFault ps (single_fault s (Some p))
 single_refused ps taken rest s p e reached none =
     subst (λ l. HasSingleFault l (single_fault s (Some p))) (sym e)
-    (record { front = taken; place = Some p; stops = stops_at_piece single_reader taken s p rest reached none; named = single_named taken s (Some p) reached })
+    (record { front = taken; rest = p ∷ rest; stops = stops_at_piece single_reader taken s p rest reached none; named = single_named taken s (Some p) reached })
 
 pub single_cut : (ps taken : List Text) (s : SingleStage) → ps ≡ taken → run single_after (Some (InLanguage None)) taken ≡ Some s → single_ends s ≡ None → HasSingleFault ps (single_fault s None)
 single_cut ps taken s e reached none =
     subst (λ l. HasSingleFault l (single_fault s None)) (sym e)
-    (record { front = taken; place = None; stops = stops_at_end single_reader taken s reached none; named = single_named taken s None reached })
+    (record { front = taken; rest = []; stops = stops_at_end single_reader taken s reached none; named = single_named taken s None reached })

@@ -3,6 +3,7 @@ pub mod KnownParts
 pub mod KnownReadings
 pub mod ListLemmas
 pub mod Runs
+pub mod FaultNames
 pub mod FaultyPieceLemmas
 pub mod SetLemmas
 pub mod SameLemmas
@@ -39,6 +40,7 @@ pub mod DataFaults
 pub mod CallerLemmas
 pub mod SubtagLemmas
 pub mod CollectionLemmas
+pub mod WholeMeaning
 pub mod WholeParts
 pub mod WholeFound
 pub mod WholeReader

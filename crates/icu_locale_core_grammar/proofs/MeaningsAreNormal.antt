@@ -2,14 +2,15 @@
 use Rattle.std.proofs.Common.{◌≡◌, ◌≢◌, Bool, true, false, not, List, [], ◌∷◌, Option, None, Some, IfSome, map, filter, cond, option_map, sym, refl, ◌∙◌, subst}
 use Rattle.std.specs.List.{AllByRecursion}
 use Rattle.std.specs.Char.{to_ascii_lowercase, to_ascii_uppercase}
-use Rattle.icu_locale_core_grammar.specs.Subtags.{Text, is_language, is_script, is_region, is_variant, is_attribute, is_key, is_field_key, is_value, is_true, is_other, is_other_piece, is_private, is_private_piece, true_text, lower, title, upper}
+use Rattle.icu_locale_core_grammar.specs.Subtags.{Text, is_language, is_script, is_region, is_variant, is_attribute, is_key, is_field_key, is_value, is_true, is_other, is_other_piece, is_private_piece, true_text, lower, title, upper}
 use Rattle.icu_locale_core_grammar.specs.Collections.{Entry, Each, Rises, map_of}
 use Rattle.icu_locale_core_grammar.specs.LanguagePart.{LanguageId, MeansLanguage, MeansInner}
-use Rattle.icu_locale_core_grammar.specs.Extensions.{value_meaning, entry_meaning, IsEntry, Block, block_key, IsBlock, blocks_meaning, IsPrivatePart}
-use Rattle.icu_locale_core_grammar.specs.Meaning.{MeansAttributes, MeansUnicode, MeansTransform, MeansOther, UnicodeMeaning, TransformMeaning, Part, unicode, transform, other, MeansPart, ExtensionMeanings, no_extensions, put_part, TagMeaning, MeansTag}
+use Rattle.icu_locale_core_grammar.specs.Extensions.{value_meaning, entry_meaning, IsEntry, Block, block_key}
+use Rattle.icu_locale_core_grammar.specs.Meaning.{MeansAttributes, MeansUnicode, MeansTransform, MeansOther, UnicodeMeaning, TransformMeaning, Part, unicode, transform, other, MeansPart, ExtensionMeanings, no_extensions, put_part, IsExtension, IsPrivatePart, TagMeaning, MeansTag}
 use Rattle.icu_locale_core_grammar.specs.WellFormed.{IsNormalPiece, AreLower, IsNormalLanguage, IsNormalValue, IsNormalEntry, AreNormalEntries, IsNormalUnicode, IsNormalTransform, IsNormalOther, AreNormalExtensions, IsNormalTag}
 use Rattle.icu_locale_core_grammar.proofs.CaseLemmas.{lower_keeps, upper_keeps, characters_changed, language_changed, region_changed, variant_changed, key_changed, field_key_changed, script_titled, lower-lower, title-title, upper-upper, spells_lower, other_lower}
 use Rattle.icu_locale_core_grammar.proofs.SetLemmas.{Rises-set_of}
+use Rattle.icu_locale_core_grammar.proofs.WholeMeaning.{blocks_meaning}
 use Rattle.icu_locale_core_grammar.proofs.MapLemmas.{each_in_set, each_in_map, each_put, Rises-map_of, Rises-put, rises_none}
 
 -- ---- pieces in lower case
@@ -99,7 +100,7 @@ part_put s ps (other own) e a filled n =
       others = record { each = each_put IsNormalOther (lower s, own) e.others here n.others.each; rises = Rises-put (lower s, own) e.others n.others.rises };
     }
 
-blocks_normal : (bs : List (Block Part)) (e : ExtensionMeanings) → AllByRecursion (IsBlock MeansPart) bs → AreNormalExtensions e → AreNormalExtensions (blocks_meaning put_part e bs)
+blocks_normal : (bs : List (Block Part)) (e : ExtensionMeanings) → AllByRecursion IsExtension bs → AreNormalExtensions e → AreNormalExtensions (blocks_meaning put_part e bs)
 blocks_normal [] e each n = n
 blocks_normal (b ∷ bs) e each n = blocks_normal bs (put_part (block_key b) b.value e) each.1 (part_put b.singleton b.body b.value e each.0.meant each.0.filled n)
 
@@ -110,7 +111,7 @@ none_normal = record {
   others = record { each = tt; rises = rises_none };
 }
 
-own_normal : (last own : List Text) → IsPrivatePart is_private is_private_piece last own → AreLower is_private_piece own
+own_normal : (last own : List Text) → IsPrivatePart last own → AreLower is_private_piece own
 own_normal [] own private = subst (AreLower is_private_piece) (sym private) tt
 own_normal (x ∷ ps) own private = subst (AreLower is_private_piece) private.3 (lower_pieces is_private_piece (characters_changed to_ascii_lowercase lower_keeps 1 8) ps private.2)
 

@@ -4,33 +4,34 @@ use Rattle.std.specs.List.{AllByRecursion}
 use Rattle.icu_locale_core_grammar.specs.Subtags.{Text, transform_text, unicode_text}
 use Rattle.icu_locale_core_grammar.specs.Collections.{Entry, put_first, map_of}
 use Rattle.icu_locale_core_grammar.specs.LanguagePart.{LanguageId}
-use Rattle.icu_locale_core_grammar.specs.Extensions.{Block, block_key, IsBlock, blocks_meaning}
-use Rattle.icu_locale_core_grammar.specs.Meaning.{UnicodeMeaning, TransformMeaning, Part, unicode, transform, other, MeansPart, ExtensionMeanings, no_unicode, no_transform, no_extensions, put_part}
+use Rattle.icu_locale_core_grammar.specs.Extensions.{Block, block_key}
+use Rattle.icu_locale_core_grammar.specs.Meaning.{UnicodeMeaning, TransformMeaning, Part, unicode, transform, other, MeansPart, ExtensionMeanings, no_unicode, no_transform, no_extensions, put_part, IsExtension}
 use Rattle.icu_locale_core_grammar.specs.NormalText.{inner_pieces, entry_pieces, unicode_pieces, transform_pieces, one_block, unicode_block, transform_block, other_block, other_blocks, before_transform, blocks_of}
 use Rattle.icu_locale_core_grammar.specs.WellFormed.{IsNormalOther, AreNormalExtensions}
 use Rattle.icu_locale_core_grammar.proofs.ListLemmas.{fold-append, each-append, each_front, each_rest}
 use Rattle.icu_locale_core_grammar.proofs.MapLemmas.{put_entry, map_of_rising}
+use Rattle.icu_locale_core_grammar.proofs.WholeMeaning.{blocks_meaning}
 use Rattle.icu_locale_core_grammar.proofs.NormalBodies.{unicode_means, transform_means, other_means}
 
 -- ---- one block
 
-one_block_is : (s : Text) (ps : List Text) (v : Part) → MeansPart s ps v → AllByRecursion (IsBlock MeansPart) (one_block s ps v)
+one_block_is : (s : Text) (ps : List Text) (v : Part) → MeansPart s ps v → AllByRecursion IsExtension (one_block s ps v)
 one_block_is s [] v a = tt
 one_block_is s (p ∷ ps) v a = (record { meant = a; filled = λ e. cc }, tt)
 
-others_are : (os : List Entry) → AllByRecursion IsNormalOther os → AllByRecursion (IsBlock MeansPart) (other_blocks os)
+others_are : (os : List Entry) → AllByRecursion IsNormalOther os → AllByRecursion IsExtension (other_blocks os)
 others_are [] each = tt
 others_are (o ∷ os) each =
-    each-append (IsBlock MeansPart) (other_block o) (other_blocks os) (one_block_is o.0 o.1 (other o.1) (each.0.singleton.is, other_means o.1 each.0.pieces)) (others_are os each.1)
+    each-append IsExtension (other_block o) (other_blocks os) (one_block_is o.0 o.1 (other o.1) (each.0.singleton.is, other_means o.1 each.0.pieces)) (others_are os each.1)
 
-pub blocks_are : (e : ExtensionMeanings) → AreNormalExtensions e → AllByRecursion (IsBlock MeansPart) (blocks_of e)
+pub blocks_are : (e : ExtensionMeanings) → AreNormalExtensions e → AllByRecursion IsExtension (blocks_of e)
 blocks_are e n =
     let at = before_transform e.others in
     let split : take at e.others ++ drop at e.others ≡ e.others = take-append-drop at e.others in
     let whole : AllByRecursion IsNormalOther (take at e.others ++ drop at e.others) = subst (AllByRecursion IsNormalOther) (sym split) n.others.each in
-    each-append (IsBlock MeansPart) (other_blocks (take at e.others)) _ (others_are (take at e.others) (each_front IsNormalOther (take at e.others) (drop at e.others) whole))
-    (each-append (IsBlock MeansPart) (transform_block e.transform) _ (one_block_is transform_text (transform_pieces e.transform) (transform e.transform) (refl, transform_means e.transform n.transform))
-    (each-append (IsBlock MeansPart) (unicode_block e.unicode) _ (one_block_is unicode_text (unicode_pieces e.unicode) (unicode e.unicode) (refl, unicode_means e.unicode n.unicode))
+    each-append IsExtension (other_blocks (take at e.others)) _ (others_are (take at e.others) (each_front IsNormalOther (take at e.others) (drop at e.others) whole))
+    (each-append IsExtension (transform_block e.transform) _ (one_block_is transform_text (transform_pieces e.transform) (transform e.transform) (refl, transform_means e.transform n.transform))
+    (each-append IsExtension (unicode_block e.unicode) _ (one_block_is unicode_text (unicode_pieces e.unicode) (unicode e.unicode) (refl, unicode_means e.unicode n.unicode))
     (others_are (drop at e.others) (each_rest IsNormalOther (take at e.others) (drop at e.others) whole))))
 
 -- ---- what the blocks mean together

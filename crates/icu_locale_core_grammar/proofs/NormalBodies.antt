@@ -5,11 +5,11 @@ use Rattle.std.specs.List.{AllByRecursion, IsDistinct}
 use Rattle.std.specs.Ordering.{nat_cmp}
 use Rattle.std.specs.Cmp.Lexicographic.{slice_cmp, texts_ties}
 use Rattle.std.proofs.lemmas.Map.Keys.{IsDistinct-from_sorted}
-use Rattle.icu_locale_core_grammar.specs.Subtags.{Text, is_script, is_region, is_variant, is_attribute, is_key, is_field_key, is_value, is_true, is_other_piece, is_private, is_private_piece, true_text, lower, title, upper}
+use Rattle.icu_locale_core_grammar.specs.Subtags.{Text, is_script, is_region, is_variant, is_attribute, is_key, is_field_key, is_value, is_true, is_other_piece, is_private_piece, true_text, lower, title, upper}
 use Rattle.icu_locale_core_grammar.specs.Collections.{Entry, Each, AreApart, Rises, set_of, map_of}
 use Rattle.icu_locale_core_grammar.specs.LanguagePart.{LanguageId, MeansLanguage, MeansInner}
-use Rattle.icu_locale_core_grammar.specs.Extensions.{value_meaning, entry_meaning, has_enough, IsEntry, IsPrivatePart}
-use Rattle.icu_locale_core_grammar.specs.Meaning.{MeansAttributes, MeansUnicode, MeansTransform, MeansOther, UnicodeMeaning, TransformMeaning}
+use Rattle.icu_locale_core_grammar.specs.Extensions.{value_meaning, entry_meaning, has_enough, IsEntry}
+use Rattle.icu_locale_core_grammar.specs.Meaning.{MeansAttributes, MeansUnicode, MeansTransform, MeansOther, UnicodeMeaning, TransformMeaning, IsPrivatePart}
 use Rattle.icu_locale_core_grammar.specs.NormalText.{language_pieces, inner_pieces, shown_entry, unicode_pieces, transform_pieces, private_pieces}
 use Rattle.icu_locale_core_grammar.specs.WellFormed.{IsNormalPiece, AreLower, IsNormalLanguage, IsNormalValue, IsNormalEntry, AreNormalEntries, IsNormalUnicode, IsNormalTransform}
 use Rattle.icu_locale_core_grammar.proofs.SetLemmas.{set_of_rising}
@@ -130,6 +130,6 @@ transform_means t n = record {
 pub other_means : (own : List Text) → AreLower is_other_piece own → MeansOther own own
 other_means own n = record { each = pieces_pass is_other_piece own n; meant = pieces_stay is_other_piece own n }
 
-pub private_means : (own : List Text) → AreLower is_private_piece own → IsPrivatePart is_private is_private_piece (private_pieces own) own
+pub private_means : (own : List Text) → AreLower is_private_piece own → IsPrivatePart (private_pieces own) own
 private_means [] n = refl
 private_means (w ∷ ws) n = (refl, (λ e. cc), pieces_pass is_private_piece (w ∷ ws) n, pieces_stay is_private_piece (w ∷ ws) n)

@@ -1,7 +1,7 @@
 -- Steps along lists of pieces, and what a right reader of a grammar says of the lists that stop somewhere.
 use Rattle.std.proofs.Common.{◌≡◌, List, [], ◌∷◌, ◌++◌, Option, None, Some, ◌⊎◌, inl, inr, sym, refl, ap, ◌∙◌, subst, append_assoc, append-nil}
 use Rattle.icu_locale_core_grammar.specs.Subtags.{Text}
-use Rattle.icu_locale_core_grammar.specs.FaultyPiece.{IsAccepted, BeginsSome, StopsAt}
+use Rattle.icu_locale_core_grammar.specs.FaultyPiece.{first_piece, IsAccepted, BeginsSome, StopsAt}
 use Rattle.icu_locale_core_grammar.specs.Stepping.{run, IsReader}
 
 module _ {S : Type 0} (step : S → Text → Option S) where
@@ -68,8 +68,8 @@ module _ {S M : Type 0} {step : S → Text → Option S} {start : S} {ends : S �
       (f.0, f.1)
 
   -- a stage that does not take the piece stops there
-  pub stops_at_piece : (taken : List Text) (s : S) (p : Text) (rest : List Text) → run step (Some start) taken ≡ Some s → step s p ≡ None → StopsAt Means (taken ++ p ∷ rest) taken (Some p)
-  stops_at_piece taken s p rest e none = record { cut = (rest, refl); begins = reached_begins taken s e; stops = blocked }
+  pub stops_at_piece : (taken : List Text) (s : S) (p : Text) (rest : List Text) → run step (Some start) taken ≡ Some s → step s p ≡ None → StopsAt Means (taken ++ p ∷ rest) taken (p ∷ rest)
+  stops_at_piece taken s p rest e none = record { cut = refl; begins = reached_begins taken s e; stops = blocked }
     where
       blocked : BeginsSome Means (taken ++ p ∷ []) → ⊥
       blocked b =
@@ -78,8 +78,8 @@ module _ {S M : Type 0} {step : S → Text → Option S} {start : S} {ends : S �
           cc (r.1, n)
 
   -- a stage that is no end stops at the end
-  pub stops_at_end : (taken : List Text) (s : S) → run step (Some start) taken ≡ Some s → ends s ≡ None → StopsAt Means taken taken None
-  stops_at_end taken s e none = record { cut = refl; begins = reached_begins taken s e; stops = blocked }
+  pub stops_at_end : (taken : List Text) (s : S) → run step (Some start) taken ≡ Some s → ends s ≡ None → StopsAt Means taken taken []
+  stops_at_end taken s e none = record { cut = sym (append-nil taken); begins = reached_begins taken s e; stops = blocked }
     where
       blocked : IsAccepted Means taken → ⊥
       blocked a =
@@ -102,23 +102,23 @@ module _ {S M : Type 0} {step : S → Text → Option S} {start : S} {ends : S �
   -- the stage where a list stops
   pub record Stop (ps : List Text) : Type 0 where
     pub front : List Text
-    pub place : Option Text
+    pub rest : List Text
     pub stage : S
     pub reached : run step (Some start) front ≡ Some stage
-    pub stuck : IsStuck stage place
-    pub stops : StopsAt Means ps front place
+    pub stuck : IsStuck stage (first_piece rest)
+    pub stops : StopsAt Means ps front rest
 
   pub stop_again : (ps qs : List Text) → ps ≡ qs → Stop ps → Stop qs
   stop_again ps qs e s = subst Stop e s
 
   at_end : (taken : List Text) (s : S) (o : Option M) → run step (Some start) taken ≡ Some s → ends s ≡ o → IsAccepted Means taken ⊎ Stop taken
-  at_end taken s None e f = inr (record { front = taken; place = None; stage = s; reached = e; stuck = f; stops = stops_at_end taken s e f })
+  at_end taken s None e f = inr (record { front = taken; rest = []; stage = s; reached = e; stuck = f; stops = stops_at_end taken s e f })
   at_end taken s (Some m) e f = inl (m, right.found taken s m e f)
 
   at_piece : (taken ps : List Text) (s : S) (p : Text) (o : Option S) → run step (Some start) taken ≡ Some s → step s p ≡ o
       → ((u : S) → run step (Some start) (taken ++ p ∷ []) ≡ Some u → IsAccepted Means ((taken ++ p ∷ []) ++ ps) ⊎ Stop ((taken ++ p ∷ []) ++ ps))
       → IsAccepted Means (taken ++ p ∷ ps) ⊎ Stop (taken ++ p ∷ ps)
-  at_piece taken ps s p None e f onward = inr (record { front = taken; place = Some p; stage = s; reached = e; stuck = f; stops = stops_at_piece taken s p ps e f })
+  at_piece taken ps s p None e f onward = inr (record { front = taken; rest = p ∷ ps; stage = s; reached = e; stuck = f; stops = stops_at_piece taken s p ps e f })
   at_piece taken ps s p (Some u) e f onward =
       subst (λ l. IsAccepted Means l ⊎ Stop l) (append_assoc taken (p ∷ []) ps)
       (onward u (run_joined step start s (Some u) taken (p ∷ []) e (ap (λ o. run step o []) f)))

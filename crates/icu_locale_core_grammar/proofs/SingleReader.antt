@@ -12,7 +12,7 @@ use Rattle.icu_locale_core_grammar.specs.declared.error.ParseError.TheVariants.{
 use Rattle.icu_locale_core_grammar.specs.Subtags.{Text, is_single, is_value, is_key, is_unicode, lower}
 use Rattle.icu_locale_core_grammar.specs.Collections.{text_cmp, insert_text}
 use Rattle.icu_locale_core_grammar.specs.LanguagePart.{LanguageId, MeansLanguage, MeansInner}
-use Rattle.icu_locale_core_grammar.specs.FaultyPiece.{IsAccepted}
+use Rattle.icu_locale_core_grammar.specs.FaultyPiece.{first_piece, IsAccepted}
 use Rattle.icu_locale_core_grammar.specs.Stepping.{run, CanEnd, IsReader}
 use Rattle.icu_locale_core_grammar.specs.TagStages.{only_language, fits_script, fits_region, fits_variant, with_script, with_region, with_variant, with_piece, language_after}
 use Rattle.icu_locale_core_grammar.specs.SingleVariant.{SingleMeaning, piece_meaning, MeansKeyword, MeansSingle, begins_extension, single_name, HasSingleFault, SingleStage, InLanguage, BehindUnicode, BehindKey, BehindValue, has_short, kept_short, after_language, single_after, single_of, single_ends, single_fault}
@@ -264,4 +264,4 @@ single_answered ps = by_answer (answered single_reader ps)
   where
     by_answer : IsAccepted MeansSingle ps ⊎ Stop single_reader ps → IsAccepted MeansSingle ps ⊎ ((e : ParseError) × HasSingleFault ps e)
     by_answer (inl a) = inl a
-    by_answer (inr s) = inr (single_fault s.stage s.place, record { front = s.front; place = s.place; stops = s.stops; named = single_named s.front s.stage s.place s.reached })
+    by_answer (inr s) = inr (single_fault s.stage (first_piece s.rest), record { front = s.front; rest = s.rest; stops = s.stops; named = single_named s.front s.stage (first_piece s.rest) s.reached })

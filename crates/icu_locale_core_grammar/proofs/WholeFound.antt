@@ -6,11 +6,12 @@ use Rattle.std.proofs.lemmas.List.{map-append}
 use Rattle.std.proofs.lemmas.List.Concat.{flat_map-append}
 use Rattle.icu_locale_core_grammar.specs.Subtags.{Text, lower}
 use Rattle.icu_locale_core_grammar.specs.Collections.{Each, AreApart, contains_text}
-use Rattle.icu_locale_core_grammar.specs.Extensions.{Block, spelled_block, block_key, IsBlock, blocks_meaning, Whole, MeansWhole}
+use Rattle.icu_locale_core_grammar.specs.Extensions.{Block, spelled_block, block_key, Whole}
 use Rattle.icu_locale_core_grammar.specs.Stepping.{run, WholeStage, InFront, AtBlock, InBlock, InPrivate, opened, after_front, at_block, after_block, whole_after, whole_ends}
 use Rattle.icu_locale_core_grammar.proofs.ListLemmas.{fold-append, each-append, mapped_some}
 use Rattle.icu_locale_core_grammar.proofs.CollectionLemmas.{AreApart-push}
 use Rattle.icu_locale_core_grammar.proofs.Runs.{run_joined, run_keeps}
+use Rattle.icu_locale_core_grammar.proofs.WholeMeaning.{IsBlock, blocks_meaning, MeansWhole}
 use Rattle.icu_locale_core_grammar.proofs.WholeParts.{AreParts}
 
 pub spelled_block_push : {V : Type 0} (bs : List (Block V)) (b : Block V) (tail : List Text) → flat_map spelled_block (bs ++ b ∷ []) ++ tail ≡ flat_map spelled_block bs ++ (spelled_block b ++ tail)

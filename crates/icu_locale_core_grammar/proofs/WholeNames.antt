@@ -8,13 +8,15 @@ use Rattle.std.proofs.lemmas.Bool.{or_cases, or_left, or_right, or_from, and_par
 use Rattle.icu_locale_core_grammar.specs.declared.error.ParseError.TheVariants.{InvalidLanguage, InvalidSubtag, InvalidExtension, DuplicatedExtension}
 use Rattle.icu_locale_core_grammar.specs.Subtags.{Text, is_single, is_singleton, same_text, lower}
 use Rattle.icu_locale_core_grammar.specs.Collections.{contains_text}
-use Rattle.icu_locale_core_grammar.specs.Extensions.{Block, spelled_block, block_key, Whole, MeansWhole}
+use Rattle.icu_locale_core_grammar.specs.Extensions.{Block, spelled_block, block_key, Whole}
 use Rattle.icu_locale_core_grammar.specs.FaultyPiece.{IsAccepted, IsDuplicate, IsNamed}
 use Rattle.icu_locale_core_grammar.specs.Stepping.{run, WholeStage, InFront, AtBlock, InBlock, InPrivate, opened, next_part, after_block, whole_after, whole_ends, is_repeated, stage_fault}
 use Rattle.icu_locale_core_grammar.specs.TagStages.{has_none}
 use Rattle.icu_locale_core_grammar.proofs.ListLemmas.{mapped_some}
 use Rattle.icu_locale_core_grammar.proofs.CollectionLemmas.{contains-append}
+use Rattle.icu_locale_core_grammar.proofs.FaultNames.{IsNamedByCase, from_case}
 use Rattle.icu_locale_core_grammar.proofs.Runs.{first_step, accepted_ends}
+use Rattle.icu_locale_core_grammar.proofs.WholeMeaning.{MeansWhole}
 use Rattle.icu_locale_core_grammar.proofs.WholeParts.{AreParts}
 use Rattle.icu_locale_core_grammar.proofs.WholeFound.{InBlocks, InBody, Stands, stands, ends_well}
 use Rattle.icu_locale_core_grammar.proofs.WholeReader.{whole_reader}
@@ -100,7 +102,7 @@ module _ {L I E B V : Type 0} (step_front : L → Text → Option L) (start : L)
   -- ---- names
 
   named_front : (taken : List Text) (l : L) (place : Option Text) (b : Bool) → run step_front (Some start) taken ≡ Some l → fresh l ≡ b → has_none taken ≡ b
-      → IsNamed Meant (if b then InvalidLanguage else InvalidSubtag) taken place
+      → IsNamedByCase Meant (if b then InvalidLanguage else InvalidSubtag) taken place
   named_front [] l place true e f g = refl
   named_front [] l place false e f g = cc
   named_front (p ∷ ps) l place true e f g = cc
@@ -167,7 +169,7 @@ module _ {L I E B V : Type 0} (step_front : L → Text → Option L) (start : L)
       (g.0, g.1)
 
   named_block : (taken : List Text) (i : I) (seen : List Text) (e : E) (k : Text) (b : B) (p : Text) (x : Bool) → run after (Some (InFront start)) taken ≡ Some (InBlock i seen e k b) → Body taken i seen e k b → list_any is_single taken ≡ true
-      → is_repeated (seen ++ k ∷ []) (body_ends b) p ≡ x → after (InBlock i seen e k b) p ≡ None → IsNamed Meant (if x then DuplicatedExtension else InvalidExtension) taken (Some p)
+      → is_repeated (seen ++ k ∷ []) (body_ends b) p ≡ x → after (InBlock i seen e k b) p ≡ None → IsNamedByCase Meant (if x then DuplicatedExtension else InvalidExtension) taken (Some p)
   named_block taken i seen e k b p true r s single f stuck =
       let fs = and_parts (is_some (body_ends b)) (is_singleton p && contains_text (lower p) (seen ++ k ∷ [])) f in
       let gs = and_parts (is_singleton p) (contains_text (lower p) (seen ++ k ∷ [])) fs.1 in
@@ -190,9 +192,11 @@ module _ {L I E B V : Type 0} (step_front : L → Text → Option L) (start : L)
 
   -- a stage that is reached and does not go on with the place is named by it
   pub named : (taken : List Text) (s : Stage) (place : Option Text) → run after (Some (InFront start)) taken ≡ Some s → Stuck s place → IsNamed Meant (stage_fault body_ends fresh s place) taken place
-  named taken s place r stuck = by_stage s place r (stands step_front start front_ends MeansFront step_body body_ends opens MeansBody put none is_x is_own sound taken s r) stuck
+  named taken s place r stuck =
+      from_case Meant (stage_fault body_ends fresh s place) taken place
+      (by_stage s place r (stands step_front start front_ends MeansFront step_body body_ends opens MeansBody put none is_x is_own sound taken s r) stuck)
     where
-      by_stage : (s : Stage) (place : Option Text) → run after (Some (InFront start)) taken ≡ Some s → Is taken s → Stuck s place → IsNamed Meant (stage_fault body_ends fresh s place) taken place
+      by_stage : (s : Stage) (place : Option Text) → run after (Some (InFront start)) taken ≡ Some s → Is taken s → Stuck s place → IsNamedByCase Meant (stage_fault body_ends fresh s place) taken place
       by_stage (InFront l) place r is stuck = named_front taken l place (fresh l) is refl (sym (fresh_is taken l is))
       by_stage (AtBlock i seen e k b) place r is stuck =
           (tail_single taken i seen e is.singleton [] is.blocks (sound.opens_single is.singleton b is.opening), at_no_duplicate taken i seen e k b place r)

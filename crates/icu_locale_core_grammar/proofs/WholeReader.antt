@@ -4,10 +4,11 @@ use Rattle.std.specs.Prelude.{if◌then◌else◌}
 use Rattle.std.specs.List.{AllByRecursion}
 use Rattle.icu_locale_core_grammar.specs.Subtags.{Text, is_single, lower}
 use Rattle.icu_locale_core_grammar.specs.Collections.{Each, AreApart, contains_text}
-use Rattle.icu_locale_core_grammar.specs.Extensions.{Block, spelled_block, block_key, IsBlock, blocks_meaning, IsPrivatePart, Whole, MeansWhole}
+use Rattle.icu_locale_core_grammar.specs.Extensions.{Block, spelled_block, block_key, Whole}
 use Rattle.icu_locale_core_grammar.specs.Stepping.{run, CanEnd, IsReader, WholeStage, InFront, AtBlock, InBlock, InPrivate, opened, next_part, after_front, at_block, after_block, whole_after, whole_ends}
 use Rattle.icu_locale_core_grammar.proofs.CollectionLemmas.{apart_new}
 use Rattle.icu_locale_core_grammar.proofs.Runs.{run_joined, run_begun, first_step}
+use Rattle.icu_locale_core_grammar.proofs.WholeMeaning.{IsBlock, blocks_meaning, IsOwnPart, MeansWhole}
 use Rattle.icu_locale_core_grammar.proofs.WholeParts.{AreParts}
 use Rattle.icu_locale_core_grammar.proofs.WholeFound.{whole_found}
 
@@ -142,7 +143,7 @@ module _ {L I E B V : Type 0} (step_front : L → Text → Option L) (start : L)
   abbrev Ends : Stage → List Text → Whole I E → Type 0
   Ends s ps m = (t : Stage) × (run after (Some s) ps ≡ Some t) × (ends t ≡ Some m)
 
-  private_runs : (last own : List Text) (s : Stage) (i : I) (seen : List Text) (e : E) → IsDone s i seen e → IsPrivatePart is_x is_own last own → Ends s last (record { language = i; extensions = e; private_use = own })
+  private_runs : (last own : List Text) (s : Stage) (i : I) (seen : List Text) (e : E) → IsDone s i seen e → IsOwnPart is_x is_own last own → Ends s last (record { language = i; extensions = e; private_use = own })
   private_runs [] own s i seen e done private = (s, refl, done_ends s i seen e done ∙ ap (λ l. Some (record { language = i; extensions = e; private_use = l })) (sym private))
   private_runs (x ∷ []) own s i seen e done private = absurd (private.1 refl)
   private_runs (x ∷ p ∷ ps) own s i seen e done private =

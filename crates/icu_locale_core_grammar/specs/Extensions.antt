@@ -1,10 +1,10 @@
--- How extensions are put together: a head, keys with values; a front, blocks of singleton and pieces, a private part.
+-- How extensions are put together: a head, then keys with values; a singleton and the pieces behind it.
 -- UTS 35, sections 3.2, 3.6 and 3.7, and RFC 5646 (BCP 47), section 2.2.6; docs/tags.md, "Extensions".
 -- Cited by the grammar of whole tags, and by every reader of an extension or of a part of one.
-use Rattle.std.specs.Prelude.{◌≡◌, ◌≢◌, Bool, true, not, List, [], ◌∷◌, ◌++◌, map, filter, fold, flat_map}
+use Rattle.std.specs.Prelude.{◌≡◌, Bool, true, not, List, [], ◌∷◌, ◌++◌, map, filter, flat_map}
 use Rattle.std.specs.List.{AllByRecursion}
 use Rattle.icu_locale_core_grammar.specs.Subtags.{Text, is_value, is_true, lower}
-use Rattle.icu_locale_core_grammar.specs.Collections.{Entry, Each, AreApart, map_of}
+use Rattle.icu_locale_core_grammar.specs.Collections.{Entry, Each, map_of}
 
 -- ---- a head, and then entries
 
@@ -58,46 +58,8 @@ spelled_block b = b.singleton ∷ b.body
 abbrev pub block_key : {V : Type 0} → Block V → Text
 block_key b = lower b.singleton
 
--- the pieces mean the value, and there are some
-pub record IsBlock {V : Type 0} (MeansBody : Text → List Text → V → Type 0) (b : Block V) : Type 0 where
-  pub meant : MeansBody b.singleton b.body b.value
-  pub filled : b.body ≢ []
-
--- the values of the blocks put together
-abbrev pub blocks_meaning : {V E : Type 0} → (Text → V → E → E) → E → List (Block V) → E
-blocks_meaning put none bs = fold (λ e b. put (block_key b) b.value e) none bs
-
--- a private part, or none: `x` and at least one piece, which mean themselves in lower case
-abbrev pub IsPrivatePart : (Text → Bool) → (Text → Bool) → List Text → List Text → Type 0
-IsPrivatePart is_x is_piece [] subtags = subtags ≡ []
-IsPrivatePart is_x is_piece (x ∷ ps) subtags = (is_x x ≡ true) × (ps ≢ []) × Each is_piece ps × (map lower ps ≡ subtags)
-
 -- the meaning of a whole tag: of its language part, its extensions and its private part
 pub record Whole (I E : Type 0) : Type 0 where
   pub language : I
   pub extensions : E
   pub private_use : List Text
-
--- what the parts of a whole are, and what they mean
-pub record PartRules (I V E : Type 0) : Type 1 where
-  pub means_front : List Text → I → Type 0
-  -- of the pieces behind this singleton
-  pub means_body : Text → List Text → V → Type 0
-  -- the values of the blocks with one more, by its key; and where there is no block
-  pub put : Text → V → E → E
-  pub none : E
-  -- the first piece of the private part, and each piece behind it
-  pub begins_private : Text → Bool
-  pub is_private_piece : Text → Bool
-
--- these pieces are a front, blocks with singletons that differ, and a private part or none, and they mean `m`
-pub record MeansWhole {I V E : Type 0} (rules : PartRules I V E) (ps : List Text) (m : Whole I E) : Type 0 where
-  pub front : List Text
-  pub blocks : List (Block V)
-  pub last : List Text
-  pub parts : front ++ (flat_map spelled_block blocks ++ last) ≡ ps
-  pub meant : rules.means_front front m.language
-  pub each : AllByRecursion (IsBlock rules.means_body) blocks
-  pub apart : AreApart (map block_key blocks)
-  pub together : blocks_meaning rules.put rules.none blocks ≡ m.extensions
-  pub private : IsPrivatePart rules.begins_private rules.is_private_piece last m.private_use

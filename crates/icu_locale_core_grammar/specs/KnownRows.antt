@@ -4,10 +4,9 @@
 use Rattle.std.specs.Prelude.{List, [], ◌∷◌, Option, None, Some, Result, Ok, Err}
 use Rattle.icu_locale_core_grammar.specs.declared.error.ParseError.{ParseError}
 use Rattle.icu_locale_core_grammar.specs.Subtags.{Text}
-use Rattle.icu_locale_core_grammar.specs.Pieces.{pieces, joined_text}
-use Rattle.icu_locale_core_grammar.specs.LanguagePart.{LanguageId}
+use Rattle.icu_locale_core_grammar.specs.Pieces.{pieces}
 use Rattle.icu_locale_core_grammar.specs.Meaning.{TagMeaning}
-use Rattle.icu_locale_core_grammar.specs.NormalText.{language_pieces, normal_text}
+use Rattle.icu_locale_core_grammar.specs.NormalText.{language_text, normal_text}
 use Rattle.icu_locale_core_grammar.specs.TagPreferences.{locale_preferences_of, data_meaning, language_priority, region_priority}
 use Rattle.icu_locale_core_grammar.specs.SingleVariant.{SingleMeaning, single_tag, InLanguage, single_after, single_ends, single_fault}
 use Rattle.icu_locale_core_grammar.specs.TagStages.{language_after, language_ends, language_fault, tag_start, tag_after, tag_ends, tag_fault}
@@ -36,9 +35,6 @@ tag_answer text = answer_from tag_after tag_ends tag_fault tag_start (pieces tex
 
 abbrev pub answer_to : Text → Result Text ParseError
 answer_to text = shown_by normal_text (tag_answer text)
-
-abbrev pub language_text : LanguageId → Text
-language_text id = joined_text (language_pieces id)
 
 abbrev pub language_answer : Text → Result Text ParseError
 language_answer text = shown_by language_text (answer_from language_after language_ends (λ s place. language_fault s) None (pieces text))

@@ -6,6 +6,7 @@ pub mod LanguagePart
 pub mod Extensions
 pub mod Meaning
 pub mod FaultyPiece
+pub mod FaultNumber
 pub mod NormalText
 pub mod WellFormed
 pub mod PartReaders

@@ -1,11 +1,12 @@
 -- What a tag means: language part, attributes, keywords, inner language, fields, other extensions, private subtags.
 -- UTS 35, sections 3.2, 3.6 and 3.7; docs/tags.md, "Meaning".
 -- Cited by every reader of a tag, and by the laws on tags.
-use Rattle.std.specs.Prelude.{◌≡◌, Bool, true, false, List, [], Option, None, map}
+use Rattle.std.specs.Prelude.{◌≡◌, ◌≢◌, Bool, true, false, List, [], ◌∷◌, ◌++◌, Option, None, map, fold, flat_map}
+use Rattle.std.specs.List.{AllByRecursion}
 use Rattle.icu_locale_core_grammar.specs.Subtags.{Text, is_attribute, is_key, is_field_key, is_other_piece, is_private_piece, is_unicode, is_transform, is_other, is_private, lower}
-use Rattle.icu_locale_core_grammar.specs.Collections.{Entry, Each, set_of, put_first}
+use Rattle.icu_locale_core_grammar.specs.Collections.{Entry, Each, AreApart, set_of, put_first}
 use Rattle.icu_locale_core_grammar.specs.LanguagePart.{LanguageId, MeansLanguage, MeansInner}
-use Rattle.icu_locale_core_grammar.specs.Extensions.{Headed, MeansHeaded, Whole, PartRules, MeansWhole}
+use Rattle.icu_locale_core_grammar.specs.Extensions.{Headed, MeansHeaded, Block, spelled_block, block_key, Whole}
 
 -- these pieces are attributes, and `set` is the set of them
 pub record MeansAttributes (ps : List Text) (set : List Text) : Type 0 where
@@ -76,17 +77,30 @@ put_part s (other subtags) e = record { unicode = e.unicode; transform = e.trans
 abbrev pub TagMeaning : Type 0
 TagMeaning = Whole LanguageId ExtensionMeanings
 
--- a tag is a language part, extensions, and private subtags behind `x`
-abbrev pub tag_rules : PartRules LanguageId Part ExtensionMeanings
-tag_rules = record {
-  means_front = MeansLanguage;
-  means_body = MeansPart;
-  put = put_part;
-  none = no_extensions;
-  begins_private = is_private;
-  is_private_piece = is_private_piece;
-}
+-- ---- a whole tag
 
--- these pieces are a tag, and it means `m`
-abbrev pub MeansTag : List Text → TagMeaning → Type 0
-MeansTag ps m = MeansWhole tag_rules ps m
+-- the pieces of this extension mean its part, and there are some
+pub record IsExtension (b : Block Part) : Type 0 where
+  pub meant : MeansPart b.singleton b.body b.value
+  pub filled : b.body ≢ []
+
+-- what the extensions mean together
+abbrev pub extensions_meaning : List (Block Part) → ExtensionMeanings
+extensions_meaning bs = fold (λ e b. put_part (block_key b) b.value e) no_extensions bs
+
+-- a private part, or none: `x` and at least one piece, which mean themselves in lower case
+abbrev pub IsPrivatePart : List Text → List Text → Type 0
+IsPrivatePart [] subtags = subtags ≡ []
+IsPrivatePart (x ∷ ps) subtags = (is_private x ≡ true) × (ps ≢ []) × Each is_private_piece ps × (map lower ps ≡ subtags)
+
+-- these pieces are a language part, extensions of which no two have one singleton, and a private part or none
+pub record MeansTag (ps : List Text) (m : TagMeaning) : Type 0 where
+  pub front : List Text
+  pub blocks : List (Block Part)
+  pub last : List Text
+  pub parts : front ++ (flat_map spelled_block blocks ++ last) ≡ ps
+  pub meant : MeansLanguage front m.language
+  pub each : AllByRecursion IsExtension blocks
+  pub apart : AreApart (map block_key blocks)
+  pub together : extensions_meaning blocks ≡ m.extensions
+  pub private : IsPrivatePart last m.private_use

@@ -15,6 +15,10 @@ use Rattle.icu_locale_core_grammar.specs.Pieces.{joined_text}
 abbrev pub language_pieces : LanguageId → List Text
 language_pieces id = id.language ∷ (option_to_list id.script ++ (option_to_list id.region ++ id.variants))
 
+-- the text of a language part
+abbrev pub language_text : LanguageId → Text
+language_text id = joined_text (language_pieces id)
+
 -- within `t` all is lower case
 abbrev pub inner_pieces : Option LanguageId → List Text
 inner_pieces None = []

@@ -9,7 +9,7 @@ use Rattle.icu_locale_core_grammar.specs.Subtags.{Text, is_single, is_singleton,
 use Rattle.icu_locale_core_grammar.specs.LanguagePart.{LanguageId, MeansLanguage}
 use Rattle.icu_locale_core_grammar.specs.Collections.{Entry}
 use Rattle.icu_locale_core_grammar.specs.Meaning.{TagMeaning, no_transform}
-use Rattle.icu_locale_core_grammar.specs.FaultyPiece.{StopsAt}
+use Rattle.icu_locale_core_grammar.specs.FaultyPiece.{first_piece, name_behind, StopsAt}
 use Rattle.icu_locale_core_grammar.specs.TagPreferences.{least_of}
 use Rattle.icu_locale_core_grammar.specs.TagStages.{language_after}
 
@@ -62,15 +62,14 @@ begins_extension (Some p) = is_singleton p
 
 -- the name of the fault: within `u`, or at the singleton of another extension, it is one of the extension
 abbrev pub single_name : List Text → Option Text → ParseError
-single_name [] place = InvalidLanguage
-single_name (p ∷ ps) place = if list_any is_single (p ∷ ps) || begins_extension place then InvalidExtension else InvalidSubtag
+single_name front place = name_behind front (list_any is_single front || begins_extension place)
 
 -- the list has no such meaning, and its fault is e
 pub record HasSingleFault (ps : List Text) (e : ParseError) : Type 0 where
   pub front : List Text
-  pub place : Option Text
-  pub stops : StopsAt MeansSingle ps front place
-  pub named : single_name front place ≡ e
+  pub rest : List Text
+  pub stops : StopsAt MeansSingle ps front rest
+  pub named : single_name front (first_piece rest) ≡ e
 
 -- ---- stages
 

@@ -1,6 +1,6 @@
 //! Why a text is no tag.
 ghost use Rattle.std.specs.Prelude.{◌≡◌};
-ghost use Rattle.icu_locale_core_grammar.specs.FaultyPiece.{number_of};
+ghost use Rattle.icu_locale_core_grammar.specs.FaultNumber.{number_of};
 
 use thiserror::Error;
 

@@ -3,9 +3,10 @@
 //! Each clause is a fact on only the definitions, which a wrong definition would contradict.
 ghost use Rattle.std.specs.Prelude.{codes};
 ghost use Rattle.icu_locale_core_grammar.specs.FaultyPiece.{HasFault};
-ghost use Rattle.icu_locale_core_grammar.specs.KnownRows.{language_text, single_text, language_first_text, region_first_text};
+ghost use Rattle.icu_locale_core_grammar.specs.KnownRows.{single_text, language_first_text, region_first_text};
 ghost use Rattle.icu_locale_core_grammar.specs.LanguagePart.{MeansLanguage};
 ghost use Rattle.icu_locale_core_grammar.specs.Meaning.{MeansTag};
+ghost use Rattle.icu_locale_core_grammar.specs.NormalText.{language_text};
 ghost use Rattle.icu_locale_core_grammar.specs.Pieces.{pieces};
 ghost use Rattle.icu_locale_core_grammar.specs.SingleVariant.{MeansSingle, HasSingleFault};
 ghost use Rattle.icu_locale_core_grammar.specs.TagLaws.{IsShown, IsPrinted, IsRefused};

@@ -6,7 +6,7 @@ use Rattle.std.specs.declared.cmp.Ordering.{Ordering}
 use Rattle.std.specs.declared.cmp.Ordering.TheVariants.{Less, Equal, Greater}
 use Rattle.std.proofs.lemmas.Bool.{both_ways}
 use Rattle.icu_locale_core_grammar.specs.declared.error.ParseError.{ParseError}
-use Rattle.icu_locale_core_grammar.specs.declared.error.ParseError.TheVariants.{InvalidLanguage}
+use Rattle.icu_locale_core_grammar.specs.declared.error.ParseError.TheVariants.{InvalidLanguage, InvalidSubtag}
 use Rattle.icu_locale_core_grammar.specs.Subtags.{Text, lower}
 use Rattle.icu_locale_core_grammar.specs.Collections.{text_cmp, insert_text}
 use Rattle.icu_locale_core_grammar.specs.LanguagePart.{LanguageId, MeansLanguage}
@@ -15,6 +15,7 @@ use Rattle.icu_locale_core_grammar.specs.SingleVariant.{has_short}
 use Rattle.icu_locale_core_grammar.specs.Stepping.{run, CanEnd, IsReader}
 use Rattle.icu_locale_core_grammar.specs.TagStages.{only_language, fits_script, fits_region, fits_variant, with_script, with_region, with_variant, with_piece, language_after, language_ends, language_fault}
 use Rattle.icu_locale_core_grammar.proofs.ListLemmas.{mapped_some}
+use Rattle.icu_locale_core_grammar.proofs.FaultNames.{IsNamedByCase, by_case, from_case}
 use Rattle.icu_locale_core_grammar.proofs.Runs.{first_step, stops_at_piece, stops_at_end}
 use Rattle.icu_locale_core_grammar.proofs.LanguageReader.{language_reader}
 use Rattle.icu_locale_core_grammar.proofs.LanguageFaults.{language_named}
@@ -110,22 +111,22 @@ one_variant_reader = record { found = found; only = only; goes_on = goes_on }
 -- ---- faults
 
 named : (taken : List Text) (s : Option LanguageId) (place : Option Text) → run one_variant_after (Some None) taken ≡ Some s → IsNamed MeansOneVariant (language_fault s) taken place
-named taken s place e = renamed s (language_named taken s place (run_left taken None s e tt).0)
+named taken s place e = renamed s (by_case MeansLanguage (language_fault s) taken place (language_named taken s place (run_left taken None s e tt).0))
   where
-    renamed : (s : Option LanguageId) → IsNamed MeansLanguage (language_fault s) taken place → IsNamed MeansOneVariant (language_fault s) taken place
-    renamed None a = a
-    renamed (Some id) a = a
+    renamed : (s : Option LanguageId) → IsNamedByCase MeansLanguage (language_fault s) taken place → IsNamed MeansOneVariant (language_fault s) taken place
+    renamed None a = from_case MeansOneVariant InvalidLanguage taken place a
+    renamed (Some id) a = from_case MeansOneVariant InvalidSubtag taken place a
 
 pub one_variant_refused : (ps taken rest : List Text) (s : Option LanguageId) (p : Text) → ps ≡ taken ++ p ∷ rest → run one_variant_after (Some None) taken ≡ Some s → one_variant_after s p ≡ None
     → HasFault MeansOneVariant ps (language_fault s)
 one_variant_refused ps taken rest s p e reached none =
     subst (λ l. HasFault MeansOneVariant l (language_fault s)) (sym e)
-    (record { front = taken; place = Some p; stops = stops_at_piece one_variant_reader taken s p rest reached none; named = named taken s (Some p) reached })
+    (record { front = taken; rest = p ∷ rest; stops = stops_at_piece one_variant_reader taken s p rest reached none; named = named taken s (Some p) reached })
 
 pub one_variant_cut : (ps taken : List Text) → ps ≡ taken → run one_variant_after (Some None) taken ≡ Some None → HasFault MeansOneVariant ps (language_fault None)
 one_variant_cut ps taken e reached =
     subst (λ l. HasFault MeansOneVariant l (language_fault None)) (sym e)
-    (record { front = taken; place = None; stops = stops_at_end one_variant_reader taken None reached refl; named = named taken None None reached })
+    (record { front = taken; rest = []; stops = stops_at_end one_variant_reader taken None reached refl; named = named taken None None reached })
 
 -- ---- what a loop over the pieces shows where it stops
 

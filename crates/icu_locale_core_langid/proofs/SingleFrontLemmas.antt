@@ -3,10 +3,11 @@ use Rattle.std.proofs.Common.{◌≡◌, Bool, true, false, List, [], ◌∷◌,
 use Rattle.icu_locale_core_grammar.specs.declared.error.ParseError.{ParseError}
 use Rattle.icu_locale_core_grammar.specs.declared.error.ParseError.TheVariants.{InvalidLanguage, InvalidSubtag}
 use Rattle.icu_locale_core_grammar.specs.Subtags.{Text}
-use Rattle.icu_locale_core_grammar.specs.LanguagePart.{LanguageId}
+use Rattle.icu_locale_core_grammar.specs.LanguagePart.{LanguageId, MeansLanguage}
 use Rattle.icu_locale_core_grammar.specs.FaultyPiece.{HasFault}
 use Rattle.icu_locale_core_grammar.specs.PartialReading.{ReadsFront}
 use Rattle.icu_locale_core_grammar.specs.TagStages.{has_none}
+use Rattle.icu_locale_core_grammar.proofs.FaultNames.{by_case, from_case}
 use Rattle.icu_locale_core_grammar.proofs.LanguageReader.{language_runs}
 use Rattle.icu_locale_core_grammar.proofs.LanguageFaults.{language_named}
 use Rattle.icu_locale_core_grammar.proofs.PartialReadingLemmas.{IsRefusedFirst, front_read}
@@ -61,11 +62,12 @@ pub rest_refused : (ps : List Text) (id : LanguageId) (rest : List Text) → Rea
 rest_refused ps id [] front e = cc
 rest_refused ps id (p ∷ rest) front e = record {
   front = front.taken;
-  place = Some p;
+  rest = p ∷ rest;
   stops = record {
-    cut = (rest, front.parts);
+    cut = front.parts;
     begins = ([], (id, subst (λ l. MeansOneVariant l id) (sym (append-nil front.taken)) front.meant));
     stops = front.longest;
   };
-  named = language_named front.taken (Some id) (Some p) (language_runs front.taken id front.meant.means);
+  named = from_case MeansOneVariant InvalidSubtag front.taken (Some p)
+      (by_case MeansLanguage InvalidSubtag front.taken (Some p) (language_named front.taken (Some id) (Some p) (language_runs front.taken id front.meant.means)));
 }

@@ -4,12 +4,13 @@ use Rattle.icu_locale_core_grammar.specs.declared.error.ParseError.{ParseError}
 use Rattle.icu_locale_core_grammar.specs.declared.error.ParseError.TheVariants.{InvalidLanguage, InvalidSubtag}
 use Rattle.icu_locale_core_grammar.specs.Subtags.{Text}
 use Rattle.icu_locale_core_grammar.specs.LanguagePart.{LanguageId, MeansLanguage}
-use Rattle.icu_locale_core_grammar.specs.FaultyPiece.{StopsAt, HasFault}
+use Rattle.icu_locale_core_grammar.specs.FaultyPiece.{first_piece, StopsAt, HasFault}
 use Rattle.icu_locale_core_grammar.specs.PartialReading.{ReadsFront}
 use Rattle.icu_locale_core_grammar.specs.Stepping.{run}
 use Rattle.icu_locale_core_grammar.specs.TagStages.{has_none}
 use Rattle.icu_locale_core_grammar.specs.SingleVariant.{SingleMeaning, MeansKeyword, HasSingleFault, single_name, has_short, single_of}
 use Rattle.icu_locale_core_grammar.proofs.Runs as runs
+use Rattle.icu_locale_core_grammar.proofs.FaultNames.{by_case}
 use Rattle.icu_locale_core_grammar.proofs.FaultyPieceLemmas as faults
 use Rattle.icu_locale_core_grammar.proofs.PartialReadingLemmas.{one_front_meaning}
 use Rattle.icu_locale_core_grammar.proofs.SingleReader.{short_same, always_short, first_again, single_reader, single_answered}
@@ -94,8 +95,8 @@ modes_mean_one Partial ps m n a b = same_bare m n a.1 b.1 (one_front_meaning one
 
 one_single_fault : (ps : List Text) (e f : ParseError) → HasSingleFault ps e → HasSingleFault ps f → e ≡ f
 one_single_fault ps e f a b =
-    sym a.named ∙ ap (λ l. single_name l a.place) (faults.one_front ps a.front b.front a.place b.place a.stops b.stops)
-    ∙ ap (single_name b.front) (faults.one_place ps a.front b.front a.place b.place a.stops b.stops) ∙ b.named
+    sym a.named ∙ ap (λ l. single_name l (first_piece a.rest)) (faults.one_front ps a.front b.front a.rest b.rest a.stops b.stops)
+    ∙ ap (λ r. single_name b.front (first_piece r)) (faults.one_rest ps a.front b.front a.rest b.rest a.stops b.stops) ∙ b.named
 
 pub modes_fault_one : HasOneFault
 modes_fault_one LanguageIdentifier ps e f a b = faults.one_fault ps e f a b
@@ -108,21 +109,22 @@ no_pieces : (id : LanguageId) → MeansOneVariant [] id → ⊥
 no_pieces id a = let parts = a.means.parts in cc
 
 -- a front that is read begins with the first piece
-begun_front : (ps taken rest front : List Text) (place : Option Text) (id : LanguageId) → ps ≡ taken ++ rest → MeansOneVariant taken id → StopsAt MeansOneVariant ps front place → front ≡ [] → ⊥
-begun_front ps [] rest front place id parts meant stops none = no_pieces id meant
-begun_front ps (q ∷ qs) rest front None id parts meant stops none = let e : q ∷ (qs ++ rest) ≡ [] = sym parts ∙ stops.cut ∙ none in cc
-begun_front ps (q ∷ qs) rest front (Some p) id parts meant stops none =
-    let e : q ∷ (qs ++ rest) ≡ p ∷ stops.cut.0 = sym parts ∙ stops.cut.1 ∙ ap (λ l. l ++ (p ∷ stops.cut.0)) none in
+begun_front : (ps taken rest front left : List Text) (id : LanguageId) → ps ≡ taken ++ rest → MeansOneVariant taken id → StopsAt MeansOneVariant ps front left → front ≡ [] → ⊥
+begun_front ps [] rest front left id parts meant stops none = no_pieces id meant
+begun_front ps (q ∷ qs) rest front [] id parts meant stops none = let e : q ∷ (qs ++ rest) ≡ [] = sym parts ∙ stops.cut ∙ ap (λ l. l ++ []) none in cc
+begun_front ps (q ∷ qs) rest front (p ∷ left) id parts meant stops none =
+    let e : q ∷ (qs ++ rest) ≡ p ∷ left = sym parts ∙ stops.cut ∙ ap (λ l. l ++ (p ∷ left)) none in
     let same : q ≡ p = cc in
     let long : q ∷ qs ≡ (front ++ p ∷ []) ++ qs = ap (λ t. t ∷ qs) same ∙ sym (ap (λ l. (l ++ p ∷ []) ++ qs) none) in
     stops.stops (qs, (id, subst (λ l. MeansOneVariant l id) long meant))
 
 never_both_partial : (ps : List Text) (id : LanguageId) (rest : List Text) → ReadsFront MeansOneVariant ps id rest → HasFault MeansOneVariant ps InvalidLanguage → ⊥
-never_both_partial ps id rest front fault = begun_front ps front.taken rest fault.front fault.place id front.parts front.meant fault.stops fault.named
+never_both_partial ps id rest front fault =
+    begun_front ps front.taken rest fault.front fault.rest id front.parts front.meant fault.stops (by_case MeansOneVariant InvalidLanguage fault.front (first_piece fault.rest) fault.named)
 
 pub modes_never_both : HasNeverBoth
 modes_never_both LanguageIdentifier ps m e a b = faults.never_both ps (language_of m) e a.0 b
-modes_never_both Locale ps m e a b = faults.stops_unaccepted ps b.front b.place m b.stops a
+modes_never_both Locale ps m e a b = faults.stops_unaccepted ps b.front b.rest m b.stops a
 modes_never_both Partial ps m e a b = never_both_partial ps (language_of m) a.0.0 a.0.1 (subst (HasFault MeansOneVariant ps) b.1 b.0)
 
 -- ---- the modes agree

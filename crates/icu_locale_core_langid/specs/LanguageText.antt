@@ -8,7 +8,7 @@ use Rattle.icu_locale_core_grammar.specs.LanguagePart.{LanguageId}
 use Rattle.icu_locale_core_grammar.specs.Pieces.{hyphen, hyphened}
 use Rattle.icu_locale_core_grammar.specs.NormalText.{language_pieces}
 -- the text
-pub use Rattle.icu_locale_core_grammar.specs.KnownRows.{language_text}
+pub use Rattle.icu_locale_core_grammar.specs.NormalText.{language_text}
 
 -- the text within `t`: each piece in lower case, with a hyphen before it
 abbrev pub inner_text : LanguageId → Text

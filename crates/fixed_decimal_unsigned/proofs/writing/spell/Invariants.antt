@@ -1,4 +1,5 @@
-use Rattle.std.proofs.Common.{◌≡◌, ◌+◌, ◌-◌, ◌≤◌, ◌++◌, length, map, take}
+use Rattle.std.proofs.Common.{◌≡◌, ◌+◌, ◌-◌, ◌<◌, ◌≤◌, ◌%◌, ◌++◌, length, map, take}
+use Rattle.std.specs.Int.Digits.{AllBelowBase}
 use Rattle.fixed_decimal_unsigned.specs.Number.{digits_down}
 use Rattle.fixed_decimal_unsigned.specs.NumberText.{character}
 use Rattle.fixed_decimal_unsigned.proofs.writing.spell.Given as goal
@@ -7,7 +8,10 @@ abbrev pub invariant-loop-done : goal.invariant-loop-done
 invariant-loop-done l = record {
   done : l.done ≤ l.size;
   room : length l.piece ≡ 64;
-  spelled : take (l.from + l.done) l.piece ++ map character (digits_down l.number.count l.base (l.size - l.done)) ≡ take l.from l.initial.piece ++ map character (digits_down l.number.count l.base l.size);
+  left : length l.digits ≡ l.size - l.done;
+  blocks : l.done < l.size → l.done % 16 ≡ 0;
+  tens : AllBelowBase 10 l.digits;
+  spelled : take (l.from + l.done) l.piece ++ map character l.digits ≡ take l.from l.initial.piece ++ map character (digits_down l.number.count l.base l.size);
 }
 
 abbrev pub decreases-loop-done : goal.decreases-loop-done

@@ -6,6 +6,6 @@ pub returns-then-separator-eq1-clause-text : goal.returns-then-separator-eq1-cla
 returns-then-separator-eq1-clause-text g c =
     let table = c.args.table.now in
     let row = table.in_row c.in-Some.nought c.in-Some.is in
-    c.put_threes.ensures.text
+    c.put_many_threes.ensures.text
     ∙ ap (λ text. take c.args.len c.args.waiting.now ++ text)
     (threes_ahead c.in-Some.nought c.in-Some-threes.groups c.args.separator.len c.args.separator.bytes table.chars.now c.args.sizes.now c.args.digits.now row c.requires.tens c.requires.long c.if-separator-eq1.true c.in-Some-threes.ensures)

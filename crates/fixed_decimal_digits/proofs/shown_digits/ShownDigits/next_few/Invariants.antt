@@ -1,4 +1,5 @@
-use Rattle.std.proofs.Common.{◌≡◌, ◌-◌, ◌≤◌, ◌++◌, length, take, drop}
+use Rattle.std.proofs.Common.{◌≡◌, ◌-◌, ◌≤◌, ◌++◌, length, take}
+use Rattle.std.specs.Int.Digits.{AllBelowBase}
 use Rattle.fixed_decimal_digits.proofs.shown_digits.ShownDigits.next_few.Given as goal
 
 abbrev pub invariant-loop-count : goal.invariant-loop-count
@@ -6,7 +7,7 @@ invariant-loop-count l = record {
   within : l.count ≤ 16;
   size : length l.block ≡ 16;
   taken : take l.count l.block ++ l.self ≡ l.initial.self;
-  same : drop l.count l.block ≡ drop l.count l.initial.block;
+  tens : AllBelowBase 10 l.initial.self → AllBelowBase 10 l.initial.block → AllBelowBase 10 l.block;
 }
 
 abbrev pub decreases-loop-count : goal.decreases-loop-count

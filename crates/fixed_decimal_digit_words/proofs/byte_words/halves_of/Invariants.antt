@@ -1,12 +1,12 @@
 use Rattle.std.proofs.Common.{◌≡◌, ◌-◌, ◌*◌, ◌≤◌, ◌++◌, length, take, drop}
 use Rattle.fixed_decimal_digit_words.specs.Packed.{halves}
-use Rattle.fixed_decimal_digit_words.proofs.digit_blocks.digits_between.Given as goal
+use Rattle.fixed_decimal_digit_words.proofs.byte_words.halves_of.Given as goal
 
 abbrev pub invariant-loop-index : goal.invariant-loop-index
 invariant-loop-index l = record {
   within : l.index ≤ 8;
   size : length l.digits ≡ 16;
-  digits : take (2 * l.index) l.digits ++ drop 1 (halves (drop l.index l.bytes)) ≡ drop 1 (halves l.bytes);
+  digits : take (2 * l.index) l.digits ++ halves (drop l.index l.bytes) ≡ halves l.bytes;
 }
 
 abbrev pub decreases-loop-index : goal.decreases-loop-index
