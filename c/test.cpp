@@ -16,6 +16,7 @@
 #endif
 
 using legumeyet::Book, legumeyet::CompactDecimalFormatter, legumeyet::DecimalFormatter;
+using legumeyet::CurrencyFormatter, legumeyet::CurrencyStyle, legumeyet::CurrencyWidth, legumeyet::PercentFormatter;
 using legumeyet::Code, legumeyet::Grouping, legumeyet::Increment, legumeyet::Kind, legumeyet::Number, legumeyet::Options;
 using legumeyet::Rounding, legumeyet::Sign, legumeyet::TrailingZeros, legumeyet::Width;
 
@@ -48,6 +49,11 @@ static_assert(!std::is_constructible_v<CompactDecimalFormatter, const char *, Gr
 static_assert(!std::is_constructible_v<CompactDecimalFormatter, const char *, Grouping, Width>);
 static_assert(!std::is_constructible_v<CompactDecimalFormatter, const char *, uint32_t>);
 static_assert(!std::is_constructible_v<DecimalFormatter, const char *, Width> && !std::is_constructible_v<DecimalFormatter, const char *, int>);
+static_assert(std::is_constructible_v<CurrencyFormatter, Book &, const char *, std::string, CurrencyStyle, CurrencyWidth, Grouping>);
+static_assert(!std::is_constructible_v<CurrencyFormatter, const char *> && !std::is_constructible_v<PercentFormatter, const char *, const char *>);
+static_assert(!std::is_constructible_v<CurrencyFormatter, const char *, const char *, CurrencyWidth>);
+static_assert(!std::is_constructible_v<CurrencyFormatter, const char *, const char *, Grouping>);
+static_assert(!std::is_convertible_v<const char *, PercentFormatter>);
 static_assert(!std::is_convertible_v<const char *, DecimalFormatter> && !std::is_convertible_v<const char *, Book>);
 
 // Books and formatters are moved and not copied, and nothing is thrown there; the type of a `format_to` is its iterator's.
@@ -55,6 +61,7 @@ template <class T> constexpr bool is_moved = std::is_nothrow_move_constructible_
                                              std::is_nothrow_destructible_v<T> && !std::is_copy_constructible_v<T> &&
                                              !std::is_copy_assignable_v<T>;
 static_assert(is_moved<Book> && is_moved<DecimalFormatter> && is_moved<CompactDecimalFormatter>);
+static_assert(is_moved<PercentFormatter> && is_moved<CurrencyFormatter>);
 static_assert(std::is_nothrow_move_constructible_v<legumeyet::Result<DecimalFormatter>>);
 static_assert(std::is_copy_assignable_v<legumeyet::Error> && std::is_aggregate_v<Options>);
 static_assert(noexcept(std::declval<DecimalFormatter &>().format_to(nullptr, 0, 1)) && noexcept(std::declval<Book &>().try_keep()));
@@ -377,6 +384,100 @@ static void world() {
     }
 }
 
+// Amounts of money, of the world's book; `_` is a no-break space.
+static std::string spaced(std::string_view text) {
+    std::string found;
+    for (char it : text) found += it == '_' ? std::string("\u00a0") : std::string(1, it);
+    return found;
+}
+
+static void money() {
+    CurrencyFormatter euros("de", "EUR"), dollars("en", "USD", CurrencyStyle::Accounting), yen("en", "JPY"), francs("de-CH", "CHF");
+    CurrencyFormatter codes("en", "EUR", CurrencyStyle::Standard, CurrencyWidth::Code), cash("en", "CHF"), none("en", "QQQ");
+    expect(euros.format(1234.5), spaced("1.234,50_€"));
+    expect(euros.format("1234567.891", Options().with_rounding(Rounding::None)), spaced("1.234.567,891_€"));
+    expect(CurrencyFormatter("de", "EUR", CurrencyStyle::Standard, CurrencyWidth::Symbol, Grouping::Never).format(1234.5), spaced("1234,50_€"));
+    expect(dollars.format(-5) + dollars.format(5, 0, Options().with_sign(Sign::Always)), "($5.00)+$5.00");
+    expect(francs.format(-5) + ' ' + francs.format({-500, -2}), "CHF-5.00 CHF-5.00");
+    expect(yen.format(2.5) + yen.format("2.5", Options().with_rounding(Rounding::HalfExpand, -1)), "¥2¥2.5");
+    expect(cash.format("2.345", Options().with_rounding(Rounding::Cash)), spaced("CHF_2.35"));
+    expect(codes.format(5) + none.format(1), spaced("EUR_5.00QQQ_1.00"));
+    expect(dollars.format("1.005") + dollars.format("1.015"), "$1.00$1.02");
+    expect(dollars.format(UINT64_MAX), "$18,446,744,073,709,551,615.00");
+    expect(named(dollars.format_parts("-1234.5")), "1($ 7$ 31,234 4, 5. 650 1) ");
+    expect(named(francs.format_parts(-5)), "1CHF- 7CHF 35 5. 600 ");
+    expect(euros.read(spaced("-1.234,50_€")) + ' ' + dollars.read("($5.00)") + ' ' + dollars.read("$1.5"), "-1234.50 -5.00 1.5");
+    std::ostringstream out;
+    std::string text;
+    out << dollars(-5) << '|' << std::setw(8) << yen(5) << '|';
+    expect(out.str(), "($5.00)|     ¥5|");
+    expect_code(dollars.format_to(std::back_inserter(text), -5).code, Code::Ok);
+    expect(text, "($5.00)");
+#if defined(__cpp_lib_format)
+    expect(std::format("{:>9}", dollars(-5)), "  ($5.00)");
+#endif
+    expect_error(LEGUMEYET_NOT_WRITTEN, [&] { dollars.read("5.00"); });
+    expect_error(LEGUMEYET_UTF8, [&] { dollars.read("\xff"); });
+    expect_error(LEGUMEYET_NUMBER, [&] { dollars.format("5."); });
+    expect_error(LEGUMEYET_NUMBER, [&] { dollars.format(std::numeric_limits<double>::infinity()); });
+    expect_error(LEGUMEYET_OPTION, [&] { dollars.format(5, 0, Options().with_rounding(Rounding{12})); });
+    CurrencyFormatter moved = std::move(dollars);
+    expect(moved.format(-5), "($5.00)");
+    expect_error(LEGUMEYET_CLOSED, [&] { dollars.format(-5); });
+    expect_error(LEGUMEYET_CLOSED, [&] { dollars.read("$5"); });
+}
+
+// Formatters of money that are refused; a book that is not kept, or has no units.
+static void no_money() {
+    Book book(BOOK), kept(BOOK);
+    kept.keep();
+    expect_error(LEGUMEYET_UNKEPT, [&] { CurrencyFormatter(book, "en", "EUR"); });
+    expect_error(LEGUMEYET_UNKEPT, [&] { PercentFormatter(book, "e", Grouping{4}); });
+    expect_error(LEGUMEYET_TABLE, [&] { CurrencyFormatter(kept, "en", "EUR"); });
+    expect_error(LEGUMEYET_TABLE, [&] { PercentFormatter(kept, "en"); });
+    expect_error(LEGUMEYET_TAG, [] { CurrencyFormatter("e", "EUR"); });
+    expect_error(LEGUMEYET_OPTION, [] { CurrencyFormatter("e", "eur", CurrencyStyle{2}); });
+    expect_error(LEGUMEYET_OPTION, [] { CurrencyFormatter("de", "EUR", CurrencyStyle::Standard, CurrencyWidth{2}); });
+    expect_error(LEGUMEYET_OPTION, [] { CurrencyFormatter("de", "EUR", CurrencyStyle::Standard, CurrencyWidth::Code, Grouping{4}); });
+    expect_error(LEGUMEYET_OPTION, [] { PercentFormatter("de", Grouping{4}); });
+    for (const char *code : {"eur", "EURO", "EU", "", "E\u00dc", "12A"})
+        expect_error(LEGUMEYET_CODE, [&] { CurrencyFormatter("e", code); });
+    try {
+        CurrencyFormatter("de", "eur");
+        expect("no error", "eur");
+    } catch (const legumeyet::Error &error) {
+        const std::string_view said = error.what();
+        expect(said.substr(said.size() - 7), ": `eur`");
+    }
+}
+
+static void percents() {
+    PercentFormatter german("de"), turkish("tr"), swiss("de-CH", Grouping::Never);
+    expect(german.format(12.5) + turkish.format("12.5") + swiss.format(1234), spaced("12,5_%%12,51234%"));
+    expect(german.format(-0.25, Options().with_rounding(Rounding::HalfEven, -1)), spaced("-0,2_%"));
+    expect(named(turkish.format_parts("-12.5")), "1- 8% 312 5, 65 ");
+    expect(german.read(spaced("12,5_%")) + ' ' + turkish.read("-%12,5"), "12.5 -12.5");
+    expect_error(LEGUMEYET_NOT_WRITTEN, [&] { german.read("12,5"); });
+    expect_error(LEGUMEYET_OPTION, [&] { german.format(1, 0, Options().with_rounding(Rounding::Cash)); });
+    expect_error(LEGUMEYET_OPTION, [&] { german.format(1, 0, Options().with_rounding(Rounding::None)); });
+    expect_error(LEGUMEYET_OPTION, [] { DecimalFormatter("de").format(1, 0, Options().with_rounding(Rounding::Cash)); });
+    std::swap(german, turkish);
+    expect(german.format(5), "%5");
+}
+
+// Which locales a book has.
+static void locales(Book &book) {
+    Book none("[[],[],[],[],[]]"), world = Book::world();
+    std::string found;
+    for (const std::string &it : book.locales()) found += it + ' ';
+    expect(found, "en bad ");
+    expect(std::to_string(none.locales().size()), "0");
+    const auto all = world.locales();
+    expect(std::find(all.begin(), all.end(), "de-AT") != all.end() ? "there" : "not there", "there");
+    Book moved = std::move(none);
+    expect_error(LEGUMEYET_CLOSED, [&] { none.locales(); });
+}
+
 static void files(const char *path) {
     Book world = Book::world(), same = Book::from_file(path);
     expect(same.answer("de\tplain\tauto\tkeep\t-\t-987654.321"), world.answer("de\tplain\tauto\tkeep\t-\t-987654.321"));
@@ -411,6 +512,9 @@ int main(int count, char **words) {
     if (count != 2) return 1;
     world();
     files(words[1]);
+    money();
+    no_money();
+    percents();
     Book first(BOOK), book(std::move(first)); // `first` is closed by that
     DecimalFormatter english(book, "en"), moved = std::move(english);
     CompactDecimalFormatter short_english(book, "en"), moved_short = std::move(short_english);
@@ -420,6 +524,7 @@ int main(int count, char **words) {
     expect_error(LEGUMEYET_TAG, [&] { DecimalFormatter(book, "e"); });
     expect_error(LEGUMEYET_TABLE, [&] { DecimalFormatter(book, "xx"); });
     answers(book);
+    locales(book);
     reads(book, moved);
     compacts(book, moved_short);
     results(book, moved);

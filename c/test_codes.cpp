@@ -14,6 +14,7 @@
 #endif
 
 using legumeyet::Book, legumeyet::CompactDecimalFormatter, legumeyet::DecimalFormatter;
+using legumeyet::CurrencyFormatter, legumeyet::CurrencyStyle, legumeyet::PercentFormatter, legumeyet::Rounding;
 using legumeyet::Code, legumeyet::Grouping, legumeyet::Options, legumeyet::Result, legumeyet::Sign, legumeyet::Width;
 
 // Nothing is constructed that may be refused, and what was found cannot be forgotten to be looked for.
@@ -84,6 +85,23 @@ static void plain() {
     expect_code(DecimalFormatter::try_open("xx").error(), Code::Table);
 }
 
+static void units() {
+    auto dollars = CurrencyFormatter::try_open("en", "USD", CurrencyStyle::Accounting);
+    auto percents = PercentFormatter::try_open("tr");
+    if (!dollars || !percents) return expect("refused", "opened");
+    expect_text(dollars->try_format(-5), "($5.00)");
+    expect_text(dollars->try_read("($5.00)"), "-5.00");
+    expect_code(dollars->try_read("5").error(), Code::NotWritten);
+    expect_text(percents->try_format(12.5), "%12,5");
+    expect_code(percents->try_format(1, Options().with_rounding(Rounding::Cash)).error(), Code::Option);
+    expect_code(CurrencyFormatter::try_open("en", "usd").error(), Code::Code);
+    auto book = Book::try_from_json("[[],[],[],[],[]]");
+    expect_code(PercentFormatter::try_open(*book, "en").error(), Code::Unkept);
+    expect_code(book->try_keep(), Code::Ok);
+    expect_code(CurrencyFormatter::try_open(*book, "en", "USD").error(), Code::Table);
+    expect(std::to_string(book->try_locales()->size()), "0");
+}
+
 static void compact() {
     auto english = CompactDecimalFormatter::try_open("en");
     if (!english) return expect_code(english.error(), Code::Ok);
@@ -102,6 +120,7 @@ int main(int count, char **words) {
     if (count != 2) return 1;
     books(words[1]);
     plain();
+    units();
     compact();
     return wrong;
 }

@@ -5,6 +5,7 @@
 //     std::cout << german(1234.5);                               // 1.234,5
 //     legumeyet::CompactDecimalFormatter short_german("de");
 //     short_german.format(1234567);                              // 1,2 Mio. with a no-break space
+//     legumeyet::CurrencyFormatter("de", "EUR").format(1234.5);  // 1.234,50 € with a no-break space
 //
 // Where a function of legumeyet.h returns an error, a call whose name begins with `try_` has it in its Result, `format_to` and `try_keep`
 // return it as a Code, and each other call throws it as an Error. A program that is compiled with -fno-exceptions has all but the last.
@@ -71,6 +72,8 @@ enum class Code : int32_t {
     Unreadable = LEGUMEYET_UNREADABLE,
     NotWritten = LEGUMEYET_NOT_WRITTEN,
     Exponent = LEGUMEYET_EXPONENT,
+    Code = LEGUMEYET_CODE,
+    Unkept = LEGUMEYET_UNKEPT,
     BookJson = LEGUMEYET_BOOK_JSON,
     BookShape = LEGUMEYET_BOOK_SHAPE,
     BookTag = LEGUMEYET_BOOK_TAG,
@@ -81,7 +84,9 @@ enum class Code : int32_t {
     BookTypes = LEGUMEYET_BOOK_TYPES,
     BookExponents = LEGUMEYET_BOOK_EXPONENTS,
     BookDuplicate = LEGUMEYET_BOOK_DUPLICATE,
-    BookCycle = LEGUMEYET_BOOK_CYCLE
+    BookCycle = LEGUMEYET_BOOK_CYCLE,
+    BookUnit = LEGUMEYET_BOOK_UNIT,
+    BookCode = LEGUMEYET_BOOK_CODE
 };
 
 // When grouping separators are written: LEGUMEYET_GROUPING.
@@ -95,6 +100,12 @@ enum class Grouping : uint32_t {
 // Which patterns compact numbers are written in: LEGUMEYET_WIDTH.
 enum class Width : uint32_t { Short = LEGUMEYET_WIDTH_SHORT, Long = LEGUMEYET_WIDTH_LONG };
 
+// How a negative amount of money is written: LEGUMEYET_STYLE.
+enum class CurrencyStyle : uint32_t { Standard = LEGUMEYET_STYLE_STANDARD, Accounting = LEGUMEYET_STYLE_ACCOUNTING };
+
+// What a currency is written as: LEGUMEYET_CURRENCY.
+enum class CurrencyWidth : uint32_t { Symbol = LEGUMEYET_CURRENCY_SYMBOL, Code = LEGUMEYET_CURRENCY_CODE };
+
 // Which sign is written: LEGUMEYET_SIGN.
 enum class Sign : uint32_t {
     Keep = LEGUMEYET_SIGN_KEEP,
@@ -105,7 +116,8 @@ enum class Sign : uint32_t {
     Negative = LEGUMEYET_SIGN_NEGATIVE
 };
 
-// Which multiple of the increment, at the position, a number is rounded to: LEGUMEYET_ROUND.
+// Which multiple of the increment, at the position, a number is rounded to: LEGUMEYET_ROUND. Keep rounds an amount of money to the digits of
+// its currency. Cash and None are of amounts alone.
 enum class Rounding : uint32_t {
     Keep = LEGUMEYET_ROUND_KEEP,
     Expand = LEGUMEYET_ROUND_EXPAND,
@@ -116,7 +128,9 @@ enum class Rounding : uint32_t {
     HalfTrunc = LEGUMEYET_ROUND_HALF_TRUNC,
     HalfCeil = LEGUMEYET_ROUND_HALF_CEIL,
     HalfFloor = LEGUMEYET_ROUND_HALF_FLOOR,
-    HalfEven = LEGUMEYET_ROUND_HALF_EVEN
+    HalfEven = LEGUMEYET_ROUND_HALF_EVEN,
+    Cash = LEGUMEYET_ROUND_CASH,
+    None = LEGUMEYET_ROUND_NONE
 };
 
 // What becomes of the zeros at the end of the fraction digits: LEGUMEYET_TRAILING_ZEROS.
@@ -132,7 +146,9 @@ enum class Kind : uint32_t {
     Integer = LEGUMEYET_PART_INTEGER,
     Group = LEGUMEYET_PART_GROUP,
     Decimal = LEGUMEYET_PART_DECIMAL,
-    Fraction = LEGUMEYET_PART_FRACTION
+    Fraction = LEGUMEYET_PART_FRACTION,
+    Currency = LEGUMEYET_PART_CURRENCY,
+    PercentSign = LEGUMEYET_PART_PERCENT_SIGN
 };
 
 namespace inner {
@@ -258,11 +274,12 @@ inline void expect_well(Code code) {
     if (code != Code::Ok) throw Error(code);
 }
 
-// The same of a formatter that is opened. An underscore of a tag is told.
-inline void expect_opened(Code code, std::string_view tag) {
+// The same of a formatter that is opened. An underscore of a tag is told, and what is no code of a currency.
+inline void expect_opened(Code code, std::string_view tag, std::string_view currency = {}) {
     std::string hyphens(tag);
     std::replace(hyphens.begin(), hyphens.end(), '_', '-');
     if (code == Code::Tag && hyphens != tag) throw Error(code, ": `" + std::string(tag) + "` is written `" + hyphens + "`");
+    if (code == Code::Code) throw Error(code, ": `" + std::string(currency) + "`");
     expect_well(code);
 }
 
@@ -500,7 +517,9 @@ inline std::vector<std::string_view> world_locales() {
 // A book of tables.
 class Book : inner::Owned<legumeyet_book, legumeyet_book_close> {
     friend class CompactDecimalFormatter;
+    friend class CurrencyFormatter;
     friend class DecimalFormatter;
+    friend class PercentFormatter;
 
     Book() = default;
 
@@ -534,6 +553,20 @@ class Book : inner::Owned<legumeyet_book, legumeyet_book_close> {
         return inner::text_of([&](auto... out) { return legumeyet_book_answer(&handle, inner::bytes(line), line.size(), out...); });
     }
 
+    // The tags of the locales that the book has symbols of, in its order; world_locales has those of the world's book too.
+    Result<std::vector<std::string>> try_locales() {
+        std::vector<std::string> found;
+        std::size_t count = 0;
+        const auto code = static_cast<Code>(legumeyet_book_locale_count(&handle, &count));
+        if (code != Code::Ok) return code;
+        while (found.size() < count) {
+            auto tag = inner::text_of([&](auto... out) { return legumeyet_book_locale(&handle, found.size(), out...); });
+            if (!tag) return tag.error();
+            found.push_back(*std::move(tag));
+        }
+        return found;
+    }
+
 #ifdef __cpp_exceptions
     explicit Book(std::string_view json) : Book(try_from_json(json).value()) {}
     static Book world() { return try_world().value(); }
@@ -545,6 +578,7 @@ class Book : inner::Owned<legumeyet_book, legumeyet_book_close> {
     }
     void keep() { inner::expect_well(try_keep()); }
     std::string answer(std::string_view line) { return try_answer(line).value(); }
+    std::vector<std::string> locales() { return try_locales().value(); }
 #endif
 };
 
@@ -678,6 +712,31 @@ struct CompactCalls {
     static constexpr auto format_parts = legumeyet_compact_formatter_format_parts;
 };
 
+struct UnitCalls {
+    static constexpr auto close = legumeyet_unit_formatter_close;
+    static constexpr auto format = legumeyet_unit_formatter_format;
+    static constexpr auto format_i64 = legumeyet_unit_formatter_format_i64;
+    static constexpr auto format_u64 = legumeyet_unit_formatter_format_u64;
+    static constexpr auto format_double = legumeyet_unit_formatter_format_double;
+    static constexpr auto format_parts = legumeyet_unit_formatter_format_parts;
+};
+
+// What formatters of numbers with a unit have in common.
+class UnitFormatter : public Formatter<legumeyet_unit_formatter, UnitCalls> {
+  protected:
+    UnitFormatter() = default;
+
+  public:
+    // The number that is written so, as digits: `-1234.50` of `-€1,234.50` in English.
+    Result<std::string> try_read(std::string_view text) {
+        return text_of([&](auto... out) { return legumeyet_unit_formatter_read(&handle, bytes(text), text.size(), out...); });
+    }
+
+#ifdef __cpp_exceptions
+    std::string read(std::string_view text) { return try_read(text).value(); }
+#endif
+};
+
 } // namespace inner
 
 // A number as a formatter writes it: std::cout << german(1234.5), and in C++20 std::format("{:>12}", german(1234.5)).
@@ -794,6 +853,80 @@ class CompactDecimalFormatter : public inner::Formatter<legumeyet_compact_format
   private:
     void take(Result<CompactDecimalFormatter> opened, std::string_view tag) {
         inner::expect_opened(opened.error(), tag);
+        *this = *std::move(opened);
+    }
+#endif
+};
+
+// The formatter of percents for a locale tag. A percent is written as it is given: 12.5 as `12.5%`. It is of the world's book, or of another
+// that is kept: Code::Unkept of one that is not. Of amounts alone are Rounding::Cash and Rounding::None: Code::Option.
+class PercentFormatter : public inner::UnitFormatter {
+    PercentFormatter() = default;
+
+  public:
+    // Of the world's book, which the process opens once and keeps.
+    static Result<PercentFormatter> try_open(std::string_view tag, Grouping grouping = Grouping::Auto) {
+        return inner::World::with([&](Book &book) { return try_open(book, tag, grouping); });
+    }
+
+    static Result<PercentFormatter> try_open(Book &book, std::string_view tag, Grouping grouping = Grouping::Auto) noexcept {
+        PercentFormatter found;
+        const auto code = static_cast<Code>(
+            legumeyet_percent_formatter_open(&book.handle, inner::bytes(tag), tag.size(), static_cast<uint32_t>(grouping), &found.handle));
+        if (code != Code::Ok) return code;
+        return found;
+    }
+
+#ifdef __cpp_exceptions
+    explicit PercentFormatter(std::string_view tag, Grouping grouping = Grouping::Auto) { take(try_open(tag, grouping), tag); }
+    PercentFormatter(Book &book, std::string_view tag, Grouping grouping = Grouping::Auto) { take(try_open(book, tag, grouping), tag); }
+
+  private:
+    void take(Result<PercentFormatter> opened, std::string_view tag) {
+        inner::expect_opened(opened.error(), tag);
+        *this = *std::move(opened);
+    }
+#endif
+};
+
+// The formatter of amounts of money for a locale tag and the code of a currency, as `EUR`. It is of the world's book, or of another that is
+// kept: Code::Unkept of one that is not. Without a rounding an amount is rounded to the digits of its currency, half even, and shown down to
+// them: 5 dollars as `$5.00`. With Rounding::Cash they are those of the currency in cash, and with Rounding::None it is written as given.
+class CurrencyFormatter : public inner::UnitFormatter {
+    CurrencyFormatter() = default;
+
+  public:
+    // Of the world's book, which the process opens once and keeps.
+    static Result<CurrencyFormatter> try_open(std::string_view tag, std::string_view currency,
+                                              CurrencyStyle style = CurrencyStyle::Standard,
+                                              CurrencyWidth width = CurrencyWidth::Symbol, Grouping grouping = Grouping::Auto) {
+        return inner::World::with([&](Book &book) { return try_open(book, tag, currency, style, width, grouping); });
+    }
+
+    static Result<CurrencyFormatter> try_open(Book &book, std::string_view tag, std::string_view currency,
+                                              CurrencyStyle style = CurrencyStyle::Standard,
+                                              CurrencyWidth width = CurrencyWidth::Symbol, Grouping grouping = Grouping::Auto) noexcept {
+        CurrencyFormatter found;
+        const auto code = static_cast<Code>(legumeyet_currency_formatter_open(
+            &book.handle, inner::bytes(tag), tag.size(), inner::bytes(currency), currency.size(), static_cast<uint32_t>(style),
+            static_cast<uint32_t>(width), static_cast<uint32_t>(grouping), &found.handle));
+        if (code != Code::Ok) return code;
+        return found;
+    }
+
+#ifdef __cpp_exceptions
+    CurrencyFormatter(std::string_view tag, std::string_view currency, CurrencyStyle style = CurrencyStyle::Standard,
+                      CurrencyWidth width = CurrencyWidth::Symbol, Grouping grouping = Grouping::Auto) {
+        take(try_open(tag, currency, style, width, grouping), tag, currency);
+    }
+    CurrencyFormatter(Book &book, std::string_view tag, std::string_view currency, CurrencyStyle style = CurrencyStyle::Standard,
+                      CurrencyWidth width = CurrencyWidth::Symbol, Grouping grouping = Grouping::Auto) {
+        take(try_open(book, tag, currency, style, width, grouping), tag, currency);
+    }
+
+  private:
+    void take(Result<CurrencyFormatter> opened, std::string_view tag, std::string_view currency) {
+        inner::expect_opened(opened.error(), tag, currency);
         *this = *std::move(opened);
     }
 #endif

@@ -16,7 +16,7 @@ export type RoundingIncrement = 1 | 2 | 5 | 10 | 20 | 25 | 50 | 100 | 200 | 250 
 export type Locales = string | Intl.Locale | readonly (string | Intl.Locale)[];
 
 export interface FormatterOptions {
-  /** The tables; without it those of the world's book, or of `setWorld`. */
+  /** The tables; without it those of the world's book, or of `setWorld`. Percents and amounts have tables of a book that is kept. */
   book?: Book;
   /** `auto` without it, and `min2` of compact numbers. */
   useGrouping?: UseGrouping;
@@ -42,10 +42,23 @@ export interface CompactDecimalFormatterOptions extends FormatterOptions {
   compactDisplay?: "short" | "long";
 }
 
+export type PercentFormatterOptions = DecimalFormatterOptions;
+
+export interface CurrencyFormatterOptions extends DecimalFormatterOptions {
+  /** The code of a currency, three capitals: `EUR`. */
+  currency: string;
+  /** `standard` without it; `accounting` writes `($5.00)` in English. */
+  currencySign?: "standard" | "accounting";
+  /** `symbol` without it: the symbol, or the code where there is none. */
+  currencyDisplay?: "symbol" | "code";
+  /** Where neither `maximumFractionDigits` nor `position` rounds: to the digits of the currency without it, to those that it has in cash, or not. */
+  currencyDigits?: "standard" | "cash" | "given";
+}
+
 export type ResolvedOptions<Options> = Omit<Options, "book"> & { locale: string; useGrouping: UseGrouping; signDisplay: SignDisplay };
 
 export interface Part {
-  type: "minusSign" | "plusSign" | "integer" | "group" | "decimal" | "fraction" | "literal";
+  type: "minusSign" | "plusSign" | "integer" | "group" | "decimal" | "fraction" | "currency" | "percentSign" | "literal";
   value: string;
 }
 
@@ -63,6 +76,8 @@ export class Book extends Open {
   keep(): this;
   /** The answer to a request line, a text or its bytes. */
   answer(line: string | Uint8Array): string;
+  /** The tags of the locales that the book has symbols of, in its order. */
+  locales(): string[];
 }
 
 declare abstract class Formatter<Options> extends Open {
@@ -96,12 +111,30 @@ export class CompactDecimalFormatter extends Formatter<CompactDecimalFormatterOp
   static supportedLocalesOf(locales: Locales, options?: CompactDecimalFormatterOptions): string[];
 }
 
+/** Writes percents for a locale, and reads them back. A percent is written as it is given: a ratio is multiplied by 100 first. */
+export class PercentFormatter extends Formatter<PercentFormatterOptions> {
+  constructor(locales?: Locales, options?: PercentFormatterOptions);
+  /** The digits of the one number that is written so: `-12.5%` is `-12.5` in English. */
+  read(text: string): string;
+  /** Those of the locales that the book has tables for. */
+  static supportedLocalesOf(locales: Locales, options?: PercentFormatterOptions): string[];
+}
+
+/** Writes amounts of money in a currency for a locale, and reads them back. Its book is kept. */
+export class CurrencyFormatter extends Formatter<CurrencyFormatterOptions> {
+  constructor(locales: Locales | undefined, options: CurrencyFormatterOptions);
+  /** The digits of the one number that is written so: `-€1,234.50` is `-1234.50` in English. */
+  read(text: string): string;
+  /** Those of the locales that the book has tables for. */
+  static supportedLocalesOf(locales: Locales, options: CurrencyFormatterOptions): string[];
+}
+
 /** The numbers of errors. */
 export const ErrorNumber: Readonly<
   Record<
     | "MEMORY" | "CLOSED" | "OPTION" | "TAG" | "TABLE" | "NUMBER" | "LIMIT" | "RANGE" | "UTF8" | "UNREADABLE" | "NOT_WRITTEN" | "EXPONENT"
     | "BOOK_JSON" | "BOOK_SHAPE" | "BOOK_TAG" | "BOOK_SYSTEM" | "BOOK_TEXT" | "BOOK_DIGITS" | "BOOK_CONDITION" | "BOOK_TYPES"
-    | "BOOK_EXPONENTS" | "BOOK_DUPLICATE" | "BOOK_CYCLE",
+    | "BOOK_EXPONENTS" | "BOOK_DUPLICATE" | "BOOK_CYCLE" | "CODE" | "UNKEPT" | "BOOK_UNIT" | "BOOK_CODE",
     number
   >
 >;
@@ -126,7 +159,7 @@ export function load(source: BufferSource | WebAssembly.Module | Response): Prom
 export function loadSync(source: BufferSource | WebAssembly.Module): void;
 /** Makes the book of formatters for which none is named: a Book, or the JSON of one. It is kept. */
 export function setWorld(book: string | Uint8Array | Book): Book;
-/** The version of the library, with its minor one: `1.1`. */
+/** The version of the library, with its minor one: `1.2`. */
 export function version(): string;
 /** The bytes of the module's memory, for measurements. */
 export function memorySize(): number;

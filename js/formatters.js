@@ -1,5 +1,5 @@
 // Books and formatters, as classes in the manner of Intl.
-import { ErrorNumber, LegumeyetError, age, begun, calls, expected, inside, isPresent, partsWritten, put, written } from "./instance.js";
+import { ErrorNumber, LegumeyetError, age, begun, calls, expected, got, inside, isPresent, partsWritten, put, written } from "./instance.js";
 import { read as readOptions } from "./options.js";
 
 // What the garbage collector takes is closed.
@@ -93,6 +93,25 @@ export class Book extends Open {
     if (typeof line !== "string" && !(line instanceof Uint8Array)) throw new TypeError("a line is a string or a Uint8Array");
     return written(atOf(this), calls.js_book_answer, line);
   }
+
+  /** The tags of the locales that the book has symbols of, in its order. */
+  locales() {
+    const at = atOf(this);
+    const count = expected(inside(() => calls.js_book_locale_count(at)));
+    return Array.from({ length: count }, (_, index) => localeAt(at, index));
+  }
+}
+
+// The tag of a locale of a book.
+function localeAt(at, index) {
+  const told = inside(() => {
+    const length = calls.js_book_locale(at, index);
+    const tag = length < 0 ? "" : got(length);
+    calls.js_let_go();
+    return { length, tag };
+  });
+  expected(told.length);
+  return told.tag;
 }
 
 function openBook(source, handle) {
@@ -136,10 +155,13 @@ function tagsOf(locales) {
   return asked.map(String);
 }
 
-// What the message of an error says of a tag.
-function hintOf(tag) {
-  const [named, written] = [tag, tag.replaceAll("_", "-")].map((it) => JSON.stringify(it.slice(0, 40)));
-  return (number) => (number === ErrorNumber.TAG && tag.includes("_") ? `: ${named} is written ${written}` : `: ${named}`);
+// What the message of an error says of a tag, or of the code of a currency.
+function hintOf(tag, currency) {
+  const [named, written, code] = [tag, tag.replaceAll("_", "-"), String(currency)].map((it) => JSON.stringify(it.slice(0, 40)));
+  return (number) => {
+    if (number === ErrorNumber.CODE) return `: ${code}`;
+    return number === ErrorNumber.TAG && tag.includes("_") ? `: ${named} is written ${written}` : `: ${named}`;
+  };
 }
 
 // The digits of a number, as the library reads them: what JavaScript writes as 1e+21 is 1e21.
@@ -151,7 +173,7 @@ function digitsOf(number) {
 }
 
 // Opens a formatter of the first of these locales that the book has tables for. Returns its tag.
-function openFormatter(handle, asked, source, { numbers }, fill) {
+function openFormatter(handle, asked, source, { numbers, resolved }, fill) {
   const { sign, mode, position, zeros, increment, integer, fraction } = numbers;
   const openOf = (tag) =>
     withBook(source, (book) =>
@@ -161,7 +183,7 @@ function openFormatter(handle, asked, source, { numbers }, fill) {
           calls.js_options(at, sign, mode, position, zeros, increment, integer, fraction);
           return fill(book, put(tag), numbers, at);
         },
-        hintOf(tag),
+        hintOf(tag, resolved.currency),
       ),
     );
   for (const tag of asked.slice(0, -1)) {
@@ -176,6 +198,9 @@ function openFormatter(handle, asked, source, { numbers }, fill) {
   return asked.at(-1);
 }
 
+// The calls by which formatters are closed.
+const CLOSES = { decimal: "js_decimal_close", compact: "js_compact_close", percent: "js_unit_close", currency: "js_unit_close" };
+
 class Formatter extends Open {
   #resolved;
 
@@ -186,7 +211,7 @@ class Formatter extends Open {
     const source = Book.source(book);
     const asked = tagsOf(locales);
     if (asked.length === 0) throw new RangeError("no locale is asked for");
-    const handle = { at: 0, age: 0, close: `js_${kind}_close` };
+    const handle = { at: 0, age: 0, close: CLOSES[kind] };
     const locale = openFormatter(handle, asked, source, how, fill);
     super(handle, () => openFormatter(handle, [locale], source, how, fill));
     this.#resolved = { locale, ...how.resolved };
@@ -264,7 +289,42 @@ export class CompactDecimalFormatter extends Formatter {
   }
 }
 
-/** The version of the library, with its minor one: `1.1`. */
+// What formatters of numbers with a unit have in common.
+class UnitFormatter extends Formatter {
+  constructor(kind, locales, options, fill) {
+    super(kind, locales, options, fill);
+    /** The text of a number. As Intl's, it may be handed on without its formatter. */
+    this.format = (number) => written(atOf(this), calls.js_unit_format, digitsOf(number));
+  }
+
+  /** The parts of a number's text, each with its type and value. */
+  formatToParts(number) {
+    return partsWritten(atOf(this), calls.js_unit_parts, digitsOf(number));
+  }
+
+  /** The digits of the one number that is written so. */
+  read(text) {
+    return written(atOf(this), calls.js_unit_read, textOf(text));
+  }
+}
+
+/** Writes percents for a locale, and reads them back. A percent is written as it is given: a ratio is multiplied by 100 first. */
+export class PercentFormatter extends UnitFormatter {
+  constructor(locales, options = {}) {
+    super("percent", locales, options, (book, length, { grouping }, at) => calls.js_percent_open(book, length, grouping, at));
+  }
+}
+
+/** Writes amounts of money in a currency for a locale, and reads them back. */
+export class CurrencyFormatter extends UnitFormatter {
+  constructor(locales, options = {}) {
+    super("currency", locales, options, (book, length, { code, style, display, grouping }, at) =>
+      calls.js_currency_open(book, length, code, style, display, grouping, at),
+    );
+  }
+}
+
+/** The version of the library, with its minor one: `1.2`. */
 export function version() {
   begun();
   return inside(() => `${calls.js_version()}.${calls.js_minor()}`);

@@ -19,4 +19,6 @@ const [module, world] = await Promise.all([
 await load(module);
 setWorld(world);
 
-export { Book, CompactDecimalFormatter, DecimalFormatter, ErrorNumber, LegumeyetError, LoadError, version } from "./core.js";
+export {
+  Book, CompactDecimalFormatter, CurrencyFormatter, DecimalFormatter, ErrorNumber, LegumeyetError, LoadError, PercentFormatter, version,
+} from "./core.js";

@@ -2,7 +2,7 @@
 
 const SHORT = 64; // of so many characters a text is put by hand, which is faster than by an encoder
 const ROOM = 512; // as in module/calls.c
-const LITERAL = 0, INTEGER = 3; // kinds of parts
+const LITERAL = 0, MINUS_SIGN = 1, PLUS_SIGN = 2, INTEGER = 3; // kinds of parts
 const NO_UTF8 = new Uint8Array([0xff]);
 const HALF = /\p{Surrogate}/u;
 const encoder = new TextEncoder();
@@ -26,8 +26,9 @@ export let age = 0;
 /** The numbers of errors, as legumeyet.h has them, and UTF8 of a text with half a pair of surrogates. */
 export const ErrorNumber = Object.freeze({
   MEMORY: 1, CLOSED: 2, OPTION: 4, TAG: 5, TABLE: 6, NUMBER: 7, LIMIT: 8, RANGE: 9, UTF8: 10, UNREADABLE: 11, NOT_WRITTEN: 12, EXPONENT: 13,
+  CODE: 14, UNKEPT: 15,
   BOOK_JSON: 101, BOOK_SHAPE: 102, BOOK_TAG: 103, BOOK_SYSTEM: 104, BOOK_TEXT: 105, BOOK_DIGITS: 106, BOOK_CONDITION: 107,
-  BOOK_TYPES: 108, BOOK_EXPONENTS: 109, BOOK_DUPLICATE: 110, BOOK_CYCLE: 111,
+  BOOK_TYPES: 108, BOOK_EXPONENTS: 109, BOOK_DUPLICATE: 110, BOOK_CYCLE: 111, BOOK_UNIT: 113, BOOK_CODE: 114,
 });
 
 // What each number says. It is asked of the module at first, so that an error can be told where no call can be made.
@@ -244,13 +245,18 @@ function large(length) {
   return text;
 }
 
-const KINDS = ["literal", "minusSign", "plusSign", "integer", "group", "decimal", "fraction"];
+const KINDS = ["literal", "minusSign", "plusSign", "integer", "group", "decimal", "fraction", "currency", "percentSign"];
 
-// The parts of a text, in the flat form of Intl: an integer is cut at its groups, and what is in no part is a literal.
+// Whether parts may be inside one of this kind: groups in an integer, the unit in a sign that has affixes of its own.
+function isOuter(kind) {
+  return kind === INTEGER || kind === MINUS_SIGN || kind === PLUS_SIGN;
+}
+
+// The parts of a text, in the flat form of Intl: a part is cut at those inside it, and what is in no part is a literal.
 function flat(from, length) {
   const parts = [];
   let done = 0;
-  let integerEnd = 0;
+  let [outer, outerEnd] = [LITERAL, 0];
   const upTo = (end, kind) => {
     if (end <= done) return;
     const [start, stop] = [from + done, from + end];
@@ -258,14 +264,15 @@ function flat(from, length) {
     done = end;
   };
   const outside = (end) => {
-    upTo(Math.min(end, integerEnd), INTEGER);
+    upTo(Math.min(end, outerEnd), outer);
     upTo(end, LITERAL);
   };
   const list = calls.js_parts() >> 2;
   for (let i = list, end = list + 6 * calls.js_parts_count(); i < end; i += 6) {
-    outside(words[i]);
-    if (words[i + 4] === INTEGER) integerEnd = words[i + 2];
-    else upTo(words[i + 2], words[i + 4]);
+    const [start, stop, kind] = [words[i], words[i + 2], words[i + 4]];
+    outside(start);
+    if (isOuter(kind)) [outer, outerEnd] = [kind, stop];
+    else upTo(stop, kind);
   }
   outside(length);
   return parts;

@@ -14,4 +14,6 @@ function bytesOf(name) {
 loadSync(bytesOf("legumeyet.wasm"));
 setWorld(bytesOf("world.json"));
 
-export { Book, CompactDecimalFormatter, DecimalFormatter, ErrorNumber, LegumeyetError, LoadError, version } from "./core.js";
+export {
+  Book, CompactDecimalFormatter, CurrencyFormatter, DecimalFormatter, ErrorNumber, LegumeyetError, LoadError, PercentFormatter, version,
+} from "./core.js";

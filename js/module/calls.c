@@ -43,6 +43,8 @@ number legumeyet_book_open(const u8 *, u64, handle *);
 number legumeyet_book_close(handle *);
 number legumeyet_book_keep(handle *);
 number legumeyet_book_answer(handle *, const u8 *, u64, u8 *, u64, u64 *);
+number legumeyet_book_locale_count(handle *, u64 *);
+number legumeyet_book_locale(handle *, u64, u8 *, u64, u64 *);
 number legumeyet_decimal_formatter_open(handle *, const u8 *, u64, u32, handle *);
 number legumeyet_decimal_formatter_close(handle *);
 number legumeyet_decimal_formatter_format(handle *, const u8 *, u64, const options *, u8 *, u64, u64 *);
@@ -55,6 +57,12 @@ number legumeyet_compact_formatter_format(handle *, const u8 *, u64, const optio
 number legumeyet_compact_formatter_format_parts(handle *, const u8 *, u64, const options *, u8 *, u64, u64 *, interval *, u64, u64 *);
 number legumeyet_compact_formatter_shown(handle *, const u8 *, u64, const options *, u8 *, u64, u64 *);
 number legumeyet_compact_formatter_format_exact(handle *, const u8 *, u64, const options *, u8 *, u64, u64 *);
+number legumeyet_percent_formatter_open(handle *, const u8 *, u64, u32, handle *);
+number legumeyet_currency_formatter_open(handle *, const u8 *, u64, const u8 *, u64, u32, u32, u32, handle *);
+number legumeyet_unit_formatter_close(handle *);
+number legumeyet_unit_formatter_format(handle *, const u8 *, u64, const options *, u8 *, u64, u64 *);
+number legumeyet_unit_formatter_format_parts(handle *, const u8 *, u64, const options *, u8 *, u64, u64 *, interval *, u64, u64 *);
+number legumeyet_unit_formatter_read(handle *, const u8 *, u64, u8 *, u64, u64 *);
 number legumeyet_error_text(number, u8 *, u64, u64 *);
 u32 legumeyet_version(void);
 u32 legumeyet_minor(void);
@@ -131,6 +139,12 @@ opened *js_new(void) {
 number js_book_open(opened *it, u32 n) { return -legumeyet_book_open(text_in(), n, &it->of); }
 number js_book_keep(opened *it) { return -legumeyet_book_keep(&it->of); }
 number js_book_answer(opened *it, u32 n) { WRITTEN(legumeyet_book_answer(&it->of, text_in(), n, OUT)) }
+number js_book_locale_count(opened *it) {
+    u64 count = 0;
+    number error = legumeyet_book_locale_count(&it->of, &count);
+    return error ? -error : (number)count;
+}
+number js_book_locale(opened *it, u32 index) { WRITTEN(legumeyet_book_locale(&it->of, index, OUT)) }
 void js_book_close(opened *it) {
     legumeyet_book_close(&it->of);
     free(it);
@@ -164,6 +178,22 @@ number js_compact_shown(opened *it, u32 n) { WRITTEN(legumeyet_compact_formatter
 number js_compact_exact(opened *it, u32 n) { WRITTEN(legumeyet_compact_formatter_format_exact(&it->of, text_in(), n, &it->how, OUT)) }
 void js_compact_close(opened *it) {
     legumeyet_compact_formatter_close(&it->of);
+    free(it);
+}
+
+/* Formatters of percents and of amounts of money; the three bytes of a currency's code are in one number, the first of them lowest. */
+number js_percent_open(opened *book, u32 n, u32 grouping, opened *it) {
+    return -legumeyet_percent_formatter_open(&book->of, text_in(), n, grouping, &it->of);
+}
+number js_currency_open(opened *book, u32 n, u32 code, u32 style, u32 width, u32 grouping, opened *it) {
+    const u8 letters[3] = {(u8)code, (u8)(code >> 8), (u8)(code >> 16)};
+    return -legumeyet_currency_formatter_open(&book->of, text_in(), n, letters, sizeof letters, style, width, grouping, &it->of);
+}
+number js_unit_format(opened *it, u32 n) { WRITTEN(legumeyet_unit_formatter_format(&it->of, text_in(), n, &it->how, OUT)) }
+number js_unit_parts(opened *it, u32 n) { WRITTEN(legumeyet_unit_formatter_format_parts(&it->of, text_in(), n, &it->how, PARTS_OUT)) }
+number js_unit_read(opened *it, u32 n) { WRITTEN(legumeyet_unit_formatter_read(&it->of, text_in(), n, OUT)) }
+void js_unit_close(opened *it) {
+    legumeyet_unit_formatter_close(&it->of);
     free(it);
 }
 

@@ -1,7 +1,7 @@
 // Each call well and badly.
 import assert from "node:assert/strict";
 import { test } from "node:test";
-import { Book, CompactDecimalFormatter, DecimalFormatter, ErrorNumber, LegumeyetError, version } from "legumeyet";
+import { Book, CompactDecimalFormatter, CurrencyFormatter, DecimalFormatter, ErrorNumber, LegumeyetError, PercentFormatter, version } from "legumeyet";
 import locales from "legumeyet/locales";
 
 const JSON_OF_ONE = '[[["xx","","latn","-","","+","",";","_",3,3,1]],[["latn","0123456789"]],[],[],[]]';
@@ -169,6 +169,99 @@ test("compact numbers", () => {
   refuses(ErrorNumber.RANGE, () => short.format("9".repeat(32768)));
   refuses(ErrorNumber.NUMBER, () => short.shown(NaN));
   assert.throws(() => short.formatExact(1), TypeError);
+});
+
+// A formatter of amounts.
+const money = (locale, currency, options = {}) => new CurrencyFormatter(locale, { currency, ...options });
+
+test("amounts of money", () => {
+  const rows = [
+    ["de", "EUR", {}, 1234.5, "1.234,50\u00a0€"], ["de", "EUR", {}, -1234567n, "-1.234.567,00\u00a0€"], ["en", "USD", {}, "1.005", "$1.00"], ["en", "JPY", {}, 2.5, "¥2"],
+    ["de-CH", "CHF", {}, -5, "CHF-5.00"], ["nl", "USD", {}, -5, "US$\u00a0-5,00"], ["en", "QQQ", {}, 0, "QQQ\u00a00.00"], ["en", "USD", { signDisplay: "always" }, 5, "+$5.00"],
+    ["en", "USD", { currencySign: "accounting" }, -5, "($5.00)"], ["en", "USD", { currencySign: "standard" }, -5, "-$5.00"], ["en", "USD", { currencyDisplay: "code" }, 5, "USD\u00a05.00"],
+    ["en", "CHF", {}, "2.345", "CHF\u00a02.34"], ["en", "CHF", { currencyDigits: "cash" }, "2.345", "CHF\u00a02.35"], ["en", "CHF", { currencyDigits: "given" }, "2.345", "CHF\u00a02.345"],
+    ["en", "USD", { currencyDigits: "given" }, "5", "$5"], ["en", "USD", { maximumFractionDigits: 0 }, "2.5", "$3"], ["en", "USD", { maximumFractionDigits: 3 }, "5", "$5.000"],
+    ["en", "USD", { minimumFractionDigits: 0, maximumFractionDigits: 2 }, "5.10", "$5.1"], ["en", "USD", { position: 2, roundingMode: "floor" }, "1299", "$1,200"],
+    ["en", "USD", { minimumFractionDigits: 3 }, "1.2345", "$1.230"], ["en", "USD", { useGrouping: false }, 1234, "$1234.00"], ["en", "USD", { signDisplay: "negative" }, "-0.001", "$0.00"],
+  ];
+  for (const [locale, currency, options, number, text] of rows) {
+    const it = money(locale, currency, options);
+    assert.equal(it.format(number), text);
+    assert.equal(it.formatToParts(number).map(({ value }) => value).join(""), text);
+    assert.equal(money(locale, currency, { ...options, signDisplay: "keep" }).format(it.read(text)), text);
+  }
+  assert.deepEqual([1, "2", 3n].map(money("en", "USD").format), ["$1.00", "$2.00", "$3.00"]);
+  assert.equal(money("en", "USD").read("-$1,234.5"), "-1234.5");
+});
+
+test("parts of amounts and percents", () => {
+  const types = (parts) => parts.map(({ type, value }) => `${type} ${value}`);
+  for (const [locale, currency] of [["en", "USD"], ["de", "EUR"], ["en-IN", "INR"]]) {
+    const theirs = new Intl.NumberFormat(locale, { style: "currency", currency });
+    for (const number of ["-1234567.5", "0", "5"]) assert.deepEqual(money(locale, currency).formatToParts(number), theirs.formatToParts(number));
+  }
+  const theirs = new Intl.NumberFormat("tr", { style: "percent", minimumFractionDigits: 1 });
+  assert.deepEqual(new PercentFormatter("tr").formatToParts("-12.5"), theirs.formatToParts(-0.125));
+  assert.deepEqual(types(money("en", "USD", { currencySign: "accounting" }).formatToParts(-5)), ["minusSign (", "currency $", "integer 5", "decimal .", "fraction 00", "minusSign )"]);
+  assert.deepEqual(types(money("de-CH", "CHF").formatToParts(-5)), ["currency CHF", "minusSign -", "integer 5", "decimal .", "fraction 00"]);
+  assert.deepEqual(types(money("nl", "USD").formatToParts(-1234)), ["currency US$", "minusSign \u00a0-", "integer 1", "group .", "integer 234", "decimal ,", "fraction 00"]);
+});
+
+test("percents", () => {
+  const rows = [["de", 12.5, "12,5\u00a0%"], ["tr", "-12.50", "-%12,50"], ["en", 1234, "1,234%"], ["eu", "-5", "−%\u00a05"]];
+  for (const [locale, number, text] of rows) {
+    const it = new PercentFormatter(locale);
+    assert.equal(it.format(number), text);
+    assert.equal(it.read(text), String(number));
+  }
+  assert.equal(new PercentFormatter("en", { maximumFractionDigits: 1 }).format("12.55"), "12.6%");
+  assert.deepEqual(PercentFormatter.supportedLocalesOf(["en", "zz"]), ["en"]);
+});
+
+test("amounts and percents that are refused", () => {
+  for (const code of ["eur", "EURO", "EU", "", "EÜR", "A1B", "\ud800UR", "\u0145UR"]) refuses(ErrorNumber.CODE, () => money("e", code), `: ${JSON.stringify(code)}`);
+  refuses(ErrorNumber.TAG, () => money("de_DE", "EUR"), '"de_DE" is written "de-DE"');
+  refuses(ErrorNumber.TABLE, () => money(["yy", "zz"], "EUR"), '"zz"');
+  refuses(ErrorNumber.UNKEPT, () => money("xx", "EUR", { book: new Book(JSON_OF_ONE) }));
+  refuses(ErrorNumber.UNKEPT, () => new PercentFormatter("xx", { book: new Book(JSON_OF_ONE) }));
+  refuses(ErrorNumber.TABLE, () => money("xx", "EUR", { book: new Book(JSON_OF_ONE).keep() }));
+  for (const wrong of [undefined, null, 5]) assert.throws(() => money("en", wrong), TypeError);
+  assert.throws(() => new CurrencyFormatter("en"), TypeError);
+  const rows = [
+    [{ currencySign: "x" }, "currencySign"], [{ currencyDisplay: "name" }, "currencyDisplay"], [{ currencyDigits: "toString" }, "currencyDigits"], [{ style: "currency" }, "style"],
+    [{ currencyDigits: "cash", position: 0 }, "currencyDigits"], [{ currencyDigits: "given", maximumFractionDigits: 2 }, "currencyDigits"], [{ roundingMode: "floor" }, "roundingMode"],
+  ];
+  for (const [options, word] of rows) assert.throws(() => money("en", "USD", options), (error) => error instanceof RangeError && error.message.includes(word), JSON.stringify(options));
+  for (const options of [{ currency: "EUR" }, { currencyDigits: "cash" }, { currencySign: "accounting" }]) {
+    for (const kind of [DecimalFormatter, PercentFormatter]) assert.throws(() => new kind("en", options), RangeError);
+  }
+  const it = money("en", "EUR");
+  for (const wrong of ["5.00", "$5.00", "€5,00", ""]) refuses(ErrorNumber.NOT_WRITTEN, () => it.read(wrong));
+  refuses(ErrorNumber.UTF8, () => it.read("\ud800"));
+  refuses(ErrorNumber.NUMBER, () => it.format(NaN));
+  refuses(ErrorNumber.NUMBER, () => it.formatToParts("5."));
+  refuses(ErrorNumber.LIMIT, () => it.format("1e40000"));
+  assert.throws(() => it.read(5), TypeError);
+  it.close();
+  refuses(ErrorNumber.CLOSED, () => it.format(1));
+  refuses(ErrorNumber.CLOSED, () => it.formatToParts(1));
+  refuses(ErrorNumber.CLOSED, () => it.read("1"));
+});
+
+test("resolved options of amounts", () => {
+  const found = { locale: "en", useGrouping: "auto", signDisplay: "auto", currency: "USD", currencySign: "standard", currencyDisplay: "symbol" };
+  assert.deepEqual(money("en", "USD").resolvedOptions(), { ...found, currencyDigits: "standard" });
+  assert.deepEqual(money("en", "USD", { currencyDigits: "cash" }).resolvedOptions(), { ...found, currencyDigits: "cash" });
+  assert.deepEqual(money("en", "USD", { position: 0 }).resolvedOptions(), { ...found, position: 0, roundingMode: "halfExpand" });
+  assert.deepEqual(new PercentFormatter("en").resolvedOptions(), { locale: "en", useGrouping: "auto", signDisplay: "auto" });
+});
+
+test("locales of a book", () => {
+  const book = new Book(JSON_OF_ONE);
+  assert.deepEqual(book.locales(), ["xx"]);
+  assert.deepEqual(new Book("[[],[],[],[],[]]").locales(), []);
+  book.close();
+  refuses(ErrorNumber.CLOSED, () => book.locales());
 });
 
 test("books", () => {

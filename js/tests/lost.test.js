@@ -5,7 +5,7 @@ import { createRequire } from "node:module";
 import { test } from "node:test";
 import { setFlagsFromString } from "node:v8";
 import { runInNewContext } from "node:vm";
-import { Book, CompactDecimalFormatter, DecimalFormatter, LegumeyetError } from "legumeyet";
+import { Book, CompactDecimalFormatter, CurrencyFormatter, DecimalFormatter, LegumeyetError, PercentFormatter } from "legumeyet";
 import { memorySize } from "legumeyet/core";
 
 // The package's own module of the instance, which is in no export.
@@ -47,6 +47,8 @@ function onLastSteps(call) {
 const book = new Book(JSON_OF_ONE);
 const world = new DecimalFormatter("de", { minimumFractionDigits: 2, maximumFractionDigits: 2 });
 const short = new CompactDecimalFormatter("en");
+const euros = new CurrencyFormatter("de", { currency: "EUR" });
+const percents = new PercentFormatter("tr");
 const own = new DecimalFormatter("en", { book });
 const ofClosed = new Book(JSON_OF_ONE);
 const orphan = new DecimalFormatter("en", { book: ofClosed, useGrouping: false });
@@ -56,6 +58,8 @@ function areWell() {
   assert.equal(world.format("-1234567.5"), "-1.234.567,50");
   assert.equal(world.read("-1.234.567,50"), "-1234567.50");
   assert.equal(short.format("1650"), "1.6K");
+  assert.equal(euros.format("1234.5"), "1.234,50\u00a0€");
+  assert.equal(percents.read("-%12,5"), "-12.5");
   assert.equal(own.format("1234"), "1,234");
   assert.equal(orphan.format("1234"), "1234");
   assert.equal(book.answer("en\tplain\tauto\tkeep\t-\t1234"), "ok\t1,234");
@@ -70,7 +74,8 @@ test("where the stack runs out inside a call, the next one is well", () => {
   const calls = [
     () => world.format("1234567.5"), () => world.format(1234567.5), () => world.read("-1.234.567,50"), () => world.formatToParts("1234567.5"), () => short.shown("1234567"),
     () => book.answer("en\tplain\tauto\tkeep\t-\t1234"), () => new DecimalFormatter("hi").close(), () => new CompactDecimalFormatter("hi", { compactDisplay: "long" }).close(),
-    () => new Book(JSON_OF_ONE).close(), () => orphan.format("1"),
+    () => new Book(JSON_OF_ONE).close(), () => orphan.format("1"), () => euros.formatToParts("-1234.5"), () => euros.read("1.234,50\u00a0€"), () => percents.format(5),
+    () => new CurrencyFormatter("hi", { currency: "INR" }).close(), () => book.locales(),
   ];
   let lost = 0;
   for (const call of calls) {

@@ -1,6 +1,8 @@
 // What `tsc --strict` has to take, and what it has to refuse: a line after `@ts-expect-error` is refused.
-import { Book, CompactDecimalFormatter, DecimalFormatter, ErrorNumber, LegumeyetError, LoadError, version } from "legumeyet";
-import type { DecimalFormatterOptions, Part } from "legumeyet";
+import {
+  Book, CompactDecimalFormatter, CurrencyFormatter, DecimalFormatter, ErrorNumber, LegumeyetError, LoadError, PercentFormatter, version,
+} from "legumeyet";
+import type { CurrencyFormatterOptions, DecimalFormatterOptions, Part } from "legumeyet";
 import { load, loadSync, memorySize, setWorld } from "legumeyet/core";
 import { FieldText } from "legumeyet/field";
 import { NumberField, directionOf } from "legumeyet/number-field";
@@ -14,6 +16,11 @@ const digits: string = german.read(german.readLenient("1"));
 const locale: string = german.resolvedOptions().locale;
 const short = new CompactDecimalFormatter("en", { compactDisplay: "short", book: new Book("[]") });
 const answer: string = new Book(new Uint8Array(0)).keep().answer(short.formatExact(short.shown(5)));
+const inAccounts: CurrencyFormatterOptions = { currency: "USD", currencySign: "accounting", currencyDisplay: "code", currencyDigits: "cash" };
+const dollars = new CurrencyFormatter(undefined, { ...inAccounts, maximumFractionDigits: 2 });
+const percent: string = new PercentFormatter("tr", options).read(dollars.read(dollars.format(5)));
+const types: string[] = [...dollars.formatToParts(5), ...new PercentFormatter().formatToParts("1")].filter(({ type }) => type === "currency" || type === "percentSign").map((it) => it.type);
+const listed: string[] = [...new Book("[]").locales(), ...CurrencyFormatter.supportedLocalesOf("de", inAccounts), dollars.resolvedOptions().currency];
 const supported: string[] = DecimalFormatter.supportedLocalesOf(["de"]);
 const { value, text, caret } = new FieldText(german).edited("1", 1, { front: 0, back: 0 });
 const field: NumberField | null = document.querySelector("number-field");
@@ -23,7 +30,7 @@ const loaded: Promise<void> = load(new Uint8Array(0));
 loadSync(new ArrayBuffer(0));
 const told: (string | number | null | undefined)[] = [
   digits, locale, answer, value, text, caret, ...supported, ...locales, field?.value, directionOf("de"), memorySize(), version(), world.closed ? 1 : 0, ErrorNumber.TAG,
-  new LegumeyetError(5).word, new LoadError("a", "fetch", "b").reason, parts[0]?.type,
+  new LegumeyetError(5).word, new LoadError("a", "fetch", "b").reason, parts[0]?.type, percent, ...types, ...listed, ErrorNumber.CODE,
 ];
 export { told, loaded };
 
@@ -37,3 +44,9 @@ new CompactDecimalFormatter("de", { maximumFractionDigits: 2 });
 german.read(5);
 // @ts-expect-error
 german.locale;
+// @ts-expect-error
+new CurrencyFormatter("de");
+// @ts-expect-error
+new CurrencyFormatter("de", { currency: "EUR", currencyDisplay: "name" });
+// @ts-expect-error
+new PercentFormatter("de", { currency: "EUR" });

@@ -11,6 +11,11 @@ A formatter is made of a locale tag, and writes numbers:
 >>> CompactDecimalFormatter("de", width=Width.LONG).format(1234567)
 '1,2 Millionen'
 
+Percents and amounts of money have formatters of their own:
+
+>>> PercentFormatter("tr").format(12.5), CurrencyFormatter("en", "USD").format(Decimal("-1234.5"))
+('%12,5', '-$1,234.50')
+
 Books and formatters close themselves when they are no longer used; `with` and `close` close them sooner. Threads, signal handlers and forked
 children may use them: a call waits where another thread is inside `format_all`.
 """
@@ -21,7 +26,7 @@ try:
 except ImportError as error:
     raise ImportError(f"{error}: the wheel of tools/build_wheel has this module, and `pip install ./python` compiles it") from None
 from ._errors import ClosedError, Error, InputError, OutOfMemoryError
-from ._formatters import Book, CompactDecimalFormatter, DecimalFormatter, Part
+from ._formatters import Book, CompactDecimalFormatter, CurrencyFormatter, DecimalFormatter, Part, PercentFormatter
 from ._locales import minor, tag_of_locale_name, version, world_locales
 from ._options import Grouping, Kind, Rounding, Sign, TrailingZeros, Width
 
@@ -29,6 +34,7 @@ __all__ = [
     "Book",
     "ClosedError",
     "CompactDecimalFormatter",
+    "CurrencyFormatter",
     "Decimal",
     "DecimalFormatter",
     "Error",
@@ -37,6 +43,7 @@ __all__ = [
     "Kind",
     "OutOfMemoryError",
     "Part",
+    "PercentFormatter",
     "Rounding",
     "Sign",
     "TrailingZeros",

@@ -38,7 +38,7 @@ struct shared {
     uint32_t forks;            /* how often this process is a child of a fork since the module was imported */
     legumeyet_book world;      /* the world's book, kept, once a formatter was opened of a tag alone */
     PyObject *decimal;         /* decimal.Decimal */
-    PyObject *types[3];        /* Book, DecimalFormatter and CompactDecimalFormatter of this module */
+    PyObject *types[4];        /* Book, DecimalFormatter, CompactDecimalFormatter and UnitFormatter of this module */
     PyObject *error, *part;    /* legumeyet.Error and legumeyet.Part */
     PyObject *sign, *rounding; /* legumeyet.Sign and legumeyet.Rounding */
     PyObject *trailing_zeros;  /* legumeyet.TrailingZeros */
@@ -46,7 +46,7 @@ struct shared {
     PyObject *wrong_number;    /* the TypeError of what is no number */
 };
 
-enum kind { BOOK, DECIMAL, COMPACT };
+enum kind { BOOK, DECIMAL, COMPACT, UNIT };
 
 /* A book or a formatter. */
 struct open {
@@ -57,6 +57,7 @@ struct open {
         legumeyet_book book;
         legumeyet_decimal_formatter decimal;
         legumeyet_compact_formatter compact;
+        legumeyet_unit_formatter unit;
     } handle;
     legumeyet_options options; /* those of each call, where it has no others */
     PyThread_type_lock lock;   /* held while format_all is without the GIL */
@@ -281,9 +282,20 @@ static int32_t ask_compact(legumeyet_compact_formatter *it, const struct request
     return legumeyet_compact_formatter_format(it, asked->at, asked->length, options, out, room, length);
 }
 
+/* Asks a formatter of percents, or of amounts of money. */
+static int32_t ask_unit(legumeyet_unit_formatter *it, const struct request *asked, uint8_t *out, size_t room, size_t *length) {
+    const legumeyet_options *options = &asked->options;
+    if (asked->what == INTEGER) return legumeyet_unit_formatter_format_i64(it, asked->integer, 0, options, out, room, length);
+    if (asked->what == READ) return legumeyet_unit_formatter_read(it, asked->at, asked->length, out, room, length);
+    if (asked->what == NATURAL) return legumeyet_unit_formatter_format_u64(it, (uint64_t)asked->integer, 0, options, out, room, length);
+    if (asked->what == REAL) return legumeyet_unit_formatter_format_double(it, asked->real, options, out, room, length);
+    return legumeyet_unit_formatter_format(it, asked->at, asked->length, options, out, room, length);
+}
+
 static int32_t ask(struct open *it, const struct request *asked, uint8_t *out, size_t room, size_t *length) {
     if (it->kind == DECIMAL) return ask_decimal(&it->handle.decimal, asked, out, room, length);
     if (it->kind == COMPACT) return ask_compact(&it->handle.compact, asked, out, room, length);
+    if (it->kind == UNIT) return ask_unit(&it->handle.unit, asked, out, room, length);
     return legumeyet_book_answer(&it->handle.book, asked->at, asked->length, out, room, length);
 }
 
@@ -336,6 +348,11 @@ static bool take_whole(PyObject *option, const char *name, long least, long most
     return false;
 }
 
+/* Whether a rounding has no position: it rounds nothing, or to the digits of a currency. */
+static bool is_without_position(uint32_t rounding) {
+    return rounding == LEGUMEYET_ROUND_KEEP || rounding == LEGUMEYET_ROUND_CASH || rounding == LEGUMEYET_ROUND_NONE;
+}
+
 /* The rounding and the position of a call: a position alone is that of HALF_EVEN. */
 static bool take_rounding(struct shared *shared, PyObject *rounding, PyObject *position, legumeyet_options *options) {
     long place = 0;
@@ -343,14 +360,14 @@ static bool take_rounding(struct shared *shared, PyObject *rounding, PyObject *p
         int number = number_of(shared->rounding, rounding);
         if (number < 0) return false;
         options->rounding = (uint32_t)number;
-        if (number == LEGUMEYET_ROUND_KEEP && position != NULL && position != Py_None) {
-            PyErr_SetString(PyExc_ValueError, "a number is not rounded by Rounding.KEEP, so there is no position");
+        if (is_without_position(options->rounding) && position != NULL && position != Py_None) {
+            PyErr_SetString(PyExc_ValueError, "there is no position of Rounding.KEEP, CASH and NONE");
             return false;
         }
     }
     if (position == NULL || position == Py_None) return true;
     if (!take_whole(position, "position", LOWEST, HIGHEST, &place)) return false;
-    if (options->rounding == LEGUMEYET_ROUND_KEEP) options->rounding = LEGUMEYET_ROUND_HALF_EVEN;
+    if (is_without_position(options->rounding)) options->rounding = LEGUMEYET_ROUND_HALF_EVEN;
     options->position = (int16_t)place;
     return true;
 }
@@ -467,12 +484,27 @@ static PyObject *read_back(PyObject *self, PyObject *arguments, PyObject *given)
     return number;
 }
 
+/* The number of a text that a formatter of percents, or of amounts, writes. */
+static PyObject *read_unit(PyObject *self, PyObject *text) {
+    struct open *it = (struct open *)self;
+    struct request asked = {.what = READ};
+    PyObject *digits = NULL, *number = NULL;
+    if (!is_ready(it)) return NULL;
+    if (take_text(&asked, text)) digits = written(it, &asked, -1);
+    if (digits != NULL) number = PyObject_CallFunctionObjArgs(it->shared->decimal, digits, NULL);
+    Py_XDECREF(digits);
+    let_go(&asked);
+    return number;
+}
+
 /* Asks a formatter for a text and its parts. */
 static int32_t ask_parts(struct open *it, const struct request *asked, uint8_t *out, size_t room, size_t *length, legumeyet_interval *parts,
                          size_t places, size_t *count) {
     const legumeyet_options *options = &asked->options;
     if (it->kind == DECIMAL)
         return legumeyet_decimal_formatter_format_parts(&it->handle.decimal, asked->at, asked->length, options, out, room, length, parts, places, count);
+    if (it->kind == UNIT)
+        return legumeyet_unit_formatter_format_parts(&it->handle.unit, asked->at, asked->length, options, out, room, length, parts, places, count);
     return legumeyet_compact_formatter_format_parts(&it->handle.compact, asked->at, asked->length, options, out, room, length, parts, places, count);
 }
 
@@ -747,12 +779,45 @@ static PyObject *keep(PyObject *self, PyObject *none) {
     return is_ready(it) ? nothing_or(it, legumeyet_book_keep(&it->handle.book)) : NULL;
 }
 
+/* The tag of a locale of a book, as a str. */
+static PyObject *locale_at(struct open *it, size_t at) {
+    uint8_t out[ROOM];
+    size_t length = 0;
+    int32_t number = legumeyet_book_locale(&it->handle.book, at, out, sizeof out, &length);
+    uint8_t *large = number == LEGUMEYET_TOO_SMALL ? PyMem_Malloc(length) : NULL;
+    PyObject *tag = NULL;
+    if (large != NULL) number = legumeyet_book_locale(&it->handle.book, at, large, length, &length);
+    if (number == LEGUMEYET_OK)
+        tag = PyUnicode_DecodeUTF8((const char *)(large == NULL ? out : large), (Py_ssize_t)length, NULL);
+    else
+        number == LEGUMEYET_TOO_SMALL ? PyErr_NoMemory() : refused(it->shared, number, -1);
+    PyMem_Free(large);
+    return tag;
+}
+
+/* No tag runs anything of Python, so the book stays open meanwhile. */
+static PyObject *book_locales(PyObject *self, PyObject *none) {
+    struct open *it = (struct open *)self;
+    size_t count = 0;
+    int32_t number;
+    (void)none;
+    if (!is_ready(it)) return NULL;
+    number = legumeyet_book_locale_count(&it->handle.book, &count);
+    if (number != LEGUMEYET_OK) return refused(it->shared, number, -1);
+    PyObject *list = PyList_New(0);
+    for (size_t at = 0; list != NULL && at < count; at++)
+        if (!add(list, locale_at(it, at))) Py_CLEAR(list);
+    return list;
+}
+
 /* Closes a handle, also one that is closed. */
 static void close_handle(struct open *it) {
     if (it->kind == DECIMAL)
         legumeyet_decimal_formatter_close(&it->handle.decimal);
     else if (it->kind == COMPACT)
         legumeyet_compact_formatter_close(&it->handle.compact);
+    else if (it->kind == UNIT)
+        legumeyet_unit_formatter_close(&it->handle.unit);
     else
         legumeyet_book_close(&it->handle.book);
 }
@@ -771,8 +836,9 @@ static PyObject *close_it(PyObject *self, PyObject *none) {
 static PyObject *is_open(PyObject *self, void *none) {
     struct open *it = (struct open *)self;
     (void)none;
-    bool is_one = it->kind == DECIMAL ? it->handle.decimal.is_open : it->kind == COMPACT ? it->handle.compact.is_open : it->handle.book.is_open;
-    return PyBool_FromLong(is_one);
+    if (it->kind == DECIMAL) return PyBool_FromLong(it->handle.decimal.is_open);
+    if (it->kind == COMPACT) return PyBool_FromLong(it->handle.compact.is_open);
+    return PyBool_FromLong(it->kind == UNIT ? it->handle.unit.is_open : it->handle.book.is_open);
 }
 
 /* Lets go of what objects share. */
@@ -848,6 +914,12 @@ static PyMethodDef book_methods[] = {
      "Raises Error 2 where the book is closed, 1 where memory was refused.\n\n"
      ">>> Book.world().answer('de\\tplain\\tauto\\tkeep\\t-\\t-987654.321')\n"
      "'ok\\t-987.654,321'"},
+    {"locales", book_locales, METH_NOARGS,
+     "locales($self, /)\n--\n\n"
+     "The tags of the locales that the book has symbols of, in its order. A formatter can be opened of others too, which have their tables.\n\n"
+     "Raises Error 2 where the book is closed, 1 where memory was refused.\n\n"
+     ">>> Book('[[[\"en\",\"\",\"latn\",\"-\",\"\",\"+\",\"\",\".\",\",\",3,3,1]],[],[],[],[]]').locales()\n"
+     "['en']"},
     {NULL, NULL, 0, NULL}};
 
 static PyMethodDef decimal_methods[] = {
@@ -896,15 +968,50 @@ static PyMethodDef compact_methods[] = {
      "legumeyet.InputError: 13: an exponent that numbers of this magnitude have not"},
     {NULL, NULL, 0, NULL}};
 
+static PyMethodDef unit_methods[] = {
+    CLOSE,
+    {"format", CALL(format),
+     "format($self, number, /, **options)\n--\n\n"
+     "The text of a percent or of an amount of money, which is a number as DecimalFormatter.format takes it. A percent is written as it is\n"
+     "given, so a ratio is multiplied by 100 first. An amount is rounded to the digits of its currency, half even, and shown down to them:\n"
+     "with Rounding.CASH they are those of the currency in cash, with Rounding.NONE it is written as given, and with another rounding, or\n"
+     "a position alone, it is rounded as DecimalFormatter.format does. The options are those of it.\n\n"
+     "Raises as DecimalFormatter.format; Error 4 of a percent with Rounding.CASH or Rounding.NONE.\n\n"
+     ">>> yen = CurrencyFormatter('en', 'JPY')\n"
+     ">>> yen.format(2.5), yen.format(2.5, rounding=Rounding.NONE), yen.format(1234.5, position=2)\n"
+     "('\u00a52', '\u00a52.5', '\u00a51,200')\n"
+     ">>> PercentFormatter('tr').format(12.5)\n"
+     "'%12,5'"},
+    FORMAT_ALL,
+    {"format_parts", CALL(format_parts),
+     "format_parts($self, number, /, **options)\n--\n\n"
+     "The text of format, and its parts in order of their beginning. Raises as format.\n\n"
+     ">>> text, parts = CurrencyFormatter('en', 'USD').format_parts(-5)\n"
+     ">>> [(it.kind.name, text[it.start : it.end]) for it in parts]\n"
+     "[('MINUS_SIGN', '-'), ('CURRENCY', '$'), ('INTEGER', '5'), ('DECIMAL', '.'), ('FRACTION', '00')]"},
+    {"read", read_unit, METH_O,
+     "read($self, text, /)\n--\n\n"
+     "The number that is written so, with all digits that are shown. How many digits the currency has is not looked at.\n\n"
+     "Raises Error 10 where the text is not UTF-8, 11 where two numbers may have one text under the symbols, 12 where no number is written\n"
+     "so, 2 where the formatter is closed, 1 where memory was refused.\n\n"
+     ">>> CurrencyFormatter('en', 'USD', accounting=True).read('($1,234.50)')\n"
+     "Decimal('-1234.50')\n"
+     ">>> CurrencyFormatter('en', 'USD').read('5.00')\n"
+     "Traceback (most recent call last):\n"
+     "legumeyet.InputError: 12: no number is written so"},
+    {NULL, NULL, 0, NULL}};
+
 static PyType_Slot book_slots[] = {{Py_tp_dealloc, dealloc}, {Py_tp_methods, book_methods}, {Py_tp_getset, properties}, {0, NULL}};
 static PyType_Slot decimal_slots[] = {{Py_tp_dealloc, dealloc}, {Py_tp_methods, decimal_methods}, {Py_tp_getset, properties}, {0, NULL}};
 static PyType_Slot compact_slots[] = {{Py_tp_dealloc, dealloc}, {Py_tp_methods, compact_methods}, {Py_tp_getset, properties}, {0, NULL}};
+static PyType_Slot unit_slots[] = {{Py_tp_dealloc, dealloc}, {Py_tp_methods, unit_methods}, {Py_tp_getset, properties}, {0, NULL}};
 
 #define OF(slots) sizeof(struct open), 0, Py_TPFLAGS_DEFAULT | Py_TPFLAGS_BASETYPE, slots
 static PyType_Spec specs[] = {
     {"legumeyet._core.Book", OF(book_slots)},
     {"legumeyet._core.DecimalFormatter", OF(decimal_slots)},
     {"legumeyet._core.CompactDecimalFormatter", OF(compact_slots)},
+    {"legumeyet._core.UnitFormatter", OF(unit_slots)},
 };
 
 static struct shared *shared_of(PyObject *module) {
@@ -982,6 +1089,33 @@ static PyObject *open_formatter(PyObject *module, PyObject *arguments) {
     return PyLong_FromLong(number);
 }
 
+/* open_unit_formatter(formatter, book or None, tag, code or None, style, width, grouping, options): as open_formatter; None of percents. */
+static PyObject *open_unit_formatter(PyObject *module, PyObject *arguments) {
+    PyObject *object, *book, *tag, *code, *given;
+    struct shared *shared = shared_of(module);
+    struct open *it;
+    struct request asked = {.what = LINE};
+    legumeyet_book *from;
+    char *at = NULL;
+    Py_ssize_t length = 0;
+    int style, width, grouping;
+    int32_t number;
+    if (!PyArg_ParseTuple(arguments, "OOO!OiiiO!", &object, &book, &PyBytes_Type, &tag, &code, &style, &width, &grouping, &PyDict_Type, &given))
+        return NULL;
+    if (code != Py_None && PyBytes_AsStringAndSize(code, &at, &length) < 0) return NULL;
+    if ((it = take_object(shared, object, UNIT)) == NULL || (from = book_of(shared, book)) == NULL) return NULL;
+    if (!take_options(shared, given, &asked.options) || !take_text(&asked, tag)) return NULL;
+    if (!is_ready(it)) return let_go(&asked), NULL;
+    if (code == Py_None)
+        number = legumeyet_percent_formatter_open(from, asked.at, asked.length, (uint32_t)grouping, &it->handle.unit);
+    else
+        number = legumeyet_currency_formatter_open(from, asked.at, asked.length, (const uint8_t *)at, (size_t)length, (uint32_t)style,
+                                                   (uint32_t)width, (uint32_t)grouping, &it->handle.unit);
+    if (number == LEGUMEYET_OK) it->options = asked.options;
+    let_go(&asked);
+    return PyLong_FromLong(number);
+}
+
 /* What a number of the library means. */
 static PyObject *error_text(PyObject *module, PyObject *number) {
     uint8_t out[ROOM];
@@ -1053,6 +1187,7 @@ static PyObject *use(PyObject *module, PyObject *arguments) {
 static PyMethodDef functions[] = {
     {"open_book", open_book, METH_VARARGS, NULL},
     {"open_formatter", open_formatter, METH_VARARGS, NULL},
+    {"open_unit_formatter", open_unit_formatter, METH_VARARGS, NULL},
     {"error_text", error_text, METH_O, NULL},
     {"tag_of_locale_name", tag_of_locale_name, METH_O, NULL},
     {"world_locales", world_locales, METH_NOARGS, NULL},
@@ -1064,14 +1199,14 @@ static PyMethodDef functions[] = {
 
 /* Makes the types, and imports Decimal. */
 static int fill(PyObject *module) {
-    static const char *const names[] = {"Book", "DecimalFormatter", "CompactDecimalFormatter"};
+    static const char *const names[] = {"Book", "DecimalFormatter", "CompactDecimalFormatter", "UnitFormatter"};
     struct shared *shared = PyMem_Malloc(sizeof *shared);
     PyObject *decimal;
     if (shared == NULL) return PyErr_NoMemory(), -1;
     memset(shared, 0, sizeof *shared);
     shared->count = 1;
     *(struct shared **)PyModule_GetState(module) = shared;
-    for (int kind = BOOK; kind <= COMPACT; kind++) {
+    for (int kind = BOOK; kind <= UNIT; kind++) {
         PyObject *type = shared->types[kind] = PyType_FromSpec(&specs[kind]);
         if (type == NULL) return -1;
         Py_INCREF(type); /* what follows takes one over */
@@ -1084,10 +1219,10 @@ static int fill(PyObject *module) {
 }
 
 /* The objects of Python that are shared. */
-enum { SHARED = 11 };
+enum { SHARED = 12 };
 static void list_shared(struct shared *shared, PyObject **places[SHARED]) {
-    PyObject **all[SHARED] = {&shared->error, &shared->decimal, &shared->types[0], &shared->types[1], &shared->types[2], &shared->part,
-                              &shared->sign, &shared->rounding, &shared->trailing_zeros, &shared->kind_of, &shared->wrong_number};
+    PyObject **all[SHARED] = {&shared->error, &shared->decimal, &shared->types[0], &shared->types[1], &shared->types[2], &shared->types[3],
+                              &shared->part, &shared->sign, &shared->rounding, &shared->trailing_zeros, &shared->kind_of, &shared->wrong_number};
     memcpy(places, all, sizeof all);
 }
 

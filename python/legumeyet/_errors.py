@@ -4,7 +4,7 @@ from typing import Any, Dict, Tuple, Type
 
 from . import _core
 
-MEMORY, CLOSED, TAG = 1, 2, 5
+MEMORY, CLOSED, TAG, CODE = 1, 2, 5, 14
 
 
 class Error(Exception):

@@ -1,10 +1,10 @@
 """Books and formatters."""
 import os
 from types import TracebackType
-from typing import TYPE_CHECKING, Any, Dict, NamedTuple, NoReturn, Optional, Type, TypeVar, Union, overload
+from typing import TYPE_CHECKING, Any, Dict, NamedTuple, NoReturn, Optional, Tuple, Type, TypeVar, Union, overload
 
 from . import _core
-from ._errors import TAG, Error, wrong_number
+from ._errors import CODE, TAG, Error, wrong_number
 from ._options import Grouping, Kind, Rounding, Sign, TrailingZeros, Width, kind_of, number_of
 
 Self = TypeVar("Self", bound="Open")
@@ -39,6 +39,7 @@ class Open:
 
     if TYPE_CHECKING:
         _tag: Text
+        _currency: Text
 
         @property
         def is_open(self) -> bool: ...
@@ -51,6 +52,7 @@ class Open:
         (<Book, open>, <DecimalFormatter of 'de', open>)
         """
         of = f" of {self._tag!r}" if hasattr(self, "_tag") else ""
+        of += f" and {self._currency!r}" if hasattr(self, "_currency") else ""
         return f"<{type(self).__name__}{of}, {'open' if self.is_open else 'closed'}>"
 
     def __reduce_ex__(self, _protocol: Any) -> NoReturn:
@@ -99,23 +101,33 @@ class Book(Open, _core.Book):
             return cls(file.read())
 
 
+def named_by(book: Union[Book, Text], tag: Optional[Text]) -> Tuple[Optional[Book], Text]:
+    """The book and the tag that a formatter is opened of: both are given, or a tag alone, which is of the world's book."""
+    if isinstance(book, Book):
+        if tag is None:
+            raise TypeError("a tag is missing after the book")
+        return book, tag
+    if tag is not None:
+        raise TypeError(f"a book is a Book, and not {type(book).__name__}")
+    return None, book
+
+
+def expect_opened(number: int, tag: Text) -> None:
+    """Raises the error of what opened a formatter; an underscore of the tag is told."""
+    given = encoded(tag)
+    if number == TAG and b"_" in given:
+        raise Error(TAG, f": {tag!r} is written {given.replace(b'_', b'-').decode(errors='replace')!r}")
+    if number:
+        raise Error(number)
+
+
 def open_by(
     formatter: AnyFormatter, book: Union[Book, Text], tag: Optional[Text], grouping: int, width: int, options: Dict[str, Any]
 ) -> Text:
     """Opens a formatter of a book and a tag, or of a tag and the world's book; the width of a plain one is -1. Returns the tag."""
-    if isinstance(book, Book):
-        if tag is None:
-            raise TypeError("a tag is missing after the book")
-    elif tag is not None:
-        raise TypeError(f"a book is a Book, and not {type(book).__name__}")
-    named: Any = book if tag is None else tag
-    given, of = encoded(named), book if isinstance(book, Book) else None
-    number = _core.open_formatter(formatter, of, given, grouping, width, options)
-    if number == TAG and b"_" in given:
-        raise Error(TAG, f": {named!r} is written {given.replace(b'_', b'-').decode(errors='replace')!r}")
-    if number:
-        raise Error(number)
-    return named  # type: ignore[no-any-return]
+    of, named = named_by(book, tag)
+    expect_opened(_core.open_formatter(formatter, of, encoded(named), grouping, width, options), named)
+    return named
 
 
 class DecimalFormatter(Open, _core.DecimalFormatter):
@@ -239,3 +251,149 @@ class CompactDecimalFormatter(Open, _core.CompactDecimalFormatter):
         **options: Any,
     ) -> None:
         self._tag = open_by(self, book, tag, number_of(Grouping, grouping), number_of(Width, width), options)
+
+
+class PercentFormatter(Open, _core.UnitFormatter):
+    """The formatter of percents for a locale tag: of the world's book, or of one that is given first, and is kept. A percent is written as it
+    is given, so a ratio is multiplied by 100 first.
+
+    Raises as `DecimalFormatter`, and `Error` 15 where the book is not kept.
+
+    >>> PercentFormatter("en").format(12.5), PercentFormatter("tr").format(-12.5)
+    ('12.5%', '-%12,5')
+    >>> PercentFormatter("en", position=0).format(Decimal("0.125") * 100)
+    '12%'
+    """
+
+    __slots__ = ("_tag", "__weakref__")
+
+    @overload
+    def __init__(
+        self,
+        tag: Text,
+        /,
+        *,
+        grouping: Grouping = ...,
+        sign: Sign = ...,
+        rounding: Optional[Rounding] = ...,
+        position: Optional[int] = ...,
+        increment: int = ...,
+        trailing_zeros: TrailingZeros = ...,
+        minimum_integer_digits: int = ...,
+        minimum_fraction_digits: int = ...,
+    ) -> None: ...
+
+    @overload
+    def __init__(
+        self,
+        book: Book,
+        tag: Text,
+        /,
+        *,
+        grouping: Grouping = ...,
+        sign: Sign = ...,
+        rounding: Optional[Rounding] = ...,
+        position: Optional[int] = ...,
+        increment: int = ...,
+        trailing_zeros: TrailingZeros = ...,
+        minimum_integer_digits: int = ...,
+        minimum_fraction_digits: int = ...,
+    ) -> None: ...
+
+    def __init__(self, book: Union[Book, Text], tag: Optional[Text] = None, /, *, grouping: Grouping = Grouping.AUTO, **options: Any) -> None:
+        of, named = named_by(book, tag)
+        number = _core.open_unit_formatter(self, of, encoded(named), None, 0, 0, number_of(Grouping, grouping), options)
+        expect_opened(number, named)
+        self._tag = named
+
+
+class CurrencyFormatter(Open, _core.UnitFormatter):
+    """The formatter of amounts of money for a locale tag and the code of a currency, three capitals: of the world's book, or of one that is
+    given first, and is kept. With `accounting` a negative amount is written as in accounts, and with `code` the currency by its code. An amount
+    is rounded to the digits of its currency, and with `cash` to those that it has in cash; `rounding` and `position` say otherwise, as
+    `format` has it.
+
+    Raises as `PercentFormatter`, and `Error` 14 where the text is no code of a currency.
+
+    >>> CurrencyFormatter("de", "EUR").format(Decimal("1234.5"))
+    '1.234,50\\xa0€'
+    >>> CurrencyFormatter("en", "USD", accounting=True).format(-5), CurrencyFormatter("de-CH", "CHF").format(-5)
+    ('($5.00)', 'CHF-5.00')
+    >>> CurrencyFormatter("en", "USD", code=True).format(5), CurrencyFormatter("en", "CHF", cash=True).format("2.345")
+    ('USD\\xa05.00', 'CHF\\xa02.35')
+    >>> CurrencyFormatter("en", "usd")
+    Traceback (most recent call last):
+    legumeyet.InputError: 14: no code of a currency: 'usd'
+    """
+
+    __slots__ = ("_tag", "_currency", "__weakref__")
+
+    @overload
+    def __init__(
+        self,
+        tag: Text,
+        currency: Text,
+        /,
+        *,
+        accounting: bool = ...,
+        code: bool = ...,
+        cash: bool = ...,
+        grouping: Grouping = ...,
+        sign: Sign = ...,
+        rounding: Optional[Rounding] = ...,
+        position: Optional[int] = ...,
+        increment: int = ...,
+        trailing_zeros: TrailingZeros = ...,
+        minimum_integer_digits: int = ...,
+        minimum_fraction_digits: int = ...,
+    ) -> None: ...
+
+    @overload
+    def __init__(
+        self,
+        book: Book,
+        tag: Text,
+        currency: Text,
+        /,
+        *,
+        accounting: bool = ...,
+        code: bool = ...,
+        cash: bool = ...,
+        grouping: Grouping = ...,
+        sign: Sign = ...,
+        rounding: Optional[Rounding] = ...,
+        position: Optional[int] = ...,
+        increment: int = ...,
+        trailing_zeros: TrailingZeros = ...,
+        minimum_integer_digits: int = ...,
+        minimum_fraction_digits: int = ...,
+    ) -> None: ...
+
+    def __init__(
+        self,
+        book: Union[Book, Text],
+        tag: Optional[Text] = None,
+        currency: Optional[Text] = None,
+        /,
+        *,
+        accounting: bool = False,
+        code: bool = False,
+        cash: bool = False,
+        grouping: Grouping = Grouping.AUTO,
+        **options: Any,
+    ) -> None:
+        if currency is None and not isinstance(book, Book):
+            tag, currency = None, tag
+        of, named = named_by(book, tag)
+        if currency is None:
+            raise TypeError("a currency is missing after the tag")
+        if cash and options.get("rounding") is not None:
+            raise ValueError("cash and rounding both say how an amount is rounded")
+        if cash:
+            options["rounding"] = Rounding.CASH
+        choices = int(bool(accounting)), int(bool(code)), number_of(Grouping, grouping)
+        number = _core.open_unit_formatter(self, of, encoded(named), encoded(currency), *choices, options)
+        if number == CODE:
+            raise Error(CODE, f": {currency!r}")
+        expect_opened(number, named)
+        self._tag, self._currency = named, currency

@@ -41,7 +41,7 @@ class Sign(IntEnum):
 
 class Kind(IntEnum):
     """What a part of a text is. INTEGER: the integer digits with their separators; GROUP: a separator inside them; DECIMAL: the decimal
-    separator; FRACTION: the fraction digits.
+    separator; FRACTION: the fraction digits; CURRENCY: the symbol or the code of a currency, which may be inside a sign.
     """
 
     MINUS_SIGN = 1
@@ -50,13 +50,16 @@ class Kind(IntEnum):
     GROUP = 4
     DECIMAL = 5
     FRACTION = 6
+    CURRENCY = 7
+    PERCENT_SIGN = 8
 
 
 class Rounding(IntEnum):
     """Which of its neighbours at the position a number is rounded to.
 
-    KEEP: it is not rounded. EXPAND: the one away from zero. TRUNC: towards zero. CEIL: upwards. FLOOR: downwards. The others: the nearest,
-    and at a tie as their names say; HALF_EVEN: the even one.
+    KEEP: it is not rounded, and an amount of money to the digits of its currency. EXPAND: the one away from zero. TRUNC: towards zero. CEIL:
+    upwards. FLOOR: downwards. Those of HALF: the nearest, and at a tie as their names say; HALF_EVEN: the even one. Of amounts alone are
+    CASH: to the digits of the currency in cash, and NONE: it is not rounded.
     """
 
     KEEP = 0
@@ -69,6 +72,8 @@ class Rounding(IntEnum):
     HALF_CEIL = 7
     HALF_FLOOR = 8
     HALF_EVEN = 9
+    CASH = 10
+    NONE = 11
 
 
 class TrailingZeros(IntEnum):

@@ -9,6 +9,7 @@ import contextlib
 import copy
 import decimal
 import doctest
+import functools
 import gc
 import io
 import itertools
@@ -29,8 +30,8 @@ from fractions import Fraction
 
 import legumeyet
 from legumeyet import (
-    Book, ClosedError, CompactDecimalFormatter, DecimalFormatter, Error, Grouping, InputError, Kind, OutOfMemoryError, Rounding, Sign,
-    TrailingZeros, Width, _core, _errors, _formatters, _locales, _options,
+    Book, ClosedError, CompactDecimalFormatter, CurrencyFormatter, DecimalFormatter, Error, Grouping, InputError, Kind, OutOfMemoryError,
+    PercentFormatter, Rounding, Sign, TrailingZeros, Width, _core, _errors, _formatters, _locales, _options,
 )
 from legumeyet.__main__ import main
 
@@ -179,7 +180,7 @@ class Calls(unittest.TestCase):
         self.assertRaises(TypeError, CompactDecimalFormatter, self.book, "en", Width.LONG)
 
     def test_kind_of_a_later_library(self):
-        self.assertEqual([_options.kind_of(it) for it in (6, 7)], [Kind.FRACTION, 7])
+        self.assertEqual([_options.kind_of(it) for it in (6, 8, 9)], [Kind.FRACTION, Kind.PERCENT_SIGN, 9])
 
     def test_what_is_no_book(self):
         for words in ((self.english, "en"), (None, "en"), ("de", "en"), (self.book,), (self.book, None), (None,), (1,), (self.book, 1)):
@@ -204,7 +205,7 @@ class Calls(unittest.TestCase):
                 self.assertEqual(pool.submit(written_in_german, Decimal("1234.5")).result(), "1.234,5")
 
     def test_no_copies(self):
-        for it in (self.book, self.english, self.short):
+        for it in (self.book, self.english, self.short, CurrencyFormatter("de", "EUR"), PercentFormatter("de")):
             for call in (copy.copy, copy.deepcopy, pickle.dumps):
                 self.assertRaises(TypeError, call, it)
         self.assertEqual(self.english.format(1234), "1,234")
@@ -576,7 +577,7 @@ class Calls(unittest.TestCase):
         self.assertEqual(DecimalFormatter("ar-EG").read("1234", lenient=True), 1234)
 
     def test_what_was_never_opened(self):
-        for kind in (Book, DecimalFormatter, CompactDecimalFormatter):
+        for kind in (Book, DecimalFormatter, CompactDecimalFormatter, PercentFormatter, CurrencyFormatter):
             it = kind.__new__(kind)
             it.close()
             self.assertRegex(repr(it), "closed>$")
@@ -584,8 +585,12 @@ class Calls(unittest.TestCase):
                 if hasattr(it, call):
                     self.assertRaises(RuntimeError, getattr(it, call), "1")
         self.assertRaises(RuntimeError, DecimalFormatter, Book.__new__(Book), "en")
+        self.assertRaises(RuntimeError, CurrencyFormatter, Book.__new__(Book), "en", "EUR")
+        self.assertRaises(RuntimeError, Book.__new__(Book).locales)
         self.assertRaises(TypeError, _core.DecimalFormatter.format, self.short, 1)
         self.assertRaises(TypeError, _core.open_formatter, self.short, None, b"en", 0, -1, {})
+        self.assertRaises(TypeError, _core.open_unit_formatter, self.short, None, b"en", None, 0, 0, 0, {})
+        self.assertRaises(TypeError, _core.open_unit_formatter, PercentFormatter("en"), None, b"en", "EUR", 0, 0, 0, {})
         self.assertRaises(TypeError, _core.open_book, self.english, None)
         self.assertRaises(TypeError, _core.tag_of_locale_name, 5)
 
@@ -665,7 +670,7 @@ class Calls(unittest.TestCase):
             own = {it.name for it in classes[name].body if isinstance(it, ast.FunctionDef)}
             return own.union(*(calls(base.id) for base in classes[name].bases))
 
-        for kind in (_core.Book, _core.DecimalFormatter, _core.CompactDecimalFormatter):
+        for kind in (_core.Book, _core.DecimalFormatter, _core.CompactDecimalFormatter, _core.UnitFormatter):
             self.assertEqual({it for it in vars(kind) if not it.startswith("__")}, calls(kind.__name__))
         functions = {it.name for it in hints.body if isinstance(it, ast.FunctionDef)}
         self.assertEqual({it for it, value in vars(_core).items() if callable(value) and not isinstance(value, type) and it[0] != "_"}, functions)
@@ -674,7 +679,104 @@ class Calls(unittest.TestCase):
         for _ in range(200):
             DecimalFormatter(Book(JSON), "en").format(1)
             CompactDecimalFormatter(Book(JSON), "en").format(1)
+            CurrencyFormatter("en", "EUR").format(1)
         gc.collect()
+
+    def test_amounts(self):
+        for tag, code, number, text in [
+            ("de", "EUR", Decimal("1234.5"), "1.234,50\xa0€"), ("de", "EUR", -1234567, "-1.234.567,00\xa0€"), ("en", "USD", "1.005", "$1.00"),
+            ("en", "JPY", 2.5, "¥2"), ("de-CH", "CHF", -5, "CHF-5.00"), ("nl", "USD", -5, "US$\xa0-5,00"), ("en", "QQQ", 0, "QQQ\xa00.00"),
+            (b"en", b"USD", 2**64, "$18,446,744,073,709,551,616.00"), ("en", "USD", 2**63, "$9,223,372,036,854,775,808.00"),
+        ]:
+            formatter = CurrencyFormatter(tag, code)
+            self.assertEqual(formatter.format(number), text)
+            self.assertEqual(formatter.format_parts(number)[0], text)
+            self.assertEqual(formatter.format_all([number]), [text])
+            self.assertEqual(formatter.format(formatter.read(text)), text)
+        dollars = CurrencyFormatter("en", "USD", accounting=True, sign=Sign.ALWAYS)
+        self.assertEqual((dollars.format(-5), dollars.format(5), dollars.format(5, sign=Sign.AUTO)), ("($5.00)", "+$5.00", "$5.00"))
+        self.assertEqual(dollars.format_all(array.array("d", [-0.125, 0.375])), ["($0.12)", "+$0.38"])
+        self.assertEqual(dollars.format_all(array.array("q", [5] * 5000)), ["+$5.00"] * 5000)
+        self.assertEqual((dollars.read("($1,234.50)"), dollars.read("$1.5")), (Decimal("-1234.50"), Decimal("1.5")))
+        text, parts = dollars.format_parts("-1234.5")
+        texts = [(it.kind, text[it.start : it.end]) for it in parts]
+        wanted = [(1, "($"), (7, "$"), (3, "1,234"), (4, ","), (5, "."), (6, "50"), (1, ")")]
+        self.assertEqual(texts, wanted)
+        text, parts = CurrencyFormatter("de", "EUR").format_parts(5)
+        self.assertEqual((text[parts[-1].start : parts[-1].end], parts[-1].kind), ("€", Kind.CURRENCY))
+        self.assertEqual(CurrencyFormatter("en", "USD", code=True).format(5), "USD\xa05.00")
+        self.assertEqual(CurrencyFormatter("de", "EUR", grouping=Grouping.NEVER).format(1234), "1234,00\xa0€")
+
+    def test_roundings_of_amounts(self):
+        francs, dollars = CurrencyFormatter("en", "CHF", cash=True), CurrencyFormatter("en", "USD")
+        self.assertEqual((francs.format("2.345"), francs.format("2.345", rounding=Rounding.KEEP)), ("CHF\xa02.35", "CHF\xa02.34"))
+        self.assertEqual((francs.format("2.345", position=-1), francs.format("2.345", rounding=Rounding.CEIL)), ("CHF\xa02.3", "CHF\xa03"))
+        self.assertEqual((dollars.format("2.345", rounding=Rounding.NONE), dollars.format(5, rounding=Rounding.NONE)), ("$2.345", "$5"))
+        self.assertEqual((dollars.format(5, trailing_zeros=TrailingZeros.TRIM), dollars.format(5, minimum_fraction_digits=3)), ("$5", "$5.000"))
+        self.assertEqual(dollars.format("-0.001", sign=Sign.NEGATIVE), "$0.00")
+        self.assertEqual(CurrencyFormatter("en", "USD", position=0).format("2.5"), "$2")
+        for options in ({"rounding": Rounding.CASH, "position": 0}, {"rounding": Rounding.NONE, "position": -2}):
+            self.assertRaises(ValueError, dollars.format, 1, **options)
+        for options in ({"cash": True, "position": 0}, {"cash": True, "rounding": Rounding.CEIL}):
+            self.assertRaises(ValueError, CurrencyFormatter, "en", "USD", **options)
+        for rounding in (Rounding.CASH, Rounding.NONE):
+            for formatter in (self.english, self.short, PercentFormatter("en")):
+                self.refused(4, functools.partial(formatter.format, rounding=rounding), 1)
+
+    def test_percents(self):
+        for tag, number, text in [("de", 12.5, "12,5\xa0%"), ("tr", Decimal("-12.50"), "-%12,50"), ("en", 1234, "1,234%"), ("eu", "-5", "−%\xa05")]:
+            formatter = PercentFormatter(tag)
+            self.assertEqual(formatter.format(number), text)
+            self.assertEqual(str(formatter.read(text)), str(number))
+        turkish = PercentFormatter("tr", position=-1)
+        text, parts = turkish.format_parts("12.55")
+        self.assertEqual([(it.kind, text[it.start : it.end]) for it in parts], [(8, "%"), (3, "12"), (5, ","), (6, "6")])
+        self.assertEqual(turkish.format_all([1, "2"]), ["%1,0", "%2,0"])
+
+    def test_units_that_are_refused(self):
+        kept = Book(JSON)
+        kept.keep()
+        self.refused(15, PercentFormatter, self.book, "e")
+        self.refused(15, CurrencyFormatter, self.book, "e", "eur")
+        self.refused(6, PercentFormatter, kept, "en")
+        self.refused(6, CurrencyFormatter, kept, "en", "EUR")
+        self.refused(5, CurrencyFormatter, "e", "EUR")
+        for code in ("eur", "EURO", "EU", "", "EÜR", "\udcff", b"\xff\xff\xff", "A1B"):
+            self.refused(14, CurrencyFormatter, "e", code)
+        with self.assertRaisesRegex(InputError, "14: .*: 'eur'$"):
+            CurrencyFormatter("en", "eur")
+        with self.assertRaisesRegex(InputError, "'de_DE' is written 'de-DE'$"):
+            CurrencyFormatter("de_DE", "EUR")
+        for words in (("en",), (kept,), (kept, "en"), (None, "EUR"), ("en", 5), (5, "en", "EUR"), ("en", "EUR", None, 1), (kept, "en", 5), ()):
+            self.assertRaises(TypeError, CurrencyFormatter, *words)
+        for words in ((kept,), ("en", "EUR"), (None,), ()):
+            self.assertRaises(TypeError, PercentFormatter, *words)
+        for options in ({"grouping": 1}, {"width": Width.LONG}, {"rounding": 10}, {"places": 2}):
+            self.assertRaises(TypeError, CurrencyFormatter, "en", "EUR", **options)
+        euros = CurrencyFormatter("en", "EUR")
+        for text in ("5.00", "$5.00", "€5,00", ""):
+            self.refused(12, euros.read, text)
+        self.refused(10, euros.read, "\udcff")
+        self.assertRaises(TypeError, euros.read, 5)
+        self.assertRaises(TypeError, euros.read, "€5", lenient=True)
+        self.refused(7, euros.format, "5.")
+        self.refused(7, euros.format, float("nan"))
+        self.refused(8, euros.format, "1e40000")
+        self.assertRaises(TypeError, euros.format, Fraction(1, 3))
+        self.assertEqual(repr(euros), "<CurrencyFormatter of 'en' and 'EUR', open>")
+        euros.close()
+        self.assertEqual((repr(euros), euros.is_open), ("<CurrencyFormatter of 'en' and 'EUR', closed>", False))
+        for call, words in ((euros.format, 1), (euros.format_all, [1]), (euros.format_parts, 1), (euros.read, "1")):
+            self.refused(2, call, words)
+        euros.__init__("de", "EUR")
+        self.assertEqual(euros.format(5), "5,00\xa0€")
+
+    def test_locales_of_a_book(self):
+        self.assertEqual(self.book.locales(), ["en", "ar", "bad"])
+        self.assertEqual(Book("[[],[],[],[],[]]").locales(), [])
+        self.assertLess({"de", "en", "de-AT"}, set(Book.world().locales()))
+        self.book.close()
+        self.refused(2, self.book.locales)
 
 
 if __name__ == "__main__":

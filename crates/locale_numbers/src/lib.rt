@@ -48,7 +48,7 @@ pub use locale_numbers_lines::{
 pub use locale_numbers_requests::{
     AmountStyle, Form, PatternLength, RoundingAsked, SignAsked, UnitAsked,
 };
-pub use locale_numbers_world::{WORLD_BOOK, WORLD_LOCALES, world_tags, world_text};
+pub use locale_numbers_world::{WORLD_LOCALES, world_tags, world_text};
 pub use program_run::program;
 pub use running::run;
 pub use starting::start;

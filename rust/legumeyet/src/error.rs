@@ -14,7 +14,7 @@ pub struct Error(i32);
 impl Error {
     /// Memory was refused.
     pub const MEMORY: Error = Error(1);
-    /// A least count of digits is above 32767.
+    /// A least count of digits is above 32767, or a rounding of amounts of money, as `Rounding::Cash`, is asked for of another number.
     pub const OPTION: Error = Error(4);
     /// The text is no locale tag, as `e`, or as `de_DE`, which is written `de-DE`: `tag_of_locale_name`.
     pub const TAG: Error = Error(5);
@@ -32,9 +32,13 @@ impl Error {
     pub const NOT_WRITTEN: Error = Error(12);
     /// Numbers of the magnitude of an exact form have another exponent.
     pub const EXPONENT: Error = Error(13);
+    /// The text is no code of a currency, which is three capitals, as `eur`.
+    pub const CODE: Error = Error(14);
+    /// The book is not kept: `Book::keep`.
+    pub const UNKEPT: Error = Error(15);
     /// The bytes are no JSON.
     pub const BOOK_JSON: Error = Error(101);
-    /// The value is not five arrays or six, or an entry has not its form.
+    /// The value is no book of arrays, nor a pair of one and of units, or an entry has not its form.
     pub const BOOK_SHAPE: Error = Error(102);
     /// A locale, or the parent of one, is refused.
     pub const BOOK_TAG: Error = Error(103);
@@ -54,6 +58,10 @@ impl Error {
     pub const BOOK_DUPLICATE: Error = Error(110);
     /// The parents of a locale lead back to it.
     pub const BOOK_CYCLE: Error = Error(111);
+    /// The place of the unit is not once in a pattern.
+    pub const BOOK_UNIT: Error = Error(113);
+    /// The code of a currency is not three capitals.
+    pub const BOOK_CODE: Error = Error(114);
 
     /// The number, 1 to 99 of a call, 100 and more of a book.
     pub fn number(self) -> i32 {

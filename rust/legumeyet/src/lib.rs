@@ -31,11 +31,26 @@
 //! # Ok::<(), Error>(())
 //! ```
 //!
+//! Percents and amounts of money have formatters of their own:
+//!
+//! ```
+//! use legumeyet::{CurrencyFormatter, Options, PercentFormatter};
+//!
+//! assert_eq!(CurrencyFormatter::new("de", "EUR")?.format(1234.5, &Options::default())?, "1.234,50\u{a0}€");
+//! assert_eq!(PercentFormatter::new("tr")?.format(12.5, &Options::default())?, "%12,5");
+//! # Ok::<(), legumeyet::Error>(())
+//! ```
+//!
 //! Books and formatters may move to another thread, and are used by one thread at a time:
 //!
 //! ```compile_fail
 //! fn is_shared<T: Sync>() {}
 //! is_shared::<legumeyet::DecimalFormatter>();
+//! ```
+//!
+//! ```compile_fail
+//! fn is_shared<T: Sync>() {}
+//! is_shared::<legumeyet::CurrencyFormatter>();
 //! ```
 
 mod error;
@@ -43,11 +58,15 @@ mod number;
 mod options;
 mod owned;
 mod sys;
+mod units;
 mod world;
 
 pub use error::{Error, OpenError, UnknownWord, WriteError};
 pub use number::Number;
-pub use options::{Grouping, Increment, Kind, Options, Rounding, Sign, TrailingZeros, Width};
+pub use options::{
+    CurrencyOptions, CurrencyStyle, CurrencyWidth, Grouping, Increment, Kind, Options, Rounding, Sign, TrailingZeros, Width,
+};
+pub use units::{CurrencyFormatter, PercentFormatter};
 pub use world::{tag_of_locale_name, world_locales};
 
 use std::fmt;
@@ -96,6 +115,17 @@ impl Book {
     pub fn answer(&self, line: &[u8]) -> Result<String, Error> {
         // SAFETY: a slice is memory of its length, and no other call has the handle.
         written(|out, room, length| unsafe { sys::legumeyet_book_answer(self.0.at(), line.as_ptr(), line.len(), out, room, length) })
+    }
+
+    /// The tags of the locales that the book has symbols of, in its order. A formatter can be opened of others too, which have their tables.
+    /// Refused by `MEMORY`.
+    pub fn locales(&self) -> Result<Vec<String>, Error> {
+        let mut count = 0;
+        // SAFETY: no other call has the handle.
+        Error::check(unsafe { sys::legumeyet_book_locale_count(self.0.at(), &mut count) })?;
+        // SAFETY: the same, and `written` passes memory that is as long as it says.
+        let tag_at = |at| written(|out, room, length| unsafe { sys::legumeyet_book_locale(self.0.at(), at, out, room, length) });
+        (0..count).map(tag_at).collect()
     }
 }
 

@@ -32,7 +32,9 @@ words!(Sign: "keep" Keep, "auto" Auto, "never" Never, "always" Always, "except-z
 words!(Increment: "1" One, "2" Two, "5" Five, "25" TwentyFive);
 words!(TrailingZeros: "keep" Keep, "trim" Trim);
 words!(Rounding: "keep" Keep, "expand" Expand, "trunc" Trunc, "ceil" Ceil, "floor" Floor, "half-expand" HalfExpand,
-    "half-trunc" HalfTrunc, "half-ceil" HalfCeil, "half-floor" HalfFloor, "half-even" HalfEven);
+    "half-trunc" HalfTrunc, "half-ceil" HalfCeil, "half-floor" HalfFloor, "half-even" HalfEven, "cash" Cash, "none" None);
+words!(CurrencyStyle: "standard" Standard, "accounting" Accounting);
+words!(CurrencyWidth: "symbol" Symbol, "code" Code);
 
 /// When grouping separators are written.
 #[derive(Clone, Copy, Debug, Default, PartialEq, Eq)]
@@ -58,6 +60,60 @@ pub enum Width {
     Short = 0,
     /// `1.6 thousand`.
     Long = 1,
+}
+
+/// How a negative amount of money is written.
+#[derive(Clone, Copy, Debug, Default, PartialEq, Eq)]
+#[non_exhaustive]
+pub enum CurrencyStyle {
+    /// `-$5.00`.
+    #[default]
+    Standard = 0,
+    /// As in accounts: `($5.00)`.
+    Accounting = 1,
+}
+
+/// What a currency is written as.
+#[derive(Clone, Copy, Debug, Default, PartialEq, Eq)]
+#[non_exhaustive]
+pub enum CurrencyWidth {
+    /// Its symbol, or its code where it has none: `$5.00`.
+    #[default]
+    Symbol = 0,
+    /// Its code: `USD 5.00`.
+    Code = 1,
+}
+
+/// What amounts of money are written with. By default they are of the standard style, with the symbol and with separators.
+#[derive(Clone, Copy, Debug, Default, PartialEq, Eq)]
+#[non_exhaustive]
+pub struct CurrencyOptions {
+    /// How a negative amount is written.
+    pub style: CurrencyStyle,
+    /// What the currency is written as.
+    pub width: CurrencyWidth,
+    /// When grouping separators are written.
+    pub grouping: Grouping,
+}
+
+impl CurrencyOptions {
+    /// The same with this style.
+    #[must_use]
+    pub const fn style(self, style: CurrencyStyle) -> CurrencyOptions {
+        CurrencyOptions { style, ..self }
+    }
+
+    /// The same with this width.
+    #[must_use]
+    pub const fn width(self, width: CurrencyWidth) -> CurrencyOptions {
+        CurrencyOptions { width, ..self }
+    }
+
+    /// The same with this grouping.
+    #[must_use]
+    pub const fn grouping(self, grouping: Grouping) -> CurrencyOptions {
+        CurrencyOptions { grouping, ..self }
+    }
 }
 
 /// Which sign is written; it is chosen by what the rounding left.
@@ -93,6 +149,9 @@ pub enum Kind {
     Decimal,
     /// The fraction digits.
     Fraction,
+    /// The symbol or the code of a currency, which may be inside a sign.
+    Currency,
+    PercentSign,
     /// The number of a kind that a later library has.
     Other(u32),
 }
@@ -106,6 +165,8 @@ impl Kind {
             4 => Kind::Group,
             5 => Kind::Decimal,
             6 => Kind::Fraction,
+            7 => Kind::Currency,
+            8 => Kind::PercentSign,
             other => Kind::Other(other),
         }
     }
@@ -122,7 +183,7 @@ impl Kind {
 #[derive(Clone, Copy, Debug, Default, PartialEq, Eq)]
 #[non_exhaustive]
 pub enum Rounding {
-    /// It is not rounded.
+    /// It is not rounded; an amount of money is rounded to the digits of its currency, a tie to the even one.
     #[default]
     Keep = 0,
     /// Away from zero.
@@ -143,6 +204,10 @@ pub enum Rounding {
     HalfFloor = 8,
     /// To the nearest, a tie to the even one.
     HalfEven = 9,
+    /// Of amounts of money alone: to the digits of the currency in cash, a tie to the even one.
+    Cash = 10,
+    /// Of amounts of money alone: it is not rounded.
+    None = 11,
 }
 
 /// Of what a number is rounded to a multiple, at the position.
@@ -192,9 +257,9 @@ pub struct Options {
     pub sign: Sign,
     /// Which neighbour the number is rounded to.
     pub rounding: Rounding,
-    /// The magnitude that is rounded at: 0 the ones, -2 the hundredths. Of `Rounding::Keep` it counts for nothing.
+    /// The magnitude that is rounded at: 0 the ones, -2 the hundredths. Of `Rounding::Keep`, `Cash` and `None` it counts for nothing.
     pub position: i16,
-    /// Of what it is rounded to a multiple. Of `Rounding::Keep` it counts for nothing.
+    /// Of what it is rounded to a multiple. Of `Rounding::Keep`, `Cash` and `None` it counts for nothing.
     pub increment: Increment,
     /// What becomes of zeros at the end of the fraction digits.
     pub trailing_zeros: TrailingZeros,
@@ -205,6 +270,12 @@ pub struct Options {
 }
 
 impl Options {
+    /// The same with this rounding, which has no position: `Rounding::Cash` and `Rounding::None`, or `Rounding::Keep`.
+    #[must_use]
+    pub const fn rounding(self, rounding: Rounding) -> Options {
+        Options { rounding, ..self }
+    }
+
     /// The same with this sign.
     #[must_use]
     pub const fn sign(self, sign: Sign) -> Options {
@@ -261,6 +332,7 @@ mod tests {
 
     #[test]
     fn kinds() {
-        assert_eq!((1..=7).map(Kind::of).collect::<Vec<_>>()[4..], [Kind::Decimal, Kind::Fraction, Kind::Other(7)]);
+        let kinds: Vec<Kind> = (6..=9).map(Kind::of).collect();
+        assert_eq!(kinds, [Kind::Fraction, Kind::Currency, Kind::PercentSign, Kind::Other(9)]);
     }
 }

@@ -45,6 +45,8 @@ extern "C" {
     pub fn legumeyet_book_close(book: *mut Handle) -> i32;
     pub fn legumeyet_book_keep(book: *mut Handle) -> i32;
     pub fn legumeyet_book_answer(book: *mut Handle, line: *const u8, line_length: usize, out: *mut u8, room: usize, length: *mut usize) -> i32;
+    pub fn legumeyet_book_locale_count(book: *mut Handle, count: *mut usize) -> i32;
+    pub fn legumeyet_book_locale(book: *mut Handle, index: usize, out: *mut u8, room: usize, length: *mut usize) -> i32;
     pub fn legumeyet_decimal_formatter_open(book: *mut Handle, tag: *const u8, tag_length: usize, grouping: u32, formatter: *mut Handle) -> i32;
     pub fn legumeyet_decimal_formatter_close(formatter: *mut Handle) -> i32;
     pub fn legumeyet_decimal_formatter_format(formatter: *mut Handle, number: *const u8, number_length: usize, options: *const Options, out: *mut u8, room: usize, length: *mut usize) -> i32;
@@ -59,6 +61,13 @@ extern "C" {
     pub fn legumeyet_compact_formatter_format_parts(formatter: *mut Handle, number: *const u8, number_length: usize, options: *const Options, out: *mut u8, room: usize, length: *mut usize, intervals: *mut Interval, intervals_room: usize, count: *mut usize) -> i32;
     pub fn legumeyet_compact_formatter_shown(formatter: *mut Handle, number: *const u8, number_length: usize, options: *const Options, out: *mut u8, room: usize, length: *mut usize) -> i32;
     pub fn legumeyet_compact_formatter_format_exact(formatter: *mut Handle, number: *const u8, number_length: usize, options: *const Options, out: *mut u8, room: usize, length: *mut usize) -> i32;
+    pub fn legumeyet_percent_formatter_open(book: *mut Handle, tag: *const u8, tag_length: usize, grouping: u32, formatter: *mut Handle) -> i32;
+    pub fn legumeyet_currency_formatter_open(book: *mut Handle, tag: *const u8, tag_length: usize, code: *const u8, code_length: usize, style: u32, width: u32, grouping: u32, formatter: *mut Handle) -> i32;
+    pub fn legumeyet_unit_formatter_close(formatter: *mut Handle) -> i32;
+    pub fn legumeyet_unit_formatter_format(formatter: *mut Handle, number: *const u8, number_length: usize, options: *const Options, out: *mut u8, room: usize, length: *mut usize) -> i32;
+    pub fn legumeyet_unit_formatter_format_i64(formatter: *mut Handle, mantissa: i64, exponent: i16, options: *const Options, out: *mut u8, room: usize, length: *mut usize) -> i32;
+    pub fn legumeyet_unit_formatter_format_parts(formatter: *mut Handle, number: *const u8, number_length: usize, options: *const Options, out: *mut u8, room: usize, length: *mut usize, intervals: *mut Interval, intervals_room: usize, count: *mut usize) -> i32;
+    pub fn legumeyet_unit_formatter_read(formatter: *mut Handle, text: *const u8, text_length: usize, out: *mut u8, room: usize, length: *mut usize) -> i32;
     pub fn legumeyet_tag_of_locale_name(name: *const c_char, out: *mut u8, room: usize, length: *mut usize) -> i32;
     pub fn legumeyet_error_text(error: i32, out: *mut u8, room: usize, length: *mut usize) -> i32;
     pub fn legumeyet_version() -> u32;

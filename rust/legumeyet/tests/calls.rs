@@ -1,8 +1,8 @@
 //! Each call well and badly.
 
 use legumeyet::{
-    Book, CompactDecimalFormatter, DecimalFormatter, Error, Grouping, Increment, Kind, OpenError, Options, Rounding, Sign, TrailingZeros,
-    UnknownWord, Width, WriteError,
+    Book, CompactDecimalFormatter, CurrencyFormatter, CurrencyOptions, CurrencyStyle, CurrencyWidth, DecimalFormatter, Error, Grouping,
+    Increment, Kind, OpenError, Options, PercentFormatter, Rounding, Sign, TrailingZeros, UnknownWord, Width, WriteError,
 };
 use std::{env, fmt, fs, io, process, thread};
 
@@ -110,11 +110,13 @@ fn words() {
     for word in ["keep", "auto", "never", "always", "except-zero", "negative"] {
         assert_eq!(word.parse::<Sign>().unwrap().to_string(), word);
     }
-    let modes = "keep expand trunc ceil floor half-expand half-trunc half-ceil half-floor half-even";
+    let modes = "keep expand trunc ceil floor half-expand half-trunc half-ceil half-floor half-even cash none";
     for word in modes.split(' ') {
         assert_eq!(word.parse::<Rounding>().unwrap().to_string(), word);
     }
     assert_eq!("min2".parse(), Ok(Grouping::Min2));
+    assert_eq!("accounting".parse(), Ok(CurrencyStyle::Accounting));
+    assert_eq!(CurrencyWidth::Symbol.to_string(), "symbol");
     assert_eq!(format!("{:>6}", Width::Long), "  long");
     assert_eq!("Auto".parse::<Grouping>(), Err(UnknownWord));
     assert_eq!("5".parse::<Width>(), Err(UnknownWord));
@@ -338,4 +340,107 @@ fn names_of_locales() {
     ] {
         assert_eq!(legumeyet::tag_of_locale_name(name), tag);
     }
+}
+
+#[test]
+fn amounts() {
+    let as_given = Options::default();
+    for (tag, code, number, text) in [
+        ("de", "EUR", "1234.5", "1.234,50\u{a0}€"),
+        ("en", "USD", "1.005", "$1.00"),
+        ("en", "JPY", "2.5", "¥2"),
+        ("de-CH", "CHF", "-5", "CHF-5.00"),
+        ("nl", "USD", "-5", "US$\u{a0}-5,00"),
+        ("en", "QQQ", "0", "QQQ\u{a0}0.00"),
+    ] {
+        let formatter = CurrencyFormatter::new(tag, code).unwrap();
+        let mut written = String::new();
+        formatter.write_to(&mut written, number, &as_given).unwrap();
+        assert_eq!(written, text);
+        assert_eq!(formatter.format_parts(number, &as_given).unwrap().0, text);
+        assert_eq!(formatter.format(&formatter.read(text).unwrap(), &as_given).unwrap(), text);
+    }
+    let dollars = CurrencyFormatter::with_options("en", "USD", &CurrencyOptions::default().style(CurrencyStyle::Accounting)).unwrap();
+    assert_eq!(dollars.format(-5, &as_given).unwrap(), "($5.00)");
+    assert_eq!(dollars.format(u64::MAX, &as_given.sign(Sign::Always)).unwrap(), "+$18,446,744,073,709,551,615.00");
+    assert_eq!(dollars.format_i64(-500, -2, &as_given).unwrap(), "($5.00)");
+    assert_eq!(dollars.read("($1,234.5)").unwrap(), "-1234.5");
+    assert_eq!(
+        dollars.format_parts(-5, &as_given).unwrap().1,
+        [
+            (Kind::MinusSign, 0..2),
+            (Kind::Currency, 1..2),
+            (Kind::Integer, 2..3),
+            (Kind::Decimal, 3..4),
+            (Kind::Fraction, 4..6),
+            (Kind::MinusSign, 6..7)
+        ]
+    );
+    let codes = CurrencyOptions::default().width(CurrencyWidth::Code).grouping(Grouping::Never);
+    assert_eq!(CurrencyFormatter::with_options("en", "USD", &codes).unwrap().format(1234, &as_given).unwrap(), "USD\u{a0}1234.00");
+}
+
+#[test]
+fn roundings_of_amounts() {
+    let (francs, as_given) = (CurrencyFormatter::new("en", "CHF").unwrap(), Options::default());
+    for (options, text) in [
+        (as_given, "CHF\u{a0}2.34"),
+        (as_given.rounding(Rounding::Cash), "CHF\u{a0}2.35"),
+        (as_given.rounding(Rounding::None), "CHF\u{a0}2.345"),
+        (as_given.rounded(Rounding::Floor, -1), "CHF\u{a0}2.3"),
+    ] {
+        assert_eq!(francs.format(2.345, &options).unwrap(), text);
+    }
+    let percents = PercentFormatter::new("en").unwrap();
+    for rounding in [Rounding::Cash, Rounding::None] {
+        assert_eq!(percents.format(1, &as_given.rounding(rounding)), Err(Error::OPTION));
+        assert_eq!(english().format(1, &as_given.rounding(rounding)), Err(Error::OPTION));
+        assert_eq!(compact(Width::Short).format(1, &as_given.rounding(rounding)), Err(Error::OPTION));
+    }
+}
+
+#[test]
+fn percents() {
+    let as_given = Options::default();
+    for (tag, number, text) in [("de", "12.5", "12,5\u{a0}%"), ("tr", "-12.50", "-%12,50"), ("en", "1234", "1,234%")] {
+        let formatter = PercentFormatter::new(tag).unwrap();
+        assert_eq!(formatter.format(number, &as_given).unwrap(), text);
+        assert_eq!(formatter.read(text).unwrap(), number);
+    }
+    let turkish: PercentFormatter = "tr".parse().unwrap();
+    assert_eq!(turkish.format_parts(5, &as_given).unwrap().1, [(Kind::PercentSign, 0..1), (Kind::Integer, 1..2)]);
+    assert_eq!(PercentFormatter::with_grouping("en", Grouping::Never).unwrap().format(1234.5, &as_given).unwrap(), "1234.5%");
+    assert_eq!("e".parse::<PercentFormatter>().err(), Some(Error::TAG));
+}
+
+#[test]
+fn units_that_are_refused() {
+    let (own, kept, options) = (book(), book(), CurrencyOptions::default());
+    kept.keep().unwrap();
+    assert_eq!(PercentFormatter::from_book(&own, "e", Grouping::Auto).err(), Some(Error::UNKEPT));
+    assert_eq!(CurrencyFormatter::from_book(&own, "e", "eur", &options).err(), Some(Error::UNKEPT));
+    assert_eq!(PercentFormatter::from_book(&kept, "en", Grouping::Auto).err(), Some(Error::TABLE));
+    assert_eq!(CurrencyFormatter::from_book(&kept, "en", "EUR", &options).err(), Some(Error::TABLE));
+    for code in ["eur", "EURO", "EU", "", "EÜ", "A1B", "\0\0\0"] {
+        assert_eq!(CurrencyFormatter::new("e", code).err(), Some(Error::CODE), "{code}");
+    }
+    assert_eq!(CurrencyFormatter::new("de_DE", "EUR").err(), Some(Error::TAG));
+    let (euros, as_given) = (CurrencyFormatter::new("en", "EUR").unwrap(), Options::default());
+    for text in ["5.00", "$5.00", "€5,00", ""] {
+        assert_eq!(euros.read(text), Err(Error::NOT_WRITTEN), "{text}");
+    }
+    assert_eq!(euros.format(f64::NAN, &as_given), Err(Error::NUMBER));
+    assert_eq!(euros.format_parts("5.", &as_given).err(), Some(Error::NUMBER));
+    assert_eq!(euros.format_i64(10, i16::MAX, &as_given), Err(Error::LIMIT));
+    let mut short = Short(String::new(), 4);
+    assert_eq!(euros.write_to(&mut short, 5, &as_given), Err(WriteError::Write(fmt::Error)));
+    drop(kept);
+    assert_eq!(thread::spawn(move || euros.format(5, &as_given)).join().unwrap().unwrap(), "€5.00");
+}
+
+#[test]
+fn locales_of_a_book() {
+    assert_eq!(book().locales().unwrap(), ["en", "bad"]);
+    assert!(Book::from_json(b"[[],[],[],[],[]]").unwrap().locales().unwrap().is_empty());
+    assert!(Book::world().unwrap().locales().unwrap().iter().any(|it| it == "de-AT"));
 }
