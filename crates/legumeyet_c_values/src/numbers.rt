@@ -16,8 +16,8 @@ use fixed_decimal::{CompactDecimal, Decimal, ParseError, UnsignedDecimal};
 use ryu::Buffer;
 use std::alloc::Global;
 
-// The number that a text spells.
-fn read_number(alloc: Global, text: &[u8]) -> Result<Decimal, CallError>
+/// The number that a text spells: 1.5 of `1.5`.
+pub fn read_number(alloc: Global, text: &[u8]) -> Result<Decimal, CallError>
     ensures value { IfOk result (λ value. ReadsSigned text.now value) }
     ensures fault { IfErr result (λ error. IsNumberFault text.now error) }
 {
@@ -95,8 +95,8 @@ fn move_by(whole: &mut Decimal, exponent: i16) -> Result<(), CallError>
     }
 }
 
-// An integer times a power of ten.
-fn scaled(alloc: Global, mantissa: i64, exponent: i16) -> Result<Decimal, CallError>
+/// An integer times a power of ten: 1.5 of 15 and -1.
+pub fn scaled(alloc: Global, mantissa: i64, exponent: i16) -> Result<Decimal, CallError>
     ensures value { IfOk result (λ value. IsScaled mantissa exponent value) }
     ensures fault { IfErr result (λ error. IsScaledFault mantissa exponent error) }
 {
@@ -109,8 +109,8 @@ fn scaled(alloc: Global, mantissa: i64, exponent: i16) -> Result<Decimal, CallEr
     }
 }
 
-// An integer without a sign times a power of ten.
-fn scaled_unsigned(alloc: Global, mantissa: u64, exponent: i16) -> Result<Decimal, CallError>
+/// An integer without a sign times a power of ten: 1.5 of 15 and -1.
+pub fn scaled_unsigned(alloc: Global, mantissa: u64, exponent: i16) -> Result<Decimal, CallError>
     ensures value { IfOk result (λ value. IsScaled (pos mantissa) exponent value) }
     ensures fault { IfErr result (λ error. IsScaledFault (pos mantissa) exponent error) }
 {
@@ -139,8 +139,9 @@ fn digits_of(buffer: &mut Buffer, number: f64) -> &str
     }
 }
 
-// The number of a double's digits, without the zero after the point of a whole one.
-fn read_double(alloc: Global, number: f64) -> Result<Decimal, CallError>
+/// The number of a double's digits, without the zero after the point of a whole one: 5 of 5.0. `Number`: it is not
+/// finite.
+pub fn read_double(alloc: Global, number: f64) -> Result<Decimal, CallError>
     ensures value { IfOk result (λ value. IsOfDouble number value) }
     ensures fault { IfErr result (λ error. IsDoubleFault number error) }
 {
