@@ -13,8 +13,8 @@ use Rattle.icu_dimension_fractions.specs.declared.increment.FractionIncrement.Th
 use Rattle.locale_numbers_tables.specs.Entries.{entry_key}
 use Rattle.locale_numbers_tables.specs.Keys.{same_key}
 use Rattle.locale_numbers_tables.specs.TagReading.{tag_of, data_locale_of}
-use Rattle.locale_numbers_units.specs.declared.error.UnitsError.{UnitsError}
-use Rattle.locale_numbers_units.specs.declared.error.UnitsError.TheVariants.{Shape, Tag, System, Text, Duplicate, Unit, Code}
+use Rattle.locale_numbers_tables.specs.declared.BookError.{BookError}
+use Rattle.locale_numbers_tables.specs.declared.BookError.TheVariants.{Shape, Tag, System, Text, Duplicate, Unit, Code}
 use Rattle.locale_numbers_units.specs.Amounts.{accounts_fault, accounts_key, amounts_said, currencies_fault, currencies_key}
 use Rattle.locale_numbers_units.specs.CurrencySymbols.{written_as}
 use Rattle.locale_numbers_units.specs.Faults.{first_fault_behind}
@@ -125,13 +125,13 @@ hebrew = refl
 
 -- ---- faults
 
-abbrev percents_faults : List Data → Option UnitsError
+abbrev percents_faults : List Data → Option BookError
 percents_faults entries = first_fault_behind same_key entry_key percents_fault [] (items entries)
 
-abbrev currencies_faults : List Data → Option UnitsError
+abbrev currencies_faults : List Data → Option BookError
 currencies_faults entries = first_fault_behind same_key currencies_key currencies_fault [] (items entries)
 
-abbrev accounts_faults : List Data → Option UnitsError
+abbrev accounts_faults : List Data → Option BookError
 accounts_faults entries = first_fault_behind same_key accounts_key accounts_fault [] (items entries)
 
 abbrev english_percents : Data → Data

@@ -13,9 +13,8 @@ use Rattle.icu_dimension_affixes.specs.declared.affixes.UnitPlace.TheVariants.{B
 use Rattle.icu_dimension_affixes.proofs.PlaceLemmas.{places_around}
 use Rattle.icu_decimal.specs.declared.provider.GroupingSizes.{GroupingSizes}
 use Rattle.locale_numbers_tables.specs.Entries.{field_at, grouping_sizes_of, symbol_texts}
-use Rattle.locale_numbers_tables.specs.Faults.{has_locale, has_symbols_shape}
-use Rattle.locale_numbers_units.specs.declared.error.UnitsError.TheVariants.{Shape, Tag, System, Text, Duplicate, Unit}
-use Rattle.locale_numbers_units.specs.Faults.{first_broken}
+use Rattle.locale_numbers_tables.specs.Faults.{first_broken, has_locale, has_symbols_shape}
+use Rattle.locale_numbers_tables.specs.declared.BookError.TheVariants.{Shape, Tag, System, Text, Duplicate, Unit}
 use Rattle.locale_numbers_units.specs.Fields.{has_at}
 use Rattle.locale_numbers_units.specs.OwnSymbols.{as_entry, has_own_shape, is_null, own_in, system_or_empty}
 use Rattle.locale_numbers_units.specs.Amounts.{amounts_fault, has_amounts_places, has_amounts_shape, has_amounts_systems, has_amounts_texts}

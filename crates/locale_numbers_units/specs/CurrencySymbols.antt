@@ -7,11 +7,10 @@ use Rattle.serde_json.specs.Data.{Data}
 use Rattle.icu_decimal.specs.Identifiers.{Identifier}
 use Rattle.icu_dimension_affixes.specs.declared.patterns.LetterEnds.{LetterEnds}
 use Rattle.locale_numbers_tables.specs.Entries.{field_at, has_count, is_text_at, text_or_empty}
-use Rattle.locale_numbers_tables.specs.Faults.{has_locale}
+use Rattle.locale_numbers_tables.specs.Faults.{first_broken, has_locale}
 use Rattle.locale_numbers_tables.specs.Fields.{plain_text_in}
-use Rattle.locale_numbers_units.specs.declared.error.UnitsError.{UnitsError}
-use Rattle.locale_numbers_units.specs.declared.error.UnitsError.TheVariants.{Shape, Tag, Text, Code, Duplicate}
-use Rattle.locale_numbers_units.specs.Faults.{first_broken}
+use Rattle.locale_numbers_tables.specs.declared.BookError.{BookError}
+use Rattle.locale_numbers_tables.specs.declared.BookError.TheVariants.{Shape, Tag, Text, Code, Duplicate}
 use Rattle.locale_numbers_units.specs.Fields.{code_in, ends_in, key_with}
 
 -- a symbol, and which of its ends are letters
@@ -32,7 +31,7 @@ abbrev pub has_symbols_shape : Data → Bool
 has_symbols_shape entry = has_count 4 entry && is_text_at 0 entry && is_text_at 1 entry && is_text_at 2 entry && is_some (field_at ends_in 3 entry)
 
 -- an entry without a code has no key, so that no earlier one has it too
-abbrev pub symbols_fault : Bool → Data → Option UnitsError
+abbrev pub symbols_fault : Bool → Data → Option BookError
 symbols_fault is_new entry = first_broken (
     (Shape, has_symbols_shape entry)
     ∷ (Tag, has_locale entry)

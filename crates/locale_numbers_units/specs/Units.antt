@@ -13,7 +13,7 @@ use Rattle.icu_dimension_fractions.specs.declared.increment.FractionIncrement.Th
 use Rattle.locale_numbers_tables.specs.Allocation.{begins_with}
 use Rattle.locale_numbers_tables.specs.Entries.{entry_key}
 use Rattle.locale_numbers_tables.specs.Keys.{same_key, table_at, table_in}
-use Rattle.locale_numbers_units.specs.declared.error.UnitsError.{UnitsError}
+use Rattle.locale_numbers_tables.specs.declared.BookError.{BookError}
 use Rattle.locale_numbers_units.specs.Allocation.{passes, tagged_may_grow}
 use Rattle.locale_numbers_units.specs.Amounts.{AmountTexts, accounts_fault, accounts_key, amounts_said, currencies_fault, currencies_key, has_amounts_shape}
 use Rattle.locale_numbers_units.specs.CurrencyDigits.{digits_fault, digits_key, digits_said}
@@ -31,23 +31,23 @@ pub record UnitsTables : Type 0 where
 
 -- ---- the first fault
 
-abbrev pub percents_faults : Items → Option UnitsError
+abbrev pub percents_faults : Items → Option BookError
 percents_faults entries = first_fault_behind same_key entry_key percents_fault [] entries
 
-abbrev pub currencies_faults : Items → Option UnitsError
+abbrev pub currencies_faults : Items → Option BookError
 currencies_faults entries = first_fault_behind same_key currencies_key currencies_fault [] entries
 
-abbrev pub accounts_faults : Items → Option UnitsError
+abbrev pub accounts_faults : Items → Option BookError
 accounts_faults entries = first_fault_behind same_key accounts_key accounts_fault [] entries
 
-abbrev pub symbols_faults : Items → Option UnitsError
+abbrev pub symbols_faults : Items → Option BookError
 symbols_faults entries = first_fault_behind same_key symbols_key symbols_fault [] entries
 
-abbrev pub digits_faults : Items → Option UnitsError
+abbrev pub digits_faults : Items → Option BookError
 digits_faults entries = first_fault_behind bytes_eq digits_key digits_fault [] entries
 
 -- the fault of the first faulty entry, in the order of the arrays
-abbrev pub units_fault : Items → Items → Items → Items → Items → Option UnitsError
+abbrev pub units_fault : Items → Items → Items → Items → Items → Option BookError
 units_fault percents currencies accounts symbols digits =
     option_or (percents_faults percents)
     (option_or (currencies_faults currencies)

@@ -5,11 +5,11 @@ ghost use Rattle.std.specs.Option.{option_copied};
 ghost use Rattle.serde_json.specs.View.{view};
 ghost use Rattle.locale_numbers_units.specs.CurrencySymbols.{has_symbols_shape, written_as};
 
-use crate::UnitsError;
 use crate::array::UnitArray;
 use crate::fields::{code, ends};
 use icu_decimal::provider::DataIdentifier;
 use icu_dimension_affixes::LetterEnds;
+use locale_numbers_tables::BookError;
 use locale_numbers_tables::fields::{has_count, has_text, is_text_at, locale, symbol};
 use serde_json::Value;
 use std::alloc::Global;
@@ -95,32 +95,32 @@ impl UnitArray for CurrencySymbols {
     // A fault is reported as out of memory only after a locale whose reading may allocate.
     ghost may_grow = { tagged_may_grow has_symbols_shape symbols_fault };
 
-    fn read_key(alloc: Global, entry: &Value) -> Result<DataIdentifier, UnitsError> {
+    fn read_key(alloc: Global, entry: &Value) -> Result<DataIdentifier, BookError> {
         if !has_symbols_shape(entry) {
-            return Err(UnitsError::Shape);
+            return Err(BookError::Shape);
         }
         let Ok(found) = locale(alloc, entry, 0) else {
-            return Err(UnitsError::Memory);
+            return Err(BookError::Memory);
         };
         let Some(locale) = found else {
-            return Err(UnitsError::Tag);
+            return Err(BookError::Tag);
         };
         if !has_text(entry, 2) {
-            return Err(UnitsError::Text);
+            return Err(BookError::Text);
         }
         match code(entry, 1) {
             Some(code) => Ok(DataIdentifier::for_marker_attributes_and_locale(code, locale)),
-            None => Err(UnitsError::Code),
+            None => Err(BookError::Code),
         }
     }
 
-    fn read(alloc: Global, entry: &Value) -> Result<CurrencySymbol, UnitsError> {
+    fn read(alloc: Global, entry: &Value) -> Result<CurrencySymbol, BookError> {
         let Some(ends) = ends(entry, 3) else {
-            return Err(UnitsError::Shape);
+            return Err(BookError::Shape);
         };
         match symbol(alloc, entry, 2) {
             Ok(text) => Ok(CurrencySymbol { text, ends }),
-            Err(_) => Err(UnitsError::Memory),
+            Err(_) => Err(BookError::Memory),
         }
     }
 }

@@ -4,11 +4,10 @@ ghost use Rattle.std.specs.Prelude.{◌≡◌, ◌||◌, true, IfErr, IfOk, IsEr
 ghost use Rattle.std.specs.Option.{option_copied};
 ghost use Rattle.serde_json.specs.View.{items_view};
 ghost use Rattle.locale_numbers_tables.specs.Keys.{same_key, table_at};
-ghost use Rattle.locale_numbers_units.specs.Telling.{IsTold};
+ghost use Rattle.locale_numbers_tables.specs.Telling.{IsTold};
 ghost use Rattle.locale_numbers_units.specs.Units.{AreUnits, digits_for, units_fault, units_may_grow, usual_digits};
-ghost use Rattle.locale_numbers_units.specs.declared.error.UnitsError.{UnitsError};
+ghost use Rattle.locale_numbers_tables.specs.declared.BookError.{BookError};
 
-use crate::UnitsError;
 use crate::amounts::{Accounts, AmountPatterns, Currencies};
 use crate::currency_digits::CurrencyDigits;
 use crate::currency_symbols::{CurrencySymbol, CurrencySymbols};
@@ -16,7 +15,7 @@ use crate::percents::{PercentPattern, Percents};
 use crate::tables::table_of;
 use icu_decimal::provider::DataIdentifier;
 use icu_dimension_fractions::{Fraction, FractionInfo};
-use locale_numbers_tables::{Seed, Table};
+use locale_numbers_tables::{BookError, Seed, Table};
 use serde_json::Value;
 use std::alloc::Global;
 use std::marker::Model;
@@ -85,7 +84,7 @@ impl Units {
     ///   `Unit` of the percents `[["en","","%",null,["",""]]]`.
     /// - Memory: out of memory.
     #[tactic(auto, using(crate::proofs::UnitsLemmas::or_second, crate::proofs::UnitsLemmas::or_third, crate::proofs::UnitsLemmas::or_fourth, crate::proofs::UnitsLemmas::or_fifth))]
-    pub fn from_arrays(alloc: Global, seed: Seed, arrays: UnitArrays) -> Result<Units, UnitsError>
+    pub fn from_arrays(alloc: Global, seed: Seed, arrays: UnitArrays) -> Result<Units, BookError>
         ensures value { IfOk result
             (AreUnits (items_view arrays.percents.items) (items_view arrays.currencies.items)
             (items_view arrays.accounts.items) (items_view arrays.symbols.items) (items_view arrays.digits.items)) }
@@ -95,7 +94,7 @@ impl Units {
             (items_view arrays.accounts.items) (items_view arrays.symbols.items) (items_view arrays.digits.items)) fault) }
 
         // A fault that is found before anything is allocated is never reported as out of memory.
-        ensures room { IsErrOf result UnitsError.Memory
+        ensures room { IsErrOf result BookError.Memory
             → units_may_grow (items_view arrays.percents.items) (items_view arrays.currencies.items)
             (items_view arrays.accounts.items) (items_view arrays.symbols.items) (items_view arrays.digits.items) ≡ true }
     {
