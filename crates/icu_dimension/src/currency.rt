@@ -2,7 +2,7 @@
 
 ghost use Rattle.std.specs.Prelude.{◌≡◌, ◌≢◌, ◌⊎◌, false, IfErr, IfOk, IsErrOf, IsOk, string_bytes};
 ghost use Rattle.std.specs.Result.{result_map_both};
-ghost use Rattle.icu_dimension_affixes.specs.HeldUnits.{settings_of};
+ghost use Rattle.icu_dimension_affixes.specs.HeldUnits.{name_of, settings_of};
 ghost use Rattle.icu_dimension_affixes.specs.UnitReading.{HasNoDecimal, IsUnitText, is_unit_readable_by, reader_texts};
 ghost use Rattle.icu_dimension_affixes.specs.UnitText.{unit_decimal_text, unit_formatted};
 ghost use Rattle.icu_dimension_fractions.specs.FractionRounding.{RoundsAmount, ShowsAmount};
@@ -103,15 +103,21 @@ impl<'b> CurrencyFormatter<'b> {
         self.fractions
     }
 
+    // The symbol or the code, as a unit.
+    fn unit(&self) -> Unit<'_>
+        ensures { name_of result ≡ (settings_of_currency self.now).unit }
+    {
+        Unit {
+            kind: UnitKind::Currency,
+            text: CurrencyName::new(self.symbol, &self.code).text,
+        }
+    }
+
     /// What it writes with, as one value: of `en` and `EUR` what writes -1234.5 as `-€1,234.5`. It does not allocate.
     pub fn tables(&self) -> UnitTables<'_>
         ensures { settings_of result ≡ settings_of_currency self.now }
     {
-        let unit = Unit {
-            kind: UnitKind::Currency,
-            text: CurrencyName::new(self.symbol, &self.code).text,
-        };
-        UnitTables::new(&self.decimals, self.pattern, unit)
+        UnitTables::new(&self.decimals, self.pattern, self.unit())
     }
 
     /// The amount as this formatter writes it: -1234.50 as `-€1,234.50` in English. It does not allocate.
@@ -170,13 +176,14 @@ impl<'b> CurrencyFormatter<'b> {
         self.fractions.fraction(usage).shown(amount, display)
     }
 
-    /// The reader of what this formatter writes: that of `en` and `EUR` reads `-€1,234.50` as -1234.50.
+    /// The reader of what this formatter writes: that of `en` and `EUR` reads `-€1,234.50` as -1234.50. It borrows only
+    /// what the formatter borrows, so both can be kept beside each other.
     ///
     /// It allocates for each affix that is not empty. `AllocError`: out of memory.
-    pub fn reader(&self, alloc: Global) -> Result<UnitReader<'_>, AllocError>
+    pub fn reader(&self, alloc: Global) -> Result<UnitReader<'b>, AllocError>
         ensures { IfOk result (λ reader. reader ≡ reader_texts (settings_of_currency self.now)) }
     {
-        UnitReader::try_new(alloc, &self.tables())
+        UnitReader::of_parts(alloc, &self.decimals, self.pattern, self.unit())
     }
 
     /// Whether texts can be read back: in English with `EUR` they can.

@@ -2,7 +2,7 @@
 
 ghost use Rattle.std.specs.Prelude.{◌≡◌, ◌⊎◌, false, IfOk, IsErrOf, string_bytes};
 ghost use Rattle.std.specs.Result.{result_map_both};
-ghost use Rattle.icu_dimension_affixes.specs.HeldUnits.{settings_of};
+ghost use Rattle.icu_dimension_affixes.specs.HeldUnits.{name_of, settings_of};
 ghost use Rattle.icu_dimension_affixes.specs.UnitReading.{HasNoDecimal, IsUnitText, is_unit_readable_by, reader_texts};
 ghost use Rattle.icu_dimension_affixes.specs.UnitText.{unit_decimal_text, unit_formatted};
 ghost use Rattle.icu_dimension.specs.FoundUnits.{found_percent};
@@ -66,15 +66,21 @@ impl<'b> PercentFormatter<'b> {
         })
     }
 
+    // The percent sign, as a unit.
+    fn unit(&self) -> Unit<'b>
+        ensures { name_of result ≡ (settings_of_percent self.now).unit }
+    {
+        Unit {
+            kind: UnitKind::Percent,
+            text: self.sign,
+        }
+    }
+
     /// What it writes with, as one value: of the formatter of `en` what writes 12.5 as `12.5%`. It does not allocate.
     pub fn tables(&self) -> UnitTables<'_>
         ensures { settings_of result ≡ settings_of_percent self.now }
     {
-        let unit = Unit {
-            kind: UnitKind::Percent,
-            text: self.sign,
-        };
-        UnitTables::new(&self.decimals, self.pattern, unit)
+        UnitTables::new(&self.decimals, self.pattern, self.unit())
     }
 
     /// The percents as this formatter writes them: -12.5 as `-12.5%` in English. It does not allocate.
@@ -97,13 +103,14 @@ impl<'b> PercentFormatter<'b> {
         self.tables().format_to_string(alloc, value)
     }
 
-    /// The reader of what this formatter writes: that of `en` reads `-12.5%` as -12.5.
+    /// The reader of what this formatter writes: that of `en` reads `-12.5%` as -12.5. It borrows only what the formatter
+    /// borrows, so both can be kept beside each other.
     ///
     /// It allocates for each affix that is not empty. `AllocError`: out of memory.
-    pub fn reader(&self, alloc: Global) -> Result<UnitReader<'_>, AllocError>
+    pub fn reader(&self, alloc: Global) -> Result<UnitReader<'b>, AllocError>
         ensures { IfOk result (λ reader. reader ≡ reader_texts (settings_of_percent self.now)) }
     {
-        UnitReader::try_new(alloc, &self.tables())
+        UnitReader::of_parts(alloc, &self.decimals, self.pattern, self.unit())
     }
 
     /// Whether texts can be read back: in English they can.

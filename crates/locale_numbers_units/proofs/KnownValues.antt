@@ -6,7 +6,7 @@ use Rattle.std.specs.Str.{bytes_eq, chars, is_utf8}
 use Rattle.serde_json.specs.Data.{Data, Items, number, unsigned, string, array, no_items, item}
 use Rattle.icu_locale_core.specs.Stepping.{headed_after, whole_after}
 use Rattle.icu_locale_core.specs.TagStages.{with_piece, body_after}
-use Rattle.icu_dimension_fractions.specs.declared.increment.FractionIncrement.TheVariants.{MultiplesOf1, MultiplesOf5}
+use Rattle.icu_dimension.specs.declared.FractionIncrement.TheVariants.{MultiplesOf1, MultiplesOf5}
 use Rattle.locale_numbers_tables.specs.Keys.{same_key}
 use Rattle.locale_numbers_tables.specs.TagReading.{tag_of, data_locale_of}
 use Rattle.locale_numbers_tables.specs.declared.BookError.{BookError}

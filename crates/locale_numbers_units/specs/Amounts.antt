@@ -4,9 +4,9 @@
 use Rattle.std.specs.Prelude.{Bool, ◌&&◌, [], ◌∷◌, Option, is_some, option_and_then, option_map}
 use Rattle.serde_json.specs.Data.{Data}
 use Rattle.icu_decimal.specs.Identifiers.{Identifier}
-use Rattle.icu_decimal.specs.Symbols.{Symbols}
 use Rattle.icu_locale_core.specs.Subtags.{Text as Subtag}
-use Rattle.icu_dimension_affixes.specs.UnitPatterns.{PatternChoice}
+use Rattle.icu_dimension.specs.ProvidedUnits.{AmountTexts}
+use Rattle.icu_dimension.specs.UnitPatterns.{PatternChoice}
 use Rattle.locale_numbers_tables.specs.Entries.{field_at, has_count, is_text_at}
 use Rattle.locale_numbers_tables.specs.Faults.{first_broken, has_locale}
 use Rattle.locale_numbers_tables.specs.Fields.{system_or_none_in}
@@ -15,11 +15,6 @@ use Rattle.locale_numbers_tables.specs.declared.BookError.TheVariants.{Shape, Ta
 use Rattle.locale_numbers_units.specs.Fields.{has_at, key_with, system_or_code_at}
 use Rattle.locale_numbers_units.specs.OwnSymbols.{has_own_shape, has_own_system, has_own_texts, own_in}
 use Rattle.locale_numbers_units.specs.Patterns.{has_pattern_shape, is_plain_pattern, or_null, pattern_in, pattern_or_null_in}
-
--- symbols of amounts' own or none, and the patterns
-pub record AmountTexts : Type 0 where
-  pub symbols : Option Symbols
-  pub patterns : PatternChoice
 
 -- places 3 and 4: the pattern, and the one beside a letter or null
 abbrev pub patterns_of : Data → Option PatternChoice

@@ -4,8 +4,8 @@
 use Rattle.std.specs.Prelude.{ℕ, Bool, ◌&&◌, [], ◌∷◌, Option, is_some, option_and_then, option_map}
 use Rattle.serde_json.specs.Data.{Data}
 use Rattle.icu_locale_core.specs.Subtags.{Text}
-use Rattle.icu_dimension_fractions.specs.declared.fraction.Fraction.{Fraction}
-use Rattle.icu_dimension_fractions.specs.declared.fraction.FractionInfo.{FractionInfo}
+use Rattle.icu_dimension.specs.declared.Fraction.{Fraction}
+use Rattle.icu_dimension.specs.declared.FractionInfo.{FractionInfo}
 use Rattle.locale_numbers_tables.specs.Entries.{field_at, has_count, is_text_at}
 use Rattle.locale_numbers_tables.specs.Fields.{size_in}
 use Rattle.locale_numbers_tables.specs.declared.BookError.{BookError}

@@ -1,10 +1,9 @@
 -- Percents: what an entry says, and what is wrong with one.
 -- Defined in docs/books.md, "Units" and "Faults".
 -- Cited by the reading of percents.
-use Rattle.std.specs.Prelude.{ℕ, Bool, ◌&&◌, List, [], ◌∷◌, Option, is_some, option_and_then, option_map}
+use Rattle.std.specs.Prelude.{Bool, ◌&&◌, [], ◌∷◌, Option, is_some, option_and_then, option_map}
 use Rattle.serde_json.specs.Data.{Data}
-use Rattle.icu_decimal.specs.Symbols.{Symbols}
-use Rattle.icu_dimension_affixes.specs.UnitPatterns.{PatternTexts}
+use Rattle.icu_dimension.specs.ProvidedUnits.{PercentTexts}
 use Rattle.locale_numbers_tables.specs.Entries.{field_at, has_count, is_text_at, text_or_empty}
 use Rattle.locale_numbers_tables.specs.Faults.{first_broken, has_locale}
 use Rattle.locale_numbers_tables.specs.Fields.{plain_text_in, system_or_none_in}
@@ -13,12 +12,6 @@ use Rattle.locale_numbers_tables.specs.declared.BookError.TheVariants.{Shape, Ta
 use Rattle.locale_numbers_units.specs.Fields.{has_at}
 use Rattle.locale_numbers_units.specs.OwnSymbols.{has_own_shape, has_own_system, has_own_texts, own_in}
 use Rattle.locale_numbers_units.specs.Patterns.{has_pattern_shape, is_plain_pattern, pattern_in}
-
--- the percent sign, symbols of percents' own or none, and the pattern
-pub record PercentTexts : Type 0 where
-  pub sign : List ℕ
-  pub symbols : Option Symbols
-  pub pattern : PatternTexts
 
 -- places 2 to 4
 abbrev pub percents_said : Data → Option PercentTexts

@@ -16,31 +16,14 @@ use crate::patterns::{
     has_pattern_or_null_shape, has_pattern_shape, is_plain_pattern, is_plain_pattern_or_null,
     pattern_at, pattern_or_null_at,
 };
-use icu_decimal::provider::{DataIdentifier, DecimalSymbols};
-use icu_dimension_affixes::UnitPatterns;
+use icu_decimal::provider::DataIdentifier;
+use icu_dimension::UnitPatterns;
+use icu_dimension::provider::AmountPatterns;
 use locale_numbers_tables::BookError;
 use locale_numbers_tables::fields::{has_count, is_text_at, locale, system_or_none};
 use serde_json::Value;
 use std::alloc::{AllocError, Global};
-use std::marker::Model;
 use tinystr::TinyAsciiStr;
-
-/// How amounts are written: in English the unit is before the number.
-#[derive(Debug, Drop)]
-pub struct AmountPatterns {
-    /// The symbols of amounts, where these are others than the locale's.
-    pub symbols: Option<DecimalSymbols>,
-    /// The texts before and after the number, and those for a unit with a letter next to the number.
-    pub patterns: UnitPatterns,
-}
-
-impl Model for AmountPatterns {
-    ghost use Rattle.locale_numbers_units.specs.Amounts.{AmountTexts};
-
-    ghost Value = { AmountTexts };
-
-    ghost view = { λ a. record { symbols = a.symbols; patterns = a.patterns } };
-}
 
 fn has_amounts_shape(entry: &Value) -> bool
     ensures { result ≡ has_amounts_shape (view entry.now) }

@@ -6,7 +6,7 @@ ghost use Rattle.locale_numbers_units.specs.CurrencyDigits.{digits_said, fractio
 
 use crate::array::UnitArray;
 use crate::fields::{code, increment};
-use icu_dimension_fractions::{Fraction, FractionInfo};
+use icu_dimension::{Fraction, FractionInfo};
 use locale_numbers_tables::BookError;
 use locale_numbers_tables::fields::{has_count, is_text_at, size};
 use serde_json::Value;

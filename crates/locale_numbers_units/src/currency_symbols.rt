@@ -1,69 +1,17 @@
 //! Symbols of currencies.
 
 ghost use Rattle.std.specs.Prelude.{◌≡◌};
-ghost use Rattle.std.specs.Option.{option_copied};
 ghost use Rattle.serde_json.specs.View.{view};
-ghost use Rattle.locale_numbers_units.specs.CurrencySymbols.{has_symbols_shape, written_as};
+ghost use Rattle.locale_numbers_units.specs.CurrencySymbols.{has_symbols_shape};
 
 use crate::array::UnitArray;
 use crate::fields::{code, ends};
 use icu_decimal::provider::DataIdentifier;
-use icu_dimension_affixes::LetterEnds;
+use icu_dimension::provider::CurrencySymbol;
 use locale_numbers_tables::BookError;
 use locale_numbers_tables::fields::{has_count, has_text, is_text_at, locale, symbol};
 use serde_json::Value;
 use std::alloc::Global;
-use std::marker::Model;
-use tinystr::TinyAsciiStr;
-
-/// The symbol of a currency: `US$`, whose first end is a letter.
-#[derive(Debug, Drop)]
-pub struct CurrencySymbol {
-    /// How the currency is written.
-    pub text: String,
-    /// Which ends of the text are letters.
-    pub ends: LetterEnds,
-}
-
-impl Model for CurrencySymbol {
-    ghost use Rattle.std.specs.Prelude.{string_bytes};
-    ghost use Rattle.locale_numbers_units.specs.CurrencySymbols.{SymbolText};
-
-    ghost Value = { SymbolText };
-
-    ghost view = { λ s. record { text = string_bytes s.text; ends = s.ends } };
-}
-
-/// How a currency is written: by its symbol, or by its code. The text is borrowed.
-#[derive(Clone, Copy, Debug)]
-pub struct CurrencyName<'l> {
-    /// The symbol or the code.
-    pub text: &'l str,
-    /// Which ends of the text are letters.
-    pub ends: LetterEnds,
-}
-
-impl<'l> CurrencyName<'l> {
-    /// The symbol, or where there is none the code, both of whose ends are letters: `US$` or `USD`. It does not allocate.
-    pub fn new(symbol: Option<&'l CurrencySymbol>, code: &'l TinyAsciiStr<8>) -> Self
-        ensures text { result.text.now ≡ (written_as (option_copied symbol.entry) code.now).text }
-        ensures ends { result.ends ≡ (written_as (option_copied symbol.entry) code.now).ends }
-    {
-        match symbol {
-            Some(symbol) => CurrencyName {
-                text: symbol.text.as_str(),
-                ends: symbol.ends,
-            },
-            None => CurrencyName {
-                text: code.as_str(),
-                ends: LetterEnds {
-                    first: true,
-                    last: true,
-                },
-            },
-        }
-    }
-}
 
 fn has_symbols_shape(entry: &Value) -> bool
     ensures { result ≡ has_symbols_shape (view entry.now) }

@@ -17,11 +17,11 @@ mod percents;
 mod tables;
 mod units;
 
-pub use amounts::{Accounts, AmountPatterns, Currencies};
+pub use amounts::{Accounts, Currencies};
 pub use array::UnitArray;
 pub use currency_digits::CurrencyDigits;
-pub use currency_symbols::{CurrencyName, CurrencySymbol, CurrencySymbols};
+pub use currency_symbols::CurrencySymbols;
 pub use locale_numbers_tables::BookError;
-pub use percents::{PercentPattern, Percents};
+pub use percents::Percents;
 pub use tables::table_of;
 pub use units::{UnitArrays, Units};

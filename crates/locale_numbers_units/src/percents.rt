@@ -7,35 +7,14 @@ ghost use Rattle.locale_numbers_units.specs.Percents.{has_percents_shape, has_pe
 use crate::array::UnitArray;
 use crate::own_symbols::{has_own_shape, has_own_system, has_own_texts, own_symbols};
 use crate::patterns::{has_pattern_shape, is_plain_pattern, pattern_at};
-use icu_decimal::provider::{DataIdentifier, DecimalSymbols};
-use icu_dimension_affixes::UnitPattern;
+use icu_decimal::provider::DataIdentifier;
+use icu_dimension::provider::PercentPattern;
 use locale_numbers_tables::BookError;
 use locale_numbers_tables::fields::{
     has_count, has_text, is_text_at, locale, symbol, system_or_none,
 };
 use serde_json::Value;
 use std::alloc::Global;
-use std::marker::Model;
-
-/// How percents are written: in Turkish `%` is before the number.
-#[derive(Debug, Drop)]
-pub struct PercentPattern {
-    /// The percent sign.
-    pub sign: String,
-    /// The symbols of percents, where these are others than the locale's.
-    pub symbols: Option<DecimalSymbols>,
-    /// The texts before and after the number.
-    pub pattern: UnitPattern,
-}
-
-impl Model for PercentPattern {
-    ghost use Rattle.std.specs.Prelude.{string_bytes};
-    ghost use Rattle.locale_numbers_units.specs.Percents.{PercentTexts};
-
-    ghost Value = { PercentTexts };
-
-    ghost view = { λ p. record { sign = string_bytes p.sign; symbols = p.symbols; pattern = p.pattern } };
-}
 
 fn has_percents_shape(entry: &Value) -> bool
     ensures { result ≡ has_percents_shape (view entry.now) }

@@ -2,19 +2,21 @@
 
 ghost use Rattle.std.specs.Prelude.{◌≡◌, ◌||◌, true, IfErr, IfOk, IsErrOf};
 ghost use Rattle.std.specs.Option.{option_copied};
+ghost use Rattle.std.specs.Str.{bytes_eq};
 ghost use Rattle.serde_json.specs.View.{items_view};
 ghost use Rattle.locale_numbers_tables.specs.Keys.{same_key, table_at};
 ghost use Rattle.locale_numbers_tables.specs.Telling.{IsTold};
-ghost use Rattle.locale_numbers_units.specs.Units.{AreUnits, digits_for, units_fault, units_may_grow, usual_digits};
+ghost use Rattle.locale_numbers_units.specs.Units.{AreUnits, units_fault, units_may_grow};
 ghost use Rattle.locale_numbers_tables.specs.declared.BookError.{BookError};
 
-use crate::amounts::{Accounts, AmountPatterns, Currencies};
+use crate::amounts::{Accounts, Currencies};
 use crate::currency_digits::CurrencyDigits;
-use crate::currency_symbols::{CurrencySymbol, CurrencySymbols};
-use crate::percents::{PercentPattern, Percents};
+use crate::currency_symbols::CurrencySymbols;
+use crate::percents::Percents;
 use crate::tables::table_of;
 use icu_decimal::provider::DataIdentifier;
-use icu_dimension_fractions::{Fraction, FractionInfo};
+use icu_dimension::FractionInfo;
+use icu_dimension::provider::{AmountPatterns, CurrencySymbol, PercentPattern};
 use locale_numbers_tables::{BookError, Seed, Table};
 use serde_json::Value;
 use std::alloc::Global;
@@ -64,16 +66,6 @@ impl Drop for Units {
             symbols: _symbols,
             digits: _digits,
         } = self;
-    }
-}
-
-// The digits of a currency that no entry is for.
-fn usual_digits() -> FractionInfo
-    ensures { result ≡ usual_digits }
-{
-    FractionInfo {
-        standard: Fraction::two_digits(),
-        cash: Fraction::two_digits(),
     }
 }
 
@@ -152,13 +144,10 @@ impl Units {
         self.symbols.map.get(id)
     }
 
-    /// The digits of a currency: of `JPY` none, and two of a code that no entry is for. It does not allocate.
-    pub fn digits(&self, code: TinyAsciiStr<8>) -> FractionInfo
-        ensures { result ≡ digits_for self.now code }
+    /// The digits of a currency, of `JPY` none; `None` where no entry is for the code. It does not allocate.
+    pub fn digits(&self, code: &TinyAsciiStr<8>) -> Option<&FractionInfo>
+        ensures { option_copied result ≡ table_at bytes_eq code.now self.now.digits }
     {
-        match self.digits.map.get(&code) {
-            Some(digits) => *digits,
-            None => usual_digits(),
-        }
+        self.digits.map.get(code)
     }
 }
