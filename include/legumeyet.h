@@ -84,9 +84,11 @@ enum {
     LEGUMEYET_UNREADABLE = 11,  /* under the formatter's symbols two numbers may have one text */
     LEGUMEYET_NOT_WRITTEN = 12, /* the formatter writes no number so, as `98,7654` in English */
     LEGUMEYET_EXPONENT = 13,    /* numbers of the magnitude of an exact form have another exponent, as 3 that of `1.2c5` in English */
+    LEGUMEYET_CODE = 14,        /* the text is no code of a currency, which is three letters `A` to `Z`, as `eur` */
+    LEGUMEYET_UNKEPT = 15,      /* the book is not kept, as by legumeyet_book_keep */
     /* Why a text is no book: the first faulty entry decides, and of an entry the least number. */
     LEGUMEYET_BOOK_JSON = 101,      /* the bytes are no JSON, as `[1` */
-    LEGUMEYET_BOOK_SHAPE = 102,     /* the value is not five arrays or six, as `[]`, or an entry has not its form */
+    LEGUMEYET_BOOK_SHAPE = 102,     /* the value is no book of arrays, nor a pair of one and of units, as `[]`, or an entry has not its form */
     LEGUMEYET_BOOK_TAG = 103,       /* a locale, or the parent of one, is refused, as `e` */
     LEGUMEYET_BOOK_SYSTEM = 104,    /* a name of a numbering system is not 3 to 8 lower-case letters and digits */
     LEGUMEYET_BOOK_TEXT = 105,      /* a tab or a line feed is in the text of a symbol or a pattern */
@@ -95,7 +97,9 @@ enum {
     LEGUMEYET_BOOK_TYPES = 108,     /* the types of patterns do not rise */
     LEGUMEYET_BOOK_EXPONENTS = 109, /* an exponent of patterns falls, is above its type, or is more than 15 below it */
     LEGUMEYET_BOOK_DUPLICATE = 110, /* an earlier entry of the array has the same key */
-    LEGUMEYET_BOOK_CYCLE = 111      /* the parents of a locale lead back to it */
+    LEGUMEYET_BOOK_CYCLE = 111,     /* the parents of a locale lead back to it */
+    LEGUMEYET_BOOK_UNIT = 113,      /* the place of the unit is not once in a pattern */
+    LEGUMEYET_BOOK_CODE = 114       /* the code of a currency is not three letters `A` to `Z` */
 };
 
 /* When grouping separators are written. */
@@ -222,7 +226,7 @@ const char *legumeyet_world_locale(size_t at);
  * Opens the book that a file is; legumeyet_book_open says what the file has. `path` ends with a NUL. What `book` had open is closed, where
  * the call returns 0.
  *
- * Returns 0; LEGUMEYET_FILE, and then errno says why the file cannot be read; LEGUMEYET_BOOK_JSON to LEGUMEYET_BOOK_CYCLE;
+ * Returns 0; LEGUMEYET_FILE, and then errno says why the file cannot be read; LEGUMEYET_BOOK_JSON to LEGUMEYET_BOOK_CODE;
  * LEGUMEYET_MEMORY.
  */
 int32_t legumeyet_book_open_file(const char *path, legumeyet_book *book);
@@ -233,7 +237,7 @@ int32_t legumeyet_book_open_file(const char *path, legumeyet_book *book);
  *
  * What `book` had open is closed, where the call returns 0. `[[],[],[],[],[]]` is the shortest book.
  *
- * Returns 0; LEGUMEYET_BOOK_JSON to LEGUMEYET_BOOK_CYCLE; LEGUMEYET_MEMORY.
+ * Returns 0; LEGUMEYET_BOOK_JSON to LEGUMEYET_BOOK_CODE; LEGUMEYET_MEMORY.
  */
 int32_t legumeyet_book_open(const uint8_t *json, size_t json_length, legumeyet_book *book);
 
