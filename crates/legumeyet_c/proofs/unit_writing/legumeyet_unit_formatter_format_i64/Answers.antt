@@ -1,5 +1,4 @@
 use Rattle.std.proofs.Common.{rules, w16, w32, w64, subst, ◌∙◌}
-use Rattle.std.specs.Prelude.{pos}
 use Rattle.std.proofs.lemmas.Int.{to_z-of_z}
 use mir.Val.{SFits}
 use Rattle.legumeyet_c_values.specs.Numbers.{IsScaled, IsScaledFault}

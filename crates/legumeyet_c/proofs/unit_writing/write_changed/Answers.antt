@@ -1,12 +1,9 @@
-use Rattle.std.proofs.Common.{rules, List, ℕ, Result, ap, refl, subst, sym, ◌∙◌, ◌≡◌, Ok, Err, Option, Some}
-use Rattle.fixed_decimal.specs.Number.{Number}
-use Rattle.fixed_decimal.specs.SignedValue.{SignedValue}
+use Rattle.std.proofs.Common.{ap, subst, ◌∙◌, ◌≡◌, Ok, Err, Option, Some}
 use Rattle.icu_decimal.specs.Affixes.{WithSign}
 use Rattle.icu_dimension.specs.UnitText.{UnitNumber, UnitSettings, unit_decimal_events, unit_formatted}
 use Rattle.icu_dimension.specs.declared.FractionInfo.{FractionInfo}
 use Rattle.writeable.specs.AnnotatedText.{text_of}
 use Rattle.legumeyet_c_values.specs.Units.{GivesUnit, IsUnitChangeFault, unit_choices_of}
-use Rattle.legumeyet_c_values.specs.declared.CallError.{CallError}
 use Rattle.legumeyet_c_values.proofs.PuttingLemmas.{put_by, put_refused}
 use Rattle.legumeyet_c.specs.UnitWriting.{IsUnitWritingFault}
 use Rattle.legumeyet_c.proofs.UnitLemmas.{unit_fault_other}
