@@ -17,14 +17,19 @@
 #define PATTERNS(magnitude, word) "[" #magnitude ",3,[[\"one\",[\"\",\" k" word "\"]],[\"other\",[\"\",\" ks" word "\"]]]]"
 #define FOUR(a, b, c, d) PATTERNS(a, " one") "," PATTERNS(b, " two") "," PATTERNS(c, " three") "," PATTERNS(d, " four")
 
-static const char BOOK[] = "[[[\"en\",\"\",\"latn\",\"-\",\"\",\"+\",\"\",\".\",\",\",3,3,1]],[[\"latn\",\"0123456789\"]],"
+/* A pair: tables of numbers, and those of percents, of dollars, and of their digits in cash, which are multiples of 25 of the last one. */
+static const char BOOK[] = "[[[[\"en\",\"\",\"latn\",\"-\",\"\",\"+\",\"\",\".\",\",\",3,3,1]],[[\"latn\",\"0123456789\"]],"
                            "[[\"en\",[[\"one\",\"i = 1\"]]]],"
                            "[[\"en\",\"\",[" PATTERNS(3, "") "," FOUR(11, 12, 13, 14) "," FOUR(15, 16, 17, 18) "],null]],"
-                           "[[\"en\",\"\",[[3,3,[[\"other\",[\"\",\" thousand\"]]]]],null]]]";
+                           "[[\"en\",\"\",[[3,3,[[\"other\",[\"\",\" thousand\"]]]]],null]]],"
+                           "[[[\"en\",\"\",\"%\",null,[\"\",\"\\u00a4\"]]],[[\"en\",\"\",null,[\"\\u00a4\",\"\"],null]],"
+                           "[[\"en\",\"\",null,[\"\\u00a4\",\"\",\"(\\u00a4\",\")\",\"+\\u00a4\",\"\"],null]],[[\"en\",\"USD\",\"$\",0]],"
+                           "[[\"USD\",2,1,2,25]]]]";
 
 static legumeyet_book book;
 static legumeyet_decimal_formatter own, plain;
 static legumeyet_compact_formatter own_short, short_english, long_english;
+static legumeyet_unit_formatter percents, dollars;
 static const legumeyet_options AS_GIVEN = {0};
 static uint8_t out[64];
 static size_t length;
@@ -91,6 +96,38 @@ static void write_all(legumeyet_decimal_formatter *decimal, legumeyet_compact_fo
     expect_text("1.60 k");
 }
 
+/* Formatters of percents and amounts are of kept books alone. */
+static void open_units(void) {
+    expect("not kept", legumeyet_percent_formatter_open(&book, TEXT("en"), 0, &percents), LEGUMEYET_UNKEPT);
+    TWICE(legumeyet_book_keep(&book));
+    TWICE(legumeyet_percent_formatter_open(&book, TEXT("en"), LEGUMEYET_GROUPING_AUTO, &percents));
+    TWICE(legumeyet_currency_formatter_open(&book, TEXT("en"), TEXT("USD"), LEGUMEYET_STYLE_ACCOUNTING, LEGUMEYET_CURRENCY_SYMBOL, 0, &dollars));
+}
+
+/* Each call of theirs. */
+static void write_units(void) {
+    legumeyet_options cash = {0};
+    legumeyet_interval parts[8];
+    size_t count = 0;
+    cash.rounding = LEGUMEYET_ROUND_CASH;
+    TWICE(legumeyet_unit_formatter_format(&percents, TEXT("-98765432109.5"), &AS_GIVEN, out, sizeof out, &length));
+    expect_text("-98,765,432,109.5%");
+    TWICE(legumeyet_unit_formatter_read(&percents, TEXT("-98,765,432,109.5%"), out, sizeof out, &length));
+    expect_text("-98765432109.5");
+    TWICE(legumeyet_unit_formatter_format(&dollars, TEXT("1234567.8"), &cash, out, sizeof out, &length));
+    expect_text("$1,234,567.75");
+    TWICE(legumeyet_unit_formatter_format_i64(&dollars, -98765432109, 0, &AS_GIVEN, out, sizeof out, &length));
+    expect_text("($98,765,432,109.00)");
+    TWICE(legumeyet_unit_formatter_format_u64(&dollars, 5, -1, &AS_GIVEN, out, sizeof out, &length));
+    expect_text("$0.50");
+    TWICE(legumeyet_unit_formatter_format_double(&dollars, -98765432.125, &AS_GIVEN, out, sizeof out, &length));
+    expect_text("($98,765,432.12)");
+    TWICE(legumeyet_unit_formatter_format_parts(&dollars, TEXT("-12345.5"), &AS_GIVEN, out, sizeof out, &length, parts, 8, &count));
+    expect("parts", (int64_t)count, 7);
+    TWICE(legumeyet_unit_formatter_read(&dollars, TEXT("($98,765,432,109.00)"), out, sizeof out, &length));
+    expect_text("-98765432109.00");
+}
+
 /* Calls on a kept book answer as on any other. */
 static void use_kept_book(void) {
     TWICE(legumeyet_book_answer(&book, TEXT("en\tplain\tauto\tkeep\t-\t-1234.5"), out, sizeof out, &length));
@@ -107,16 +144,20 @@ int main(void) {
     expect("a closed book", legumeyet_book_keep(&book), LEGUMEYET_CLOSED);
     TWICE(legumeyet_book_open(TEXT(BOOK), &book));
     held = open_both(&own, &own_short);
-    TWICE(legumeyet_book_keep(&book));
+    open_units();
     expect("once more", legumeyet_book_keep(&book), LEGUMEYET_OK);
     borrowed = open_both(&plain, &short_english);
     if (held != 0 && refused == 0) expect("it borrows", 2 * borrowed < held, 1);
     use_kept_book();
     write_all(&own, &own_short);
     write_all(&plain, &short_english);
+    write_units();
     expect("the book", legumeyet_book_close(&book), LEGUMEYET_OK);
     expect("a closed book", legumeyet_book_keep(&book), LEGUMEYET_CLOSED);
     write_all(&plain, &short_english);
+    write_units();
+    expect("its formatter", legumeyet_unit_formatter_close(&percents), LEGUMEYET_OK);
+    expect("its formatter", legumeyet_unit_formatter_close(&dollars), LEGUMEYET_OK);
     expect("its formatter", legumeyet_decimal_formatter_close(&plain), LEGUMEYET_OK);
     expect("its formatter", legumeyet_compact_formatter_close(&short_english), LEGUMEYET_OK);
     expect("its formatter", legumeyet_compact_formatter_close(&long_english), LEGUMEYET_OK);

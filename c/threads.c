@@ -1,8 +1,8 @@
 /*
  * Uses handles in threads, for a tool that looks for races: a formatter that is opened here, and used and closed in another
  * thread, a plain and a compact one; two formatters of one book, both used at once; and a book that another thread opens formatters
- * of. All this is done with a book, and then with one that is kept, whose tables the formatters share. The status is 1 where a text is
- * wrong.
+ * of. All this is done with a book, and then with one that is kept, whose tables the formatters share: there two formatters of amounts are
+ * used too. The status is 1 where a text is wrong.
  */
 #include <legumeyet.h>
 #include <pthread.h>
@@ -12,8 +12,9 @@
 
 enum { TURNS = 200 };
 
-static const char BOOK[] = "[[[\"en\",\"\",\"latn\",\"-\",\"\",\"+\",\"\",\".\",\",\",3,3,1],[\"de\",\"\",\"latn\",\"-\",\"\",\"+\",\"\",\",\",\".\",3,3,1]],"
-                           "[[\"latn\",\"0123456789\"]],[[\"en\",[]]],[[\"en\",\"\",[[6,6,[[\"other\",[\"\",\"M\"]]]]],null]],[]]";
+static const char BOOK[] = "[[[[\"en\",\"\",\"latn\",\"-\",\"\",\"+\",\"\",\".\",\",\",3,3,1],[\"de\",\"\",\"latn\",\"-\",\"\",\"+\",\"\",\",\",\".\",3,3,1]],"
+                           "[[\"latn\",\"0123456789\"]],[[\"en\",[]]],[[\"en\",\"\",[[6,6,[[\"other\",[\"\",\"M\"]]]]],null]],[]],"
+                           "[[],[[\"en\",\"\",null,[\"\\u00a4\",\"\"],null]],[[\"en\",\"\",null,[\"\\u00a4\",\"\"],null]],[[\"en\",\"USD\",\"$\",0]],[]]]";
 
 /* What a thread is given: a formatter, or a book and the tag that it opens one for. */
 typedef struct {
@@ -47,6 +48,37 @@ static void *do_compact_work(void *given) {
     return is_right ? given : NULL;
 }
 
+/* The same of a formatter of amounts. */
+static void *do_unit_work(void *given) {
+    static const legumeyet_options AS_GIVEN = {0};
+    legumeyet_unit_formatter *formatter = given;
+    uint8_t out[64];
+    size_t length = 0;
+    int turn, is_right = 1;
+    for (turn = 0; turn < TURNS; turn++) {
+        is_right = is_right && legumeyet_unit_formatter_format(formatter, TEXT("-987654321.25"), &AS_GIVEN, out, sizeof out, &length) == 0 &&
+                   length == 16 && memcmp(out, "-$987,654,321.25", length) == 0;
+        is_right = is_right && legumeyet_unit_formatter_read(formatter, TEXT("-$987,654,321.25"), out, sizeof out, &length) == 0 &&
+                   length == 13 && memcmp(out, "-987654321.25", length) == 0;
+    }
+    is_right = is_right && legumeyet_unit_formatter_close(formatter) == 0;
+    return is_right ? given : NULL;
+}
+
+/* Whether two threads write what they should with formatters of amounts of a kept book. */
+static int is_right_of_units(legumeyet_book *book) {
+    legumeyet_unit_formatter formatters[2] = {{0}, {0}};
+    pthread_t threads[2];
+    void *done = NULL;
+    int at, is_right = 1;
+    for (at = 0; at < 2; at++)
+        if (legumeyet_currency_formatter_open(book, TEXT("en"), TEXT("USD"), (uint32_t)at, 0, 0, &formatters[at]) != 0) return 0;
+    for (at = 0; at < 2; at++)
+        if (pthread_create(&threads[at], NULL, do_unit_work, &formatters[at]) != 0) return 0;
+    for (at = 0; at < 2; at++) is_right = pthread_join(threads[at], &done) == 0 && done != NULL && is_right;
+    return is_right;
+}
+
 /* Opens what is not open, uses it, and closes it. */
 static void *do_work(void *given) {
     work *it = given;
@@ -78,6 +110,7 @@ static int is_right_in_threads(int is_kept) {
     if (pthread_create(&compact_thread, NULL, do_compact_work, &compact) != 0) return 0;
     for (at = 0; at < 3; at++) is_right = pthread_join(threads[at], NULL) == 0 && works[at].is_right && is_right;
     is_right = pthread_join(compact_thread, &done) == 0 && done != NULL && is_right;
+    is_right = (!is_kept || is_right_of_units(&book)) && is_right;
     return legumeyet_book_close(&book) == 0 && is_right;
 }
 
