@@ -9,6 +9,7 @@ use Rattle.fixed_decimal.specs.SignedValue.{SignedValue}
 use Rattle.fixed_decimal.specs.TextLaws.{IsDecimal}
 use Rattle.fixed_decimal.proofs.SignedReadOnceLemmas.{signed_printed}
 use Rattle.icu_decimal.specs.declared.error.DataError.{DataError}
+use Rattle.icu_decimal.specs.declared.options.GroupingStrategy.{GroupingStrategy}
 use Rattle.icu_decimal.specs.declared.options.GroupingStrategy.TheVariants.{Auto, Always}
 use Rattle.icu_decimal.specs.Choice.{first_found}
 use Rattle.icu_decimal.specs.CompactTables.{CompactTables}
@@ -17,7 +18,8 @@ use Rattle.icu_decimal.specs.FoundTables.{with_digits, with_symbols}
 use Rattle.icu_decimal.specs.Identifiers.{digits_identifiers, symbols_identifiers}
 use Rattle.icu_decimal.specs.KeptEntries.{CompactTable}
 use Rattle.icu_decimal.specs.Folding.{plain_digits}
-use Rattle.icu_decimal.specs.LenientReading.{folded_reading, or_else}
+use Rattle.icu_decimal.specs.LenientLaws.{EachGroupingIsLenient, under}
+use Rattle.icu_decimal.specs.LenientReading.{folded_reading, lenient_reading, or_else}
 use Rattle.icu_decimal.specs.PlainReading.{IsPlainText, PlainReading, decimal, not_written, plain_reading, unreadable}
 use Rattle.icu_decimal.specs.PlainText.{Tables, decimal_text}
 use Rattle.icu_decimal.specs.ReadingLaws.{HasOneReading as HasOnePlainReading, ReadIsWrittenAgain as TextIsWrittenAgain, TextsHaveOneDecimal, WrittenReadsBack as TextReadsBack}
@@ -30,7 +32,7 @@ use Rattle.locale_numbers.specs.Answer.{answer_asked, answer_in, answer_tagged, 
 use Rattle.locale_numbers_answers.specs.Changing.{changed, signed_as}
 use Rattle.locale_numbers.specs.CompactAnswer.{compact_with, exact_with, found_compact, patterns_under}
 use Rattle.locale_numbers_answers.specs.CompactReading.{CompactReading, compact_beyond, compact_nothing, compact_number, compact_reading_of}
-use Rattle.locale_numbers.specs.Laws.{AutoIsAnsweredAsAlways, FindsTables, ReadIsReadLeniently, ReadIsWrittenAgain, RoundedIsWrittenAgain, WrittenReadsBack, grouped_by, lenient_request, plain_request, reading_request}
+use Rattle.locale_numbers.specs.Laws.{AutoIsAnsweredAsAlways, EachGroupingIsReadLeniently, FindsTables, ReadIsReadLeniently, ReadIsWrittenAgain, RoundedIsWrittenAgain, WrittenReadsBack, grouped_by, lenient_request, plain_request, reading_request}
 use Rattle.locale_numbers_answers.specs.LenientAnswer.{lenient_with, reading_by, second_of, where_found}
 use Rattle.locale_numbers_answers.specs.NumberReading.{Reading, beyond, nothing, number, reading_of}
 use Rattle.locale_numbers_answers.specs.ReadAnswer.{read_answer, read_with}
@@ -235,6 +237,26 @@ auto_tagged book asked (Some p) = auto_in book p asked asked.form
 pub auto_is_always : AutoIsAnsweredAsAlways
 auto_is_always book asked = auto_tagged book asked (wanted_of asked.tag)
 
+-- what is found under another grouping differs in nothing else
+abbrev regrouped : GroupingStrategy → Result Tables DataError → Result Tables DataError
+regrouped grouping (Ok tables) = Ok (under grouping tables)
+regrouped grouping (Err error) = Err error
+
+regrouped_digits : (one other : GroupingStrategy) (symbols : Symbols) (answer : Result (List ℕ) DataError)
+    → with_digits other symbols answer ≡ regrouped other (with_digits one symbols answer)
+regrouped_digits one other symbols (Ok digits) = refl
+regrouped_digits one other symbols (Err error) = refl
+
+regrouped_symbols : (one other : GroupingStrategy) (book : BookTables) (p : Preferences) (answer : Result Symbols DataError)
+    → with_symbols other (digits_under book) p answer ≡ regrouped other (with_symbols one (digits_under book) p answer)
+regrouped_symbols one other book p (Ok symbols) =
+    regrouped_digits one other symbols (first_found (digits_under book) (digits_identifiers p.numbering_system symbols.strings.numsys))
+regrouped_symbols one other book p (Err error) = refl
+
+found_regrouped : (one other : GroupingStrategy) (book : BookTables) (p : Preferences)
+    → found_in book p other ≡ regrouped other (found_in book p one)
+found_regrouped one other book p = regrouped_symbols one other book p (first_found (symbols_under book) (symbols_identifiers (chain_in book) p))
+
 -- ---- requests whose tables are found
 
 -- what was read of a text that has an answer
@@ -276,6 +298,23 @@ module _ (book : BookTables) (asked : Asked) (tables : Tables) (finds : FindsTab
   read_found text =
       ap (λ p. answer_tagged book p (reading_request asked text)) finds.tag
       ∙ ap (λ found. read_with found text) finds.found
+
+  -- and what the request with another grouping reads
+  regrouped_found : (grouping : GroupingStrategy) (text : List ℕ)
+      → answer_asked book (Some (reading_request (grouped_by grouping asked) text)) ≡ read_answer (plain_reading (under grouping tables) text)
+  regrouped_found grouping text =
+      ap (λ p. answer_tagged book p (reading_request (grouped_by grouping asked) text)) finds.tag
+      ∙ ap (λ found. read_with found text) (found_regrouped asked.grouping grouping book finds.preferences)
+      ∙ ap (λ found. read_with (regrouped grouping found) text) finds.found
+
+  -- what is read leniently is answered
+  lenient_found : (text : List ℕ) (value : SignedValue Number) → lenient_reading tables text ≡ decimal value
+      → answer_asked book (Some (lenient_request asked text)) ≡ written (signed_text_of value)
+  lenient_found text value is =
+      let latin : Result Tables DataError = found_in book (in_latin finds.preferences) asked.grouping in
+      ap (λ p. answer_tagged book p (lenient_request asked text)) finds.tag
+      ∙ ap (λ found. lenient_with found latin text) finds.found
+      ∙ ap read_answer (read_first tables (second_of tables latin) text value is)
 
   plain_found : (rounding : RoundingAsked) (digits : List ℕ) (value : SignedValue Number) → reading_of digits ≡ number value
       → answer_asked book (Some (plain_request asked rounding digits)) ≡ written (decimal_text tables (changed rounding Keep value))
@@ -319,6 +358,13 @@ read_again one again book asked tables text digits finds same =
     let plain = read_plainly book asked tables finds one text read.value read.is in
     plain_found book asked tables finds Unrounded digits read.value (sent_again book asked tables finds text digits read plain.decimal)
     ∙ ap written (again tables text read.value read.is)
+
+pub each_grouping_is_read : EachGroupingIsLenient → EachGroupingIsReadLeniently
+each_grouping_is_read lenient book asked tables grouping text digits finds readable utf8 same =
+    let other : Tables = under grouping tables in
+    let read = read_by other text digits (plain_reading other text) refl (sym (regrouped_found book asked tables finds grouping text) ∙ same) in
+    lenient_found book asked tables finds text read.value (lenient tables grouping text read.value finds.are utf8 readable read.is)
+    ∙ ap written read.printed
 
 pub reads_back : TextReadsBack → WrittenReadsBack
 reads_back back book asked tables value finds readable is =

@@ -4,7 +4,7 @@
 ghost use Rattle.locale_numbers.specs.Answer.{found_in};
 ghost use Rattle.locale_numbers.specs.CompactAnswer.{found_compact};
 ghost use Rattle.locale_numbers.specs.FormatterKeys.{same_keys};
-ghost use Rattle.locale_numbers.specs.Laws.{AlikeTagsAreAnsweredAlike, NormalTextIsAnsweredAlike, AutoIsAnsweredAsAlways, AreTexts, FoundTablesAreTexts, LinesAskTheirFields, ReadIsReadLeniently, ReadIsWrittenAgain, RoundedIsWrittenAgain, TellsKeys, WrittenIsUtf8, WrittenReadsBack};
+ghost use Rattle.locale_numbers.specs.Laws.{AlikeTagsAreAnsweredAlike, NormalTextIsAnsweredAlike, AutoIsAnsweredAsAlways, AreTexts, EachGroupingIsReadLeniently, FoundTablesAreTexts, LinesAskTheirFields, ReadIsReadLeniently, ReadIsWrittenAgain, RoundedIsWrittenAgain, TellsKeys, WrittenIsUtf8, WrittenReadsBack};
 ghost use Rattle.locale_numbers.specs.PrintedLaws.{FoundTablesAreSound, IsSoundWhereFound, PrintedIsAnswered, PrintedIsNear, PrintedIsWrittenAgain, PrintedKeepsOrder, PrintedPrintsItself, ZeroIsPrintedForZero};
 ghost use Rattle.locale_numbers.specs.UnitLaws.{ReadUnitIsWrittenAgain, WrittenUnitIsUtf8, WrittenUnitReadsBack};
 ghost use Rattle.locale_numbers_requests.specs.declared.PatternLength.TheVariants.{Short, Long};
@@ -15,6 +15,7 @@ use crate::tables::Tables;
 use icu_decimal::laws::compact::{
     held_entries_are_sound, shown_forms_are_answered, shown_values_are_compact,
 };
+use icu_decimal::laws::lenient::exact_is_lenient;
 use icu_decimal::laws::reading::{
     both_trips, plain_reading_is_the_reading, texts_are_utf8, texts_have_one_decimal,
 };
@@ -104,6 +105,15 @@ pub fn read_is_written_again()
 pub fn read_is_read_leniently()
     ensures { ReadIsReadLeniently }
 {}
+
+/// Where the symbols are leniently readable, a text that `read` answers by a number with one grouping, `read-lenient`
+/// answers by the same one with each: with `en`, `1234` has the answer `1234` to `read` with `never`, and to
+/// `read-lenient` with `always`.
+pub fn each_grouping_is_read_leniently()
+    ensures { EachGroupingIsReadLeniently }
+{
+    exact_is_lenient();
+}
 
 /// What is written of a number is UTF-8, as each field of a line is: with `en` that of -987654.321 is `-987,654.321`.
 pub fn written_is_utf8()
