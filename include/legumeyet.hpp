@@ -553,7 +553,8 @@ class Book : inner::Owned<legumeyet_book, legumeyet_book_close> {
         return inner::text_of([&](auto... out) { return legumeyet_book_answer(&handle, inner::bytes(line), line.size(), out...); });
     }
 
-    // The tags of the locales that the book has symbols of, in its order; world_locales has those of the world's book too.
+    // The tags of the locales that the book has symbols of, in its order. Others have the tables of their parents: of the world's book
+    // world_locales lists all.
     Result<std::vector<std::string>> try_locales() {
         std::vector<std::string> found;
         std::size_t count = 0;

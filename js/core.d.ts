@@ -76,7 +76,7 @@ export class Book extends Open {
   keep(): this;
   /** The answer to a request line, a text or its bytes. */
   answer(line: string | Uint8Array): string;
-  /** The tags of the locales that the book has symbols of, in its order. */
+  /** The tags of the locales that the book has symbols of, in its order. Others have the tables of their parents. */
   locales(): string[];
 }
 

@@ -94,7 +94,7 @@ export class Book extends Open {
     return written(atOf(this), calls.js_book_answer, line);
   }
 
-  /** The tags of the locales that the book has symbols of, in its order. */
+  /** The tags of the locales that the book has symbols of, in its order. Others have the tables of their parents. */
   locales() {
     const at = atOf(this);
     const count = expected(inside(() => calls.js_book_locale_count(at)));

@@ -916,7 +916,8 @@ static PyMethodDef book_methods[] = {
      "'ok\\t-987.654,321'"},
     {"locales", book_locales, METH_NOARGS,
      "locales($self, /)\n--\n\n"
-     "The tags of the locales that the book has symbols of, in its order. A formatter can be opened of others too, which have their tables.\n\n"
+     "The tags of the locales that the book has symbols of, in its order. Others have the tables of their parents: of the world's book\n"
+     "world_locales lists all.\n\n"
      "Raises Error 2 where the book is closed, 1 where memory was refused.\n\n"
      ">>> Book('[[[\"en\",\"\",\"latn\",\"-\",\"\",\"+\",\"\",\".\",\",\",3,3,1]],[],[],[],[]]').locales()\n"
      "['en']"},

@@ -117,8 +117,8 @@ impl Book {
         written(|out, room, length| unsafe { sys::legumeyet_book_answer(self.0.at(), line.as_ptr(), line.len(), out, room, length) })
     }
 
-    /// The tags of the locales that the book has symbols of, in its order. A formatter can be opened of others too, which have their tables.
-    /// Refused by `MEMORY`.
+    /// The tags of the locales that the book has symbols of, in its order. Others have the tables of their parents: of the world's book
+    /// `world_locales` lists all. Refused by `MEMORY`.
     pub fn locales(&self) -> Result<Vec<String>, Error> {
         let mut count = 0;
         // SAFETY: no other call has the handle.
